@@ -1,0 +1,28 @@
+-- How readers and writers count their failures.
+use Rattle.std.specs.Prelude.{ℕ, ◌+◌, ◌-◌, ◌^◌, ◌≤◌, ◌==◌, min, if◌then◌else◌, Result, Ok, Err}
+
+-- the greatest count, at which it stays
+abbrev pub last_count : ℕ
+last_count = 2 ^ 64 - 1
+
+-- a count with so many failures more
+abbrev pub raised : ℕ → ℕ → ℕ
+raised count more = min (count + more) last_count
+
+-- the count after a read: one more where it answered an error
+abbrev pub count_after_read : {E : Type 0} → Result ℕ E → ℕ → ℕ
+count_after_read (Ok _) count = count
+count_after_read (Err _) count = raised count 1
+
+-- the count after a write: one more where it answered an error or took no byte
+abbrev pub count_after_write : {E : Type 0} → Result ℕ E → ℕ → ℕ
+count_after_write (Ok taken) count = if taken == 0 then raised count 1 else count
+count_after_write (Err _) count = raised count 1
+
+-- a count has risen by at least so many, or stands at the last count
+abbrev pub HasRisenBy : ℕ → ℕ → ℕ → Type 0
+HasRisenBy more old new = raised old more ≤ new
+
+-- a count has risen, or stands at the last count
+abbrev pub HasRisen : ℕ → ℕ → Type 0
+HasRisen old new = HasRisenBy 1 old new

@@ -1,0 +1,34 @@
+-- Modes, and the classes that sets name.
+use Rattle.std.specs.Prelude.{ℕ, Bool, true, ◌&&◌, nat_lt, pos, [], length}
+use Rattle.std.specs.List.{list_all}
+use Rattle.ss_base.specs.declared.value.Value.{Value}
+use Rattle.ss_base.specs.declared.value.Value.TheVariants.{Whole, Text}
+use Rattle.ss_base.specs.declared.layout.Mode.{Mode}
+use Rattle.ss_base.specs.declared.layout.Mode.TheVariants.{Integer, Alpha}
+use Rattle.ss_base.specs.declared.layout.Owner.{Owner}
+use Rattle.ss_base.specs.declared.layout.Owner.TheVariants.{System, Class}
+use Rattle.ss_base.specs.declared.layout.SetLayout.{SetLayout}
+use Rattle.ss_base.specs.declared.layout.Layout.{Layout}
+
+-- the mode of a value
+abbrev pub mode_of : Value → Mode
+mode_of (Whole _) = Integer
+mode_of (Text _) = Alpha
+
+-- the first value of a mode: zero, or the empty text
+abbrev pub first_value : Mode → Value
+first_value Integer = Whole (pos 0)
+first_value Alpha = Text []
+
+-- whether an owner is THE SYSTEM or one of so many classes
+abbrev pub owns_among : ℕ → Owner → Bool
+owns_among classes System = true
+owns_among classes (Class class) = nat_lt class classes
+
+-- whether the owner and the member of a set are among so many classes
+abbrev pub names_classes : ℕ → SetLayout → Bool
+names_classes classes set = owns_among classes set.owner && nat_lt set.member classes
+
+-- whether the classes that the sets of a layout name are its own
+abbrev pub is_sound : Layout → Bool
+is_sound layout = list_all (names_classes (length layout.classes.items)) layout.sets.items

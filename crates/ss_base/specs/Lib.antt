@@ -1,0 +1,10 @@
+pub mod Arithmetic
+pub mod Counted
+pub mod Failures
+pub mod Faults
+pub mod Layout
+pub mod Memory
+pub mod Order
+pub mod Plan
+pub mod Room
+pub mod Values

@@ -1,0 +1,26 @@
+//! What every layer of the simulator stands on: lines, values, faults and arithmetic.
+#![tactic(auto)]
+
+mod alpha;
+mod arithmetic;
+mod counted;
+mod fault;
+mod faulty;
+mod layout;
+mod line;
+mod memory;
+mod plan;
+#[cfg(test)]
+mod tests;
+mod value;
+
+pub use alpha::{Alpha, TEXT_LIMIT};
+pub use arithmetic::{div_f, minus, mod_f, plus, times};
+pub use counted::Counted;
+pub use fault::{FaultKind, Refused};
+pub use faulty::{Faulty, FaultyRead, FaultyWrite};
+pub use layout::{ClassKind, ClassLayout, Discipline, Layout, Mode, Owner, RankKey, SetLayout};
+pub use line::Line;
+pub use memory::{MemoryRead, MemoryWrite, Trouble};
+pub use plan::Plan;
+pub use value::Value;

@@ -1,0 +1,5 @@
+pub mod Decimal
+pub mod Pieces
+pub mod Maximal
+pub mod Scan
+pub mod Sent

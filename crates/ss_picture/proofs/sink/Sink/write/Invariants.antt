@@ -1,0 +1,18 @@
+use Rattle.std.proofs.Common.{◌≡◌, ◌-◌, ◌^◌, ◌<◌, ◌≤◌, length, take}
+use Rattle.ss_base.specs.Failures.{HasRisenBy}
+use Rattle.ss_picture.specs.Sending.{Sends}
+use Rattle.ss_picture.proofs.sink.Sink.write.Given as goal
+
+abbrev pub invariant-loop-at : goal.invariant-loop-at
+invariant-loop-at g l =
+    record {
+      within : l.at ≤ length l.bytes;
+      sends : Sends g.W.FaultyWrite.contents (record { writer = l.initial.self-inside.writer; sent = l.initial.self-inside.sent })
+          (record { writer = l.self-inside.writer; sent = l.self-inside.sent }) (take l.at l.bytes);
+      untouched : l.at ≡ 0 → l.self-inside ≡ l.initial.self-inside;
+      small : l.self-inside.sent < 2 ^ 128;
+      risen : HasRisenBy 0 (g.W.Faulty.faults l.initial.self-inside.writer) (g.W.Faulty.faults l.self-inside.writer);
+    }
+
+abbrev pub decreases-loop-at : goal.decreases-loop-at
+decreases-loop-at g l = length l.bytes - l.at

@@ -1,0 +1,9 @@
+use Rattle.std.specs.Io.KnownBytes.{Keeps}
+use Rattle.ss_base.specs.Failures.{HasRisenBy}
+use Rattle.ss_picture.proofs.sink.send_some.Given as goal
+
+abbrev pub invariant-loop-attempt : goal.invariant-loop-attempt
+invariant-loop-attempt g l = record {
+  kept : Keeps (g.W.FaultyWrite.contents l.initial.writer) (g.W.FaultyWrite.contents l.writer);
+  risen : HasRisenBy l.attempt (g.W.Faulty.faults l.initial.writer) (g.W.Faulty.faults l.writer);
+}

@@ -1,0 +1,30 @@
+-- What is seen of a sink, and what a call of it sends.
+use Rattle.std.specs.Prelude.{◌≡◌, ℕ, ◌+◌, ◌-◌, ◌^◌, ◌<◌, min, List, length, take, refl}
+use Rattle.std.specs.declared.option.Option.{Option}
+use Rattle.std.specs.Coded.{Coded, code_by, coded×, coded_ℕ}
+use Rattle.std.specs.Io.KnownBytes.{Appends}
+
+-- a sink: its writer as it stands, and how many bytes went out to it
+pub record SinkState (W : Type 0) : Type 0 where
+  pub writer : W
+  pub sent : ℕ
+
+-- it is stored as the pair of its fields
+abbrev pub sink_code : {W : Type 0} → Coded W → Coded (SinkState W)
+sink_code {W} writer_code =
+    code_by (W × ℕ) (coded× writer_code coded_ℕ) (λ s. (s.writer, s.sent)) (λ p. record { writer = p.0; sent = p.1 }) (λ _. refl)
+
+-- a count of bytes sent after some more, which stays at the greatest number of 128 bits
+abbrev pub sent_after : ℕ → List ℕ → ℕ
+sent_after sent bytes = min (sent + length bytes) (2 ^ 128 - 1)
+
+-- from one state of a sink to another these bytes went out: its writer took them, and they were counted
+pub record Sends {W : Type 0} (contents : W → Option (List ℕ)) (old new : SinkState W) (bytes : List ℕ) : Type 0 where
+  pub took : Appends (contents old.writer) (contents new.writer) bytes
+  pub counted : new.sent ≡ sent_after old.sent bytes
+
+-- from one state of a sink to another the first of these bytes went out, but not all of them
+pub record SendsFirst {W : Type 0} (contents : W → Option (List ℕ)) (old new : SinkState W) (bytes : List ℕ) : Type 0 where
+  pub count : ℕ
+  pub not_all : count < length bytes
+  pub sends : Sends contents old new (take count bytes)
