@@ -1,0 +1,5 @@
+mod Trees
+mod Forms
+mod Bodies
+mod Served
+mod Accepted

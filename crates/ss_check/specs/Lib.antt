@@ -1,0 +1,3 @@
+pub mod Naming
+pub mod Resolving
+pub mod Checking

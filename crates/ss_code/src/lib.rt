@@ -1,0 +1,14 @@
+//! The meaning of a program, its instructions, and that both agree.
+#![tactic(auto)]
+
+mod code;
+mod emit;
+mod error;
+pub mod generate;
+pub mod instruction;
+pub mod laws;
+mod listing;
+pub mod resolved;
+
+pub use code::Code;
+pub use error::CodeError;

@@ -1,0 +1,10 @@
+use Rattle.ss_engine.proofs.whole.simulate.Goals as goal
+
+pub returns-clause-headline : goal.returns-clause-headline
+returns-clause-headline g c =
+    let compiled = c.in-Ok.ensures.accepted in
+    record {
+      program = compiled.program;
+      meant = compiled.meant;
+      simulated = c.run_model-stop.ensures.simulated compiled.program compiled.behaves;
+    }

@@ -1,0 +1,72 @@
+-- What a text is a program of, and why one is refused.
+use Rattle.std.specs.Prelude.{◌≡◌, ℕ, ◌<◌, ◌⊎◌, List, false}
+use Rattle.ss_base.specs.declared.line.Line.{Line}
+use Rattle.ss_lex.specs.declared.token.Token.{Token}
+use Rattle.ss_lex.specs.declared.error.LexError.{LexError}
+use Rattle.ss_lex.specs.declared.error.LexError.TheVariants as lexical
+use Rattle.ss_lex.specs.Tokens.{AreTokens}
+use Rattle.ss_lex.specs.Refusals.{IsRefused}
+use Rattle.ss_parse.specs.Tree.{ProgramTree}
+use Rattle.ss_parse.specs.SpelledPrograms.{Spell}
+use Rattle.ss_check.specs.Checking.{served_program, IsResolved, LacksMode, HasMisfit}
+use Rattle.ss_code.specs.declared.resolved.Resolved.{Resolved}
+use Rattle.ss_code.specs.Nodes.{nodes}
+use Rattle.ss_code.specs.Machine.{Code}
+use Rattle.ss_code.specs.Running.{Behaves}
+use Rattle.ss_engine.specs.declared.refusal.Refusal.{Refusal}
+use Rattle.ss_engine.specs.declared.refusal.Refusal.TheVariants.{TooLong, NotAscii, BadNumber, OpenText, AlphaTooLong, PictureCut, NameTooLong, NotYet, RealMode, Fields, CodeTooLong, Memory}
+
+-- how deep parentheses may stand in one another
+abbrev pub nesting_limit : ℕ
+nesting_limit = 64
+
+-- the text has these tokens, and they spell this tree
+pub record IsTreeOf (text : List ℕ) (tree : ProgramTree) : Type 0 where
+  pub tokens : List Token
+  pub are : AreTokens text tokens
+  pub spelled : Spell tokens nesting_limit tree
+
+-- the text is well formed, and this is its program: its tree with each name replaced by what it stands for
+pub record IsProgramOf (text : List ℕ) (p : Resolved) : Type 0 where
+  pub tree : ProgramTree
+  pub read : IsTreeOf text tree
+  pub resolved : IsResolved tree p
+
+-- the code does, for every input and every number of ticks, what the text means, and nothing else
+pub record Compiles (text : List ℕ) (code : Code) : Type 0 where
+  pub program : Resolved
+  pub meant : IsProgramOf text program
+  pub behaves : Behaves program code
+
+-- the text has tokens, and no tree of a served form
+pub record IsUnserved (text : List ℕ) : Type 0 where
+  pub tokens : List Token
+  pub are : AreTokens text tokens
+  pub none : (tree : ProgramTree) → Spell tokens nesting_limit tree → served_program tree ≡ false
+
+-- the text has a tree of which this holds
+pub record HasTree (text : List ℕ) (Holds : ProgramTree → Type 0) : Type 0 where
+  pub tree : ProgramTree
+  pub read : IsTreeOf text tree
+  pub holds : Holds tree
+
+-- the text is well formed, but its program has more than 16,384 nodes
+pub record IsLarge (text : List ℕ) : Type 0 where
+  pub program : Resolved
+  pub meant : IsProgramOf text program
+  pub large : 16384 < nodes program
+
+-- when a text is refused so; want of memory says nothing of the text
+abbrev pub RefusedFor : List ℕ → Refusal → Type 0
+RefusedFor text (TooLong line) = IsRefused text (lexical.TooLong line)
+RefusedFor text (NotAscii line) = IsRefused text (lexical.NotAscii line)
+RefusedFor text (BadNumber line) = IsRefused text (lexical.BadNumber line)
+RefusedFor text (OpenText line) = IsRefused text (lexical.OpenText line)
+RefusedFor text (AlphaTooLong line) = IsRefused text (lexical.AlphaTooLong line)
+RefusedFor text (PictureCut line) = IsRefused text (lexical.PictureCut line)
+RefusedFor text (NameTooLong line) = IsRefused text (lexical.NameTooLong line)
+RefusedFor text NotYet = IsUnserved text
+RefusedFor text (RealMode line) = HasTree text (λ tree. LacksMode tree line)
+RefusedFor text (Fields line) = HasTree text (λ tree. HasMisfit tree line)
+RefusedFor text CodeTooLong = IsLarge text
+RefusedFor text Memory = Unit {0}

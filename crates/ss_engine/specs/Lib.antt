@@ -1,0 +1,6 @@
+pub mod Sessions
+pub mod Headline
+pub mod Refusals
+pub mod Outcomes
+pub mod Accepting
+pub mod Simulation

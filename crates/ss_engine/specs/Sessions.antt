@@ -1,0 +1,24 @@
+-- What a clause sees of a session.
+use Rattle.std.specs.Prelude.{◌≡◌}
+use Rattle.ss_code.specs.Machine.{Code}
+use Rattle.ss_machine.specs.Held.{Held, IsFirst}
+use Rattle.ss_machine.specs.Sources.{source_reader}
+use Rattle.ss_engine.specs.declared.session.Session.{Session}
+
+-- its machine
+abbrev pub session_machine : {R W : Type 0} → Session R W → Held
+session_machine s = s.machine
+
+-- its reader, as it stands
+abbrev pub session_reader : {R W : Type 0} → Session R W → R
+session_reader s = source_reader s.source
+
+-- its writer, as it stands
+abbrev pub session_writer : {R W : Type 0} → Session R W → W
+session_writer s = s.sink.writer
+
+-- a session of this code, this reader and this writer before its first run
+pub record Begins {R W : Type 0} (code : Code) (reader : R) (writer : W) (s : Session R W) : Type 0 where
+  pub first : IsFirst code (session_machine s)
+  pub reader_is : session_reader s ≡ reader
+  pub writer_is : session_writer s ≡ writer

@@ -1,0 +1,41 @@
+ghost use Rattle.std.specs.Prelude.{◌≡◌, ℕ};
+ghost use Rattle.ss_base.specs.Failures.{HasRisen};
+ghost use Rattle.ss_engine.specs.declared.refusal.Refusal.{Refusal as RefusalSeen};
+ghost use Rattle.ss_machine.specs.declared.stop.Stop.{Stop as StopSeen};
+ghost use Rattle.ss_engine.specs.Simulation.{ComesTo};
+
+use crate::front::compile;
+use crate::outcome::Outcome;
+use crate::run::run_model;
+use ss_base::{FaultyRead, FaultyWrite};
+use ss_machine::Stop;
+use std::alloc::Global;
+
+/// A text compiled, and run with the input of this reader and this writer for its report, once for
+/// each piece of ticks up to the first answer other than a pause, or once without a tick where
+/// there is no piece.
+///
+/// It answers the refusal of the text, or why the last run stopped and the ticks that it used, and
+/// the reader and the writer as they stand. What the writer took is exactly the report that the
+/// text means, and the run ended exactly as its meaning does; where memory or the writer failed, the
+/// writer took the first bytes of that report. A text that is refused leaves both untouched.
+pub fn simulate<R: FaultyRead, W: FaultyWrite>(
+    alloc: Global,
+    text: &[u8],
+    reader: R,
+    writer: W,
+    pieces: &[u64],
+) -> (Outcome, R, W)
+    ensures headline { ComesTo text.now result.0 (W.contents writer) (W.contents result.2) }
+    ensures used { (stop : StopSeen) (used : ℕ) → result.0 ≡ Outcome.Stopped stop used → used ≡ 0 }
+    ensures reads { result.1 ≡ reader }
+    ensures untouched { (refusal : RefusalSeen) → result.0 ≡ Outcome.Refused refusal → result.2 ≡ writer }
+    ensures output { (used : ℕ) → result.0 ≡ Outcome.Stopped Stop.Output used → HasRisen (W.faults writer) (W.faults result.2) }
+{
+    let model = match compile(alloc, text) {
+        Ok(model) => model,
+        Err(refusal) => return (Outcome::Refused(refusal), reader, writer),
+    };
+    let (stop, used, reader, writer) = run_model(alloc, model, reader, writer, pieces);
+    (Outcome::Stopped(stop, used), reader, writer)
+}

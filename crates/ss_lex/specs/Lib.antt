@@ -1,0 +1,11 @@
+pub mod Collecting
+pub mod Errors
+pub mod Laws
+pub mod Lines
+pub mod Listings
+pub mod Names
+pub mod Pieces
+pub mod Reading
+pub mod Refusals
+pub mod Tokens
+pub mod Words

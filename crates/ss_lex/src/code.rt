@@ -1,0 +1,111 @@
+//! Lines of code.
+
+ghost use Rattle.std.specs.Prelude.{◌≡◌, ◌≢◌, ◌<◌, ◌+◌, ◌^◌, length, Some, IfOk, IfErr};
+ghost use Rattle.ss_lex.specs.Refusals.{refusal_of, has_trigger, means_trigger, line_refusal};
+ghost use Rattle.ss_lex.specs.Pieces.{fault_in};
+ghost use Rattle.ss_lex.specs.Reading.{pieces, trigger_step_of, fault_refusal, IsRead};
+
+use crate::collected::{Collected, is_trigger};
+use crate::error::LexError;
+use crate::meaning::{Fault, Meaning};
+use crate::pieces::step;
+use ss_base::Line;
+
+/// The refusal for a fault in this line.
+fn refusal_of(fault: Fault, line: Line) -> LexError
+    ensures { result ≡ refusal_of fault line.0 }
+{
+    match fault {
+        Fault::BadNumber => LexError::BadNumber(line),
+        Fault::OpenText => LexError::OpenText(line),
+        Fault::AlphaTooLong => LexError::AlphaTooLong(line),
+        Fault::NameTooLong => LexError::NameTooLong(line),
+    }
+}
+
+fn means_trigger(meaning: &Meaning) -> bool
+    ensures { result ≡ means_trigger meaning.now }
+{
+    match meaning {
+        Meaning::Nothing => false,
+        Meaning::Token(kind, _) => is_trigger(kind),
+        Meaning::Fault(_) => false,
+    }
+}
+
+fn fault_in(meaning: &Meaning) -> Option<Fault>
+    ensures { result ≡ fault_in meaning.now }
+{
+    match meaning {
+        Meaning::Nothing => None,
+        Meaning::Token(_, _) => None,
+        Meaning::Fault(fault) => Some(*fault),
+    }
+}
+
+/// Whether the piece at the front is a trigger word, and what follows it.
+fn trigger_step(bytes: &[u8]) -> (bool, &[u8])
+    ensures { (result.0, result.1.now) ≡ trigger_step_of bytes.now }
+{
+    let (meaning, behind) = step(bytes);
+    (means_trigger(&meaning), behind)
+}
+
+/// Whether a trigger word is among the pieces.
+fn has_trigger(bytes: &[u8]) -> bool
+    ensures { result ≡ has_trigger (pieces bytes.now) }
+{
+    let mut rest = bytes;
+    'pieces: while !rest.is_empty() {
+        let (is_trigger, behind) = trigger_step(rest);
+        if is_trigger {
+            return true;
+        }
+        rest = behind;
+    }
+    false
+}
+
+/// What is wrong first with a line, where a piece means this fault and these bytes follow it. The line called
+/// for `due` pictures before the fault, and `left` lines are behind it.
+fn fault_refusal(fault: Fault, behind: &[u8], due: u64, left: u64, line: Line) -> LexError
+    ensures { result ≡ fault_refusal fault behind.now due left line.0 }
+{
+    if has_trigger(behind) {
+        refusal_of(fault, line)
+    } else if due > left {
+        LexError::PictureCut(line)
+    } else {
+        refusal_of(fault, line)
+    }
+}
+
+/// Adds the tokens of a line of code, and answers how many pictures it calls for. `left` lines are behind it.
+pub fn code_line(
+    tokens: &mut Collected,
+    bytes: &[u8],
+    start: usize,
+    line: Line,
+    left: u64,
+) -> Result<u64, LexError>
+    requires { start + length bytes.now < 2 ^ 64 }
+    ensures ok { IfOk result (λ due. IsRead bytes.now start line.0 left tokens.old tokens.new due) }
+    ensures err { IfErr result (λ e. e ≢ LexError.Memory → line_refusal (pieces bytes.now) tokens.old start line.0 left ≡ Some e) }
+{
+    let mut at = start;
+    let mut rest = bytes;
+    let mut due = 0;
+    'pieces: while !rest.is_empty() {
+        let (meaning, behind) = step(rest);
+        if let Some(fault) = fault_in(&meaning) {
+            return Err(fault_refusal(fault, behind, due, left, line));
+        }
+        due = tokens.add(meaning, at, line, due)?;
+        at += rest.len() - behind.len();
+        rest = behind;
+    }
+    if due > left {
+        return Err(LexError::PictureCut(line));
+    }
+    Ok(due)
+}

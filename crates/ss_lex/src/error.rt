@@ -1,0 +1,101 @@
+ghost use Rattle.std.specs.Prelude.{◌≡◌};
+ghost use Rattle.ss_lex.specs.Errors.{error_number, error_name, error_line};
+ghost use Rattle.ss_lex.specs.declared.error.LexError.TheVariants.{Memory};
+
+use ss_base::Line;
+use std::alloc::{AllocError, AllocFailed};
+use thiserror::Error;
+
+/// Why a text has no tokens, with the line in which that shows.
+#[derive(Clone, Copy, PartialEq, Eq, Debug, Error)]
+pub enum LexError {
+    /// The text has more than `SOURCE_LIMIT` bytes. Its line is 0.
+    #[error("the text is too long")]
+    TooLong(Line),
+    /// A byte other than 9, 10, 13 and 32 to 126, in its line.
+    #[error("line {}: a byte that is no character", .0.0)]
+    NotAscii(Line),
+    /// A number with a period in it, or above 9223372036854775807.
+    #[error("line {}: a bad number", .0.0)]
+    BadNumber(Line),
+    /// A quote with no quote behind it on its line, or with a tab or a carriage return before that.
+    #[error("line {}: an open text", .0.0)]
+    OpenText(Line),
+    /// A text with more than `TEXT_LIMIT` characters without the blanks at its end.
+    #[error("line {}: a text that is too long", .0.0)]
+    AlphaTooLong(Line),
+    /// A trigger word that calls for more pictures than there are lines behind it.
+    #[error("line {}: too few lines for the pictures", .0.0)]
+    PictureCut(Line),
+    /// A name with more than `NAME_LIMIT` characters.
+    #[error("line {}: a name that is too long", .0.0)]
+    NameTooLong(Line),
+    #[error("out of memory")]
+    Memory,
+}
+
+impl LexError {
+    /// The number that the refusal is reported by, 31 to 37; 0 for memory.
+    pub fn number(&self) -> u32
+        ensures { result ≡ error_number self.now }
+    {
+        match self {
+            LexError::TooLong(_) => 31,
+            LexError::NotAscii(_) => 32,
+            LexError::BadNumber(_) => 33,
+            LexError::OpenText(_) => 34,
+            LexError::AlphaTooLong(_) => 35,
+            LexError::PictureCut(_) => 36,
+            LexError::NameTooLong(_) => 37,
+            LexError::Memory => 0,
+        }
+    }
+
+    /// The name that the refusal is reported by.
+    pub fn name(&self) -> &str
+        ensures { result.now ≡ error_name self.now }
+    {
+        match self {
+            LexError::TooLong(_) => "TooLong",
+            LexError::NotAscii(_) => "NotAscii",
+            LexError::BadNumber(_) => "BadNumber",
+            LexError::OpenText(_) => "OpenText",
+            LexError::AlphaTooLong(_) => "AlphaTooLong",
+            LexError::PictureCut(_) => "PictureCut",
+            LexError::NameTooLong(_) => "NameTooLong",
+            LexError::Memory => "Memory",
+        }
+    }
+
+    /// The line that the refusal is reported with; 0 for `TooLong` and memory.
+    pub fn line(&self) -> Line
+        ensures { result ≡ error_line self.now }
+    {
+        match self {
+            LexError::TooLong(line)
+            | LexError::NotAscii(line)
+            | LexError::BadNumber(line)
+            | LexError::OpenText(line)
+            | LexError::AlphaTooLong(line)
+            | LexError::PictureCut(line)
+            | LexError::NameTooLong(line) => *line,
+            LexError::Memory => Line(0),
+        }
+    }
+}
+
+impl From<AllocError> for LexError {
+    ghost from_gives = { λ _ error. error ≡ Memory };
+
+    fn from(_error: AllocError) -> LexError {
+        LexError::Memory
+    }
+}
+
+impl<T: Drop> From<AllocFailed<T>> for LexError {
+    ghost from_gives = { λ _ error. error ≡ Memory };
+
+    fn from(_error: AllocFailed<T>) -> LexError {
+        LexError::Memory
+    }
+}

@@ -1,0 +1,19 @@
+use crate::token::TokenKind;
+
+/// What can be wrong with a piece of a line.
+#[derive(Clone, Copy, PartialEq, Eq, Debug)]
+pub enum Fault {
+    BadNumber,
+    OpenText,
+    AlphaTooLong,
+    NameTooLong,
+}
+
+/// What a piece of a line means.
+#[derive(Debug, Drop)]
+pub enum Meaning {
+    Nothing,
+    /// A token, and the length of its spelling in bytes.
+    Token(TokenKind, usize),
+    Fault(Fault),
+}

@@ -1,0 +1,5 @@
+pub mod Holding
+pub mod Sent
+pub mod Runs
+pub mod Held
+pub mod Sources

@@ -1,0 +1,11 @@
+pub mod Tools
+pub mod Depth
+pub mod Marks
+pub mod ReaderLaws
+pub mod Rows
+pub mod ExpressionLaws
+pub mod Lists
+pub mod StatementParts
+pub mod StatementLaws
+pub mod ProgramLaws
+pub mod Whole

@@ -1,0 +1,66 @@
+-- Whole token lists: what is promised of parsing follows from the laws of reading.
+use Rattle.std.proofs.Common.{◌≡◌, ℕ, zero, suc, ◌<◌, ◌≤◌, max, Bool, true, false, List, [], ◌∷◌, length, Result, Ok, Err, refl, sym, ap, subst, ◌∙◌, arith, inl, inr, ◌⊎◌}
+use Rattle.ss_lex.specs.declared.token.Token.{Token}
+use Rattle.ss_parse.specs.declared.failure.Fault.{Fault}
+use Rattle.ss_parse.specs.declared.failure.Fault.TheVariants.{Syntax, TooDeep}
+use Rattle.ss_parse.specs.Tree.{ProgramTree}
+use Rattle.ss_parse.specs.Openers.{openers}
+use Rattle.ss_parse.specs.SpelledPrograms.{Program_is, Spell}
+use Rattle.ss_parse.specs.Promise.{Without_tree, One_tree}
+use Rattle.ss_parse.specs.Reading.{◌>>=◌}
+use Rattle.ss_parse.specs.ReadPrograms.{none_left, program_in, program_of}
+use Rattle.ss_parse.proofs.Tools.{bind_ok, result_is}
+use Rattle.ss_parse.proofs.Depth.{Upto, upto_bind, upto_same, Bounded}
+use Rattle.ss_parse.proofs.ProgramLaws.{program_reads}
+
+none_is : (p q : ProgramTree) (rest : List Token) → none_left (p, rest) ≡ Ok q → (p ≡ q) × (rest ≡ [])
+none_is p q [] e = (result_is p q e, refl)
+none_is p q (r ∷ rest) e = absurd cc
+
+pub program_sound : (levels : ℕ) (ts : List Token) (p : ProgramTree) → program_of levels ts ≡ Ok p → Spell ts levels p
+unfolding program_of
+program_sound levels ts p e =
+    let x = bind_ok (program_in (suc levels) ts) none_left p e in
+    let end = none_is x.0.0 p x.0.1 x.2 in
+    subst (λ (q : ProgramTree). Spell ts levels q) end.0 (subst (λ (r : List Token). Program_is levels x.0.0 ts r) end.1 ((program_reads levels levels (omega arith)).sound ts x.0.0 x.0.1 x.1))
+
+pub program_complete : (levels : ℕ) (ts : List Token) (p : ProgramTree) → Spell ts levels p → program_of levels ts ≡ Ok p
+unfolding program_of
+program_complete levels ts p s =
+    let read : program_in (suc levels) ts ≡ Ok (p, []) = (program_reads levels levels (omega arith)).complete ts p [] s refl in
+    rw read refl
+
+program_upto : (n m : ℕ) (ts : List Token) → n ≤ m → Upto (program_of n ts) (program_of m ts)
+unfolding program_of
+program_upto n m ts le = upto_bind _ _ none_left none_left ((program_reads n m le).under ts) (λ x. upto_same _)
+
+-- with more levels the same tree is spelled
+raised : (n m : ℕ) (ts : List Token) (p : ProgramTree) → n ≤ m → program_of n ts ≡ Ok p → program_of m ts ≡ Ok p
+raised n m ts p le read = elim (program_upto n m ts le) [ inl e ↦ absurd cc | inr e ↦ sym e ∙ read ]
+
+pub one_tree : One_tree
+one_tree ts n m p q s r =
+    result_is p q (sym (raised n (max n m) ts p (omega arith) (program_complete n ts p s)) ∙ raised m (max n m) ts q (omega arith) (program_complete m ts q r))
+
+pub none_at_all : (ts : List Token) → program_of 64 ts ≡ Err Syntax → (levels : ℕ) → Without_tree ts levels
+none_at_all ts h levels p s =
+    let read = raised levels (max 64 levels) ts p (omega arith) (program_complete levels ts p s) in
+    elim (program_upto 64 (max 64 levels) ts (omega arith)) [ inl e ↦ absurd cc | inr e ↦ absurd cc ]
+
+deep : (r : Result (ProgramTree × List Token) Fault) (k n : ℕ) → Bounded k n r → (r >>= none_left) ≡ Err TooDeep → k ≤ n
+deep (Ok (p, [])) k n h e = absurd cc
+deep (Ok (p, x ∷ rest)) k n h e = absurd cc
+deep (Err Syntax) k n h e = absurd cc
+deep (Err TooDeep) k n h e = h
+
+pub none_of_64 : (ts : List Token) → program_of 64 ts ≡ Err TooDeep → Without_tree ts 64 × (64 < openers ts)
+unfolding program_of
+none_of_64 ts h = (λ p s. let read = program_complete 64 ts p s in absurd cc, deep (program_in 65 ts) 65 (openers ts) ((program_reads 64 64 (omega arith)).opening ts) h)
+
+-- no tokens at all are a program
+pub some_tokens : (f : Fault) → program_of 64 [] ≡ Err f → ⊥
+some_tokens f h = let read = program_complete 64 [] (record { preamble = []; sections = [] }) ([], inl refl, refl) in absurd cc
+
+pub tokens_there : (ts : List Token) (f : Fault) → program_of 64 ts ≡ Err f → 0 < length ts
+tokens_there [] f h = absurd (some_tokens f h)
+tokens_there (t ∷ ts) f h = omega arith

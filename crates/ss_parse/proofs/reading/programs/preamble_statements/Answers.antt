@@ -1,0 +1,23 @@
+use Rattle.std.proofs.Common.{sym, ap, subst, ◌∙◌}
+use Rattle.std.proofs.lemmas.Result.{err_from_is_err_and}
+use Rattle.ss_parse.specs.View.{view_preamble}
+use Rattle.ss_parse.specs.Reading.{rows}
+use Rattle.ss_parse.specs.ReadPrograms.{begins_preamble, preamble_from, preambles}
+use Rattle.ss_parse.specs.Reading.{Fails}
+use Rattle.ss_parse.proofs.Rows.{grows, breaks, is_done}
+use Rattle.ss_parse.proofs.ProgramLaws.{preambles_loop}
+use Rattle.ss_parse.proofs.reading.programs.preamble_statements.Goals as goal
+
+pub more-preserved : goal.more-preserved
+more-preserved c = grows view_preamble preambles_loop _ _ c.in_ok-next.next _ _ _ c.in_ok-push.ensures.items (sym c.begins_preamble.ensures ∙ c.more-test.true) c.in_ok-next.ensures c.more.invariant
+
+pub more-smaller : goal.more-smaller
+more-smaller c = (preambles_loop).shrinks _ _ _ (sym c.begins_preamble.ensures ∙ c.more-test.true) c.in_ok-next.ensures
+
+pub returns : goal.returns
+returns c = is_done view_preamble preambles_loop _ _ _ (sym c.begins_preamble.ensures ∙ c.more-test.false) c.more.invariant
+
+pub returns-in_err-next : goal.returns-in_err-next
+returns-in_err-next c =
+    let p = err_from_is_err_and c.from_residual.result c.from_residual.ensures.1 in
+    rw (p.1, p.2) (breaks view_preamble preambles_loop _ _ _ _ (sym c.begins_preamble.ensures ∙ c.more-test.true) c.in_err-next.ensures c.more.invariant)

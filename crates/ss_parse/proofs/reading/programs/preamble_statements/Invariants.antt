@@ -1,0 +1,12 @@
+use Rattle.std.proofs.Common.{◌≡◌, ℕ, ◌+◌, length, map}
+use Rattle.ss_parse.specs.View.{view_preamble}
+use Rattle.ss_parse.specs.Reading.{rows}
+use Rattle.ss_parse.specs.ReadPrograms.{begins_preamble, preamble_from, preambles}
+use Rattle.ss_parse.proofs.Rows.{with_front}
+use Rattle.ss_parse.proofs.reading.programs.preamble_statements.Given as goal
+
+abbrev pub invariant-more : goal.invariant-more
+invariant-more l = with_front (map view_preamble l.all.items) (rows begins_preamble preamble_from l.rest) ≡ preambles l.tokens
+
+abbrev pub decreases-more : goal.decreases-more
+decreases-more l = length l.rest

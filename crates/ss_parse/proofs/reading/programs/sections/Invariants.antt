@@ -1,0 +1,12 @@
+use Rattle.std.proofs.Common.{◌≡◌, ℕ, ◌+◌, length, map}
+use Rattle.ss_parse.specs.View.{view_section}
+use Rattle.ss_parse.specs.Reading.{rows}
+use Rattle.ss_parse.specs.ReadPrograms.{begins_section, section_in}
+use Rattle.ss_parse.proofs.Rows.{with_front}
+use Rattle.ss_parse.proofs.reading.programs.sections.Given as goal
+
+abbrev pub invariant-more : goal.invariant-more
+invariant-more l = with_front (map view_section l.all.items) (rows begins_section (section_in l.room) l.rest) ≡ rows begins_section (section_in l.room) l.tokens
+
+abbrev pub decreases-more : goal.decreases-more
+decreases-more l = length l.rest

@@ -1,0 +1,16 @@
+pub mod Tree
+pub mod View
+pub mod Views
+pub mod Nodes
+pub mod Shapes
+pub mod SpelledExpressions
+pub mod SpelledConditions
+pub mod SpelledStatements
+pub mod SpelledPrograms
+pub mod Openers
+pub mod Reading
+pub mod ReadExpressions
+pub mod ReadStatements
+pub mod ReadPrograms
+pub mod Promise
+pub mod Errors

@@ -1,0 +1,35 @@
+-- What reading a program promises.
+use Rattle.std.specs.Prelude.{◌≡◌, ℕ, ◌<◌, ◌⊎◌, List, [], ◌∷◌}
+use Rattle.ss_base.specs.declared.line.Line.{Line}
+use Rattle.ss_lex.specs.declared.token.Token.{Token}
+use Rattle.ss_parse.specs.declared.error.ParseError.{ParseError}
+use Rattle.ss_parse.specs.declared.error.ParseError.TheVariants as errors
+use Rattle.ss_parse.specs.Tree.{ProgramTree}
+use Rattle.ss_parse.specs.Openers.{openers}
+use Rattle.ss_parse.specs.SpelledPrograms.{Spell}
+
+-- The tokens have no tree of so many levels.
+abbrev pub Without_tree : List Token → ℕ → Type 0
+Without_tree ts levels = (p : ProgramTree) → Spell ts levels p → ⊥
+
+-- When tokens are refused: they have no tree of 64 levels. For syntax they have none of any depth; where it is too deep,
+-- more than 64 of them open a level.
+abbrev pub Is_refused : List Token → ParseError → Type 0
+Is_refused ts (errors.Syntax line) = (levels : ℕ) → Without_tree ts levels
+Is_refused ts (errors.TooDeep line) = Without_tree ts 64 × (64 < openers ts)
+Is_refused ts errors.Memory = Unit {0}
+
+-- the line of one of the tokens
+abbrev pub Line_of_one : List Token → Line → Type 0
+Line_of_one [] line = ⊥
+Line_of_one (t ∷ ts) line = (t.line ≡ line) ⊎ Line_of_one ts line
+
+-- a refusal's line is that of a token
+abbrev pub Has_line : List Token → ParseError → Type 0
+Has_line ts (errors.Syntax line) = Line_of_one ts line
+Has_line ts (errors.TooDeep line) = Line_of_one ts line
+Has_line ts errors.Memory = Unit {0}
+
+-- no tokens spell two trees, of whatever depth
+abbrev pub One_tree : Type 0
+One_tree = (ts : List Token) (n m : ℕ) (p q : ProgramTree) → Spell ts n p → Spell ts m q → p ≡ q

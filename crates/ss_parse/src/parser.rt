@@ -1,0 +1,53 @@
+//! From tokens to a program.
+
+ghost use Rattle.std.specs.Prelude.{◌<◌, IfOk, IfErr, length};
+ghost use Rattle.ss_parse.specs.View.{view_program};
+ghost use Rattle.ss_parse.specs.SpelledPrograms.{Spell};
+ghost use Rattle.ss_parse.specs.Promise.{Is_refused, Has_line, Line_of_one, One_tree};
+
+use crate::error::ParseError;
+use crate::failure::{Failure, Fault};
+use crate::reading::programs::program;
+use crate::tree::program::Program;
+use ss_base::Line;
+use ss_lex::{Token, Tokens};
+use std::alloc::Global;
+
+/// The line of the token before which so many stand, or of the last one.
+fn line_of(tokens: &[Token], index: usize) -> Line
+    requires { 0 < length tokens.now }
+    ensures { Line_of_one tokens.now result }
+{
+    let last = tokens.len() - 1;
+    tokens[index.min(last)].line
+}
+
+/// The program that the tokens spell, with at most 64 levels of nesting.
+///
+/// `ParseError::Syntax` where they spell none, of whatever depth. `ParseError::TooDeep` where they spell none of at
+/// most 64 levels, and more than 64 of them open a level; so it is the refusal wherever they spell one that is
+/// deeper. The line of both is that of the token at which reading stopped. `ParseError::Memory` where memory is
+/// refused.
+pub fn parse(alloc: Global, tokens: &Tokens) -> Result<Program, ParseError>
+    ensures found { IfOk result (λ p. Spell tokens.now.list 64 (view_program p)) }
+    ensures refused { IfErr result (λ e. Is_refused tokens.now.list e) }
+    ensures line { IfErr result (λ e. Has_line tokens.now.list e) }
+{
+    let list = tokens.list();
+    match program(alloc, list) {
+        Ok(program) => Ok(program),
+        Err(Failure::Memory) => Err(ParseError::Memory),
+        Err(Failure::Refused(fault, left)) => {
+            let line = line_of(list, list.len().saturating_sub(left));
+            match fault {
+                Fault::Syntax => Err(ParseError::Syntax(line)),
+                Fault::TooDeep => Err(ParseError::TooDeep(line)),
+            }
+        }
+    }
+}
+
+/// No tokens spell two trees.
+pub fn one_tree()
+    ensures { One_tree }
+{}

@@ -1,0 +1,11 @@
+//! The tree of a program.
+//!
+//! Every sequence is a `Vec`. A statement, a statement of the preamble, a local definition and a section
+//! keep the line of their first word.
+
+pub mod condition;
+pub mod expression;
+pub mod head;
+pub mod preamble;
+pub mod program;
+pub mod statement;

@@ -1,0 +1,83 @@
+//! Expressions, and the places that a program names.
+
+use ss_base::Alpha;
+use ss_lex::Name;
+
+/// The sign before a term.
+#[derive(Clone, Copy, PartialEq, Eq, Debug)]
+pub enum Sign {
+    Plus,
+    Minus,
+}
+
+/// A function of the language.
+#[derive(Clone, Copy, PartialEq, Eq, Debug)]
+pub enum Function {
+    /// DIV.F, the quotient.
+    Div,
+    /// MOD.F, the remainder.
+    Mod,
+    /// ABS.F, the number without its sign.
+    Abs,
+    /// MIN.F, the lesser of two.
+    Min,
+    /// MAX.F, the greater of two.
+    Max,
+}
+
+/// What stands where a program names a value.
+#[derive(Clone, Copy, PartialEq, Eq, Debug)]
+pub enum Designator {
+    Name(Name),
+    /// TIME.V, the time.
+    TimeV,
+    /// TIME.A, the time for which a notice is scheduled.
+    TimeA,
+}
+
+/// A named place, with or without subscripts: a factor, a target or a reference to a set.
+#[cycle(expressions)]
+#[derive(Drop)]
+pub struct Named {
+    pub designator: Designator,
+    pub subscripts: Vec<Expression>,
+}
+
+/// A further term of a sum, behind its sign.
+#[cycle(expressions)]
+#[derive(Drop)]
+pub struct Term {
+    pub sign: Sign,
+    pub value: Expression,
+}
+
+/// An expression.
+#[cycle(expressions)]
+#[derive(Drop)]
+pub enum Expression {
+    /// A whole number, 0 or greater.
+    Number(i64),
+    Text(Alpha),
+    Named(Named),
+    Call {
+        function: Function,
+        arguments: Vec<Expression>,
+    },
+    /// An expression between parentheses.
+    Parenthesised(Box<Expression>),
+    /// A factor times further factors, of which there is one at least.
+    Product {
+        first: Box<Expression>,
+        further: Vec<Expression>,
+    },
+    /// A term behind a sign that stands first in a sum.
+    Signed {
+        sign: Sign,
+        term: Box<Expression>,
+    },
+    /// A term and further terms, of which there is one at least.
+    Sum {
+        first: Box<Expression>,
+        further: Vec<Term>,
+    },
+}

@@ -1,0 +1,83 @@
+//! The heads of loops.
+
+use crate::tree::condition::Condition;
+use crate::tree::expression::{Expression, Named};
+use ss_lex::Name;
+
+/// What a phrase does with a candidate, by its condition.
+#[derive(Clone, Copy, PartialEq, Eq, Debug)]
+pub enum PhraseKind {
+    /// WITH or WHEN: passes a candidate where the condition holds.
+    With,
+    /// UNLESS: passes a candidate where the condition doesn't hold.
+    Unless,
+    /// WHILE: ends the loop where the condition doesn't hold.
+    While,
+    /// UNTIL: ends the loop where the condition holds.
+    Until,
+}
+
+/// A phrase of a FOR.
+#[derive(Drop)]
+pub struct Phrase {
+    pub kind: PhraseKind,
+    pub condition: Condition,
+}
+
+/// How the condition of a loop that begins with WHILE or UNTIL ends it.
+#[derive(Clone, Copy, PartialEq, Eq, Debug)]
+pub enum GuardKind {
+    /// WHILE: ends the loop where the condition doesn't hold.
+    While,
+    /// UNTIL: ends the loop where the condition holds.
+    Until,
+}
+
+/// A condition of a loop that begins with WHILE or UNTIL.
+#[derive(Drop)]
+pub struct Guard {
+    pub kind: GuardKind,
+    pub condition: Condition,
+}
+
+/// The member with which a loop over a set begins.
+#[derive(Drop)]
+pub enum MemberStart {
+    /// The first, or the last in reverse order.
+    End,
+    /// FROM: this one.
+    From(Expression),
+    /// AFTER: the one that follows this one in walking order.
+    After(Expression),
+}
+
+/// What a loop goes over, and its phrases.
+#[derive(Drop)]
+pub enum Head {
+    /// FOR v = from TO to BY step.
+    Range {
+        variable: Name,
+        from: Expression,
+        to: Expression,
+        step: Option<Expression>,
+        phrases: Vec<Phrase>,
+    },
+    /// FOR EACH v IN set.
+    Members {
+        variable: Name,
+        set: Named,
+        start: MemberStart,
+        reverse: bool,
+        phrases: Vec<Phrase>,
+    },
+    /// FOR EACH class CALLED v.
+    Class {
+        class: Name,
+        called: Option<Name>,
+        phrases: Vec<Phrase>,
+    },
+    /// WHILE or UNTIL, with one condition at least.
+    Guards {
+        guards: Vec<Guard>,
+    },
+}

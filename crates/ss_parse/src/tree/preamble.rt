@@ -1,0 +1,138 @@
+//! The statements of a preamble.
+
+use ss_base::Line;
+use ss_lex::Name;
+
+/// What a value is.
+#[derive(Clone, Copy, PartialEq, Eq, Debug)]
+pub enum Mode {
+    Integer,
+    Alpha,
+    Real,
+}
+
+/// A kind of class.
+#[derive(Clone, Copy, PartialEq, Eq, Debug)]
+pub enum ClassKind {
+    Permanent,
+    Temporary,
+    EventNotice,
+}
+
+/// What an EVERY says of its class.
+#[derive(Drop)]
+pub enum Clause {
+    /// HAS attributes.
+    Has(Vec<Name>),
+    /// OWNS sets.
+    Owns(Vec<Name>),
+    /// MAY BELONG TO sets.
+    BelongsTo(Vec<Name>),
+}
+
+/// A name by which members or events are ranked, the highest value first or the lowest.
+#[derive(Clone, Copy, PartialEq, Eq, Debug)]
+pub struct Key {
+    pub high: bool,
+    pub name: Name,
+}
+
+/// How a set is ordered.
+#[derive(Drop)]
+pub enum SetOrder {
+    /// FIFO, or nothing said.
+    Fifo,
+    Lifo,
+    /// RANKED BY keys.
+    Ranked(Vec<Key>),
+}
+
+/// What a statistic tells of its subject.
+#[derive(Clone, Copy, PartialEq, Eq, Debug)]
+pub enum StatisticKind {
+    Number,
+    Sum,
+    Maximum,
+    Minimum,
+}
+
+/// A statistic and its name.
+#[derive(Clone, Copy, PartialEq, Eq, Debug)]
+pub struct Statistic {
+    pub name: Name,
+    pub kind: StatisticKind,
+}
+
+/// How statistics weigh the values of their subject.
+#[derive(Clone, Copy, PartialEq, Eq, Debug)]
+pub enum Weighting {
+    /// TALLY: each value once.
+    Tally,
+    /// ACCUMULATE: each value by the time that it stood.
+    Accumulate,
+}
+
+/// A statement of the preamble. The head of a group of declarations is one.
+#[derive(Drop)]
+pub enum PreambleStatement {
+    /// PERMANENT ENTITIES, the head of a group.
+    PermanentEntities {
+        line: Line,
+    },
+    /// TEMPORARY ENTITIES, the head of a group.
+    TemporaryEntities {
+        line: Line,
+    },
+    /// EVENT NOTICES, the head of a group, and the classes that it includes.
+    EventNotices {
+        line: Line,
+        included: Vec<Name>,
+    },
+    /// EVERY class, of the kind of the group that it stands in.
+    Every {
+        line: Line,
+        kind: ClassKind,
+        class: Name,
+        clauses: Vec<Clause>,
+    },
+    /// NORMALLY MODE IS.
+    Normally {
+        line: Line,
+        mode: Mode,
+    },
+    /// THE SYSTEM OWNS.
+    SystemOwns {
+        line: Line,
+        sets: Vec<Name>,
+    },
+    /// DEFINE as a variable.
+    DefineVariables {
+        line: Line,
+        names: Vec<Name>,
+        mode: Mode,
+    },
+    /// DEFINE as a set.
+    DefineSets {
+        line: Line,
+        names: Vec<Name>,
+        order: SetOrder,
+    },
+    /// PRIORITY ORDER IS.
+    PriorityOrder {
+        line: Line,
+        classes: Vec<Name>,
+    },
+    /// BREAK class TIES BY.
+    BreakTies {
+        line: Line,
+        class: Name,
+        keys: Vec<Key>,
+    },
+    /// TALLY or ACCUMULATE.
+    Statistics {
+        line: Line,
+        weighting: Weighting,
+        statistics: Vec<Statistic>,
+        subject: Name,
+    },
+}
