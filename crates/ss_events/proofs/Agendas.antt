@@ -1,0 +1,245 @@
+-- The entries of a heap stand for those of an event list, before and after each call.
+use Rattle.std.proofs.Common.{◌≡◌, ◌≢◌, ℕ, zero, suc, ◌+◌, ◌<◌, ◌≤◌, ℤ, Bool, true, false, not, cond, ◌||◌, nat_eq, List, [], ◌∷◌, ◌++◌, map, filter, fold, length, get_or, position, Option, None, Some, is_some, refl, sym, ap, subst, ◌∙◌, ◌⊎◌, ⊎_elim, inl, inr, arith}
+use Rattle.std.specs.Ordering.{int_eq}
+use Rattle.std.specs.List.{list_any, IsDistinct, AllByRecursion, All}
+use Rattle.std.specs.List.Sorted.{IsPermutation}
+use Rattle.std.specs.Cmp.{nat_eq_equiv, int_eq_equiv}
+use Rattle.std.proofs.lemmas.List.Sorted.{IsPermutation-sym, IsPermutation-map, All-permutation}
+use Rattle.std.proofs.lemmas.List.Elements.{All-cons, All-tail, recursion_from_All}
+use Rattle.std.proofs.lemmas.Map.Keys.{IsDistinct-IsPermutation, IsDistinct-head, IsDistinct-tail, IsDistinct-cons}
+use Rattle.std.proofs.lemmas.Bool.{cases_lt, cases_eq, cases_Bool, or_cases}
+use Rattle.ss_events.specs.declared.entry.Entry.{Entry}
+use Rattle.ss_events.specs.declared.entry.TheConstants.{MOST_SCHEDULINGS}
+use Rattle.ss_events.specs.HeapEntries.{HeapEntries, notices_of}
+use Rattle.ss_events.specs.Sifting.{IsLogarithmic}
+use Rattle.ss_events.specs.BinaryHeap.{IsHeap}
+use Rattle.ss_events.specs.Order.{comes_before, entry_order}
+use Rattle.ss_events.specs.PendingList.{PendingList, is_pending, without, earlier, least, next, after_next}
+use Rattle.ss_events.specs.InOrder.{put, in_order, numbers_of, IsAgenda}
+use Rattle.ss_events.proofs.EntryOrder.{entries_rank, tied_numbers}
+use Rattle.ss_events.proofs.Heaps.{first}
+use Rattle.std.proofs.lemmas.List.{get_or_default, nil_from_length, get_or-map, length-map}
+use Rattle.std.proofs.lemmas.List.Quantifiers.{position-Some}
+use Rattle.std.specs.Option.{option_map, option_map_or}
+use Rattle.std.proofs.lemmas.Bool.Decides.{nat_tests}
+use Rattle.ss_events.proofs.InOrders.{Member, Rising, place_of, rising-in_order, apart_from_distinct, numbers-permutation, member_at, member-in_order, in_order-member, put_first, put_later, put_last, in_order-permutation, length-in_order}
+
+-- ---- whether a notice is pending
+
+or_swap : (a b c : Bool) → (a || (b || c)) ≡ (b || (a || c))
+or_swap true true c = refl
+or_swap true false c = refl
+or_swap false true c = refl
+or_swap false false c = refl
+
+pending-put : (notice : ℤ) (e : Entry) (es : List Entry) → is_pending notice (put e es) ≡ (int_eq notice e.notice || is_pending notice es)
+pending-put notice e [] = refl
+pending-put notice e (f ∷ fs) = ⊎_elim
+    (λ lt. ap (is_pending notice) (put_first e f fs lt))
+    (λ le. ap (is_pending notice) (put_later e f fs le) ∙ ap (λ b. int_eq notice f.notice || b) (pending-put notice e fs) ∙ or_swap (int_eq notice f.notice) (int_eq notice e.notice) (is_pending notice fs))
+    (cases_lt e.number f.number)
+
+pub pending-in_order : (notice : ℤ) (es : List Entry) → is_pending notice (in_order es) ≡ is_pending notice es
+unfolding in_order
+pending-in_order notice [] = refl
+pending-in_order notice (e ∷ es) = pending-put notice e (in_order es) ∙ ap (λ b. int_eq notice e.notice || b) (pending-in_order notice es)
+
+pub any-notices : (notice : ℤ) (es : List Entry) → list_any (int_eq notice) (notices_of es) ≡ is_pending notice es
+any-notices notice [] = refl
+any-notices notice (e ∷ es) = ap (λ b. int_eq notice e.notice || b) (any-notices notice es)
+
+-- ---- the entries without one
+
+-- where none has the notice
+without-none : (notice : ℤ) (es : List Entry) → ((x : Entry) → Member x es → int_eq notice x.notice ≡ false) → without notice es ≡ es
+without-none notice [] a = refl
+without-none notice (e ∷ es) a =
+    ap (λ b. cond (not b) (e ∷ without notice es) (without notice es)) (a e (inl refl))
+    ∙ ap (λ l. e ∷ l) (without-none notice es (λ x m. a x (inr m)))
+
+-- one that has it was put among them
+without-put : (notice : ℤ) (e : Entry) (es : List Entry) → int_eq notice e.notice ≡ true → without notice (put e es) ≡ without notice es
+without-put notice e [] t = ap (λ b. cond (not b) (e ∷ []) []) t
+without-put notice e (f ∷ fs) t = ⊎_elim
+    (λ lt. ap (without notice) (put_first e f fs lt) ∙ ap (λ b. cond (not b) (e ∷ without notice (f ∷ fs)) (without notice (f ∷ fs))) t)
+    (λ le. ap (without notice) (put_later e f fs le) ∙ ap (λ l. cond (not (int_eq notice f.notice)) (f ∷ l) l) (without-put notice e fs t))
+    (cases_lt e.number f.number)
+
+-- the others have other notices
+others_apart : (notice : ℤ) (es : List Entry) → AllByRecursion (λ n. int_eq notice n ≡ false) (notices_of es) → (x : Entry) → Member x es → int_eq notice x.notice ≡ false
+others_apart notice [] a x m = elim m [ ]
+others_apart notice (e ∷ es) a x m = ⊎_elim (λ is. ap (λ y. int_eq notice y.notice) is ∙ a.0) (λ rest. others_apart notice es a.1 x rest) m
+
+-- ---- the least entry
+
+-- starting from e, x is found where it is one of them and nothing comes before it
+finds : (e x : Entry) (es : List Entry) → (e ≡ x) ⊎ Member x es → ((y : Entry) → (y ≡ e) ⊎ Member y es → comes_before y x ≡ false) → ((y : Entry) → (y ≡ e) ⊎ Member y es → y.number ≡ x.number → y ≡ x) → fold earlier e es ≡ x
+finds e x [] m none one = ⊎_elim (λ is. is) (λ n. elim n [ ]) m
+finds e x (f ∷ fs) m none one = ⊎_elim
+    (λ t. ap (λ c. fold earlier (cond c f e) fs) t ∙ finds f x fs
+    (⊎_elim (λ is. absurd (let h = none f (inr (inl refl)) in let k : comes_before f x ≡ true = subst (λ z. comes_before f z ≡ true) is t in cc)) (λ n. ⊎_elim (λ is. inl (sym is)) inr n) m)
+    (λ y n. none y (⊎_elim (λ is. inr (inl is)) (λ r. inr (inr r)) n))
+    (λ y n. one y (⊎_elim (λ is. inr (inl is)) (λ r. inr (inr r)) n)))
+    (λ t. ap (λ c. fold earlier (cond c f e) fs) t ∙ finds e x fs
+    (⊎_elim inl (λ n. ⊎_elim (λ is. inl (one e (inl refl) (tied_numbers e x (none e (inl refl)) (subst (λ z. comes_before z e ≡ false) (sym is) t)))) inr n) m)
+    (λ y n. none y (⊎_elim inl (λ r. inr (inr r)) n))
+    (λ y n. one y (⊎_elim inl (λ r. inr (inr r)) n)))
+    (cases_Bool (comes_before f e))
+
+pub least_is : (x : Entry) (es : List Entry) → Member x es → ((y : Entry) → Member y es → comes_before y x ≡ false) → ((y : Entry) → Member y es → y.number ≡ x.number → y ≡ x) → least es ≡ Some x
+least_is x [] m none one = elim m [ ]
+least_is x (e ∷ es) m none one = ap Some (finds e x es (⊎_elim (λ is. inl (sym is)) inr m) none one)
+
+-- ---- what a call leaves
+
+neither : (b c : Bool) → (b || c) ≡ false → (b ≡ false) × (c ≡ false)
+neither true c h = absurd (cc)
+neither false c h = (refl, h)
+
+none_any : (p : ℤ → Bool) (ns : List ℤ) → list_any p ns ≡ false → AllByRecursion (λ n. p n ≡ false) ns
+none_any p [] e = tt
+none_any p (n ∷ ns) e = let h = neither (p n) (list_any p ns) e in (h.0, none_any p ns h.1)
+
+-- a fact of all of them, at one
+at_member : (P : Entry → Type 0) (es : List Entry) (x : Entry) → All P es → Member x es → P x
+at_member P es x all m = let c = place_of es x m in subst P c.2 (all c.0 x c.1)
+
+int_flips : (x y : ℤ) → int_eq x y ≡ int_eq y x
+int_flips x y = int_eq_equiv.symm x y
+
+-- entries of one number are one
+one_each : (es : List Entry) (x y : Entry) → Rising es → Member x es → Member y es → x.number ≡ y.number → x ≡ y
+one_each [] x y r m n e = elim m [ ]
+one_each (f ∷ fs) x y r m n e = ⊎_elim
+    (λ is. ⊎_elim (λ same. is ∙ sym same) (λ later. absurd (omega (arith, e, r.0 y later, ap (λ z. z.number) is))) n)
+    (λ rest. ⊎_elim (λ is. absurd (omega (arith, e, r.0 x rest, ap (λ z. z.number) is))) (λ later. one_each fs x y r.1 rest later e) n)
+    m
+
+module _ (old : List Entry) (count : ℕ) (a : IsAgenda old count) where
+  -- the first of the heap is the least
+  pub least_first : (x : Entry) → 0 < length old → x ≡ get_or old 0 x → least (in_order old) ≡ Some x
+  least_first x some is = least_is x (in_order old)
+      (in_order-member old x (member_at old 0 x some (sym is)))
+      (λ y m.
+      let c = place_of old y (member-in_order old y m) in
+      let h = first comes_before entries_rank old a.order c.0 c.0 (omega arith) c.1 y in
+      let top : get_or old 0 y ≡ x = get_or_default old 0 y x some ∙ sym is in
+      (λ i. comes_before (sym c.2 i) (sym top i)) ∙ h)
+      (λ y m e. one_each (in_order old) y x (rising-in_order old (apart_from_distinct old a.numbers)) m (in_order-member old x (member_at old 0 x some (sym is))) e)
+
+  module _ (e : Entry) (numbered : e.number ≡ count) where
+    new_number : AllByRecursion (λ m. nat_eq e.number m ≡ false) (numbers_of old)
+    new_number = below old (recursion_from_All (λ x. x.number < count) old a.numbered)
+      where
+        below : (es : List Entry) → AllByRecursion (λ x. x.number < count) es → AllByRecursion (λ m. nat_eq e.number m ≡ false) (numbers_of es)
+        below [] h = tt
+        below (x ∷ xs) h = let lt = h.0 in (grind (arith, nat_tests), below xs h.1)
+
+    numbers_after : IsDistinct nat_eq (numbers_of (e ∷ old))
+    numbers_after = IsDistinct-cons nat_eq e.number (numbers_of old) new_number a.numbers
+
+    -- a new entry goes last
+    pub in_order-inserted : (new : List Entry) → IsPermutation (e ∷ old) new → in_order new ≡ in_order old ++ e ∷ []
+    unfolding in_order
+    in_order-inserted new p =
+        sym (in_order-permutation (e ∷ old) new numbers_after p)
+        ∙ put_last e (in_order old) (λ x m. omega (arith, at_member (λ y. y.number < count) old x a.numbered (member-in_order old x m)))
+
+    pub agenda-inserted : (new : List Entry) → IsHeap comes_before new → IsPermutation (e ∷ old) new → list_any (int_eq e.notice) (notices_of old) ≡ false → count < MOST_SCHEDULINGS → IsAgenda new (count + 1)
+    agenda-inserted new h p fresh room = record {
+      order = h;
+      notices = IsDistinct-IsPermutation int_eq int_flips (notices_of (e ∷ old)) (notices_of new) (IsPermutation-map (λ x. x.notice) (e ∷ old) new p)
+          (IsDistinct-cons int_eq e.notice (notices_of old) (none_any (int_eq e.notice) (notices_of old) fresh) a.notices);
+      numbers = numbers-permutation (e ∷ old) new p numbers_after;
+      numbered = All-permutation (λ x. x.number < count + 1) (e ∷ old) new p (All-cons (λ x. x.number < count + 1) e old (omega arith) (λ k d lt. omega (arith, a.numbered k d lt)));
+      few = omega arith;
+    }
+
+  module _ (x : Entry) (new : List Entry) (p : IsPermutation old (x ∷ new)) where
+    notices_before : IsDistinct int_eq (notices_of (x ∷ new))
+    notices_before = IsDistinct-IsPermutation int_eq int_flips (notices_of old) (notices_of (x ∷ new)) (IsPermutation-map (λ e. e.notice) old (x ∷ new) p) a.notices
+
+    numbers_before : IsDistinct nat_eq (numbers_of (x ∷ new))
+    numbers_before = numbers-permutation old (x ∷ new) p a.numbers
+
+    pub agenda-taken : IsHeap comes_before new → IsAgenda new count
+    agenda-taken h = record {
+      order = h;
+      notices = IsDistinct-tail int_eq x.notice (notices_of new) notices_before;
+      numbers = IsDistinct-tail nat_eq x.number (numbers_of new) numbers_before;
+      numbered = All-tail (λ e. e.number < count) x new (All-permutation (λ e. e.number < count) old (x ∷ new) p a.numbered);
+      few = a.few;
+    }
+
+    -- the others stay in order
+    pub in_order-taken : (notice : ℤ) → int_eq notice x.notice ≡ true → in_order new ≡ without notice (in_order old)
+    unfolding in_order
+    in_order-taken notice t =
+        let others = others_apart x.notice new (IsDistinct-head int_eq x.notice (notices_of new) notices_before) in
+        sym (without-none notice (in_order new) (λ y m. int_eq_equiv.congr notice x.notice y.notice t ∙ others y (member-in_order new y m)))
+        ∙ sym (without-put notice x (in_order new) t)
+        ∙ ap (without notice) (sym (in_order-permutation old (x ∷ new) a.numbers p))
+
+-- ---- a heap whose entries stand for the entries of a list
+
+module _ (heap : List Entry) (entries : List Entry) (view : in_order heap ≡ entries) where
+  pub found-pending : (anew : List Entry) (z notice : ℤ) (b : Bool) → anew ≡ heap → z ≡ notice → b ≡ list_any (int_eq z) (notices_of anew) → b ≡ is_pending notice entries
+  found-pending anew z notice b same is h =
+      h ∙ (λ i. list_any (int_eq (is i)) (notices_of (same i)))
+      ∙ any-notices notice heap ∙ sym (pending-in_order notice heap) ∙ ap (is_pending notice) view
+
+  pub as_long : (anew : List Entry) → anew ≡ heap → length anew ≡ length entries
+  as_long anew same = ap length same ∙ sym (length-in_order heap) ∙ ap length view
+
+  -- the work is measured by the entries of the list
+  pub work_of : (anew : List Entry) (new : HeapEntries) → anew ≡ heap → IsLogarithmic (length anew) new → IsLogarithmic (length entries) new
+  work_of anew new same w = subst (λ n. IsLogarithmic n new) (as_long anew same) w
+
+-- ---- the answers of `least` and `take`
+
+module _ (heap : List Entry) (p : PendingList) (view : in_order heap ≡ p.entries) where
+  -- where the heap is empty
+  pub none_left : length heap ≡ 0 → p.entries ≡ []
+  unfolding in_order
+  none_left e = sym view ∙ ap in_order (nil_from_length heap e)
+
+  pub next-none : length heap ≡ 0 → next p ≡ None
+  next-none e = ap (λ es. option_map (λ (x : Entry). (x.key.time, x.notice)) (least es)) (none_left e)
+
+  pub after_next-none : length heap ≡ 0 → after_next p ≡ p
+  after_next-none e =
+      let is = none_left e in
+      ap (λ es. record p { entries = option_map_or (λ (x : Entry). without x.notice p.entries) (least es) [] }) is ∙ ap (λ es. record p { entries = es }) (sym is)
+
+  module _ (count : ℕ) (a : IsAgenda heap count) (x : Entry) (some : 0 < length heap) (is : x ≡ get_or heap 0 x) where
+    least_now : least p.entries ≡ Some x
+    least_now = ap least (sym view) ∙ least_first heap count a x some is
+
+    pub next-first : next p ≡ Some (x.key.time, x.notice)
+    next-first = ap (option_map (λ (e : Entry). (e.key.time, e.notice))) least_now
+
+    pub after_next-first : after_next p ≡ record p { entries = without x.notice p.entries }
+    after_next-first = ap (λ o. record p { entries = option_map_or (λ (e : Entry). without e.notice p.entries) o [] }) least_now
+
+-- the entry at the place of a notice has that notice
+pub found-at : (es : List Entry) (z notice : ℤ) (at : ℕ) (x : Entry) → z ≡ notice → Some at ≡ position (int_eq z) (notices_of es) → x ≡ get_or es at x → int_eq notice x.notice ≡ true
+found-at es z notice at x is place value =
+    let h = position-Some (int_eq z) (notices_of es) at x.notice (sym place) in
+    let within : at < length es = omega (arith, h.0, length-map es (λ (e : Entry). e.notice)) in
+    let read = get_or-map (λ (e : Entry). e.notice) es at x x.notice within ∙ ap (λ (e : Entry). e.notice) (sym value) in
+    (λ i. int_eq (sym is i) (sym read i)) ∙ h.1
+
+none_apart : {K : Type 0} (e : K → K → Bool) → IsDistinct e []
+unfolding IsDistinct
+none_apart e = tt
+
+-- an empty heap stands for an empty list
+pub agenda-none : (es : List Entry) → es ≡ [] → IsAgenda es 0
+agenda-none es e = subst (λ l. IsAgenda l 0) (sym e)
+    record {
+      order = record { order = λ p k child k_in d. absurd (omega (arith, k_in)) };
+      notices = none_apart int_eq;
+      numbers = none_apart nat_eq;
+      numbered = λ k d lt. absurd (omega arith);
+      few = omega arith;
+    }

@@ -1,0 +1,7 @@
+pub mod EntryOrder
+pub mod Heaps
+pub mod Sifts
+pub mod InOrders
+pub mod Agendas
+pub mod Outcomes
+pub mod Leasts

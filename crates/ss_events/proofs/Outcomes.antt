@@ -1,0 +1,45 @@
+-- What a schedule and a cancel answer, by the cases of their definitions.
+use Rattle.std.proofs.Common.{◌≡◌, ◌≢◌, ℕ, ◌+◌, ◌==◌, ℤ, Bool, true, false, cond, List, [], ◌∷◌, ◌++◌, Result, Ok, Err, refl, sym, ap, ◌∙◌, arith}
+use Rattle.std.proofs.lemmas.Bool.Decides.{nat_tests}
+use Rattle.ss_base.specs.declared.fault.FaultKind.{FaultKind}
+use Rattle.ss_base.specs.declared.fault.FaultKind.TheVariants.{AlreadyScheduled, NotScheduled, Overflow}
+use Rattle.ss_events.specs.declared.entry.TheConstants.{MOST_SCHEDULINGS}
+use Rattle.ss_events.specs.SortKey.{SortKey}
+use Rattle.ss_events.specs.HeapEntries.{notices_of}
+use Rattle.ss_events.specs.PendingList.{PendingList, is_pending, without, with_entry, scheduled, cancelled}
+
+-- ---- schedule
+
+module _ (key : SortKey) (notice : ℤ) (p : PendingList) where
+  choice : Bool → Bool → Result PendingList FaultKind
+  choice pending full = cond pending (Err AlreadyScheduled) (cond full (Err Overflow) (Ok (with_entry key notice p)))
+
+  pub scheduled-pending : is_pending notice p.entries ≡ true → scheduled key notice p ≡ Err AlreadyScheduled
+  unfolding choice
+  scheduled-pending t = ap (λ b. choice b (p.schedulings == MOST_SCHEDULINGS)) t
+
+  pub scheduled-full : is_pending notice p.entries ≡ false → p.schedulings ≡ MOST_SCHEDULINGS → scheduled key notice p ≡ Err Overflow
+  unfolding choice
+  scheduled-full t full =
+      let f : (p.schedulings == MOST_SCHEDULINGS) ≡ true = grind (arith, nat_tests) in
+      (λ i. choice (t i) (f i))
+
+  pub scheduled-room : is_pending notice p.entries ≡ false → p.schedulings ≢ MOST_SCHEDULINGS → scheduled key notice p ≡ Ok (with_entry key notice p)
+  unfolding choice
+  scheduled-room t room =
+      let f : (p.schedulings == MOST_SCHEDULINGS) ≡ false = grind (arith, nat_tests) in
+      (λ i. choice (t i) (f i))
+
+-- ---- cancel
+
+module _ (notice : ℤ) (p : PendingList) where
+  outcome : Bool → Result PendingList FaultKind
+  outcome pending = cond pending (Ok (record p { entries = without notice p.entries })) (Err NotScheduled)
+
+  pub cancelled-pending : is_pending notice p.entries ≡ true → cancelled notice p ≡ Ok (record p { entries = without notice p.entries })
+  unfolding outcome
+  cancelled-pending t = ap outcome t
+
+  pub cancelled-none : is_pending notice p.entries ≡ false → cancelled notice p ≡ Err NotScheduled
+  unfolding outcome
+  cancelled-none t = ap outcome t

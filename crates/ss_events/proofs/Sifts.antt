@@ -1,0 +1,306 @@
+-- Each step of an entry that rises or sinks in a heap.
+use Rattle.std.proofs.Common.{◌≡◌, ◌≢◌, ℕ, zero, suc, ◌+◌, ◌-◌, ◌*◌, ◌/◌, ◌<◌, ◌≤◌, ◌^◌, Bool, true, false, List, length, get_or, swap, refl, sym, ap, subst, ◌∙◌, ◌⊎◌, ⊎_elim, arith, [], ◌∷◌, ◌++◌, length-append}
+use Rattle.std.specs.List.Sorted.{IsPermutation}
+use Rattle.std.specs.Cmp.{IsStrictWeakOrder, IsTotalOrder}
+use Rattle.std.specs.Ordering.{nat_cmp}
+use Rattle.std.specs.List.{swap_remove}
+use Rattle.std.proofs.lemmas.List.Sorted.{IsPermutation-sym, IsPermutation-to_front, IsPermutation-cons, IsPermutation-swap_remove, IsPermutation-refl, IsPermutation-swap, IsPermutation-trans, length_permutation}
+use Rattle.std.proofs.lemmas.List.Edits.{length-swap}
+use Rattle.std.proofs.lemmas.Nat.{pow_pos, pow_below}
+use Rattle.std.proofs.lemmas.Grind.{pow_more}
+use Rattle.std.proofs.lemmas.Bool.{cases_lt, cases_eq}
+use Rattle.std.proofs.Math.Nat.{mul-le-mul_left, mul-le-mul_right}
+use Rattle.ss_events.specs.declared.entry.Entry.{Entry}
+use Rattle.ss_events.specs.HeapEntries.{HeapEntries}
+use Rattle.ss_events.specs.BinaryHeap.{IsChild, IsHeap, IsUnderParent, IsOverChildren, IsHeapBut, IsFirstChild}
+use Rattle.ss_events.specs.Order.{comes_before}
+use Rattle.ss_events.specs.Sifting.{Raises, CostsToRaise, Lowers, CostsToLower, Mends, CostsToMend, IsLogarithmic}
+use Rattle.ss_events.specs.Digits.{binary_digits}
+use Rattle.std.specs.Int.Digits.{digits_of, number_from_digits}
+use Rattle.std.proofs.lemmas.Int.Digits.{number_lt, number_digits_of, all_below_base_digits_of}
+use Rattle.ss_events.proofs.Heaps.{up_but, up_over, down_but, down_under, rests, leaf, closes, pushed, removed_but, removed_last, long-swap_remove}
+use Rattle.ss_events.proofs.EntryOrder.{entries_rank}
+
+-- ---- powers of two
+
+-- twice as far at twice the power
+halves : (at from k : ℕ) → 0 < at → (at + 1) * 2 ^ k ≤ from + 1 → ((at - 1) / 2 + 1) * 2 ^ (k + 1) ≤ from + 1
+halves at from k some h =
+    let q = (at - 1) / 2 in
+    let near : 2 * (q + 1) ≤ at + 1 = omega arith in
+    let scaled : (2 * (q + 1)) * 2 ^ k ≤ (at + 1) * 2 ^ k = mul-le-mul_right (2 ^ k) near in
+    rw (pow_more 2 k) (omega arith)
+
+-- so many levels stand above a place
+pub levels_above : (at from k : ℕ) → (at + 1) * 2 ^ k ≤ from + 1 → 2 ^ k ≤ from + 1
+levels_above at from k h =
+    let some : 1 * 2 ^ k ≤ (at + 1) * 2 ^ k = mul-le-mul_right (2 ^ k) (omega arith) in
+    omega arith
+
+-- fewer than 2 ^ 64 places have at most 64 levels
+pub few_levels : (k n : ℕ) → 2 ^ k ≤ n → n ≤ 2 ^ 64 → k ≤ 64
+few_levels k n le small = ⊎_elim (λ lt. absurd (omega (arith, pow_below 64 k lt))) (λ le. le) (cases_lt 64 k)
+
+-- a power above 1 is no more than 1 times
+no_level : (from k : ℕ) → (from + 1) * 2 ^ k ≤ from + 1 → k ≡ 0
+no_level from k h = ⊎_elim (λ e. e)
+    (λ some.
+    let two : 2 ≤ 2 ^ k = pow_below 0 k (omega arith) in
+    let twice : (from + 1) * 2 ≤ (from + 1) * 2 ^ k = mul-le-mul_left (from + 1) two in
+    absurd (omega arith))
+    (cases_eq k 0)
+
+-- ---- rising
+
+-- the entry that began at `from` is at `at`
+pub record Rising (old new : HeapEntries) (from at : ℕ) : Type 0 where
+  pub permutation : IsPermutation old.entries new.entries
+  pub within : at < length new.entries
+  pub up : at ≤ from
+  pub but : IsHeapBut comes_before old.entries from → IsHeapBut comes_before new.entries at
+  pub over : IsHeapBut comes_before old.entries from → at < from → IsOverChildren comes_before new.entries at
+  pub levels : ℕ
+  pub halved : (at + 1) * 2 ^ levels ≤ from + 1
+  pub comparisons : new.comparisons ≡ old.comparisons + levels
+  pub moves : new.moves ≡ old.moves + 2 * levels
+  pub some : at < from → 0 < levels
+
+pub rising_few : (old new : HeapEntries) (from at : ℕ) → Rising old new from at → from < 2 ^ 64 → (new.comparisons ≤ old.comparisons + 64) × (new.moves ≤ old.moves + 128)
+rising_few old new from at r small =
+    let few = few_levels r.levels (from + 1) (levels_above at from r.levels r.halved) (omega arith) in
+    (omega (arith, r.comparisons, few), omega (arith, r.moves, few))
+
+pub rising_begins : (old : HeapEntries) (from : ℕ) → from < length old.entries → Rising old old from from
+rising_begins old from within = record {
+  permutation = IsPermutation-refl old.entries;
+  within = within;
+  up = omega arith;
+  but = λ h. h;
+  over = λ h lt. absurd (omega arith);
+  levels = 0;
+  halved = omega arith;
+  comparisons = omega arith;
+  moves = omega arith;
+  some = λ lt. absurd (omega arith);
+}
+
+module _ (old was new : HeapEntries) (from at : ℕ) (some : 0 < at) (r : Rising old was from at) (t : (d : Entry) → comes_before (get_or was.entries at d) (get_or was.entries ((at - 1) / 2) d) ≡ true)
+    (entries : new.entries ≡ swap was.entries at ((at - 1) / 2)) (comparisons : new.comparisons ≡ was.comparisons + 1) (moves : new.moves ≡ was.moves + 2) where
+  child : IsChild ((at - 1) / 2) at
+  child = record { from = omega arith; to = omega arith }
+
+  pub rising_steps : Rising old new from ((at - 1) / 2)
+  rising_steps = record {
+    permutation = IsPermutation-trans old.entries was.entries new.entries r.permutation (IsPermutation-swap was.entries new.entries at ((at - 1) / 2) r.within (omega (arith, r.within)) entries);
+    within = omega (arith, r.within, ap length entries, length-swap was.entries at ((at - 1) / 2));
+    up = omega (arith, r.up);
+    but = λ h. up_but comes_before entries_rank was.entries new.entries ((at - 1) / 2) at child r.within entries t (r.but h);
+    over = λ h lt. up_over comes_before entries_rank was.entries new.entries ((at - 1) / 2) at child r.within entries t (r.but h);
+    levels = r.levels + 1;
+    halved = halves at from r.levels some r.halved;
+    comparisons = omega (arith, r.comparisons);
+    moves = omega (arith, r.moves);
+    some = λ lt. omega arith;
+  }
+
+-- it stands at the top
+pub rising_tops : (old new : HeapEntries) (from at : ℕ) → at ≤ 0 → Rising old new from at → Raises old.entries new.entries from at × CostsToRaise old new from at
+rising_tops old new from at top r = (
+  record {
+    permutation = r.permutation;
+    within = r.within;
+    up = r.up;
+    but = r.but;
+    under = λ h. record { order = λ p child d. absurd (omega (arith, child.from)) };
+    over = r.over;
+  },
+  record {
+    levels = r.levels;
+    halved = levels_above at from r.levels r.halved;
+    comparisons = r.comparisons;
+    moves = omega (arith, r.moves);
+    some = λ some. r.some (omega arith);
+    grows = omega (arith, r.moves);
+    still = λ e. omega (arith, r.moves, no_level from r.levels (subst (λ n. (n + 1) * 2 ^ r.levels ≤ from + 1) e r.halved));
+  },
+)
+
+-- its parent doesn't come after it
+pub rising_rests : (old was new : HeapEntries) (from at : ℕ) → 0 < at → Rising old was from at → ((d : Entry) → comes_before (get_or was.entries at d) (get_or was.entries ((at - 1) / 2) d) ≡ false) → new.entries ≡ was.entries → new.comparisons ≡ was.comparisons + 1 → new.moves ≡ was.moves → Raises old.entries new.entries from at × CostsToRaise old new from at
+rising_rests old was new from at some r f entries comparisons moves = (
+  subst (λ es. Raises old.entries es from at) (sym entries)
+      record {
+        permutation = r.permutation;
+        within = r.within;
+        up = r.up;
+        but = r.but;
+        under = λ h. record { order = λ p child d. let e : p ≡ (at - 1) / 2 = omega (arith, child.from, child.to) in subst (λ q. comes_before (get_or was.entries at d) (get_or was.entries q d) ≡ false) (sym e) (f d) };
+        over = r.over;
+      },
+  record {
+    levels = r.levels + 1;
+    halved = levels_above ((at - 1) / 2) from (r.levels + 1) (halves at from r.levels some r.halved);
+    comparisons = omega (arith, r.comparisons);
+    moves = omega (arith, r.moves);
+    some = λ h. omega arith;
+    grows = omega (arith, r.moves);
+    still = λ e. omega (arith, r.moves, no_level from r.levels (subst (λ n. (n + 1) * 2 ^ r.levels ≤ from + 1) e r.halved));
+  },
+)
+
+-- ---- sinking
+
+-- the entry that began at `from` is at `at`
+pub record Sinking (old new : HeapEntries) (from at : ℕ) : Type 0 where
+  pub permutation : IsPermutation old.entries new.entries
+  pub within : at < length new.entries
+  pub but : IsHeapBut comes_before old.entries from → IsUnderParent comes_before old.entries from → IsHeapBut comes_before new.entries at × IsUnderParent comes_before new.entries at
+  pub levels : ℕ
+  pub doubled : (from + 1) * 2 ^ levels ≤ at + 1
+  pub comparisons : new.comparisons ≤ old.comparisons + 2 * levels
+  pub moves : new.moves ≤ old.moves + 2 * levels
+
+pub sinking_few : (old new : HeapEntries) (from at : ℕ) → Sinking old new from at → length old.entries < 2 ^ 64 → (new.comparisons ≤ old.comparisons + 128) × (new.moves ≤ old.moves + 128)
+sinking_few old new from at r small =
+    let few = few_levels r.levels (at + 1) (levels_above from at r.levels r.doubled) (omega (arith, r.within, length_permutation old.entries new.entries r.permutation)) in
+    (omega (arith, r.comparisons, few), omega (arith, r.moves, few))
+
+pub sinking_begins : (old : HeapEntries) (from : ℕ) → from < length old.entries → Sinking old old from from
+sinking_begins old from within = record {
+  permutation = IsPermutation-refl old.entries;
+  within = within;
+  but = λ h under. (h, under);
+  levels = 0;
+  doubled = omega arith;
+  comparisons = omega arith;
+  moves = omega arith;
+}
+
+-- twice as far at twice the power
+doubles : (from at c k : ℕ) → IsChild at c → (from + 1) * 2 ^ k ≤ at + 1 → (from + 1) * 2 ^ (k + 1) ≤ c + 1
+doubles from at c k child h =
+    let near : 2 * (at + 1) ≤ c + 1 = omega (arith, child.from) in
+    rw (pow_more 2 k) (omega arith)
+
+module _ (old was new : HeapEntries) (from at c : ℕ) (r : Sinking old was from at) (best : IsFirstChild comes_before was.entries at c) (t : (d : Entry) → comes_before (get_or was.entries c d) (get_or was.entries at d) ≡ true)
+    (entries : new.entries ≡ swap was.entries at c) (comparisons : new.comparisons ≤ was.comparisons + 2) (moves : new.moves ≡ was.moves + 2) where
+  pub sinking_steps : Sinking old new from c
+  sinking_steps = record {
+    permutation = IsPermutation-trans old.entries was.entries new.entries r.permutation (IsPermutation-swap was.entries new.entries at c r.within best.within entries);
+    within = omega (arith, best.within, ap length entries, length-swap was.entries at c);
+    but = λ h under. (down_but comes_before was.entries new.entries at c best entries (r.but h under).0, down_under comes_before was.entries new.entries at c best entries entries_rank t);
+    levels = r.levels + 1;
+    doubled = doubles from at c r.levels best.child r.doubled;
+    comparisons = omega (arith, r.comparisons);
+    moves = omega (arith, r.moves);
+  }
+
+pub sinking_leaf : (old was new : HeapEntries) (from at : ℕ) → Sinking old was from at → length was.entries ≤ 2 * at + 1 → new.entries ≡ was.entries → new.comparisons ≤ was.comparisons → new.moves ≡ was.moves → Lowers old.entries new.entries from × CostsToLower old new from
+sinking_leaf old was new from at r le entries comparisons moves = (
+  subst (λ es. Lowers old.entries es from) (sym entries)
+      record {
+        permutation = r.permutation;
+        heap = λ h under. closes comes_before was.entries at (r.but h under).0 (r.but h under).1 (leaf comes_before was.entries at le);
+      },
+  record {
+    levels = r.levels;
+    doubled = omega (arith, r.doubled, r.within, length_permutation old.entries was.entries r.permutation);
+    comparisons = omega (arith, r.comparisons);
+    moves = omega (arith, r.moves);
+  },
+)
+
+pub sinking_rests : (old was new : HeapEntries) (from at c : ℕ) → Sinking old was from at → IsFirstChild comes_before was.entries at c → ((d : Entry) → comes_before (get_or was.entries c d) (get_or was.entries at d) ≡ false) → new.entries ≡ was.entries → new.comparisons ≤ was.comparisons + 2 → new.moves ≡ was.moves → Lowers old.entries new.entries from × CostsToLower old new from
+sinking_rests old was new from at c r best f entries comparisons moves = (
+  subst (λ es. Lowers old.entries es from) (sym entries)
+      record {
+        permutation = r.permutation;
+        heap = λ h under. closes comes_before was.entries at (r.but h under).0 (r.but h under).1 (rests comes_before entries_rank was.entries at c best f);
+      },
+  record {
+    levels = r.levels + 1;
+    doubled = omega (arith, doubles from at c r.levels best.child r.doubled, best.within, length_permutation old.entries was.entries r.permutation);
+    comparisons = omega (arith, r.comparisons);
+    moves = omega (arith, r.moves);
+  },
+)
+
+-- ---- both, and the whole changes
+
+-- no more levels than there are binary digits
+pub levels_digits : (k held : ℕ) → 2 ^ k ≤ held + 1 → k ≤ binary_digits held
+levels_digits k held fits =
+    let b = binary_digits held in
+    let short : number_from_digits 2 (digits_of 2 held) < 2 ^ b = number_lt 2 (digits_of 2 held) (all_below_base_digits_of 2 held (omega arith)) in
+    let below : held < 2 ^ b = subst (λ n. n < 2 ^ b) (number_digits_of 2 held (omega arith)) short in
+    ⊎_elim (λ lt. absurd (omega (arith, pow_below b k lt))) (λ le. le) (cases_lt b k)
+
+pub mended_up : (old new : List Entry) (at to : ℕ) → (to ≡ at → ⊥) → Raises old new at to → Mends old new at
+mended_up old new at to moved r = record {
+  permutation = r.permutation;
+  heap = λ h. closes comes_before new to (r.but h) (r.under h) (r.over h (omega (arith, r.up)));
+}
+
+pub mended_down : (old was new : List Entry) (at to : ℕ) → to ≡ at → Raises old was at to → Lowers was new at → Mends old new at
+mended_down old was new at to still r l = record {
+  permutation = IsPermutation-trans old was new r.permutation l.permutation;
+  heap = λ h. l.heap (subst (IsHeapBut comes_before was) still (r.but h)) (subst (IsUnderParent comes_before was) still (r.under h));
+}
+
+pub cost_up : (old new : HeapEntries) (at to : ℕ) → at < length old.entries → CostsToRaise old new at to → CostsToMend old new
+cost_up old new at to within u = record {
+  levels = u.levels;
+  fits = omega (arith, u.halved);
+  comparisons = omega (arith, u.comparisons);
+  moves = u.moves;
+}
+
+pub cost_down : (old was new : HeapEntries) (at to : ℕ) → at < length old.entries → length was.entries ≡ length old.entries → to ≡ at → CostsToRaise old was at to → CostsToLower was new at → CostsToMend old new
+cost_down old was new at to within long still u l =
+    let deep = levels_above at (length was.entries - 1) l.levels (omega (arith, l.doubled)) in
+    ⊎_elim
+    (λ lt. record { levels = l.levels; fits = omega (arith, deep); comparisons = omega (arith, u.comparisons, l.comparisons); moves = omega (arith, u.still still, l.moves) })
+    (λ le. record { levels = u.levels; fits = omega (arith, u.halved); comparisons = omega (arith, u.comparisons, l.comparisons); moves = omega (arith, u.still still, l.moves) })
+    (cases_lt u.levels l.levels)
+
+-- a new entry that rose from the end
+module _ (old put new : List Entry) (entry : Entry) (from to : ℕ) (is : put ≡ old ++ entry ∷ []) (last : from ≡ length old) (raised : Raises put new from to) where
+  r : Raises (old ++ entry ∷ []) new (length old) to
+  r = subst (λ es. Raises es new (length old) to) is (subst (λ k. Raises put new k to) last raised)
+
+  pub inserted : IsHeap comes_before old → IsHeap comes_before new
+  inserted h =
+      let but = pushed comes_before old entry h in
+      let long : length new ≡ length old + 1 = omega (arith, length_permutation (old ++ entry ∷ []) new r.permutation, length-append old (entry ∷ [])) in
+      let over : IsOverChildren comes_before new to = ⊎_elim (r.over but) (λ le. leaf comes_before new to (omega (arith, r.up))) (cases_lt to (length old)) in
+      closes comes_before new to (r.but but) (r.under but) over
+
+  pub inserted_all : IsPermutation (entry ∷ old) new
+  inserted_all = IsPermutation-trans (entry ∷ old) (old ++ entry ∷ []) new (IsPermutation-sym (old ++ entry ∷ []) (entry ∷ old) (IsPermutation-to_front old entry)) r.permutation
+
+pub insert_work : (old new : HeapEntries) (held from to : ℕ) → old.comparisons ≡ 0 → old.moves ≡ 1 → from ≡ held → CostsToRaise old new from to → IsLogarithmic held new
+insert_work old new held from to none one last u =
+    let few = levels_digits u.levels held (omega (arith, u.halved)) in
+    record { comparisons = omega (arith, u.comparisons); moves = omega (arith, u.moves) }
+
+-- an entry that was taken out of a heap, where the last entry took its place
+module _ (old mid : List Entry) (at : ℕ) (entry : Entry) (within : at < length old) (is : entry ≡ get_or old at entry) (rest : mid ≡ swap_remove old at entry) where
+  pub taken_long : length mid + 1 ≡ length old
+  taken_long = omega (arith, ap length rest, long-swap_remove comes_before old at entry within)
+
+  pub taken_all : IsPermutation old (entry ∷ mid)
+  taken_all = subst (λ es. IsPermutation old (entry ∷ es)) (sym rest) (IsPermutation-swap_remove old at entry within is)
+
+  pub taken_last : length mid ≤ at → IsHeap comes_before old → IsHeap comes_before mid
+  taken_last le h = subst (IsHeap comes_before) (sym rest) (removed_last comes_before old at entry within (omega (arith, taken_long)) h)
+
+  pub taken_but : IsHeap comes_before old → IsHeapBut comes_before mid at
+  taken_but h = subst (λ es. IsHeapBut comes_before es at) (sym rest) (removed_but comes_before old at entry within entries_rank h)
+
+  pub taken_mended : (new : List Entry) → Mends mid new at → IsPermutation old (entry ∷ new)
+  taken_mended new m = IsPermutation-trans old (entry ∷ mid) (entry ∷ new) taken_all (IsPermutation-cons entry mid new m.permutation)
+
+pub take_work : (old new : HeapEntries) (held : ℕ) → old.comparisons ≡ 0 → old.moves ≤ 1 → length old.entries + 1 ≡ held → CostsToMend old new → IsLogarithmic held new
+take_work old new held none one less u =
+    let few = levels_digits u.levels held (omega (arith, u.fits)) in
+    record { comparisons = omega (arith, u.comparisons); moves = omega (arith, u.moves) }

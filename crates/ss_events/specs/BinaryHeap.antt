@@ -1,0 +1,36 @@
+-- The order of a binary heap: the place p has the children 2 p + 1 and 2 p + 2.
+use Rattle.std.specs.Prelude.{◌≡◌, ◌≢◌, ℕ, ◌+◌, ◌*◌, ◌<◌, ◌≤◌, ◌^◌, Bool, false, List, length, slice_index_or}
+use Rattle.ss_events.specs.HeapEntries.{HeapEntries}
+
+-- k is a child of p
+pub record IsChild (p k : ℕ) : Type 0 where
+  pub from : 2 * p + 1 ≤ k
+  pub to : k ≤ 2 * p + 2
+
+module _ {X : Type 0} (before : X → X → Bool) where
+  -- what stands at k doesn't come before what stands at p
+  abbrev pub InOrder : List X → ℕ → ℕ → Type 0
+  InOrder xs p k = (d : X) → before (slice_index_or xs k d) (slice_index_or xs p d) ≡ false
+
+  -- nothing comes before its parent
+  pub record IsHeap (xs : List X) : Type 0 where
+    pub order : (p k : ℕ) → IsChild p k → k < length xs → InOrder xs p k
+
+  -- `at` doesn't come before its parent
+  pub record IsUnderParent (xs : List X) (at : ℕ) : Type 0 where
+    pub order : (p : ℕ) → IsChild p at → InOrder xs p at
+
+  -- no child of `at` comes before it
+  pub record IsOverChildren (xs : List X) (at : ℕ) : Type 0 where
+    pub order : (k : ℕ) → IsChild at k → k < length xs → InOrder xs at k
+
+  -- a heap, but for what stands at `at`: the others are in order, those below `at` and that above it too
+  pub record IsHeapBut (xs : List X) (at : ℕ) : Type 0 where
+    pub others : (p k : ℕ) → IsChild p k → k < length xs → p ≢ at → k ≢ at → InOrder xs p k
+    pub across : (p k : ℕ) → IsChild p at → IsChild at k → k < length xs → InOrder xs p k
+
+  -- c is a child of `at`, and no child of `at` comes before it
+  pub record IsFirstChild (xs : List X) (at c : ℕ) : Type 0 where
+    pub child : IsChild at c
+    pub within : c < length xs
+    pub order : (k : ℕ) → IsChild at k → k < length xs → InOrder xs c k

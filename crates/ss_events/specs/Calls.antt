@@ -1,0 +1,46 @@
+-- Lists of calls of an event list: what each answers, and what they leave.
+use Rattle.std.specs.Prelude.{◌≡◌, ℕ, ℤ, Bool, List, [], ◌∷◌, Option, Some, None, Result, Ok, Err}
+use Rattle.std.specs.Result.{result_unwrap_or}
+use Rattle.ss_base.specs.declared.fault.FaultKind.{FaultKind}
+use Rattle.ss_events.specs.declared.calls.Call.{Call}
+use Rattle.ss_events.specs.declared.calls.Call.TheVariants.{Schedule, Cancel, Least, Take}
+use Rattle.ss_events.specs.declared.calls.Answer.{Answer}
+use Rattle.ss_events.specs.declared.calls.Answer.TheVariants.{Done, Faulted, Next}
+use Rattle.ss_events.specs.declared.key.TieShape.{TieShape}
+use Rattle.ss_events.specs.PendingList.{PendingList, FitsClass, scheduled, cancelled, next, after_next}
+
+-- what a call fits, where it schedules: its key fits a class
+abbrev pub FitsCall : List (List TieShape) → Call → Type 0
+FitsCall classes (Schedule time rank ties notice) = FitsClass classes (record { time = time; rank = rank; ties = ties.now })
+FitsCall classes (Cancel notice) = Unit {0}
+FitsCall classes Least = Unit {0}
+FitsCall classes Take = Unit {0}
+
+-- done, or the fault
+abbrev pub outcome_of : Result PendingList FaultKind → Answer
+outcome_of (Ok p) = Done
+outcome_of (Err kind) = Faulted kind
+
+-- what a call of a list answers
+abbrev pub answer_of : Call → PendingList → Answer
+answer_of (Schedule time rank ties notice) p = outcome_of (scheduled (record { time = time; rank = rank; ties = ties.now }) notice p)
+answer_of (Cancel notice) p = outcome_of (cancelled notice p)
+answer_of Least p = Next (next p)
+answer_of Take p = Next (next p)
+
+-- the list after a call
+abbrev pub after_call : Call → PendingList → PendingList
+after_call (Schedule time rank ties notice) p = result_unwrap_or (scheduled (record { time = time; rank = rank; ties = ties.now }) notice p) p
+after_call (Cancel notice) p = result_unwrap_or (cancelled notice p) p
+after_call Least p = p
+after_call Take p = after_next p
+
+-- what each of some calls answers in turn
+abbrev pub answers_of : List Call → PendingList → List Answer
+answers_of [] p = []
+answers_of (call ∷ calls) p = answer_of call p ∷ answers_of calls (after_call call p)
+
+-- the list after all of them
+abbrev pub after_calls : List Call → PendingList → PendingList
+after_calls [] p = p
+after_calls (call ∷ calls) p = after_calls calls (after_call call p)

@@ -1,0 +1,31 @@
+-- How the entries of a heap stand for the entries of an event list.
+use Rattle.std.specs.Prelude.{◌≡◌, ℕ, ◌<◌, ◌≤◌, nat_lt, nat_eq, List, [], ◌∷◌, map, if◌then◌else◌}
+use Rattle.std.specs.Ordering.{int_eq}
+use Rattle.std.specs.List.{IsDistinct, All}
+use Rattle.ss_events.specs.declared.entry.Entry.{Entry}
+use Rattle.ss_events.specs.declared.entry.TheConstants.{MOST_SCHEDULINGS}
+use Rattle.ss_events.specs.HeapEntries.{notices_of}
+use Rattle.ss_events.specs.BinaryHeap.{IsHeap}
+use Rattle.ss_events.specs.Order.{comes_before}
+
+-- an entry put among entries in the order of scheduling
+abbrev pub put : Entry → List Entry → List Entry
+put e [] = e ∷ []
+put e (f ∷ fs) = if nat_lt e.number f.number then e ∷ f ∷ fs else f ∷ put e fs
+
+-- entries in the order of scheduling
+unfoldable pub in_order : List Entry → List Entry
+in_order [] = []
+in_order (e ∷ es) = put e (in_order es)
+
+-- the numbers of entries
+abbrev pub numbers_of : List Entry → List ℕ
+numbers_of es = map (λ e. e.number) es
+
+-- what is true of the entries of an event list's heap, after so many schedulings
+pub record IsAgenda (entries : List Entry) (schedulings : ℕ) : Type 0 where
+  pub order : IsHeap comes_before entries
+  pub notices : IsDistinct int_eq (notices_of entries)
+  pub numbers : IsDistinct nat_eq (numbers_of entries)
+  pub numbered : All (λ e. e.number < schedulings) entries
+  pub few : schedulings ≤ MOST_SCHEDULINGS

@@ -1,0 +1,10 @@
+pub mod SortKey
+pub mod Shape
+pub mod Order
+pub mod Digits
+pub mod PendingList
+pub mod HeapEntries
+pub mod BinaryHeap
+pub mod Sifting
+pub mod InOrder
+pub mod Calls

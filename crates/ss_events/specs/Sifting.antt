@@ -1,0 +1,56 @@
+-- What it does and costs to let an entry of a heap rise or sink.
+use Rattle.std.specs.Prelude.{◌≡◌, ℕ, ◌+◌, ◌*◌, ◌<◌, ◌≤◌, ◌^◌, List, length}
+use Rattle.std.specs.List.Sorted.{IsPermutation}
+use Rattle.ss_events.specs.declared.entry.Entry.{Entry}
+use Rattle.ss_events.specs.HeapEntries.{HeapEntries}
+use Rattle.ss_events.specs.BinaryHeap.{IsHeap, IsHeapBut, IsUnderParent, IsOverChildren}
+use Rattle.ss_events.specs.Order.{comes_before}
+use Rattle.ss_events.specs.Digits.{binary_digits}
+
+-- the entry at `from` rose to the place `to`, under its parent, and if it moved it is over its children
+pub record Raises (old new : List Entry) (from to : ℕ) : Type 0 where
+  pub permutation : IsPermutation old new
+  pub within : to < length new
+  pub up : to ≤ from
+  pub but : IsHeapBut comes_before old from → IsHeapBut comes_before new to
+  pub under : IsHeapBut comes_before old from → IsUnderParent comes_before new to
+  pub over : IsHeapBut comes_before old from → to < from → IsOverChildren comes_before new to
+
+-- it looked at so many levels, each half as far from the top: a comparison each, and two moves for each that it passed
+pub record CostsToRaise (old new : HeapEntries) (from to : ℕ) : Type 0 where
+  pub levels : ℕ
+  pub halved : 2 ^ levels ≤ from + 1
+  pub comparisons : new.comparisons ≡ old.comparisons + levels
+  pub moves : new.moves ≤ old.moves + 2 * levels
+  pub some : 0 < from → 0 < levels
+  pub grows : old.moves ≤ new.moves
+  pub still : to ≡ from → new.moves ≡ old.moves
+
+-- the entry at `from`, which was under its parent, sank until all were in order
+pub record Lowers (old new : List Entry) (from : ℕ) : Type 0 where
+  pub permutation : IsPermutation old new
+  pub heap : IsHeapBut comes_before old from → IsUnderParent comes_before old from → IsHeap comes_before new
+
+-- it looked at so many levels, each twice as far from the top: two comparisons and two moves each at most
+pub record CostsToLower (old new : HeapEntries) (from : ℕ) : Type 0 where
+  pub levels : ℕ
+  pub doubled : (from + 1) * 2 ^ levels ≤ length old.entries
+  pub comparisons : new.comparisons ≤ old.comparisons + 2 * levels
+  pub moves : new.moves ≤ old.moves + 2 * levels
+
+-- the entry at `from` was put in order
+pub record Mends (old new : List Entry) (from : ℕ) : Type 0 where
+  pub permutation : IsPermutation old new
+  pub heap : IsHeapBut comes_before old from → IsHeap comes_before new
+
+-- it looked at no more levels than there are upwards, or downwards
+pub record CostsToMend (old new : HeapEntries) : Type 0 where
+  pub levels : ℕ
+  pub fits : 2 ^ levels ≤ length old.entries
+  pub comparisons : new.comparisons ≤ old.comparisons + 3 * levels
+  pub moves : new.moves ≤ old.moves + 2 * levels
+
+-- the work of one change to a heap that held so many entries
+pub record IsLogarithmic (held : ℕ) (new : HeapEntries) : Type 0 where
+  pub comparisons : new.comparisons ≤ 3 * binary_digits held
+  pub moves : new.moves ≤ 3 * binary_digits held + 4

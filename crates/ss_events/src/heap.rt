@@ -1,0 +1,145 @@
+// The entries of the event list in the places of a binary heap.
+ghost use Rattle.std.specs.Prelude.{false, pos, ℕ, ◌≡◌, ◌<◌, ◌+◌, ◌++◌, ◌∷◌, ◌^◌, ◌==◌, if◌then◌else◌, [], length, swap, slice_get, slice_index_or, OnOk, OnErr, Some, None, IfSome, position, is_some};
+ghost use Rattle.std.specs.Ordering.{int_eq};
+ghost use Rattle.std.specs.List.{swap_remove, list_any};
+ghost use Rattle.ss_events.specs.declared.entry.Entry.{Entry};
+ghost use Rattle.ss_events.specs.HeapEntries.{notices_of};
+ghost use Rattle.ss_events.specs.Order.{comes_before};
+
+use crate::entry::Entry;
+use crate::order::comes_before;
+use crate::places::Places;
+use std::alloc::{AllocError, Global};
+use std::marker::Model;
+
+/// Entries in places from 0 on, with the place of each notice.
+///
+/// It counts each comparison of two keys and each write of an entry into a place.
+#[derive(Drop)]
+pub struct Heap {
+    entries: Vec<Entry>,
+    places: Places,
+    comparisons: u64,
+    moves: u64,
+}
+
+impl Model for Heap {
+    ghost use Rattle.std.specs.Prelude.{◌≡◌};
+    ghost use Rattle.ss_events.specs.HeapEntries.{HeapEntries, notices_of};
+
+    ghost Value = { HeapEntries };
+
+    ghost view = { λ h. record { entries = h.entries.items; comparisons = h.comparisons; moves = h.moves } };
+
+    ghost invariant = { λ h. h.places ≡ notices_of h.entries.items };
+}
+
+impl Heap {
+    pub fn new(alloc: Global) -> Heap
+        ensures { result ≡ record { entries = []; comparisons = 0; moves = 0 } }
+    {
+        Heap {
+            entries: Vec::new(alloc),
+            places: Places::new(alloc),
+            comparisons: 0,
+            moves: 0,
+        }
+    }
+
+    pub fn len(&self) -> usize
+        ensures { result ≡ length self.now.entries }
+    {
+        self.entries.len()
+    }
+
+    pub fn comparisons(&self) -> u64
+        ensures { result ≡ self.now.comparisons }
+    {
+        self.comparisons
+    }
+
+    pub fn moves(&self) -> u64
+        ensures { result ≡ self.now.moves }
+    {
+        self.moves
+    }
+
+    /// Begins to count anew.
+    pub fn reset_counts(&mut self)
+        ensures { self.new ≡ record self.old { comparisons = 0; moves = 0 } }
+    {
+        self.comparisons = 0;
+        self.moves = 0;
+    }
+
+    /// The place of the entry of a notice.
+    pub fn find(&self, notice: i64) -> Option<usize>
+        ensures place { result ≡ position (int_eq notice) (notices_of self.now.entries) }
+        ensures found { is_some result ≡ list_any (int_eq notice) (notices_of self.now.entries) }
+    {
+        self.places.find(notice)
+    }
+
+    /// The entry at a place.
+    pub fn at(&self, place: usize) -> &Entry
+        requires { place < length self.now.entries }
+        ensures { slice_get self.now.entries place ≡ Some result.now }
+    {
+        &self.entries[place]
+    }
+
+    /// Whether the entry at place `a` comes out before that at `b`. Counts a comparison.
+    pub fn is_before(&mut self, a: usize, b: usize) -> bool
+        requires a_within { a < length self.old.entries }
+        requires b_within { b < length self.old.entries }
+        requires countable { self.old.comparisons + 1 < 2 ^ 64 }
+        ensures value { (d : Entry) → result ≡ comes_before (slice_index_or self.old.entries a d) (slice_index_or self.old.entries b d) }
+        ensures counted { self.new ≡ record self.old { comparisons = self.old.comparisons + 1 } }
+    {
+        self.comparisons += 1;
+        comes_before(&self.entries[a], &self.entries[b])
+    }
+
+    /// Lets the entries of two places change places. Counts two moves.
+    pub fn swap(&mut self, a: usize, b: usize)
+        requires a_within { a < length self.old.entries }
+        requires b_within { b < length self.old.entries }
+        requires countable { self.old.moves + 2 < 2 ^ 64 }
+        ensures { self.new ≡ record self.old { entries = swap self.old.entries a b; moves = self.old.moves + 2 } }
+    {
+        self.moves += 2;
+        self.entries.swap(a, b);
+        self.places.swap(a, b);
+    }
+
+    /// Puts an entry into the next place. Counts a move.
+    pub fn push(&mut self, entry: Entry) -> Result<(), AllocError>
+        requires fresh { list_any (int_eq entry.notice) (notices_of self.old.entries) ≡ false }
+        requires countable { self.old.moves + 1 < 2 ^ 64 }
+        ensures ok { OnOk result (self.new ≡ record self.old { entries = self.old.entries ++ entry ∷ []; moves = self.old.moves + 1 }) }
+        ensures err { OnErr result (self.new ≡ self.old) }
+    {
+        self.entries.reserve(1)?;
+        self.places.push(entry.notice)?;
+        if self.entries.push(entry).is_err() {
+            unreachable!();
+        }
+        self.moves += 1;
+        Ok(())
+    }
+
+    /// Takes the entry out of a place, into which the last one moves. Counts that move.
+    pub fn remove(&mut self, at: usize) -> Entry
+        requires within { at < length self.old.entries }
+        requires countable { self.old.moves + 1 < 2 ^ 64 }
+        ensures value { result ≡ slice_index_or self.old.entries at result }
+        ensures entries { self.new.entries ≡ swap_remove self.old.entries at result }
+        ensures comparisons { self.new.comparisons ≡ self.old.comparisons }
+        ensures moves { self.new.moves ≡ (if at + 1 == length self.old.entries then self.old.moves else self.old.moves + 1) }
+    {
+        let last = self.entries.len() - 1;
+        self.moves += u64::from(at != last);
+        self.places.remove(at);
+        self.entries.swap_remove(at)
+    }
+}

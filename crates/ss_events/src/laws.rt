@@ -1,0 +1,20 @@
+// What is true of the order of entries and of the least of them, whatever they are.
+ghost use Rattle.std.specs.Prelude.{◌≡◌, false, [], List, All, Contains, IsNone, IfSome, ◌↔◌};
+ghost use Rattle.std.specs.Cmp.{IsTotalOrder};
+ghost use Rattle.std.specs.declared.cmp.Ordering.TheVariants.{Equal};
+ghost use Rattle.ss_events.specs.declared.entry.Entry.{Entry};
+ghost use Rattle.ss_events.specs.Order.{entry_order, comes_before};
+ghost use Rattle.ss_events.specs.PendingList.{least};
+
+/// The order of entries is total, and it doesn't part only what came of one scheduling.
+pub fn order_is_total()
+    ensures total { IsTotalOrder entry_order }
+    ensures parts { (a b : Entry) → entry_order a b ≡ Equal → a.number ≡ b.number }
+{}
+
+/// The least of some entries is one of them, and none comes out before it.
+pub fn least_comes_first()
+    ensures none { (entries : List Entry) → IsNone (least entries) ↔ (entries ≡ []) }
+    ensures one { (entries : List Entry) → IfSome (least entries) (Contains entries) }
+    ensures first { (entries : List Entry) → IfSome (least entries) (λ e. All (λ f. comes_before f e ≡ false) entries) }
+{}

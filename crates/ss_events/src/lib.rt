@@ -1,0 +1,20 @@
+//! The event list: pending notices in the order in which they come out.
+#![tactic(auto)]
+
+mod calls;
+mod entry;
+mod heap;
+mod key;
+mod laws;
+mod order;
+mod pending;
+mod places;
+mod sift;
+#[cfg(test)]
+mod tests;
+
+pub use calls::{Answer, Call};
+pub use entry::MOST_SCHEDULINGS;
+pub use key::{Key, Tie, TieShape};
+pub use laws::{least_comes_first, order_is_total};
+pub use pending::Pending;

@@ -1,0 +1,197 @@
+ghost use Rattle.std.specs.Prelude.{◌≡◌, ℕ, ◌+◌, ◌*◌, ◌<◌, ◌≤◌, IfOk, IfErr, OnOk, OnErr, Ok, Err, Some, slice_get, length, map, IsTrue, ◌↔◌};
+ghost use Rattle.ss_events.specs.Shape.{shape_of};
+
+use crate::entry::{Entry, MOST_SCHEDULINGS};
+use crate::heap::Heap;
+use crate::key::{Key, Tie, TieShape};
+use crate::sift::{insert, take_out};
+use ss_base::{FaultKind, Refused};
+use std::alloc::{AllocError, Global};
+use std::marker::Model;
+
+/// The event list: the pending notices, which come out one by one.
+///
+/// The least comes first: by time; then by the rank of its class; then by the ties of its class in turn, each low
+/// or high; then by the order of scheduling. A contract sees the list of the entries in the order of
+/// scheduling, how many schedulings there were, the tie shapes of the classes, and the comparisons and the moves of
+/// the last call that takes `&mut self`.
+#[derive(Drop)]
+pub struct Pending {
+    heap: Heap,
+    schedulings: u64,
+    classes: Vec<Vec<TieShape>>,
+}
+
+impl Model for Pending {
+    ghost use Rattle.std.specs.Prelude.{map};
+    ghost use Rattle.ss_events.specs.PendingList.{CountedList};
+    ghost use Rattle.ss_events.specs.InOrder.{in_order, IsAgenda};
+
+    ghost Value = { CountedList };
+
+    ghost view = { λ p. record { list = record { entries = in_order p.heap.entries; schedulings = p.schedulings; classes = map (λ shapes. shapes.items) p.classes.items }; comparisons = p.heap.comparisons; moves = p.heap.moves } };
+
+    ghost invariant = { λ p. IsAgenda p.heap.entries p.schedulings };
+}
+
+impl Pending {
+    ghost use Rattle.ss_events.specs.Digits.{binary_digits};
+    ghost use Rattle.ss_events.specs.PendingList.{none_pending, FitsClass, is_pending, scheduled, IsRefusal, cancelled, next, after_next};
+
+    /// No notice is pending. `classes` has the shapes of the ties of each class, by its rank.
+    pub fn new(alloc: Global, classes: &[Vec<TieShape>]) -> Result<Pending, AllocError>
+        ensures { IfOk result (λ pending. pending ≡ record { list = none_pending (map (λ shapes. shapes.items) classes.now); comparisons = 0; moves = 0 }) }
+    {
+        Ok(Pending {
+            heap: Heap::new(alloc),
+            schedulings: 0,
+            classes: copied(alloc, classes)?,
+        })
+    }
+
+    /// Whether the rank of a key is that of a class, and its ties have the shapes of that class.
+    pub fn fits(&self, key: &Key) -> bool
+        ensures { IsTrue result ↔ FitsClass self.now.list.classes key.now }
+    {
+        self.fits_class(key.rank(), key.ties())
+    }
+
+    // Whether a rank is that of a class, and these ties have the shapes of that class.
+    pub(crate) fn fits_class(&self, rank: usize, ties: &[Tie]) -> bool
+        ensures { IsTrue result ↔ (slice_get self.now.list.classes rank ≡ Some (map shape_of ties.now)) }
+    {
+        let Some(shapes) = self.classes.get(rank) else {
+            return false;
+        };
+        have_shapes(ties, shapes)
+    }
+
+    /// Schedules a notice under a key. Refused where the notice is pending (`AlreadyScheduled`), then where there were
+    /// `MOST_SCHEDULINGS` schedulings (`Overflow`), then where no memory is left (`Memory`), with the list as it was.
+    pub fn schedule(&mut self, key: Key, notice: i64) -> Result<(), Refused>
+        requires fits { FitsClass self.old.list.classes key }
+
+        ensures ok { OnOk result (scheduled key notice self.old.list ≡ Ok self.new.list) }
+        ensures refused { IfErr result (λ refused. IsRefusal refused (scheduled key notice self.old.list)) }
+        ensures unchanged { OnErr result (self.new.list ≡ self.old.list) }
+
+        ensures comparisons { self.new.comparisons ≤ 3 * binary_digits (length self.old.list.entries) }
+        ensures moves { self.new.moves ≤ 3 * binary_digits (length self.old.list.entries) + 4 }
+        ensures moved { OnOk result (0 < self.new.moves) }
+        ensures compared { OnOk result (0 < length self.old.list.entries → 0 < self.new.comparisons) }
+    {
+        self.heap.reset_counts();
+        if self.heap.find(notice).is_some() {
+            return Err(Refused::Fault(FaultKind::AlreadyScheduled));
+        }
+        if self.schedulings == MOST_SCHEDULINGS {
+            return Err(Refused::Fault(FaultKind::Overflow));
+        }
+        let number = self.schedulings;
+        insert(
+            &mut self.heap,
+            Entry {
+                key,
+                number,
+                notice,
+            },
+        )?;
+        self.schedulings += 1;
+        Ok(())
+    }
+
+    /// Cancels a notice that is pending. Refused with the list as it was where it isn't (`NotScheduled`).
+    pub fn cancel(&mut self, notice: i64) -> Result<(), FaultKind>
+        ensures ok { OnOk result (cancelled notice self.old.list ≡ Ok self.new.list) }
+        ensures refused { IfErr result (λ kind. cancelled notice self.old.list ≡ Err kind) }
+        ensures unchanged { OnErr result (self.new.list ≡ self.old.list) }
+
+        ensures comparisons { self.new.comparisons ≤ 3 * binary_digits (length self.old.list.entries) }
+        ensures moves { self.new.moves ≤ 3 * binary_digits (length self.old.list.entries) + 4 }
+    {
+        self.heap.reset_counts();
+        let Some(at) = self.heap.find(notice) else {
+            return Err(FaultKind::NotScheduled);
+        };
+        let _entry = take_out(&mut self.heap, at);
+        Ok(())
+    }
+
+    /// The time and the notice that come out next, where one is pending.
+    pub fn least(&mut self) -> Option<(i64, i64)>
+        ensures next { result ≡ next self.old.list }
+        ensures unchanged { self.new.list ≡ self.old.list }
+        ensures comparisons { self.new.comparisons ≡ 0 }
+        ensures moves { self.new.moves ≡ 0 }
+    {
+        self.heap.reset_counts();
+        if self.heap.len() == 0 {
+            return None;
+        }
+        let entry = self.heap.at(0);
+        Some((entry.time(), entry.notice()))
+    }
+
+    /// Takes out what comes next, where a notice is pending, and answers its time and the notice.
+    pub fn take(&mut self) -> Option<(i64, i64)>
+        ensures next { result ≡ next self.old.list }
+        ensures rest { self.new.list ≡ after_next self.old.list }
+
+        ensures comparisons { self.new.comparisons ≤ 3 * binary_digits (length self.old.list.entries) }
+        ensures moves { self.new.moves ≤ 3 * binary_digits (length self.old.list.entries) + 4 }
+    {
+        self.heap.reset_counts();
+        if self.heap.len() == 0 {
+            return None;
+        }
+        let entry = take_out(&mut self.heap, 0);
+        Some((entry.time(), entry.notice()))
+    }
+
+    /// Whether a notice is pending.
+    pub fn is_scheduled(&self, notice: i64) -> bool
+        ensures { result ≡ is_pending notice self.now.list.entries }
+    {
+        self.heap.find(notice).is_some()
+    }
+
+    /// How often the last call that takes `&mut self` compared two keys.
+    pub fn comparisons(&self) -> u64
+        ensures { result ≡ self.now.comparisons }
+    {
+        self.heap.comparisons()
+    }
+
+    /// How often the last call that takes `&mut self` wrote an entry into a place.
+    pub fn moves(&self) -> u64
+        ensures { result ≡ self.now.moves }
+    {
+        self.heap.moves()
+    }
+}
+
+// A copy of the shapes of each class.
+fn copied(alloc: Global, classes: &[Vec<TieShape>]) -> Result<Vec<Vec<TieShape>>, AllocError>
+    ensures { IfOk result (λ copies. map (λ shapes. shapes.items) copies.items ≡ map (λ shapes. shapes.items) classes.now) }
+{
+    let mut copies = Vec::with_capacity(alloc, classes.len())?;
+    for shapes in classes {
+        copies.push(Vec::from_slice(alloc, shapes)?)?;
+    }
+    Ok(copies)
+}
+
+// Whether ties have these shapes in turn.
+fn have_shapes(ties: &[Tie], shapes: &[TieShape]) -> bool
+    ensures { IsTrue result ↔ (shapes.now ≡ map shape_of ties.now) }
+{
+    if ties.len() != shapes.len() {
+        return false;
+    }
+    for (i, tie) in ties.iter().enumerate() {
+        if tie.shape() != shapes[i] {
+            return false;
+        }
+    }
+    true
+}

@@ -1,0 +1,174 @@
+-- A value or a time that is written.
+use Rattle.std.proofs.Common.{◌≡◌, ℕ, zero, suc, ◌+◌, ◌-◌, ◌<◌, ◌≤◌, true, cond, List, [], ◌∷◌, map, length, slice_get, slice_index_or, slice_set, Some, Ok, Err, refl, sym, ap, subst, ◌∙◌, arith}
+use Rattle.std.specs.Prelude.{Result, Bool, false, ℤ, pos}
+use Rattle.std.specs.Int.{cast_signed}
+use mir.Syntax.{w64}
+use denote.RawPtr.{Ptr}
+use Rattle.ss_base.specs.declared.fault.FaultKind.{FaultKind}
+use Rattle.ss_base.specs.declared.fault.FaultKind.TheVariants.{WrongClass}
+use Rattle.ss_base.specs.declared.value.Value.{Value}
+use Rattle.ss_base.specs.declared.value.Value.TheVariants.{Whole}
+use Rattle.ss_base.specs.declared.layout.ClassKind.{ClassKind}
+use Rattle.ss_base.specs.declared.layout.ClassKind.TheVariants.{Permanent, Temporary, Notice}
+use Rattle.ss_base.specs.declared.layout.Mode.{Mode}
+use Rattle.ss_base.specs.declared.layout.ClassLayout.{ClassLayout}
+use Rattle.ss_base.specs.declared.layout.Layout.{Layout}
+use Rattle.ss_records.specs.declared.store.Place.{Place}
+use Rattle.ss_records.specs.Cells.{Word, blank, number, counter, link, Cells, IsNumber, MayBeNumber, words_at, word_of, word_at, with_word, put_word}
+use Rattle.ss_records.specs.State.{Record, State, Members, and_then, entity, numbered, of_notice, notice, value_in, time_in, number_in, kind_in, kind_of, modes_of, is_notice, with_value, with_time, with_entity, with_entity_of_kind, assigned, timed}
+use Rattle.ss_records.specs.Shape.{values_end, links_start}
+use Rattle.ss_records.specs.Reading.{plain, value_of, class_of, record_of, record_at}
+use Rattle.ss_records.specs.Kept.{Kept, Formed, IsPermanent, state_of}
+use Rattle.ss_records.specs.Places.{Directory, class_at}
+use Rattle.ss_records.proofs.Numbers.{length-with_word}
+use Rattle.ss_records.proofs.Same.{by_same}
+use Rattle.ss_records.proofs.Puts.{put_other, word_other, word_here, words_written, written_put}
+use Rattle.ss_records.proofs.ReadWords.{read_as, value_at, record_value, record_time}
+use Rattle.ss_records.proofs.Keeps.{kept_written, records_written}
+
+pub number_may : (w : Word) → IsNumber w → MayBeNumber w
+number_may blank h = absurd h
+number_may (number n) h = tt
+number_may (counter n) h = absurd h
+number_may (link q) h = absurd h
+
+pub get_inside : {A : Type 0} (xs : List A) (i : ℕ) (a : A) → slice_get xs i ≡ Some a → i < length xs
+get_inside [] i a h = cc
+get_inside (x ∷ xs) zero a h = omega arith
+get_inside (x ∷ xs) (suc i) a h = omega (arith, get_inside xs i a h)
+
+with_numbered : (s : State) (k : ClassKind) (c n : ℕ) (r : Record) → (IsPermanent k → ⊥) → with_entity_of_kind s k c n r ≡ record s { records = slice_set s.records (n - 1) (Some r) }
+with_numbered s Permanent c n r h = absurd (h tt)
+with_numbered s Temporary c n r h = refl
+with_numbered s Notice c n r h = refl
+
+-- a block has room for its head
+pub head_room : (l : Layout) (c n : ℕ) (ws : List Word) → Formed l c n ws → links_start l c ≤ length ws
+head_room l c n ws f = omega (arith, f.size)
+
+-- the block with a number written in its head
+pub formed_put : (l : Layout) (c n : ℕ) (ws : List Word) (k w : ℕ) → Formed l c n ws → 2 ≤ k → k < links_start l c → Formed l c n (with_word ws k (number w))
+formed_put l c n ws k w f low high = record {
+  size = length-with_word ws k (number w) ∙ f.size;
+  class = word_other ws k (number w) 0 (λ e. absurd (omega (arith, e, low))) ∙ f.class;
+  number = word_other ws k (number w) 1 (λ e. absurd (omega (arith, e, low))) ∙ f.number;
+  values = λ j h. by_same k j
+      (λ e q. subst IsNumber (sym (subst (λ i. word_of (with_word ws k (number w)) i ≡ number w) q (word_here ws k (number w) (omega (arith, high, head_room l c n ws f))))) tt)
+      (λ e q. subst IsNumber (sym (word_other ws k (number w) j q)) (f.values j h));
+}
+
+-- a class of notices is a class of the layout
+pub notice_inside : (cl : List ClassLayout) (c : ℕ) → is_notice (kind_in (slice_get cl c)) ≡ true → c < length cl
+notice_inside [] c h = cc
+notice_inside (k ∷ ks) zero h = omega arith
+notice_inside (k ∷ ks) (suc c) h = omega (arith, notice_inside ks c h)
+
+module _ (l : Layout) (cs : Cells) (sys : Ptr) (d : Directory) (ms : List Members) (K : Kept l cs sys d ms) (i : ℕ) (p : Place) (g : slice_get d i ≡ Some (Some p)) where
+  -- the number k of the head of the block is written
+  module _ (k w : ℕ) (low : 2 ≤ k) (high : k < links_start l (class_at cs p)) where
+    abbrev ds : Cells
+    ds = put_word cs p.at k (number w)
+
+    pub may_put : (k < length (words_at cs p.at)) × MayBeNumber (word_at cs p.at k)
+    may_put = let f = K.formed i p g in (omega (arith, high, head_room l (class_at cs p) (suc i) (words_at cs p.at) f), number_may (word_at cs p.at k) (f.values k high))
+
+    is_put : words_at ds p.at ≡ with_word (words_at cs p.at) k (number w)
+    is_put = words_written cs p.at k (number w)
+
+    class_put : class_at ds p ≡ class_at cs p
+    class_put = ap class_of is_put ∙ ap plain (word_other (words_at cs p.at) k (number w) 0 (λ e. absurd (omega (arith, e, low))))
+
+    form_put : Formed l (class_at cs p) (suc i) (words_at ds p.at)
+    form_put = subst (λ us. Formed l (class_at cs p) (suc i) us) (sym is_put) (formed_put l (class_at cs p) (suc i) (words_at cs p.at) k w (K.formed i p g) low high)
+
+    links_put : (j : ℕ) → links_start l (class_at cs p) ≤ j → word_at ds p.at j ≡ word_at cs p.at j
+    links_put j a = put_other cs p.at k (number w) p.at j (λ e z. absurd (omega (arith, a, high, z)))
+
+    pub kept_put : Kept l ds sys d ms
+    kept_put = kept_written l cs sys d ms K ds i p g (written_put cs p.at k (number w)) class_put form_put links_put
+
+    pub length_of_put : length ds ≡ length cs
+    length_of_put = (written_put cs p.at k (number w)).count
+
+    pub state_put : (r : Record) → read_as l (class_at cs p) (with_word (words_at cs p.at) k (number w)) ≡ r → state_of l ds d ms ≡ record (state_of l cs d ms) { records = slice_set (map (record_at l cs) d) i (Some r) }
+    state_put r e =
+        let is : record_of l (words_at ds p.at) ≡ r = (λ t. read_as l (class_put t) (is_put t)) ∙ e in
+        ap (λ rs. record (state_of l cs d ms) { records = rs }) (records_written l cs sys d ms K ds i p g (written_put cs p.at k (number w)) class_put form_put links_put (Some r) (ap Some is))
+
+  module _ (c : ℕ) (is : class_at cs p ≡ c) (x : ℤ) (at : x ≡ pos (suc i)) where
+    not_permanent : IsPermanent (kind_of l c) → ⊥
+    not_permanent = subst (λ b. IsPermanent (kind_of l b) → ⊥) is (K.kinds i p g)
+
+    module _ (found : entity (state_of l cs d ms) c x ≡ Ok (record_of l (words_at cs p.at))) (f w : ℕ) (m : Mode) (v : Value) (mode : slice_get (modes_of l c) f ≡ Some m) (val : value_of m w ≡ v) where
+      field_in : 2 + f < links_start l (class_at cs p)
+      field_in = rw is (omega (arith, get_inside (modes_of l c) f m mode))
+
+      pub may_assign : (2 + f < length (words_at cs p.at)) × MayBeNumber (word_at cs p.at (2 + f))
+      may_assign = may_put (2 + f) w (omega arith) field_in
+
+      pub kept_assigned : Kept l (put_word cs p.at (2 + f) (number w)) sys d ms
+      kept_assigned = kept_put (2 + f) w (omega arith) field_in
+
+      pub length_assigned : length (put_word cs p.at (2 + f) (number w)) ≡ length cs
+      length_assigned = length_of_put (2 + f) w (omega arith) field_in
+
+      pub is_assigned : assigned (state_of l cs d ms) c f x v ≡ Ok (state_of l (put_word cs p.at (2 + f) (number w)) d ms)
+      is_assigned =
+          let ws = words_at cs p.at in
+          let value : read_as l (class_at cs p) (with_word ws (2 + f) (number w)) ≡ with_value (record_of l ws) f v =
+          record_value l (class_at cs p) ws f w m v (subst (λ b. slice_get (modes_of l b) f ≡ Some m) (sym is) mode) val may_assign.0 (subst (λ b. f < length (modes_of l b)) (sym is) (get_inside (modes_of l c) f m mode)) in
+          let n : number_in x - 1 ≡ i = ap (λ y. number_in y - 1) at ∙ omega arith in
+          ap (λ r. and_then r (λ r. Ok (with_entity (state_of l cs d ms) c (number_in x) (with_value r f v)))) found
+          ∙ ap Ok (with_numbered (state_of l cs d ms) (kind_of l c) c (number_in x) (with_value (record_of l ws) f v) not_permanent
+          ∙ ap (λ j. record (state_of l cs d ms) { records = slice_set (map (record_at l cs) d) j (Some (with_value (record_of l ws) f v)) }) n
+          ∙ sym (state_put (2 + f) w (omega arith) field_in (with_value (record_of l ws) f v) value))
+
+    module _ (found : entity (state_of l cs d ms) c x ≡ Ok (record_of l (words_at cs p.at))) (f : ℕ) (m : Mode) (mode : slice_get (modes_of l c) f ≡ Some m) where
+      pub value_number : IsNumber (word_at cs p.at (2 + f))
+      value_number = (K.formed i p g).values (2 + f) (rw is (omega (arith, get_inside (modes_of l c) f m mode)))
+
+      pub is_value : (n : ℕ) → word_at cs p.at (2 + f) ≡ number n → value_in (state_of l cs d ms) c f x ≡ Ok (value_of m n)
+      is_value n e =
+          ap (λ r. and_then r (λ r. Ok (slice_index_or r.values f (Whole (pos 0))))) found
+          ∙ ap Ok (value_at (modes_of l (class_at cs p)) (words_at cs p.at) 2 f m (Whole (pos 0)) (subst (λ b. slice_get (modes_of l b) f ≡ Some m) (sym is) mode) ∙ ap (λ w. value_of m (plain w)) e)
+
+  -- the time of a notice
+  module _ (x : ℤ) (at : x ≡ pos (suc i)) (found : notice (state_of l cs d ms) x ≡ Ok (record_of l (words_at cs p.at))) where
+    pub is_timed : is_notice (kind_of l (class_at cs p)) ≡ true
+    is_timed = notice_kind (numbered (state_of l cs d ms) x) (record_of l (words_at cs p.at)) found where
+      notice_kind : (r : Result Record FaultKind) (t : Record) → and_then r (of_notice l) ≡ Ok t → is_notice (kind_of l t.class) ≡ true
+      notice_kind (Err e) t h = cc
+      notice_kind (Ok r) t h = by_kind (is_notice (kind_of l r.class)) refl where
+        by_kind : (b : Bool) → is_notice (kind_of l r.class) ≡ b → is_notice (kind_of l t.class) ≡ true
+        by_kind true e = let q : Ok r ≡ Ok t = sym (rw e refl) ∙ h in let w : r ≡ t = cc in subst (λ (z : Record). is_notice (kind_of l z.class) ≡ true) w e
+        by_kind false e = let q : Err WrongClass ≡ Ok t = sym (rw e refl) ∙ h in cc
+
+    time_in_head : values_end l (class_at cs p) < links_start l (class_at cs p)
+    time_in_head = rw is_timed (omega arith)
+
+    pub time_number : IsNumber (word_at cs p.at (values_end l (class_at cs p)))
+    time_number = (K.formed i p g).values (values_end l (class_at cs p)) time_in_head
+
+    pub is_time : (n : ℕ) → word_at cs p.at (values_end l (class_at cs p)) ≡ number n → time_in (state_of l cs d ms) x ≡ Ok (cast_signed w64 n)
+    is_time n e =
+        ap (λ r. and_then r (λ r. Ok r.time)) found
+        ∙ ap (λ b. Ok (cond b (cast_signed w64 (plain (word_at cs p.at (values_end l (class_at cs p))))) (pos 0))) is_timed ∙ ap (λ w. Ok (cast_signed w64 (plain w))) e
+
+    module _ (w : ℕ) (t : ℤ) (val : cast_signed w64 w ≡ t) where
+      pub may_time : (values_end l (class_at cs p) < length (words_at cs p.at)) × MayBeNumber (word_at cs p.at (values_end l (class_at cs p)))
+      may_time = may_put (values_end l (class_at cs p)) w (omega arith) time_in_head
+
+      pub kept_timed : Kept l (put_word cs p.at (values_end l (class_at cs p)) (number w)) sys d ms
+      kept_timed = kept_put (values_end l (class_at cs p)) w (omega arith) time_in_head
+
+      pub length_timed : length (put_word cs p.at (values_end l (class_at cs p)) (number w)) ≡ length cs
+      length_timed = length_of_put (values_end l (class_at cs p)) w (omega arith) time_in_head
+
+      pub is_set : timed (state_of l cs d ms) x t ≡ Ok (state_of l (put_word cs p.at (values_end l (class_at cs p)) (number w)) d ms)
+      is_set =
+          let ws = words_at cs p.at in
+          let value : read_as l (class_at cs p) (with_word ws (values_end l (class_at cs p)) (number w)) ≡ with_time (record_of l ws) t = record_time l (class_at cs p) ws w t is_timed val may_time.0 in
+          let n : number_in x - 1 ≡ i = ap (λ y. number_in y - 1) at ∙ omega arith in
+          ap (λ r. and_then r (λ r. Ok (record (state_of l cs d ms) { records = slice_set (map (record_at l cs) d) (number_in x - 1) (Some (with_time r t)) }))) found
+          ∙ ap (λ j. Ok (record (state_of l cs d ms) { records = slice_set (map (record_at l cs) d) j (Some (with_time (record_of l ws) t)) })) n
+          ∙ ap Ok (sym (state_put (values_end l (class_at cs p)) w (omega arith) time_in_head (with_time (record_of l ws) t) value))

@@ -1,0 +1,55 @@
+-- A text comes out of its word as it went in.
+use Rattle.std.proofs.Common.{◌≡◌, ℕ, zero, suc, ◌-◌, ◌≤◌, ◌<◌, true, List, [], ◌∷◌, ◌++◌, length, get_or, drop, refl, sym, subst, T, ◌∙◌, ap, arith, lit<, length-append}
+use Rattle.std.specs.Prelude.{Some, nat_le, replicate}
+use Rattle.std.specs.List.{list_all}
+use Rattle.std.specs.Int.{from_be_bytes, to_be_bytes}
+use Rattle.std.specs.Option.{unwrap_or}
+use Rattle.std.proofs.lemmas.Nat.{be_bytes_8}
+use Rattle.std.proofs.lemmas.Bool.{and_parts, le-leb}
+use Rattle.std.proofs.lemmas.List.{drop-replicate, length-replicate}
+use Rattle.std.proofs.Math.Facts.{leb_yes}
+use mir.Syntax.{w64}
+use Rattle.ss_base.specs.declared.value.Value.TheVariants.{Text}
+use Rattle.ss_base.specs.declared.alpha.TheConstants.{TEXT_LIMIT}
+use Rattle.ss_base.specs.Values.{is_text_byte, text_of, IsText}
+use Rattle.ss_base.specs.Room.{before_zero, padded}
+use Rattle.ss_base.specs.declared.layout.Mode.TheVariants.{Alpha}
+use Rattle.ss_records.specs.Reading.{value_of}
+
+before_zero-padded : (text : List ℕ) (k : ℕ) → list_all is_text_byte text ≡ true → before_zero (text ++ replicate k 0) ≡ text
+before_zero-padded [] zero h = refl
+before_zero-padded [] (suc k) h = refl
+before_zero-padded (zero ∷ bs) k h = cc
+before_zero-padded (suc b ∷ bs) k h =
+    let p = and_parts (is_text_byte (suc b)) (list_all is_text_byte bs) h in ap (λ rest. suc b ∷ rest) (before_zero-padded bs k p.1)
+
+zeros_small : (k i : ℕ) → get_or (replicate k 0) i 0 < 256
+zeros_small zero i = lit< tt
+zeros_small (suc k) zero = lit< tt
+zeros_small (suc k) (suc i) = zeros_small k i
+
+small_byte : (b : ℕ) → is_text_byte b ≡ true → b < 256
+small_byte b h = let p = and_parts (nat_le 32 b) (nat_le b 126) h in let q : b ≤ 126 = leb_yes {a = b} {b = 126} (subst T (sym p.1) tt) in omega (arith, q)
+
+bytes_small : (text : List ℕ) (k i : ℕ) → list_all is_text_byte text ≡ true → get_or (text ++ replicate k 0) i 0 < 256
+bytes_small [] k i h = zeros_small k i
+bytes_small (b ∷ bs) k zero h = small_byte b (and_parts (is_text_byte b) (list_all is_text_byte bs) h).0
+bytes_small (b ∷ bs) k (suc i) h = bytes_small bs k i (and_parts (is_text_byte b) (list_all is_text_byte bs) h).1
+
+text_again : (t : List ℕ) → IsText t → text_of t ≡ Some t
+text_again t h = let small : nat_le (length t) TEXT_LIMIT ≡ true = le-leb (length t) TEXT_LIMIT h.short in rw (h.trimmed, h.printable, small) refl
+
+read_back : (t : List ℕ) (w : ℕ) → IsText t → length (padded t) ≡ 8 → w ≡ from_be_bytes w64 (padded t) → value_of Alpha w ≡ Text t
+read_back t w h l e =
+    let is : to_be_bytes w64 w ≡ padded t = be_bytes_8 (padded t) w l (λ i. bytes_small t (TEXT_LIMIT - length t) i h.printable) e in
+    ap (λ bs. Text (unwrap_or (text_of (before_zero bs)) [])) is ∙ ap (λ bs. Text (unwrap_or (text_of bs) [])) (before_zero-padded t (TEXT_LIMIT - length t) h.printable) ∙ ap (λ o. Text (unwrap_or o [])) (text_again t h)
+
+pad_length : (t : List ℕ) → length t ≤ TEXT_LIMIT → length (padded t) ≡ 8
+pad_length t h = omega (arith, h, length-append t (replicate (TEXT_LIMIT - length t) 0), length-replicate {A = ℕ} (TEXT_LIMIT - length t) 0)
+
+-- the word of a text that was copied into zeros
+pub text_read : (t bytes copied : List ℕ) (w : ℕ) → IsText t → bytes ≡ t → copied ≡ bytes
+    → w ≡ from_be_bytes w64 (copied ++ drop (length bytes) (replicate TEXT_LIMIT 0)) → value_of Alpha w ≡ Text t
+text_read t bytes copied w h is same e =
+    let room : copied ++ drop (length bytes) (replicate TEXT_LIMIT 0) ≡ padded t = rw (same, is, drop-replicate {X = ℕ} (length t) TEXT_LIMIT 0) refl in
+    read_back t w h (pad_length t h.short) (e ∙ ap (from_be_bytes w64) room)

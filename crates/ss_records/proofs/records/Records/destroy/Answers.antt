@@ -1,0 +1,42 @@
+use Rattle.std.proofs.Common.{◌≡◌, ◌-◌, suc, false, Ok, slice_set, None, sym, ap, subst, ◌∙◌, arith}
+use Rattle.std.specs.Prelude.{nat_abs}
+use Rattle.std.proofs.lemmas.Int.{to_z-of_z}
+use Rattle.std.specs.Int.{cast_signed, cast_unsigned}
+use mir.Syntax.{w64}
+use Rattle.ss_records.specs.declared.records.Records.{Records}
+use Rattle.ss_records.specs.Cells.{without}
+use Rattle.ss_records.specs.Kept.{Kept, state_of}
+use Rattle.ss_records.specs.State.{in_a_set, owns_members, destroyed}
+use Rattle.ss_records.specs.Parts.{state}
+use Rattle.ss_records.proofs.Destroys.{kept_destroyed, is_destroyed}
+use Rattle.ss_records.proofs.Frees.{free_by}
+use Rattle.ss_records.proofs.records.Records.destroy.Goals as goal
+
+pub returns-else-owns_members-clause-kept : goal.returns-else-owns_members-clause-kept
+returns-else-owns_members-clause-kept c =
+    let r = c.args.self.now in let f = c.in-Ok.ensures.found in let q = c.owns_members.new.self in let p = c.in-Ok.place in let a = c.in_a_set.new.self in
+    let first : a ≡ record r { blocks = a.blocks } = c.in_a_set.ensures.same in
+    let second : q ≡ record a { blocks = q.blocks } = c.owns_members.ensures.same in
+    let whole : q ≡ record r { blocks = q.blocks } = second ∙ ap (λ (z : Records). record z { blocks = q.blocks }) first in
+    let cells : q.blocks.cells ≡ r.blocks.cells = c.owns_members.ensures.cells ∙ c.in_a_set.ensures.cells in
+    let m : nat_abs (cast_signed w64 (cast_unsigned w64 c.args.r)) ≡ suc f.index = ap nat_abs c.in-Ok.ensures.found.is in
+    let n : nat_abs (cast_signed w64 (cast_unsigned w64 c.args.r)) - 1 ≡ f.index = ap (λ z. z - 1) m ∙ omega arith in
+    let none : in_a_set r.layout.sets.items 0 r.notes.lists c.args.class (suc f.index) ≡ false = subst (λ k. in_a_set r.layout.sets.items 0 r.notes.lists c.args.class k ≡ false) m (sym c.if-in_a_set.ensures.value) in
+    let few : owns_members r.layout.sets.items 0 r.notes.lists c.args.class (suc f.index) ≡ false = subst (λ (z : Records). owns_members z.layout.sets.items 0 z.notes.lists c.args.class (suc f.index) ≡ false) first (subst (λ k. owns_members a.layout.sets.items 0 a.notes.lists c.args.class k ≡ false) m (sym c.if-owns_members.ensures.value)) in
+    let k = kept_destroyed r.layout r.blocks.cells r.system.at r.directory r.notes.lists c.requires.kept f.index p f.entry (free_by r.layout r.blocks.cells r.system.at r.directory r.notes.lists c.requires.kept f.index p f.entry c.args.class f.class none few) in
+    rw (c.give_back.ensures.cells, c.clear.ensures, n) (subst (λ (z : Records). Kept z.layout (without q.blocks.cells p.at) z.system.at (slice_set z.directory f.index None) z.notes.lists) (sym whole) (rw cells k))
+
+pub returns-else-owns_members-clause-done : goal.returns-else-owns_members-clause-done
+returns-else-owns_members-clause-done c =
+    let fits = c.ranges.r in let h = simp to_z-of_z at c.in-Ok.ensures.found in
+    let r = c.args.self.now in let f = c.in-Ok.ensures.found in let q = c.owns_members.new.self in let p = c.in-Ok.place in let a = c.in_a_set.new.self in
+    let first : a ≡ record r { blocks = a.blocks } = c.in_a_set.ensures.same in
+    let second : q ≡ record a { blocks = q.blocks } = c.owns_members.ensures.same in
+    let whole : q ≡ record r { blocks = q.blocks } = second ∙ ap (λ (z : Records). record z { blocks = q.blocks }) first in
+    let cells : q.blocks.cells ≡ r.blocks.cells = c.owns_members.ensures.cells ∙ c.in_a_set.ensures.cells in
+    let m : nat_abs (cast_signed w64 (cast_unsigned w64 c.args.r)) ≡ suc f.index = ap nat_abs c.in-Ok.ensures.found.is in
+    let n : nat_abs (cast_signed w64 (cast_unsigned w64 c.args.r)) - 1 ≡ f.index = ap (λ z. z - 1) m ∙ omega arith in
+    let none : in_a_set r.layout.sets.items 0 r.notes.lists c.args.class (suc f.index) ≡ false = subst (λ k. in_a_set r.layout.sets.items 0 r.notes.lists c.args.class k ≡ false) m (sym c.if-in_a_set.ensures.value) in
+    let few : owns_members r.layout.sets.items 0 r.notes.lists c.args.class (suc f.index) ≡ false = subst (λ (z : Records). owns_members z.layout.sets.items 0 z.notes.lists c.args.class (suc f.index) ≡ false) first (subst (λ k. owns_members a.layout.sets.items 0 a.notes.lists c.args.class k ≡ false) m (sym c.if-owns_members.ensures.value)) in
+    let k = is_destroyed r.layout r.blocks.cells r.system.at r.directory r.notes.lists c.requires.kept f.index p f.entry c.args.class c.args.r h.is h.entity none few in
+    rw (c.give_back.ensures.cells, c.clear.ensures, n) (subst (λ (z : Records). destroyed (state r) c.args.class c.args.r ≡ Ok (state_of z.layout (without q.blocks.cells p.at) (slice_set z.directory f.index None) z.notes.lists)) (sym whole) (rw cells k))

@@ -1,0 +1,12 @@
+use Rattle.std.proofs.Common.{◌≡◌, ℕ, ◌+◌, ◌≤◌, Some, slice_get, length, drop}
+use Rattle.ss_records.specs.declared.store.Place.{Place}
+use Rattle.ss_records.specs.Cells.{words_at}
+use Rattle.ss_records.specs.Places.{living}
+use Rattle.ss_records.proofs.records.give_all_back.Given as goal
+
+abbrev pub invariant-loop-i : goal.invariant-loop-i
+invariant-loop-i l = record {
+  kept : (j : ℕ) (p : Place) → l.i ≤ j → slice_get l.directory j ≡ Some (Some p) → words_at l.blocks.cells p.at ≡ words_at l.initial.blocks.cells p.at;
+  system : words_at l.blocks.cells l.fn.system.at ≡ words_at l.initial.blocks.cells l.fn.system.at;
+  count : length l.blocks.cells ≡ living (drop l.i l.directory) + 1;
+}

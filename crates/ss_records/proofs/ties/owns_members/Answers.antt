@@ -1,0 +1,31 @@
+use Rattle.std.proofs.Common.{sym, ap, ◌∙◌, arith}
+use Rattle.ss_base.specs.declared.layout.Owner.TheVariants.{Class}
+use Rattle.ss_records.specs.Places.{class_at}
+use Rattle.ss_records.proofs.Filed.{get_there, owns_here, owns_not, owns_other, class_of_owner}
+use Rattle.ss_records.proofs.ties.owns_members.Goals as goal
+use Rattle.ss_records.proofs.ties.owns_members.Goals.{then-is_owner+else-owns_in, else-is_owner}
+
+pub owns_in-requires-clause-class : goal.owns_in-requires-clause-class
+owns_in-requires-clause-class c = λ t g.
+    class_of_owner t.owner c.args.class (sym (c.if-is_owner.ensures t g)) ∙ ap Class (sym c.requires.class ∙ ap (λ bs. class_at bs c.args.place) (sym c.loop-s.invariant.cells))
+
+pub returns-then-owns_in-clause-value : goal.returns-then-owns_in-clause-value
+returns-then-owns_in-clause-value c =
+    let ts = c.args.layout.now.sets.items in let s = c.loop-s.s in let y = get_there ts s (omega (arith, c.loop-s-test.true, c.len-s-end.ensures)) in
+    sym (owns_here ts s c.args.class c.args.number y.0 c.args.notes.now.lists y.1 (sym (c.if-is_owner.ensures y.0 y.1)) (sym c.if-owns_in.ensures.value)) ∙ c.loop-s.invariant.rest
+
+pub loop-s-preserved : goal.loop-s-preserved
+loop-s-preserved c =
+    let ts = c.args.layout.now.sets.items in let s = c.loop-s.s in let h = c.loop-s.invariant in let y = get_there ts s (omega (arith, c.loop-s-test.true, c.len-s-end.ensures)) in
+    elim c.if-is_owner.branch [
+      | then-is_owner+else-owns_in w ↦ record {
+        cells = rw w.blocks-is (w.owns_in.ensures.cells ∙ h.cells);
+        rest = sym (owns_not ts s c.args.class c.args.number y.0 c.args.notes.now.lists y.1 (sym w.if-owns_in.ensures.value)) ∙ h.rest;
+        touches = rw w.blocks-is (omega (arith, w.owns_in.ensures.touches.0, h.touches.0), omega (arith, w.owns_in.ensures.touches.0, w.owns_in.ensures.touches.1, h.touches.1));
+      }
+      | else-is_owner w ↦ record {
+        cells = rw w.blocks-is h.cells;
+        rest = sym (owns_other ts s c.args.class c.args.number y.0 c.args.notes.now.lists y.1 (sym (w.if-is_owner.ensures y.0 y.1))) ∙ h.rest;
+        touches = rw w.blocks-is (omega (arith, h.touches.0), h.touches.1);
+      }
+    ]

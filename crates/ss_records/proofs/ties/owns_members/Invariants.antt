@@ -1,0 +1,10 @@
+use Rattle.std.proofs.Common.{◌≡◌, ◌+◌, ◌≤◌, drop}
+use Rattle.ss_records.specs.State.{owns_members}
+use Rattle.ss_records.proofs.ties.owns_members.Given as goal
+
+abbrev pub invariant-loop-s : goal.invariant-loop-s
+invariant-loop-s l = record {
+  cells : l.blocks.cells ≡ l.initial.blocks.cells;
+  rest : owns_members (drop l.s l.layout.sets.items) l.s l.notes.lists l.class l.number ≡ owns_members l.layout.sets.items 0 l.notes.lists l.class l.number;
+  touches : (l.blocks.touches ≤ l.initial.blocks.touches + l.s) × (l.blocks.total + l.initial.blocks.touches ≡ l.initial.blocks.total + l.blocks.touches);
+}

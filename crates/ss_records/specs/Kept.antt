@@ -1,0 +1,78 @@
+-- What holds between the blocks and the state of a heap.
+use Rattle.std.specs.Prelude.{◌≡◌, ℕ, zero, suc, ◌+◌, ◌<◌, ◌≤◌, ◌^◌, IsTrue, List, map, length, ℤ, pos, negsuc, Option, Some, None, Result, Ok, Err, slice_get}
+use denote.RawPtr.{Ptr}
+use Rattle.ss_base.specs.declared.fault.FaultKind.{FaultKind}
+use Rattle.ss_base.specs.declared.fault.FaultKind.TheVariants.{NoEntity, NeverCreated, DestroyedEntity}
+use Rattle.ss_base.specs.declared.layout.ClassKind.{ClassKind}
+use Rattle.ss_base.specs.declared.layout.ClassKind.TheVariants.{Permanent, Temporary, Notice}
+use Rattle.ss_base.specs.declared.layout.Layout.{Layout}
+use Rattle.ss_base.specs.declared.layout.Owner.TheVariants.{System, Class}
+use Rattle.ss_base.specs.Layout.{is_sound}
+use Rattle.ss_records.specs.declared.store.Place.{Place}
+use Rattle.ss_records.specs.Cells.{Word, number, Cells, IsNumber, words_at, word_of}
+use Rattle.ss_records.specs.State.{Record, State, Members, not_made, entity, kind_of, modes_of}
+use Rattle.ss_records.specs.Shape.{links_start, block_words}
+use Rattle.ss_records.specs.Reading.{record_at}
+use Rattle.ss_records.specs.Places.{Directory, class_at, living}
+use Rattle.ss_records.specs.Slotted.{NameKept}
+use Rattle.ss_base.specs.declared.layout.SetLayout.{SetLayout}
+
+abbrev pub is_here : Result Record FaultKind → Type 0
+is_here (Ok r) = Unit {0}
+is_here (Err e) = ⊥
+
+-- whether there is an entity n of a class
+abbrev pub Lives : State → ℕ → ℕ → Type 0
+Lives st c n = is_here (entity st c (pos n))
+
+abbrev pub IsPermanent : ClassKind → Type 0
+IsPermanent Permanent = Unit {0}
+IsPermanent Temporary = ⊥
+IsPermanent Notice = ⊥
+
+-- the layout is no larger than a heap can serve
+pub record Small (l : Layout) : Type 0 where
+  pub sound : IsTrue (is_sound l)
+  pub sets : length l.sets.items ≤ 2 ^ 20
+  pub fields : (c : ℕ) → length (modes_of l c) ≤ 2 ^ 20
+
+-- only the block at p has changed
+pub record Written (cs ds : Cells) (p : Ptr) : Type 0 where
+  pub others : (q : Ptr) → (p ≡ q → ⊥) → words_at ds q ≡ words_at cs q
+  pub size : length (words_at ds p) ≡ length (words_at cs p)
+  pub count : length ds ≡ length cs
+
+-- the words of the block of the entity n of the class c
+pub record Formed (l : Layout) (c n : ℕ) (ws : List Word) : Type 0 where
+  pub size : length ws ≡ block_words l (Class c)
+  pub class : word_of ws 0 ≡ number c
+  pub number : word_of ws 1 ≡ number n
+  pub values : (k : ℕ) → k < links_start l c → IsNumber (word_of ws k)
+
+-- the state that blocks, directory and lists show
+abbrev pub state_of : Layout → Cells → Directory → List Members → State
+state_of l cs d ms = record { layout = l; records = map (record_at l cs) d; permanents = map not_made l.classes.items; lists = ms }
+
+pub record Kept (l : Layout) (cs : Cells) (sys : Ptr) (d : Directory) (ms : List Members) : Type 0 where
+  pub small : Small l
+  pub issued : length d < 2 ^ 62
+  pub system : length (words_at cs sys) ≡ block_words l System
+  pub end : word_of (words_at cs sys) 1 ≡ number 0
+  pub kinds : (i : ℕ) (p : Place) → slice_get d i ≡ Some (Some p) → IsPermanent (kind_of l (class_at cs p)) → ⊥
+  pub classes : (i : ℕ) (p : Place) → slice_get d i ≡ Some (Some p) → class_at cs p < length l.classes.items
+  pub formed : (i : ℕ) (p : Place) → slice_get d i ≡ Some (Some p) → Formed l (class_at cs p) (suc i) (words_at cs p.at)
+  pub apart : (i j : ℕ) (p q : Place) → slice_get d i ≡ Some (Some p) → slice_get d j ≡ Some (Some q) → p.at ≡ q.at → i ≡ j
+  pub off_system : (i : ℕ) (p : Place) → slice_get d i ≡ Some (Some p) → p.at ≡ sys → ⊥
+  pub counted : length cs ≡ living d + 1
+  pub names : (s : ℕ) (t : SetLayout) → slice_get l.sets.items s ≡ Some t → NameKept l cs sys d ms s t
+
+abbrev pub issued_place : Option (Option Place) → Result Place FaultKind
+issued_place None = Err NeverCreated
+issued_place (Some None) = Err DestroyedEntity
+issued_place (Some (Some p)) = Ok p
+
+-- where the block of a creation number lies, or why there is none
+abbrev pub numbered_place : Directory → ℤ → Result Place FaultKind
+numbered_place d (pos zero) = Err NoEntity
+numbered_place d (pos (suc i)) = issued_place (slice_get d i)
+numbered_place d (negsuc k) = Err NeverCreated

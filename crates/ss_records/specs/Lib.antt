@@ -1,0 +1,12 @@
+pub mod Cells
+pub mod Kept
+pub mod Laid
+pub mod Links
+pub mod Lists
+pub mod Ownership
+pub mod Parts
+pub mod Places
+pub mod Reading
+pub mod Shape
+pub mod Slotted
+pub mod State

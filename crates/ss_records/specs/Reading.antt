@@ -1,0 +1,48 @@
+-- What the words of a block mean.
+use Rattle.std.specs.Prelude.{ℕ, ◌+◌, cond, List, [], ◌∷◌, pos, Option, Some, None}
+use Rattle.std.specs.Int.{to_be_bytes, cast_signed}
+use Rattle.std.specs.Option.{unwrap_or}
+use mir.Syntax.{w64}
+use Rattle.ss_base.specs.declared.value.Value.{Value}
+use Rattle.ss_base.specs.declared.value.Value.TheVariants.{Whole, Text}
+use Rattle.ss_base.specs.Values.{text_of}
+use Rattle.ss_base.specs.Room.{before_zero}
+use Rattle.ss_base.specs.declared.layout.Mode.{Mode}
+use Rattle.ss_base.specs.declared.layout.Mode.TheVariants.{Integer, Alpha}
+use Rattle.ss_base.specs.declared.layout.Layout.{Layout}
+use Rattle.ss_records.specs.declared.store.Place.{Place}
+use Rattle.ss_records.specs.Cells.{Word, blank, number, counter, link, Cells, words_at, word_of}
+use Rattle.ss_records.specs.State.{Record, kind_of, modes_of, is_notice}
+use Rattle.ss_records.specs.Shape.{values_end}
+
+-- the number in a word
+abbrev pub plain : Word → ℕ
+plain blank = 0
+plain (number n) = n
+plain (counter n) = 0
+plain (link q) = 0
+
+-- a whole number is its 64 bits, a text its bytes with zeros behind
+abbrev pub value_of : Mode → ℕ → Value
+value_of Integer w = Whole (cast_signed w64 w)
+value_of Alpha w = Text (unwrap_or (text_of (before_zero (to_be_bytes w64 w))) [])
+
+-- the values that stand from the word k on
+abbrev pub values_from : List Mode → List Word → ℕ → List Value
+values_from [] ws k = []
+values_from (m ∷ ms) ws k = value_of m (plain (word_of ws k)) ∷ values_from ms ws (k + 1)
+
+abbrev pub class_of : List Word → ℕ
+class_of ws = plain (word_of ws 0)
+
+abbrev pub record_of : Layout → List Word → Record
+record_of l ws = record {
+  class = class_of ws;
+  values = values_from (modes_of l (class_of ws)) ws 2;
+  time = cond (is_notice (kind_of l (class_of ws))) (cast_signed w64 (plain (word_of ws (values_end l (class_of ws))))) (pos 0);
+}
+
+-- the record at an entry of the directory
+abbrev pub record_at : Layout → Cells → Option Place → Option Record
+record_at l cs None = None
+record_at l cs (Some p) = Some (record_of l (words_at cs p.at))

@@ -1,0 +1,149 @@
+ghost use Rattle.std.specs.Prelude.{◌≡◌, ℕ, ◌+◌, ◌<◌, ◌≤◌, [], length, IsTrue, MatchResult, Ok, Err, Some, slice_get, ⊤};
+ghost use Rattle.ss_base.specs.Layout.{mode_of, is_sound};
+ghost use Rattle.ss_records.specs.State.{State, first_state, known_in, known_notice_in, kind_of, modes_of, value_in, time_in, created, destroyed, assigned, timed, living_records};
+ghost use Rattle.ss_records.specs.Kept.{IsPermanent};
+
+use crate::records::Records;
+use ss_base::{FaultKind, Layout, Refused, Value};
+use std::alloc::{AllocError, Global};
+use std::marker::Model;
+
+/// The entities of a simulation and the sets that they are in.
+///
+/// A contract sees its state (`specs/State.antt`): a record for each creation number, the permanent
+/// entities of each class by index, and the members of each set. Classes, attributes and sets are named by
+/// their numbers in the layout, entities by creation number or index. After a fault or a refusal for want of
+/// memory the state is as it was.
+pub struct Heap {
+    alloc: Global,
+    records: Records,
+}
+
+impl Model for Heap {
+    ghost use Rattle.ss_records.specs.State.{Heaped};
+    ghost use Rattle.ss_records.specs.Parts.{IsKept, heaped};
+
+    ghost Value = { Heaped };
+
+    ghost view = { λ h. heaped h.records };
+
+    ghost invariant = { λ h. IsKept h.records };
+}
+
+impl Drop for Heap {
+    fn drop(self) {
+        let Heap { alloc, records } = self;
+        records.close(&alloc);
+    }
+}
+
+impl Heap {
+    /// A heap without entities, all sets empty. The sets of the layout name classes of it.
+    pub fn new(alloc: Global, layout: Layout) -> Result<Heap, AllocError>
+        requires sound { IsTrue (is_sound layout) }
+        ensures { MatchResult result (λ h. h.state ≡ first_state layout) (λ _. ⊤) }
+    {
+        let records = Records::new(alloc, layout)?;
+        Ok(Heap { alloc, records })
+    }
+
+    /// Whether r is an entity of a class. Faults: 1 to 4, or 5 for a permanent class.
+    pub fn known(&self, class: usize, r: i64) -> Result<(), FaultKind>
+        requires class { class < length self.now.state.layout.classes.items }
+        ensures { result ≡ known_in self.now.state class r }
+    {
+        match self.records.find(class, r) {
+            Ok(_) => Ok(()),
+            Err(fault) => Err(fault),
+        }
+    }
+
+    /// Whether r is an event notice of any class. Faults: 1 to 4.
+    pub fn known_notice(&self, r: i64) -> Result<(), FaultKind>
+        ensures { result ≡ known_notice_in self.now.state r }
+    {
+        match self.records.find_notice(r) {
+            Ok(_) => Ok(()),
+            Err(fault) => Err(fault),
+        }
+    }
+
+    /// The time of a notice. Faults: 1 to 4.
+    pub fn time_a(&self, r: i64) -> Result<i64, FaultKind>
+        ensures { result ≡ time_in self.now.state r }
+    {
+        self.records.time(r)
+    }
+
+    /// Sets the time of a notice. Faults: 1 to 4.
+    pub fn set_time_a(&mut self, r: i64, t: i64) -> Result<(), FaultKind>
+        ensures done { MatchResult result (λ _. timed self.old.state r t ≡ Ok self.new.state) (λ e. (timed self.old.state r t ≡ Err e) × (self.new.state ≡ self.old.state)) }
+        ensures touches { (self.new.touches ≡ 0) × (self.new.total ≡ self.old.total) }
+    {
+        self.records.start();
+        self.records.set_time(r, t)
+    }
+
+    /// The value of an attribute. Faults: 1 to 5.
+    pub fn value(&self, class: usize, field: usize, r: i64) -> Result<Value, FaultKind>
+        requires class { class < length self.now.state.layout.classes.items }
+        requires field { field < length (modes_of self.now.state.layout class) }
+        ensures { result ≡ value_in self.now.state class field r }
+    {
+        self.records.value(class, field, r)
+    }
+
+    /// Sets the value of an attribute, which has its mode. Faults: 1 to 5.
+    pub fn set_value(
+        &mut self,
+        class: usize,
+        field: usize,
+        r: i64,
+        value: Value,
+    ) -> Result<(), FaultKind>
+        requires class { class < length self.old.state.layout.classes.items }
+        requires mode { slice_get (modes_of self.old.state.layout class) field ≡ Some (mode_of value) }
+        ensures done { MatchResult result (λ _. assigned self.old.state class field r value ≡ Ok self.new.state) (λ e. (assigned self.old.state class field r value ≡ Err e) × (self.new.state ≡ self.old.state)) }
+        ensures touches { (self.new.touches ≡ 0) × (self.new.total ≡ self.old.total) }
+    {
+        self.records.start();
+        self.records.set_value(class, field, r, value)
+    }
+
+    /// A new entity of a temporary class or a class of notices, with first values, in no set: its creation
+    /// number. Faults: 14 after the last creation number.
+    pub fn create(&mut self, class: usize) -> Result<i64, Refused>
+        requires class { class < length self.old.state.layout.classes.items }
+        requires kind { IsPermanent (kind_of self.old.state.layout class) → ⊥ }
+        ensures done { MatchResult result (λ n. created self.old.state class ≡ Ok (n, self.new.state)) (λ e. (self.new.state ≡ self.old.state) × ((f : FaultKind) → e ≡ Refused.Fault f → created self.old.state class ≡ Err f)) }
+        ensures touches { self.new.total ≡ self.old.total + self.new.touches }
+    {
+        self.records.start();
+        self.records.create(&self.alloc, class)
+    }
+
+    /// Destroys an entity that is in no set and has no members. Faults: 1 to 4, then 9, then 10.
+    pub fn destroy(&mut self, class: usize, r: i64) -> Result<(), FaultKind>
+        requires class { class < length self.old.state.layout.classes.items }
+        requires kind { IsPermanent (kind_of self.old.state.layout class) → ⊥ }
+        ensures done { MatchResult result (λ _. destroyed self.old.state class r ≡ Ok self.new.state) (λ e. (destroyed self.old.state class r ≡ Err e) × (self.new.state ≡ self.old.state)) }
+        ensures touches { self.new.total ≡ self.old.total + self.new.touches }
+    {
+        self.records.start();
+        self.records.destroy(&self.alloc, class, r)
+    }
+
+    /// How many links, ends and counts of members the last call that takes `&mut self` read and wrote.
+    pub fn touches(&self) -> u64
+        ensures { result ≡ self.now.touches }
+    {
+        self.records.touches()
+    }
+
+    /// How many blocks of memory are held: one for each living entity, and one for the system.
+    pub fn blocks(&self) -> u64
+        ensures { result ≡ living_records self.now.state + 1 }
+    {
+        self.records.placed()
+    }
+}

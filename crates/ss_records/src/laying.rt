@@ -1,0 +1,105 @@
+// The words of a new block: its head, links that lead to itself, and empty sets.
+ghost use Rattle.std.specs.Prelude.{◌≡◌, ℕ, ◌+◌, ◌-◌, ◌*◌, ◌^◌, ◌<◌, ◌≤◌, length};
+ghost use Rattle.ss_records.specs.Cells.{blank, word_at, words_at};
+ghost use Rattle.ss_records.specs.Laid.{Filled, Laid, LaidSystem, head_word, zeros, links_to, owned_from};
+ghost use Rattle.ss_records.specs.Shape.{links_start, block_words};
+ghost use Rattle.ss_records.specs.Kept.{Small};
+
+use crate::shape::{self, CLASS, NUMBER, VALUES};
+use crate::store::{Blocks, Place};
+use ss_base::{Layout, Owner};
+
+/// Zeros.
+pub(crate) fn fill_numbers(blocks: &mut Blocks, place: Place, from: usize, to: usize)
+    requires order { from ≤ to }
+    requires room { to ≤ length (words_at blocks.old.cells place.at) }
+    requires blank { (k : ℕ) → from ≤ k → k < to → word_at blocks.old.cells place.at k ≡ blank }
+    ensures filled { Filled blocks.old.cells blocks.new.cells place.at from to zeros }
+    ensures touches { (blocks.new.touches ≡ blocks.old.touches) × (blocks.new.total ≡ blocks.old.total) }
+{
+    for k in from..to {
+        blocks.set_number(place, k, 0);
+    }
+}
+
+/// Links that lead to one place: a touch each.
+pub(crate) fn fill_links(blocks: &mut Blocks, place: Place, from: usize, to: usize, target: Place)
+    requires order { from ≤ to }
+    requires room { to ≤ length (words_at blocks.old.cells place.at) }
+    requires blank { (k : ℕ) → from ≤ k → k < to → word_at blocks.old.cells place.at k ≡ blank }
+    requires touches { blocks.old.touches + to < 2 ^ 64 }
+    ensures filled { Filled blocks.old.cells blocks.new.cells place.at from to (links_to target.at) }
+    ensures touches { (blocks.new.touches + from ≡ blocks.old.touches + to) × (blocks.new.total + from ≡ blocks.old.total + to) }
+{
+    for k in from..to {
+        blocks.set_link(place, k, target);
+    }
+}
+
+/// Sets without a member, three words each: three touches each.
+pub(crate) fn fill_owned(blocks: &mut Blocks, place: Place, from: usize, count: usize, end: Place)
+    requires room { from + 3 * count ≤ length (words_at blocks.old.cells place.at) }
+    requires blank { (k : ℕ) → from ≤ k → k < from + 3 * count → word_at blocks.old.cells place.at k ≡ blank }
+    requires touches { blocks.old.touches + 3 * count < 2 ^ 64 }
+    requires small { from + 3 * count < 2 ^ 64 }
+    ensures filled { Filled blocks.old.cells blocks.new.cells place.at from (from + 3 * count) (owned_from end.at from) }
+    ensures touches { (blocks.new.touches ≡ blocks.old.touches + 3 * count) × (blocks.new.total ≡ blocks.old.total + 3 * count) }
+{
+    for i in 0..count {
+        let k = from + 3 * i;
+        blocks.set_link(place, k, end);
+        blocks.set_link(place, k + 1, end);
+        blocks.set_count(place, k + 2, 0);
+    }
+}
+
+// Writes the class and the number.
+fn lay_head(blocks: &mut Blocks, place: Place, class: u64, number: u64)
+    requires room { 2 ≤ length (words_at blocks.old.cells place.at) }
+    requires blank { (k : ℕ) → word_at blocks.old.cells place.at k ≡ blank }
+    ensures filled { Filled blocks.old.cells blocks.new.cells place.at 0 2 (head_word class number) }
+    ensures touches { (blocks.new.touches ≡ blocks.old.touches) × (blocks.new.total ≡ blocks.old.total) }
+{
+    blocks.set_number(place, CLASS, class);
+    blocks.set_number(place, NUMBER, number);
+}
+
+/// Makes a blank block that of a new entity, in no set and without members.
+pub(crate) fn lay(
+    blocks: &mut Blocks,
+    layout: &Layout,
+    place: Place,
+    class: usize,
+    number: u64,
+    end: Place,
+)
+    requires small { Small layout.now }
+    requires class { class < length layout.now.classes.items }
+    requires room { length (words_at blocks.old.cells place.at) ≡ block_words layout.now (Owner.Class class) }
+    requires blank { (k : ℕ) → word_at blocks.old.cells place.at k ≡ blank }
+    requires touches { blocks.old.touches ≡ 0 }
+    ensures laid { Laid layout.now blocks.old.cells blocks.new.cells end.at place.at class number }
+    ensures touches { blocks.new.total ≡ blocks.old.total + blocks.new.touches }
+{
+    let links = shape::links_start(layout, class);
+    let owned = shape::owned_start(layout, Owner::Class(class));
+    let count = shape::owned_count(layout, Owner::Class(class));
+    lay_head(blocks, place, class as u64, number);
+    fill_numbers(blocks, place, VALUES, links);
+    fill_links(blocks, place, links, owned, place);
+    fill_owned(blocks, place, owned, count, end);
+}
+
+/// Makes a blank block that of the system, without members.
+pub(crate) fn lay_system(blocks: &mut Blocks, layout: &Layout, place: Place)
+    requires small { Small layout.now }
+    requires room { length (words_at blocks.old.cells place.at) ≡ block_words layout.now Owner.System }
+    requires blank { (k : ℕ) → word_at blocks.old.cells place.at k ≡ blank }
+    requires touches { blocks.old.touches ≡ 0 }
+    ensures laid { LaidSystem layout.now blocks.old.cells blocks.new.cells place.at }
+    ensures touches { blocks.new.total ≡ blocks.old.total + blocks.new.touches }
+{
+    let count = shape::owned_count(layout, Owner::System);
+    lay_head(blocks, place, 0, 0);
+    fill_owned(blocks, place, VALUES, count, place);
+}

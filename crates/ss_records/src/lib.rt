@@ -1,0 +1,14 @@
+//! Records of a simulation as raw blocks, with links between them.
+#![tactic(auto)]
+
+pub(crate) mod directory;
+mod heap;
+pub(crate) mod laying;
+pub(crate) mod notes;
+pub(crate) mod records;
+pub(crate) mod shape;
+pub(crate) mod store;
+pub(crate) mod ties;
+pub(crate) mod words;
+
+pub use heap::Heap;

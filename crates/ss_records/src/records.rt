@@ -1,0 +1,392 @@
+// The records: where each lies, and what its block says.
+ghost use Rattle.std.specs.Prelude.{◌≡◌, ℕ, ◌+◌, ◌-◌, ◌*◌, ◌^◌, ◌<◌, ◌≤◌, ◌++◌, [], ◌∷◌, length, IsTrue, MatchResult, Ok, Err, Some, None, slice_get, slice_set, pos, true, ⊤, suc};
+ghost use Rattle.ss_records.specs.State.{Record, State, Members, entity, notice, numbered, and_then, of_class, kind_of, modes_of, is_notice, first_state, living_records, value_in, time_in, in_a_set, owns_members, destroyed, created, with_created, assigned, timed, with_entity};
+ghost use Rattle.ss_records.specs.Cells.{words_at, word_at, number};
+ghost use Rattle.ss_records.specs.Reading.{record_of, value_of};
+ghost use Rattle.ss_base.specs.Layout.{mode_of, is_sound};
+ghost use Rattle.ss_records.specs.Shape.{values_end};
+ghost use Rattle.ss_records.specs.Kept.{Kept, Small, state_of, numbered_place, IsPermanent};
+ghost use Rattle.ss_records.specs.Places.{class_at};
+ghost use Rattle.ss_records.specs.Parts.{IsKept, state, Found, FoundNotice};
+
+use crate::directory::Directory;
+use crate::notes::Notes;
+use crate::shape::{self, CLASS, NUMBER, VALUES};
+use crate::store::{Blocks, Place};
+use crate::{laying, ties, words};
+use ss_base::{ClassKind, FaultKind, Layout, Owner, Refused, Value};
+use std::alloc::{AllocError, Global};
+
+/// The greatest creation number.
+const LAST_NUMBER: u64 = 4611686018427387903;
+
+pub(crate) struct Records {
+    pub(crate) layout: Layout,
+    pub(crate) blocks: Blocks,
+    pub(crate) notes: Notes,
+    pub(crate) system: Place,
+    pub(crate) directory: Directory,
+}
+
+impl Records {
+    /// No record, all sets empty.
+    pub(crate) fn new(alloc: Global, layout: Layout) -> Result<Records, AllocError>
+        requires sound { IsTrue (is_sound layout) }
+        ensures { MatchResult result (λ r. IsKept r × (state r ≡ first_state layout)) (λ _. ⊤) }
+    {
+        if !shape::is_small(&layout) {
+            return Err(AllocError);
+        }
+        let mut blocks = Blocks::new();
+        let words = shape::block_words(&layout, Owner::System);
+        let Ok(system) = blocks.place(&alloc, words) else {
+            blocks.close();
+            return Err(AllocError);
+        };
+        laying::lay_system(&mut blocks, &layout, system);
+        Ok(Records {
+            layout,
+            blocks,
+            notes: Notes::new(),
+            system,
+            directory: Directory::new(alloc),
+        })
+    }
+
+    /// Counts the touches from nothing.
+    pub(crate) fn start(&mut self)
+        ensures { self.new ≡ record self.old { blocks = record { cells = self.old.blocks.cells; touches = 0; total = self.old.blocks.total } } }
+    {
+        self.blocks.start();
+    }
+
+    /// The touches since `start`.
+    pub(crate) fn touches(&self) -> u64
+        ensures { result ≡ self.now.blocks.touches }
+    {
+        self.blocks.touches()
+    }
+
+    /// How many blocks there are.
+    pub(crate) fn placed(&self) -> u64
+        requires kept { IsKept self.now }
+        ensures { result ≡ living_records (state self.now) + 1 }
+    {
+        self.blocks.placed()
+    }
+
+    /// Gives every block back.
+    pub(crate) fn close(self, alloc: &Global)
+        requires kept { IsKept self }
+    {
+        let Records {
+            layout,
+            mut blocks,
+            notes,
+            system,
+            directory,
+        } = self;
+        give_all_back(&mut blocks, alloc, &layout, &directory, &notes, system);
+        let words = shape::block_words(&layout, Owner::System);
+        blocks.give_back(alloc, system, words);
+        blocks.close();
+    }
+
+    // The block of a creation number.
+    fn numbered(&self, r: i64) -> Result<Place, FaultKind>
+        ensures { result ≡ numbered_place self.now.directory r }
+    {
+        if r == 0 {
+            return Err(FaultKind::NoEntity);
+        }
+        if r < 0 {
+            return Err(FaultKind::NeverCreated);
+        }
+        let i = r as usize - 1;
+        if i >= self.directory.len() {
+            return Err(FaultKind::NeverCreated);
+        }
+        match self.directory.get(i) {
+            Some(place) => Ok(place),
+            None => Err(FaultKind::DestroyedEntity),
+        }
+    }
+
+    /// The block of an entity of a class.
+    pub(crate) fn find(&self, class: usize, r: i64) -> Result<Place, FaultKind>
+        requires kept { IsKept self.now }
+        requires class { class < length self.now.layout.classes.items }
+        ensures found { MatchResult result (λ p. Found self.now class r p) (λ e. entity (state self.now) class r ≡ Err e) }
+    {
+        match shape::kind(&self.layout, class) {
+            ClassKind::Permanent => Err(FaultKind::Index),
+            ClassKind::Temporary => self.of_class(class, r),
+            ClassKind::Notice => self.of_class(class, r),
+        }
+    }
+
+    // The block of a creation number of a class.
+    fn of_class(&self, class: usize, r: i64) -> Result<Place, FaultKind>
+        requires kept { IsKept self.now }
+        ensures found { MatchResult result (λ p. (numbered_place self.now.directory r ≡ Ok p) × (class_at self.now.blocks.cells p ≡ class) × (and_then (numbered (state self.now) r) (of_class class) ≡ Ok (record_of self.now.layout (words_at self.now.blocks.cells p.at)))) (λ e. and_then (numbered (state self.now) r) (of_class class) ≡ Err e) }
+    {
+        match self.numbered(r) {
+            Ok(place) => {
+                if self.blocks.number(place, CLASS) == class as u64 {
+                    Ok(place)
+                } else {
+                    Err(FaultKind::WrongClass)
+                }
+            }
+            Err(fault) => Err(fault),
+        }
+    }
+
+    /// The block of a notice of any class.
+    pub(crate) fn find_notice(&self, r: i64) -> Result<Place, FaultKind>
+        requires kept { IsKept self.now }
+        ensures found { MatchResult result (λ p. FoundNotice self.now r p) (λ e. notice (state self.now) r ≡ Err e) }
+    {
+        match self.numbered(r) {
+            Ok(place) => {
+                if self.is_notice(self.blocks.number(place, CLASS)) {
+                    Ok(place)
+                } else {
+                    Err(FaultKind::WrongClass)
+                }
+            }
+            Err(fault) => Err(fault),
+        }
+    }
+
+    // Whether a class is one of notices.
+    fn is_notice(&self, class: u64) -> bool
+        ensures { result ≡ is_notice (kind_of self.now.layout class) }
+    {
+        match self.layout.classes.get(class as usize) {
+            Some(class) => matches!(class.kind, ClassKind::Notice),
+            None => false,
+        }
+    }
+
+    /// The value of an attribute.
+    pub(crate) fn value(&self, class: usize, field: usize, r: i64) -> Result<Value, FaultKind>
+        requires kept { IsKept self.now }
+        requires class { class < length self.now.layout.classes.items }
+        requires field { field < length (modes_of self.now.layout class) }
+        ensures { result ≡ value_in (state self.now) class field r }
+    {
+        match self.find(class, r) {
+            Ok(place) => {
+                let mode = shape::mode(&self.layout, class, field);
+                Ok(words::value_in(mode, self.blocks.number(place, VALUES + field)))
+            }
+            Err(fault) => Err(fault),
+        }
+    }
+
+    /// Sets the value of an attribute.
+    pub(crate) fn set_value(
+        &mut self,
+        class: usize,
+        field: usize,
+        r: i64,
+        value: Value,
+    ) -> Result<(), FaultKind>
+        requires kept { IsKept self.old }
+        requires class { class < length self.old.layout.classes.items }
+        requires mode { slice_get (modes_of self.old.layout class) field ≡ Some (mode_of value) }
+        ensures kept { IsKept self.new }
+        ensures done { MatchResult result (λ _. assigned (state self.old) class field r value ≡ Ok (state self.new)) (λ e. (assigned (state self.old) class field r value ≡ Err e) × (state self.new ≡ state self.old)) }
+        ensures touches { (self.new.blocks.touches ≡ self.old.blocks.touches) × (self.new.blocks.total ≡ self.old.blocks.total) }
+        ensures blocks { length self.new.blocks.cells ≡ length self.old.blocks.cells }
+    {
+        match self.find(class, r) {
+            Ok(place) => {
+                let word = words::word_of(value);
+                self.blocks.set_number(place, VALUES + field, word);
+                Ok(())
+            }
+            Err(fault) => Err(fault),
+        }
+    }
+
+    /// The time of a notice.
+    pub(crate) fn time(&self, r: i64) -> Result<i64, FaultKind>
+        requires kept { IsKept self.now }
+        ensures { result ≡ time_in (state self.now) r }
+    {
+        match self.find_notice(r) {
+            Ok(place) => {
+                let k = self.time_word(place);
+                Ok(self.blocks.number(place, k).cast_signed())
+            }
+            Err(fault) => Err(fault),
+        }
+    }
+
+    // Where the time of a notice stands.
+    fn time_word(&self, place: Place) -> usize
+        requires kept { IsKept self.now }
+        requires entry { (i : ℕ) × (slice_get self.now.directory i ≡ Some (Some place)) }
+        requires notice { is_notice (kind_of self.now.layout (class_at self.now.blocks.cells place)) ≡ true }
+        ensures { result ≡ values_end self.now.layout (class_at self.now.blocks.cells place) }
+    {
+        let class = self.blocks.number(place, CLASS) as usize;
+        shape::values_end(&self.layout, class)
+    }
+
+    /// Sets the time of a notice.
+    pub(crate) fn set_time(&mut self, r: i64, t: i64) -> Result<(), FaultKind>
+        requires kept { IsKept self.old }
+        ensures kept { IsKept self.new }
+        ensures done { MatchResult result (λ _. timed (state self.old) r t ≡ Ok (state self.new)) (λ e. (timed (state self.old) r t ≡ Err e) × (state self.new ≡ state self.old)) }
+        ensures touches { (self.new.blocks.touches ≡ self.old.blocks.touches) × (self.new.blocks.total ≡ self.old.blocks.total) }
+        ensures blocks { length self.new.blocks.cells ≡ length self.old.blocks.cells }
+    {
+        match self.find_notice(r) {
+            Ok(place) => {
+                let k = self.time_word(place);
+                self.blocks.set_number(place, k, t.cast_unsigned());
+                Ok(())
+            }
+            Err(fault) => Err(fault),
+        }
+    }
+
+    /// A new entity, with the next creation number.
+    pub(crate) fn create(&mut self, alloc: &Global, class: usize) -> Result<i64, Refused>
+        requires kept { IsKept self.old }
+        requires class { class < length self.old.layout.classes.items }
+        requires kind { IsPermanent (kind_of self.old.layout class) → ⊥ }
+        requires touches { self.old.blocks.touches ≡ 0 }
+        ensures kept { IsKept self.new }
+        ensures done { MatchResult result (λ n. created (state self.old) class ≡ Ok (n, state self.new)) (λ e. (state self.new ≡ state self.old) × ((f : FaultKind) → e ≡ Refused.Fault f → created (state self.old) class ≡ Err f)) }
+        ensures touches { self.new.blocks.total ≡ self.old.blocks.total + self.new.blocks.touches }
+    {
+        let i = self.directory.len();
+        if i as u64 >= LAST_NUMBER {
+            return Err(Refused::Fault(FaultKind::Overflow));
+        }
+        let words = shape::block_words(&self.layout, Owner::Class(class));
+        let Ok(place) = self.blocks.place(alloc, words) else {
+            return Err(Refused::Memory);
+        };
+        match self.directory.push(place) {
+            Ok(()) => {
+                let number = i as u64 + 1;
+                laying::lay(
+                    &mut self.blocks,
+                    &self.layout,
+                    place,
+                    class,
+                    number,
+                    self.system,
+                );
+                Ok(number as i64)
+            }
+            Err(_) => {
+                self.blocks.give_back(alloc, place, words);
+                Err(Refused::Memory)
+            }
+        }
+    }
+
+    // Whether an entity is in a set.
+    fn in_a_set(&mut self, class: usize, place: Place, number: u64) -> bool
+        requires kept { IsKept self.old }
+        requires entry { (i : ℕ) × (slice_get self.old.directory i ≡ Some (Some place)) × (number ≡ suc i) }
+        requires class { class_at self.old.blocks.cells place ≡ class }
+        requires touches { self.old.blocks.touches ≤ 2 ^ 32 }
+        ensures value { result ≡ in_a_set self.old.layout.sets.items 0 self.old.notes.lists class number }
+        ensures same { self.new ≡ record self.old { blocks = self.new.blocks } }
+        ensures cells { self.new.blocks.cells ≡ self.old.blocks.cells }
+        ensures touches { (self.new.blocks.touches ≤ self.old.blocks.touches + 1048576) × (self.new.blocks.total + self.old.blocks.touches ≡ self.old.blocks.total + self.new.blocks.touches) }
+    {
+        ties::in_a_set(
+            &mut self.blocks,
+            &self.layout,
+            &self.directory,
+            &self.notes,
+            self.system,
+            class,
+            place,
+            number,
+        )
+    }
+
+    // Whether an entity has members in a set.
+    fn owns_members(&mut self, class: usize, place: Place, number: u64) -> bool
+        requires kept { IsKept self.old }
+        requires entry { (i : ℕ) × (slice_get self.old.directory i ≡ Some (Some place)) × (number ≡ suc i) }
+        requires class { class_at self.old.blocks.cells place ≡ class }
+        requires touches { self.old.blocks.touches ≤ 2 ^ 33 }
+        ensures value { result ≡ owns_members self.old.layout.sets.items 0 self.old.notes.lists class number }
+        ensures same { self.new ≡ record self.old { blocks = self.new.blocks } }
+        ensures cells { self.new.blocks.cells ≡ self.old.blocks.cells }
+        ensures touches { (self.new.blocks.touches ≤ self.old.blocks.touches + 1048576) × (self.new.blocks.total + self.old.blocks.touches ≡ self.old.blocks.total + self.new.blocks.touches) }
+    {
+        ties::owns_members(
+            &mut self.blocks,
+            &self.layout,
+            &self.directory,
+            &self.notes,
+            self.system,
+            class,
+            place,
+            number,
+        )
+    }
+
+    /// Gives the block of an entity back.
+    pub(crate) fn destroy(&mut self, alloc: &Global, class: usize, r: i64) -> Result<(), FaultKind>
+        requires kept { IsKept self.old }
+        requires class { class < length self.old.layout.classes.items }
+        requires touches { self.old.blocks.touches ≡ 0 }
+        ensures kept { IsKept self.new }
+        ensures done { MatchResult result (λ _. destroyed (state self.old) class r ≡ Ok (state self.new)) (λ e. (destroyed (state self.old) class r ≡ Err e) × (state self.new ≡ state self.old)) }
+        ensures touches { self.new.blocks.total + self.old.blocks.touches ≡ self.old.blocks.total + self.new.blocks.touches }
+    {
+        match self.find(class, r) {
+            Ok(place) => {
+                let number = r as u64;
+                if self.in_a_set(class, place, number) {
+                    return Err(FaultKind::InASet);
+                }
+                if self.owns_members(class, place, number) {
+                    return Err(FaultKind::OwnsMembers);
+                }
+                let words = shape::block_words(&self.layout, Owner::Class(class));
+                self.directory.clear(number as usize - 1);
+                self.blocks.give_back(alloc, place, words);
+                Ok(())
+            }
+            Err(fault) => Err(fault),
+        }
+    }
+}
+
+// Gives back the blocks that a directory leads to. That of the system is left.
+fn give_all_back(
+    blocks: &mut Blocks,
+    alloc: &Global,
+    layout: &Layout,
+    directory: &Directory,
+    notes: &Notes,
+    system: Place,
+)
+    requires kept { Kept layout.now blocks.old.cells system.at directory.now notes.now.lists }
+    ensures system { words_at blocks.new.cells system.at ≡ words_at blocks.old.cells system.at }
+    ensures count { length blocks.new.cells ≡ 1 }
+{
+    for i in 0..directory.len() {
+        match directory.get(i) {
+            Some(place) => {
+                let class = blocks.number(place, CLASS) as usize;
+                let words = shape::block_words(layout, Owner::Class(class));
+                blocks.give_back(alloc, place, words);
+            }
+            None => {}
+        }
+    }
+}

@@ -1,0 +1,195 @@
+// How many words a block has, and where they stand.
+ghost use Rattle.std.specs.Prelude.{◌≡◌, ℕ, ◌+◌, ◌*◌, ◌^◌, ◌<◌, ◌≤◌, length, IsTrue, slice_get, Some};
+ghost use Rattle.ss_records.specs.State.{kind_of, modes_of, is_notice, is_owner_class};
+ghost use Rattle.ss_records.specs.Shape.{values_end, links_start, owned_start, block_words, joins, owned_by, same_owner, count_sets};
+ghost use Rattle.ss_records.specs.Kept.{Small};
+ghost use Rattle.ss_records.specs.Slotted.{member_base, owner_base};
+
+use ss_base::{ClassKind, Layout, Mode, Owner, SetLayout};
+
+/// The words of every block that name its class and its number, and the first word after them.
+pub(crate) const CLASS: usize = 0;
+
+pub(crate) const NUMBER: usize = 1;
+
+pub(crate) const VALUES: usize = 2;
+
+/// The most sets, and the most attributes of a class, that a heap serves.
+pub(crate) const MOST: usize = 1048576;
+
+/// Whether a heap can serve a layout.
+pub(crate) fn is_small(layout: &Layout) -> bool
+    ensures { IsTrue result → Small layout.now }
+{
+    if !layout.is_sound() || layout.sets.len() > MOST {
+        return false;
+    }
+    for class in &layout.classes {
+        if class.fields.len() > MOST {
+            return false;
+        }
+    }
+    true
+}
+
+/// The kind of a class.
+pub(crate) fn kind(layout: &Layout, class: usize) -> ClassKind
+    requires class { class < length layout.now.classes.items }
+    ensures { result ≡ kind_of layout.now class }
+{
+    layout.classes[class].kind
+}
+
+/// The mode of an attribute.
+pub(crate) fn mode(layout: &Layout, class: usize, field: usize) -> Mode
+    requires class { class < length layout.now.classes.items }
+    requires field { field < length (modes_of layout.now class) }
+    ensures { slice_get (modes_of layout.now class) field ≡ Some result }
+{
+    layout.classes[class].fields[field]
+}
+
+/// Where the values of a class end: there the time of a notice stands.
+pub(crate) fn values_end(layout: &Layout, class: usize) -> usize
+    requires small { Small layout.now }
+    requires class { class < length layout.now.classes.items }
+    ensures at { result ≡ values_end layout.now class }
+    ensures bound { result ≤ 1048578 }
+{
+    VALUES + layout.classes[class].fields.len()
+}
+
+/// Where the links of a class begin.
+pub(crate) fn links_start(layout: &Layout, class: usize) -> usize
+    requires small { Small layout.now }
+    requires class { class < length layout.now.classes.items }
+    ensures at { result ≡ links_start layout.now class }
+    ensures bound { result ≤ 1048579 }
+{
+    let end = values_end(layout, class);
+    match layout.classes[class].kind {
+        ClassKind::Notice => end + 1,
+        ClassKind::Temporary | ClassKind::Permanent => end,
+    }
+}
+
+/// Where the words of the sets that a class owns begin.
+pub(crate) fn owned_start(layout: &Layout, owner: Owner) -> usize
+    requires small { Small layout.now }
+    requires class { (c : ℕ) → owner ≡ Owner.Class c → c < length layout.now.classes.items }
+    ensures at { result ≡ owned_start layout.now owner }
+    ensures bound { result ≤ 4194307 }
+{
+    match owner {
+        Owner::System => VALUES,
+        Owner::Class(class) => links_start(layout, class) + 3 * joining(&layout.sets, class),
+    }
+}
+
+/// How many words a block of a class has.
+pub(crate) fn block_words(layout: &Layout, owner: Owner) -> usize
+    requires small { Small layout.now }
+    requires class { (c : ℕ) → owner ≡ Owner.Class c → c < length layout.now.classes.items }
+    ensures size { result ≡ block_words layout.now owner }
+    ensures bound { (2 ≤ result) × (result < 2 ^ 32) }
+{
+    owned_start(layout, owner) + 3 * owned_count(layout, owner)
+}
+
+/// How many sets an owner has.
+pub(crate) fn owned_count(layout: &Layout, owner: Owner) -> usize
+    requires small { Small layout.now }
+    ensures value { result ≡ count_sets (owned_by owner) layout.now.sets.items }
+    ensures bound { result ≤ 1048576 }
+{
+    owned(&layout.sets, owner)
+}
+
+// How many sets a class joins.
+fn joining(sets: &[SetLayout], class: usize) -> usize
+    ensures value { result ≡ count_sets (joins class) sets.now }
+    ensures bound { result ≤ length sets.now }
+{
+    let mut count = 0;
+    for set in sets {
+        if set.member == class {
+            count += 1;
+        }
+    }
+    count
+}
+
+// How many sets an owner has.
+fn owned(sets: &[SetLayout], owner: Owner) -> usize
+    ensures value { result ≡ count_sets (owned_by owner) sets.now }
+    ensures bound { result ≤ length sets.now }
+{
+    let mut count = 0;
+    for set in sets {
+        if set.owner == owner {
+            count += 1;
+        }
+    }
+    count
+}
+
+/// The layout of a set.
+pub(crate) fn set(layout: &Layout, s: usize) -> SetLayout
+    requires { s < length layout.now.sets.items }
+    ensures { slice_get layout.now.sets.items s ≡ Some result }
+{
+    layout.sets[s]
+}
+
+/// Where the words of a set stand in a member.
+pub(crate) fn member_base(layout: &Layout, s: usize) -> usize
+    requires small { Small layout.now }
+    requires set { s < length layout.now.sets.items }
+    ensures at { (t : SetLayout) → slice_get layout.now.sets.items s ≡ Some t → result ≡ member_base layout.now s t }
+    ensures bound { result ≤ 4194307 }
+{
+    let class = member_class(layout, s);
+    links_start(layout, class) + 3 * joining(&layout.sets[..s], class)
+}
+
+/// Where the words of a set stand in an owner.
+pub(crate) fn owner_base(layout: &Layout, s: usize) -> usize
+    requires small { Small layout.now }
+    requires set { s < length layout.now.sets.items }
+    ensures at { (t : SetLayout) → slice_get layout.now.sets.items s ≡ Some t → result ≡ owner_base layout.now s t }
+    ensures bound { result ≤ 8388614 }
+{
+    let owner = owner_class(layout, s);
+    owned_start(layout, owner) + 3 * owned(&layout.sets[..s], owner)
+}
+
+/// The class of the members of a set.
+pub(crate) fn member_class(layout: &Layout, s: usize) -> usize
+    requires small { Small layout.now }
+    requires set { s < length layout.now.sets.items }
+    ensures is { (t : SetLayout) → slice_get layout.now.sets.items s ≡ Some t → result ≡ t.member }
+    ensures class { result < length layout.now.classes.items }
+{
+    layout.sets[s].member
+}
+
+/// The owner of a set.
+pub(crate) fn owner_class(layout: &Layout, s: usize) -> Owner
+    requires small { Small layout.now }
+    requires set { s < length layout.now.sets.items }
+    ensures is { (t : SetLayout) → slice_get layout.now.sets.items s ≡ Some t → result ≡ t.owner }
+    ensures class { (c : ℕ) → result ≡ Owner.Class c → c < length layout.now.classes.items }
+{
+    layout.sets[s].owner
+}
+
+/// Whether a class owns the sets of a name.
+pub(crate) fn is_owner(layout: &Layout, s: usize, class: usize) -> bool
+    requires set { s < length layout.now.sets.items }
+    ensures { (t : SetLayout) → slice_get layout.now.sets.items s ≡ Some t → result ≡ is_owner_class t.owner class }
+{
+    match layout.sets[s].owner {
+        Owner::System => false,
+        Owner::Class(owner) => owner == class,
+    }
+}

@@ -1,0 +1,119 @@
+// Whether an entity is in a set, and whether it has members.
+ghost use Rattle.std.specs.Prelude.{◌≡◌, ℕ, suc, ◌+◌, ◌*◌, ◌^◌, ◌<◌, ◌≤◌, Some, slice_get, length};
+ghost use Rattle.ss_base.specs.declared.layout.SetLayout.{SetLayout};
+ghost use Rattle.ss_records.specs.State.{in_a_set, owns_members, is_filed, has_members, members_of};
+ghost use Rattle.ss_records.specs.Kept.{Kept};
+ghost use Rattle.ss_records.specs.Places.{class_at};
+
+use crate::directory::Directory;
+use crate::notes::Notes;
+use crate::shape::{self, NUMBER};
+use crate::store::{Blocks, Place};
+use ss_base::{Layout, Owner};
+
+/// Whether the entity is in a set of the name s: a touch.
+pub(crate) fn filed_in(
+    blocks: &mut Blocks,
+    layout: &Layout,
+    directory: &Directory,
+    notes: &Notes,
+    system: Place,
+    s: usize,
+    place: Place,
+    number: u64,
+) -> bool
+    requires kept { Kept layout.now blocks.old.cells system.at directory.now notes.now.lists }
+    requires set { s < length layout.now.sets.items }
+    requires entry { (i : ℕ) × (slice_get directory.now i ≡ Some (Some place)) × (number ≡ suc i) }
+    requires class { (t : SetLayout) → slice_get layout.now.sets.items s ≡ Some t → class_at blocks.old.cells place ≡ t.member }
+    requires touches { blocks.old.touches + 1 < 2 ^ 64 }
+    ensures value { result ≡ is_filed notes.now.lists s number }
+    ensures cells { blocks.new.cells ≡ blocks.old.cells }
+    ensures touches { (blocks.new.touches ≡ blocks.old.touches + 1) × (blocks.new.total ≡ blocks.old.total + 1) }
+{
+    let base = shape::member_base(layout, s);
+    let next = blocks.link(place, base);
+    blocks.number(next, NUMBER) != number
+}
+
+/// Whether the entity has members in its set of the name s: a touch.
+pub(crate) fn owns_in(
+    blocks: &mut Blocks,
+    layout: &Layout,
+    directory: &Directory,
+    notes: &Notes,
+    system: Place,
+    s: usize,
+    place: Place,
+    number: u64,
+) -> bool
+    requires kept { Kept layout.now blocks.old.cells system.at directory.now notes.now.lists }
+    requires set { s < length layout.now.sets.items }
+    requires entry { (i : ℕ) × (slice_get directory.now i ≡ Some (Some place)) × (number ≡ suc i) }
+    requires class { (t : SetLayout) → slice_get layout.now.sets.items s ≡ Some t → t.owner ≡ Owner.Class (class_at blocks.old.cells place) }
+    requires touches { blocks.old.touches + 1 < 2 ^ 64 }
+    ensures value { result ≡ has_members (members_of notes.now.lists s number) }
+    ensures cells { blocks.new.cells ≡ blocks.old.cells }
+    ensures touches { (blocks.new.touches ≡ blocks.old.touches + 1) × (blocks.new.total ≡ blocks.old.total + 1) }
+{
+    let base = shape::owner_base(layout, s);
+    blocks.count(place, base + 2) != 0
+}
+
+/// Whether the entity is in a set of any name: at most a touch for each name.
+pub(crate) fn in_a_set(
+    blocks: &mut Blocks,
+    layout: &Layout,
+    directory: &Directory,
+    notes: &Notes,
+    system: Place,
+    class: usize,
+    place: Place,
+    number: u64,
+) -> bool
+    requires kept { Kept layout.now blocks.old.cells system.at directory.now notes.now.lists }
+    requires entry { (i : ℕ) × (slice_get directory.now i ≡ Some (Some place)) × (number ≡ suc i) }
+    requires class { class_at blocks.old.cells place ≡ class }
+    requires touches { blocks.old.touches ≤ 2 ^ 32 }
+    ensures value { result ≡ in_a_set layout.now.sets.items 0 notes.now.lists class number }
+    ensures cells { blocks.new.cells ≡ blocks.old.cells }
+    ensures touches { (blocks.new.touches ≤ blocks.old.touches + 1048576) × (blocks.new.total + blocks.old.touches ≡ blocks.old.total + blocks.new.touches) }
+{
+    for s in 0..layout.sets.len() {
+        if shape::member_class(layout, s) == class {
+            if filed_in(blocks, layout, directory, notes, system, s, place, number) {
+                return true;
+            }
+        }
+    }
+    false
+}
+
+/// Whether the entity has members in a set of any name: at most a touch for each name.
+pub(crate) fn owns_members(
+    blocks: &mut Blocks,
+    layout: &Layout,
+    directory: &Directory,
+    notes: &Notes,
+    system: Place,
+    class: usize,
+    place: Place,
+    number: u64,
+) -> bool
+    requires kept { Kept layout.now blocks.old.cells system.at directory.now notes.now.lists }
+    requires entry { (i : ℕ) × (slice_get directory.now i ≡ Some (Some place)) × (number ≡ suc i) }
+    requires class { class_at blocks.old.cells place ≡ class }
+    requires touches { blocks.old.touches ≤ 2 ^ 33 }
+    ensures value { result ≡ owns_members layout.now.sets.items 0 notes.now.lists class number }
+    ensures cells { blocks.new.cells ≡ blocks.old.cells }
+    ensures touches { (blocks.new.touches ≤ blocks.old.touches + 1048576) × (blocks.new.total + blocks.old.touches ≡ blocks.old.total + blocks.new.touches) }
+{
+    for s in 0..layout.sets.len() {
+        if shape::is_owner(layout, s, class) {
+            if owns_in(blocks, layout, directory, notes, system, s, place, number) {
+                return true;
+            }
+        }
+    }
+    false
+}
