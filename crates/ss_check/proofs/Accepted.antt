@@ -3,11 +3,11 @@ use Rattle.std.proofs.Common.{◌≡◌, ℕ, Bool, true, false, not, ◌&&◌, 
 use Rattle.std.specs.Prelude.{if◌then◌else◌}
 use Rattle.ss_base.specs.declared.line.Line.{Line}
 use Rattle.ss_base.specs.declared.layout.Mode.TheVariants.{Integer}
-use Rattle.ss_parse.specs.declared.tree.program.Program.{Program}
-use Rattle.ss_parse.specs.declared.tree.statement.Statement.{Statement as Parsed}
-use Rattle.ss_parse.specs.View.{view_program, view_preamble, view_section, view_statement}
-use Rattle.ss_code.specs.declared.resolved.Statement.{Statement}
-use Rattle.ss_code.specs.declared.resolved.Resolved.{Resolved}
+use Rattle.ss_tree.specs.declared.program.Program.{Program}
+use Rattle.ss_tree.specs.declared.statement.Statement.{Statement as Parsed}
+use Rattle.ss_tree.specs.View.{view_program, view_preamble, view_section, view_statement}
+use Rattle.ss_resolved.specs.declared.resolved.Statement.{Statement}
+use Rattle.ss_resolved.specs.declared.resolved.Resolved.{Resolved}
 use Rattle.ss_check.specs.Naming.{NameBytes, with_names_of_body}
 use Rattle.ss_check.specs.Checking.{ResolveBody, served_body, served_preamble, served_sections, served_program, body_of, has_some, first_named, without_mode, first_misfit, IsResolved, LacksMode, HasMisfit}
 use Rattle.ss_check.proofs.Served.{both, body_served}

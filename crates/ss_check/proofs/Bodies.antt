@@ -3,10 +3,10 @@ use Rattle.std.proofs.Common.{◌≡◌, ℕ, zero, suc, ◌+◌, ◌<◌, Bool,
 use Rattle.std.specs.Prelude.{if◌then◌else◌}
 use Rattle.std.proofs.lemmas.List.{drop_more}
 use Rattle.ss_base.specs.declared.line.Line.{Line}
-use Rattle.ss_parse.specs.declared.tree.statement.Statement.{Statement as Parsed}
-use Rattle.ss_parse.specs.Tree.{StatementTree}
-use Rattle.ss_parse.specs.View.{view_statement}
-use Rattle.ss_code.specs.declared.resolved.Statement.{Statement}
+use Rattle.ss_tree.specs.declared.statement.Statement.{Statement as Parsed}
+use Rattle.ss_tree.specs.Tree.{StatementTree}
+use Rattle.ss_tree.specs.View.{view_statement}
+use Rattle.ss_resolved.specs.declared.resolved.Statement.{Statement}
 use Rattle.ss_check.specs.Naming.{NameBytes, with_names_of_statement, with_names_of_body}
 use Rattle.ss_check.specs.Checking.{ResolvesStatement, ResolveBody, served_statement, served_body, line_of, has_some, first_named, or_first, found_line}
 use Rattle.ss_check.proofs.Forms.{and_false, false_and}

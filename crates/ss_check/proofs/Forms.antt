@@ -4,12 +4,12 @@ use Rattle.std.specs.Prelude.{◌==◌, if◌then◌else◌}
 use Rattle.std.proofs.lemmas.List.{drop_more}
 use Rattle.std.specs.Global.{Vec}
 use Rattle.ss_base.specs.declared.line.Line.{Line}
-use Rattle.ss_parse.specs.declared.tree.expression.Named.{Named}
-use Rattle.ss_parse.specs.declared.tree.expression.Expression.{Expression}
-use Rattle.ss_parse.specs.declared.tree.statement.Statement.{Statement, Let, Add, Subtract, Print}
-use Rattle.ss_parse.specs.declared.tree.statement.Statement.TheVariants as statements
-use Rattle.ss_parse.specs.Tree.{StatementTree, let_statement, add_statement, subtract_statement, print_statement}
-use Rattle.ss_parse.specs.View.{view_expression, view_named, view_statement}
+use Rattle.ss_tree.specs.declared.expression.Named.{Named}
+use Rattle.ss_tree.specs.declared.expression.Expression.{Expression}
+use Rattle.ss_tree.specs.declared.statement.Statement.{Statement, Let, Add, Subtract, Print}
+use Rattle.ss_tree.specs.declared.statement.Statement.TheVariants as statements
+use Rattle.ss_tree.specs.Tree.{StatementTree, let_statement, add_statement, subtract_statement, print_statement}
+use Rattle.ss_tree.specs.View.{view_expression, view_named, view_statement}
 use Rattle.ss_check.specs.Resolving.{served_designated, served_expression, all_served}
 use Rattle.ss_check.specs.Checking.{served_statement, line_of, fields_of, misfits, first_misfit}
 

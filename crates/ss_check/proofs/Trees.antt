@@ -2,18 +2,18 @@
 use Rattle.std.proofs.Common.{◌≡◌, ℕ, zero, suc, ◌+◌, ◌<◌, Bool, true, false, ◌&&◌, List, [], ◌∷◌, ◌++◌, length, get_or, take, map, Result, Ok, Err, refl, sym, ap, subst, ◌∙◌, arith}
 use Rattle.std.proofs.lemmas.List.{take_more, map-append}
 use Rattle.std.specs.Global.{Vec, Box}
-use Rattle.ss_parse.specs.declared.tree.expression.Sign.{Sign as ParsedSign}
-use Rattle.ss_parse.specs.declared.tree.expression.Expression.{Expression as Parsed}
-use Rattle.ss_parse.specs.declared.tree.expression.Expression.TheVariants as variants
-use Rattle.ss_parse.specs.declared.tree.expression.Term.{Term}
-use Rattle.ss_parse.specs.declared.tree.expression.Designator.{Designator}
-use Rattle.ss_parse.specs.declared.tree.expression.Designator.TheVariants as designators
-use Rattle.ss_parse.specs.Tree.{ExpressionTree, product, sum, expression_row, and_expression, term_row, and_term}
-use Rattle.ss_parse.specs.View.{view_expression, view_term}
-use Rattle.ss_parse.specs.Views.{view_product_made, view_sum_made}
-use Rattle.ss_code.specs.declared.resolved.Sign.{Sign}
-use Rattle.ss_code.specs.declared.resolved.Expression.{Expression, Row_of-Expression, end_of-Expression, more_of-Expression, Row_of-Expression-Sum-1-2, end_of-Expression-Sum-1-2, more_of-Expression-Sum-1-2, items-the_row-Expression-Sum-1-2, items-the_row-Expression, items_hidden-the_row-Expression-Sum-1-2-0, items_hidden-the_row-Expression-1, Sum, Product}
-use Rattle.ss_code.specs.declared.resolved.Expression.TheBlock.{hidden-the_row-Expression-Sum-1-2-0, hidden-the_row-Expression-1}
+use Rattle.ss_tree.specs.declared.expression.Sign.{Sign as ParsedSign}
+use Rattle.ss_tree.specs.declared.expression.Expression.{Expression as Parsed}
+use Rattle.ss_tree.specs.declared.expression.Expression.TheVariants as variants
+use Rattle.ss_tree.specs.declared.expression.Term.{Term}
+use Rattle.ss_tree.specs.declared.expression.Designator.{Designator}
+use Rattle.ss_tree.specs.declared.expression.Designator.TheVariants as designators
+use Rattle.ss_tree.specs.Tree.{ExpressionTree, product, sum, expression_row, and_expression, term_row, and_term}
+use Rattle.ss_tree.specs.View.{view_expression, view_term}
+use Rattle.ss_tree.specs.Views.{view_product_made, view_sum_made}
+use Rattle.ss_resolved.specs.declared.resolved.Sign.{Sign}
+use Rattle.ss_resolved.specs.declared.resolved.Expression.{Expression, Row_of-Expression, end_of-Expression, more_of-Expression, Row_of-Expression-Sum-1-2, end_of-Expression-Sum-1-2, more_of-Expression-Sum-1-2, items-the_row-Expression-Sum-1-2, items-the_row-Expression, items_hidden-the_row-Expression-Sum-1-2-0, items_hidden-the_row-Expression-1, Sum, Product}
+use Rattle.ss_resolved.specs.declared.resolved.Expression.TheBlock.{hidden-the_row-Expression-Sum-1-2-0, hidden-the_row-Expression-1}
 use Rattle.ss_check.specs.Naming.{NameBytes, with_names, with_names_of_factors, with_names_of_terms, with_names_of_all, with_names_of_signed}
 use Rattle.ss_check.specs.Resolving.{SameSign, Resolves, ResolveFactors, ResolveTerms, ResolveAll, ResolveSigned, served_designated, served_expression, served_factors, served_terms, all_served, all_terms_served}
 

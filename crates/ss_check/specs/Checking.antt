@@ -2,15 +2,15 @@
 use Rattle.std.specs.Prelude.{◌≡◌, ℕ, ◌+◌, ◌==◌, Bool, true, false, not, ◌&&◌, List, [], ◌∷◌, length, map, replicate, Option, Some, None, if◌then◌else◌}
 use Rattle.ss_base.specs.declared.line.Line.{Line}
 use Rattle.ss_base.specs.declared.layout.Mode.TheVariants.{Integer}
-use Rattle.ss_parse.specs.declared.tree.preamble.Mode.TheVariants.{Integer as IntegerMode, Alpha as AlphaMode, Real as RealMode}
-use Rattle.ss_parse.specs.Tree.{ExpressionTree, NamedTree, StatementTree, let_statement, add_statement, subtract_statement, call_statement, return_statement, stop_statement, read_statement, start_simulation, if_statement, loop_statement, find_statement, find_if_statement, create_statement, create_every, destroy_statement, file_statement, remove_end, remove_statement, schedule_new, schedule_statement, cancel_statement, reset_statement, print_statement, skip_statement, PreambleTree, normally, DefinitionTree, SectionKindTree, main, routine, event, SectionTree, ProgramTree}
+use Rattle.ss_tree.specs.declared.preamble.Mode.TheVariants.{Integer as IntegerMode, Alpha as AlphaMode, Real as RealMode}
+use Rattle.ss_tree.specs.Tree.{ExpressionTree, NamedTree, StatementTree, let_statement, add_statement, subtract_statement, call_statement, return_statement, stop_statement, read_statement, start_simulation, if_statement, loop_statement, find_statement, find_if_statement, create_statement, create_every, destroy_statement, file_statement, remove_end, remove_statement, schedule_new, schedule_statement, cancel_statement, reset_statement, print_statement, skip_statement, PreambleTree, normally, DefinitionTree, SectionKindTree, main, routine, event, SectionTree, ProgramTree}
 use Rattle.ss_picture.specs.Pictures.{field_count}
-use Rattle.ss_code.specs.declared.resolved.Sign.TheVariants.{Plus, Minus}
-use Rattle.ss_code.specs.declared.resolved.Expression.{Expression}
-use Rattle.ss_code.specs.declared.resolved.Statement.{Statement}
-use Rattle.ss_code.specs.declared.resolved.Statement.TheVariants.{Let, Change, Print}
-use Rattle.ss_code.specs.declared.resolved.Resolved.{Resolved}
-use Rattle.ss_code.specs.Meaning.{lines_of}
+use Rattle.ss_resolved.specs.declared.resolved.Sign.TheVariants.{Plus, Minus}
+use Rattle.ss_resolved.specs.declared.resolved.Expression.{Expression}
+use Rattle.ss_resolved.specs.declared.resolved.Statement.{Statement}
+use Rattle.ss_resolved.specs.declared.resolved.Statement.TheVariants.{Let, Change, Print}
+use Rattle.ss_resolved.specs.declared.resolved.Resolved.{Resolved}
+use Rattle.ss_resolved.specs.Lines.{lines_of}
 use Rattle.ss_check.specs.Naming.{NameBytes, with_designated, with_names, with_names_of_statement, with_names_of_body}
 use Rattle.ss_check.specs.Resolving.{IsVariable, Resolves, ResolveAll, served_designated, served_expression, all_served}
 

@@ -2,7 +2,7 @@ ghost use Rattle.std.specs.Prelude.{◌≡◌, [], map, length, replicate, IfOk,
 ghost use Rattle.ss_base.specs.declared.layout.Mode.TheVariants.{Integer};
 ghost use Rattle.ss_base.specs.declared.line.Line.{Line};
 ghost use Rattle.ss_check.specs.declared.check.CheckError.TheVariants.{Memory};
-ghost use Rattle.ss_parse.specs.View.{view_preamble, view_program, view_section, view_statement};
+ghost use Rattle.ss_tree.specs.View.{view_preamble, view_program, view_section, view_statement};
 ghost use Rattle.ss_check.specs.Naming.{with_names_of_body};
 ghost use Rattle.ss_check.specs.Checking.{ResolveBody, IsResolved, LacksMode, HasMisfit, served_program, body_of, first_named, served_body, served_preamble, served_sections, has_some, found_line, resolved_line};
 
@@ -11,10 +11,10 @@ use crate::rules::misfit;
 use crate::statements::resolve_statement;
 use crate::unready::Unready;
 use ss_base::{Line, Mode};
-use ss_code::resolved::{Resolved, Section as ResolvedSection, Statement as ResolvedStatement};
-use ss_parse::tree::preamble::{Mode as ParsedMode, PreambleStatement};
-use ss_parse::tree::program::{Program, Section, SectionKind};
-use ss_parse::tree::statement::Statement;
+use ss_resolved::resolved::{Resolved, Section as ResolvedSection, Statement as ResolvedStatement};
+use ss_tree::preamble::{Mode as ParsedMode, PreambleStatement};
+use ss_tree::program::{Program, Section, SectionKind};
+use ss_tree::statement::Statement;
 use std::alloc::{AllocError, Global};
 use thiserror::Error;
 

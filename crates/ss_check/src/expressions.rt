@@ -1,14 +1,14 @@
 ghost use Rattle.std.specs.Prelude.{◌≡◌, false, map, IfOk, Err};
-ghost use Rattle.ss_parse.specs.View.{view_expression, view_named, view_term};
-ghost use Rattle.ss_parse.specs.Tree.{expression_row};
+ghost use Rattle.ss_tree.specs.View.{view_expression, view_named, view_term};
+ghost use Rattle.ss_tree.specs.Tree.{expression_row};
 ghost use Rattle.ss_check.specs.Naming.{with_designated, with_names, with_names_of_all, with_names_of_signed};
 ghost use Rattle.ss_check.specs.Resolving.{IsVariable, Resolves, ResolveAll, ResolveSigned, SameSign, served_designated, served_expression, all_served, all_terms_served};
 
 use crate::names::Names;
 use crate::unready::Unready;
 use ss_base::Value;
-use ss_code::resolved::{Expression as Resolved, Sign as ResolvedSign, Variable};
-use ss_parse::tree::expression::{Designator, Expression, Named, Sign, Term};
+use ss_resolved::resolved::{Expression as Resolved, Sign as ResolvedSign, Variable};
+use ss_tree::expression::{Designator, Expression, Named, Sign, Term};
 use std::alloc::Global;
 
 // The sign that a sign stands for.
@@ -42,7 +42,7 @@ pub(crate) fn resolve_variable(names: &mut Names, named: &Named) -> Result<Varia
 
 // The expression with each name replaced by its variable.
 #[cycle(resolving)]
-#[tactic(auto, unfolding(ss_parse::specs::View::view_expression), using(crate::proofs::Trees::resolves_product, crate::proofs::Trees::resolves_sum, crate::proofs::Trees::names_of_product, crate::proofs::Trees::names_of_sum, crate::proofs::Trees::product_first_unserved, crate::proofs::Trees::product_further_unserved, crate::proofs::Trees::sum_first_unserved, crate::proofs::Trees::sum_further_unserved))]
+#[tactic(auto, unfolding(ss_tree::specs::View::view_expression), using(crate::proofs::Trees::resolves_product, crate::proofs::Trees::resolves_sum, crate::proofs::Trees::names_of_product, crate::proofs::Trees::names_of_sum, crate::proofs::Trees::product_first_unserved, crate::proofs::Trees::product_further_unserved, crate::proofs::Trees::sum_first_unserved, crate::proofs::Trees::sum_further_unserved))]
 pub(crate) fn resolve_expression(
     alloc: Global,
     names: &mut Names,

@@ -1,10 +1,10 @@
 ghost use Rattle.std.specs.Prelude.{◌≡◌, ◌==◌, map, IfOk};
-ghost use Rattle.ss_parse.specs.View.{view_statement};
+ghost use Rattle.ss_tree.specs.View.{view_statement};
 ghost use Rattle.ss_check.specs.Checking.{fields_of, first_misfit};
 
 use ss_base::Line;
 use ss_lex::PictureLine;
-use ss_parse::tree::statement::Statement;
+use ss_tree::statement::Statement;
 use ss_picture::Picture;
 use std::alloc::{AllocError, Global};
 
@@ -24,7 +24,7 @@ fn has_fields(alloc: Global, pictures: &[PictureLine], items: usize) -> Result<b
 }
 
 // The line of the first PRINT that has another number of items than its pictures have fields.
-#[tactic(auto, unfolding(ss_parse::specs::View::view_statement))]
+#[tactic(auto, unfolding(ss_tree::specs::View::view_statement))]
 pub(crate) fn misfit(alloc: Global, body: &[Statement]) -> Result<Option<Line>, AllocError>
     ensures { IfOk result (λ line. line ≡ first_misfit (map view_statement body.now)) }
 {

@@ -1,15 +1,15 @@
 ghost use Rattle.std.specs.Prelude.{◌≡◌, false, map, IfOk, Err};
-ghost use Rattle.ss_parse.specs.View.{view_statement};
-ghost use Rattle.ss_code.specs.Meaning.{lines_of};
+ghost use Rattle.ss_tree.specs.View.{view_statement};
+ghost use Rattle.ss_resolved.specs.Lines.{lines_of};
 ghost use Rattle.ss_check.specs.Naming.{with_names_of_statement};
 ghost use Rattle.ss_check.specs.Checking.{ResolvesStatement, served_statement};
 
 use crate::expressions::{resolve_expression, resolve_factors, resolve_variable};
 use crate::names::Names;
 use crate::unready::Unready;
-use ss_code::resolved::{Sign, Statement as Resolved};
+use ss_resolved::resolved::{Sign, Statement as Resolved};
 use ss_lex::PictureLine;
-use ss_parse::tree::statement::Statement;
+use ss_tree::statement::Statement;
 use std::alloc::{AllocError, Global};
 
 // The bytes of some pictures.
@@ -24,7 +24,7 @@ fn picture_lines(alloc: Global, pictures: &[PictureLine]) -> Result<Vec<Vec<u8>>
 }
 
 // The statement with each name replaced by its variable.
-#[tactic(auto, unfolding(ss_parse::specs::View::view_statement))]
+#[tactic(auto, unfolding(ss_tree::specs::View::view_statement))]
 pub(crate) fn resolve_statement(
     alloc: Global,
     names: &mut Names,

@@ -4,9 +4,9 @@ use Rattle.std.specs.declared.boxed.Box.{Box}
 use Rattle.std.specs.declared.vec.Vec.{Vec}
 use Rattle.std.specs.declared.alloc.Global.{Global}
 use Rattle.ss_base.specs.declared.line.Line.{Line}
-use Rattle.ss_code.specs.declared.resolved.Sign.{Sign}
-use Rattle.ss_code.specs.declared.resolved.Expression.{Expression, Row_of-Expression, end_of-Expression, more_of-Expression, Row_of-Expression-Sum-1-2, end_of-Expression-Sum-1-2, more_of-Expression-Sum-1-2, items-the_row-Expression-Sum-1-2, items-the_row-Expression, items_hidden-the_row-Expression-Sum-1-2-0, items_hidden-the_row-Expression-1, Sum, Product}
-use Rattle.ss_code.specs.declared.resolved.Expression.TheBlock.{hidden-the_row-Expression-Sum-1-2-0, hidden-the_row-Expression-1}
+use Rattle.ss_resolved.specs.declared.resolved.Sign.{Sign}
+use Rattle.ss_resolved.specs.declared.resolved.Expression.{Expression, Row_of-Expression, end_of-Expression, more_of-Expression, Row_of-Expression-Sum-1-2, end_of-Expression-Sum-1-2, more_of-Expression-Sum-1-2, items-the_row-Expression-Sum-1-2, items-the_row-Expression, items_hidden-the_row-Expression-Sum-1-2-0, items_hidden-the_row-Expression-1, Sum, Product}
+use Rattle.ss_resolved.specs.declared.resolved.Expression.TheBlock.{hidden-the_row-Expression-Sum-1-2-0, hidden-the_row-Expression-1}
 use Rattle.ss_code.specs.declared.instruction.Operand.{Operand}
 use Rattle.ss_code.specs.declared.instruction.Operand.TheVariants.{Popped}
 use Rattle.ss_code.specs.declared.instruction.Destination.{Destination}

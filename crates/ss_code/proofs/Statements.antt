@@ -6,16 +6,17 @@ use Rattle.std.specs.declared.alloc.Global.{Global as TheGlobal}
 use Rattle.ss_base.specs.declared.line.Line.{Line}
 use Rattle.ss_base.specs.declared.fault.FaultKind.{FaultKind}
 use Rattle.ss_base.specs.declared.value.Value.{Value}
-use Rattle.ss_code.specs.declared.resolved.Variable.{Variable}
-use Rattle.ss_code.specs.declared.resolved.Variable.TheVariants.{Global, Local}
-use Rattle.ss_code.specs.declared.resolved.Sign.{Sign}
-use Rattle.ss_code.specs.declared.resolved.Expression.{Expression}
-use Rattle.ss_code.specs.declared.resolved.Statement.{Statement}
-use Rattle.ss_code.specs.declared.resolved.Statement.TheVariants.{Let, Change, Print}
+use Rattle.ss_resolved.specs.declared.resolved.Variable.{Variable}
+use Rattle.ss_resolved.specs.declared.resolved.Variable.TheVariants.{Global, Local}
+use Rattle.ss_resolved.specs.declared.resolved.Sign.{Sign}
+use Rattle.ss_resolved.specs.declared.resolved.Expression.{Expression}
+use Rattle.ss_resolved.specs.declared.resolved.Statement.{Statement}
+use Rattle.ss_resolved.specs.declared.resolved.Statement.TheVariants.{Let, Change, Print}
 use Rattle.ss_code.specs.declared.instruction.Instruction.{Instruction}
 use Rattle.ss_code.specs.declared.instruction.Instruction.TheVariants.{Calculate, Print as PrintLines}
 use Rattle.ss_code.specs.Store.{Store, World, fetched, assigned, computed, printed}
-use Rattle.ss_code.specs.Meaning.{Outcome, WentOn, Left, Part, and_then, if_ok, look, assign, send, operator_of, value, values, lines_of, effect, effects}
+use Rattle.ss_code.specs.Meaning.{Outcome, WentOn, Left, Part, and_then, if_ok, look, assign, send, operator_of, value, values, effect, effects}
+use Rattle.ss_resolved.specs.Lines.{lines_of}
 use Rattle.ss_code.specs.Machine.{Frame, State, Code, take_off, act, Goes, with_taken, Sends, next, with_rest}
 use Rattle.ss_code.specs.Translation.{variable_operand, destination_of, operand_of, expression_code, values_code, statement_code, statement_pictures, body_code, body_pictures}
 use Rattle.ss_code.specs.Running.{Underway}

@@ -1,22 +1,21 @@
 -- What a program does, without the machine.
 use Rattle.std.specs.Prelude.{ℕ, List, [], ◌∷◌, ◌++◌, map, Result, Ok, Err}
-use Rattle.std.specs.declared.vec.Vec.{Vec}
-use Rattle.std.specs.declared.alloc.Global.{Global as TheGlobal}
 use Rattle.ss_base.specs.declared.line.Line.{Line}
 use Rattle.ss_base.specs.declared.fault.FaultKind.{FaultKind}
 use Rattle.ss_base.specs.declared.value.Value.{Value}
 use Rattle.ss_base.specs.declared.layout.Mode.{Mode}
 use Rattle.ss_base.specs.Layout.{first_value}
-use Rattle.ss_code.specs.declared.resolved.Variable.{Variable}
-use Rattle.ss_code.specs.declared.resolved.Sign.{Sign}
-use Rattle.ss_code.specs.declared.resolved.Sign.TheVariants.{Plus as PlusSign, Minus as MinusSign}
-use Rattle.ss_code.specs.declared.resolved.Function.{Function}
-use Rattle.ss_code.specs.declared.resolved.Function.TheVariants.{Quotient as QuotientOf, Remainder as RemainderOf, Least as LeastOf, Greatest as GreatestOf}
-use Rattle.ss_code.specs.declared.resolved.Expression.{Expression, Constant, Fetch, Signed', Sum', Product', Applied', Absolute', Row_of-Expression, end_of-Expression, more_of-Expression, Row_of-Expression-Sum-1-2, end_of-Expression-Sum-1-2, more_of-Expression-Sum-1-2}
-use Rattle.ss_code.specs.declared.resolved.Statement.{Statement}
-use Rattle.ss_code.specs.declared.resolved.Statement.TheVariants.{Let, Change, Print}
-use Rattle.ss_code.specs.declared.resolved.Section.{Section}
-use Rattle.ss_code.specs.declared.resolved.Resolved.{Resolved}
+use Rattle.ss_resolved.specs.declared.resolved.Variable.{Variable}
+use Rattle.ss_resolved.specs.declared.resolved.Sign.{Sign}
+use Rattle.ss_resolved.specs.declared.resolved.Sign.TheVariants.{Plus as PlusSign, Minus as MinusSign}
+use Rattle.ss_resolved.specs.declared.resolved.Function.{Function}
+use Rattle.ss_resolved.specs.declared.resolved.Function.TheVariants.{Quotient as QuotientOf, Remainder as RemainderOf, Least as LeastOf, Greatest as GreatestOf}
+use Rattle.ss_resolved.specs.declared.resolved.Expression.{Expression, Constant, Fetch, Signed', Sum', Product', Applied', Absolute', Row_of-Expression, end_of-Expression, more_of-Expression, Row_of-Expression-Sum-1-2, end_of-Expression-Sum-1-2, more_of-Expression-Sum-1-2}
+use Rattle.ss_resolved.specs.declared.resolved.Statement.{Statement}
+use Rattle.ss_resolved.specs.declared.resolved.Statement.TheVariants.{Let, Change, Print}
+use Rattle.ss_resolved.specs.declared.resolved.Section.{Section}
+use Rattle.ss_resolved.specs.declared.resolved.Resolved.{Resolved}
+use Rattle.ss_resolved.specs.Lines.{lines_of}
 use Rattle.ss_code.specs.declared.instruction.Operator.{Operator}
 use Rattle.ss_code.specs.declared.instruction.Operator.TheVariants.{Plus, Minus, Times, Quotient, Remainder, Least, Greatest, Distance}
 use Rattle.ss_code.specs.Store.{Store, World, zero_value, fetched, assigned, computed, printed}
@@ -100,10 +99,6 @@ abbrev mutual
 abbrev pub values : List Expression → Store → Result (List Value) FaultKind
 values [] s = Ok []
 values (e ∷ es) s = if_ok (value e s) (λ v. if_ok (values es s) (λ vs. Ok (v ∷ vs)))
-
--- the lines of a PRINT
-abbrev pub lines_of : List (Vec ℕ TheGlobal) → List (List ℕ)
-lines_of pictures = map (λ p. p.items) pictures
 
 -- what a statement does
 abbrev pub effect : Statement → Part (Unit {0})

@@ -1,8 +1,8 @@
 -- The code of the terms of a sum and of the factors of a product as lists.
 use Rattle.std.specs.Prelude.{ℕ, List, [], ◌∷◌, ◌++◌, Option, None}
 use Rattle.ss_base.specs.declared.line.Line.{Line}
-use Rattle.ss_code.specs.declared.resolved.Sign.{Sign}
-use Rattle.ss_code.specs.declared.resolved.Expression.{Expression}
+use Rattle.ss_resolved.specs.declared.resolved.Sign.{Sign}
+use Rattle.ss_resolved.specs.declared.resolved.Expression.{Expression}
 use Rattle.ss_code.specs.declared.instruction.Operand.{Operand}
 use Rattle.ss_code.specs.declared.instruction.Operand.TheVariants.{Popped}
 use Rattle.ss_code.specs.declared.instruction.Destination.{Destination}

@@ -3,12 +3,12 @@ use Rattle.std.specs.Prelude.{ℕ, ◌+◌, List, [], ◌∷◌, ◌++◌, lengt
 use Rattle.ss_base.specs.declared.line.Line.{Line}
 use Rattle.ss_base.specs.declared.value.Value.{Value}
 use Rattle.ss_base.specs.declared.value.Value.TheVariants.{Whole, Text}
-use Rattle.ss_code.specs.declared.resolved.Variable.{Variable}
-use Rattle.ss_code.specs.declared.resolved.Variable.TheVariants.{Global, Local}
-use Rattle.ss_code.specs.declared.resolved.Expression.{Expression, Constant, Fetch, Signed', Sum', Product', Applied', Absolute', Row_of-Expression, end_of-Expression, more_of-Expression, Row_of-Expression-Sum-1-2, end_of-Expression-Sum-1-2, more_of-Expression-Sum-1-2}
-use Rattle.ss_code.specs.declared.resolved.Statement.{Statement}
-use Rattle.ss_code.specs.declared.resolved.Statement.TheVariants.{Let, Change, Print}
-use Rattle.ss_code.specs.declared.resolved.Resolved.{Resolved}
+use Rattle.ss_resolved.specs.declared.resolved.Variable.{Variable}
+use Rattle.ss_resolved.specs.declared.resolved.Variable.TheVariants.{Global, Local}
+use Rattle.ss_resolved.specs.declared.resolved.Expression.{Expression, Constant, Fetch, Signed', Sum', Product', Applied', Absolute', Row_of-Expression, end_of-Expression, more_of-Expression, Row_of-Expression-Sum-1-2, end_of-Expression-Sum-1-2, more_of-Expression-Sum-1-2}
+use Rattle.ss_resolved.specs.declared.resolved.Statement.{Statement}
+use Rattle.ss_resolved.specs.declared.resolved.Statement.TheVariants.{Let, Change, Print}
+use Rattle.ss_resolved.specs.declared.resolved.Resolved.{Resolved}
 use Rattle.ss_code.specs.declared.instruction.Operand.{Operand}
 use Rattle.ss_code.specs.declared.instruction.Operand.TheVariants.{Popped, Number, FromGlobal, FromLocal}
 use Rattle.ss_code.specs.declared.instruction.Destination.{Destination}
@@ -17,7 +17,8 @@ use Rattle.ss_code.specs.declared.instruction.Operator.{Operator}
 use Rattle.ss_code.specs.declared.instruction.Operator.TheVariants.{Times, Distance}
 use Rattle.ss_code.specs.declared.instruction.Instruction.{Instruction}
 use Rattle.ss_code.specs.declared.instruction.Instruction.TheVariants.{Load, Move, Calculate, Print as PrintLines, Leave}
-use Rattle.ss_code.specs.Meaning.{operator_of, operator_for, lines_of, firsts}
+use Rattle.ss_code.specs.Meaning.{operator_of, operator_for, firsts}
+use Rattle.ss_resolved.specs.Lines.{lines_of}
 use Rattle.ss_code.specs.Machine.{Code}
 
 abbrev pub variable_operand : Variable → Operand

@@ -1,12 +1,13 @@
 //! The instructions of expressions and statements.
 
 ghost use Rattle.std.specs.Prelude.{◌≡◌, [], ◌∷◌, ◌++◌, length, IfOk, OnOk};
-ghost use Rattle.ss_code.specs.Meaning.{operator_of, operator_for, lines_of, firsts};
+ghost use Rattle.ss_code.specs.Meaning.{operator_of, operator_for, firsts};
+ghost use Rattle.ss_resolved.specs.Lines.{lines_of};
 ghost use Rattle.ss_code.specs.Translation.{variable_operand, destination_of, operand_of, placed, constant_code, fetch_code, expression_code, values_code, statement_code, statement_pictures, body_code, body_pictures};
 ghost use Rattle.ss_code.specs.Rows.{sum_list, product_list};
 
 use crate::instruction::{Destination, Instruction, Operand, Operator};
-use crate::resolved::{Expression, Function, Sign, Statement, Variable};
+use ss_resolved::resolved::{Expression, Function, Sign, Statement, Variable};
 use ss_base::{Line, Mode, Value};
 use ss_picture::Picture;
 use std::alloc::{AllocError, Global};

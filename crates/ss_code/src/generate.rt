@@ -9,7 +9,7 @@ use crate::code::Code;
 use crate::emit::{emit_body, first_values, put};
 use crate::error::CodeError;
 use crate::instruction::Instruction;
-use crate::resolved::Resolved;
+use ss_resolved::resolved::Resolved;
 use std::alloc::Global;
 
 /// The most instructions of a program.
@@ -41,7 +41,7 @@ pub fn generate(alloc: Global, program: &Resolved) -> Result<Code, CodeError>
 #[cfg(test)]
 mod tests {
     use super::*;
-    use crate::resolved::{Expression, Section, Statement, Variable};
+    use ss_resolved::resolved::{Expression, Section, Statement, Variable};
     use ss_base::{Line, Mode, Value};
     use std::alloc::AllocError;
 

@@ -8,7 +8,6 @@ pub mod generate;
 pub mod instruction;
 pub mod laws;
 mod listing;
-pub mod resolved;
 
 pub use code::Code;
 pub use error::CodeError;

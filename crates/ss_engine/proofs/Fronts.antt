@@ -8,12 +8,12 @@ use Rattle.ss_lex.specs.Tokens.{AreTokens}
 use Rattle.ss_lex.specs.Refusals.{IsRefused}
 use Rattle.ss_parse.specs.declared.error.ParseError.{ParseError}
 use Rattle.ss_parse.specs.declared.error.ParseError.TheVariants as parsing
-use Rattle.ss_parse.specs.Tree.{ProgramTree}
+use Rattle.ss_tree.specs.Tree.{ProgramTree}
 use Rattle.ss_parse.specs.Promise.{Is_refused, One_tree}
 use Rattle.ss_check.specs.declared.check.CheckError.{CheckError}
 use Rattle.ss_check.specs.declared.check.CheckError.TheVariants as checking
 use Rattle.ss_check.specs.Checking.{served_program, LacksMode, HasMisfit}
-use Rattle.ss_code.specs.declared.resolved.Resolved.{Resolved}
+use Rattle.ss_resolved.specs.declared.resolved.Resolved.{Resolved}
 use Rattle.ss_code.specs.declared.error.CodeError.{CodeError}
 use Rattle.ss_code.specs.declared.error.CodeError.TheVariants as generating
 use Rattle.ss_code.specs.Nodes.{nodes}

@@ -1,7 +1,7 @@
 -- What a run of the machine says of a program that its code behaves as.
 use Rattle.std.proofs.Common.{◌≡◌, ℕ, List, [], ◌++◌, ◌⊎◌, inl, inr, Option, None, Some, refl, sym, ap, ◌∙◌, subst, append_assoc, append-nil}
 use Rattle.std.specs.Io.KnownBytes.{Appends}
-use Rattle.ss_code.specs.declared.resolved.Resolved.{Resolved}
+use Rattle.ss_resolved.specs.declared.resolved.Resolved.{Resolved}
 use Rattle.ss_code.specs.Meaning.{Ending, Ended as EndedThere, Fault as FaultThere, Run, meaning}
 use Rattle.ss_code.specs.Machine.{Code, State, Goes, step}
 use Rattle.ss_code.specs.Running.{Underway, Ends, Behaves, start, steps}

@@ -6,10 +6,10 @@ use Rattle.ss_lex.specs.declared.error.LexError.{LexError}
 use Rattle.ss_lex.specs.declared.error.LexError.TheVariants as lexical
 use Rattle.ss_lex.specs.Tokens.{AreTokens}
 use Rattle.ss_lex.specs.Refusals.{IsRefused}
-use Rattle.ss_parse.specs.Tree.{ProgramTree}
+use Rattle.ss_tree.specs.Tree.{ProgramTree}
 use Rattle.ss_parse.specs.SpelledPrograms.{Spell}
 use Rattle.ss_check.specs.Checking.{served_program, IsResolved, LacksMode, HasMisfit}
-use Rattle.ss_code.specs.declared.resolved.Resolved.{Resolved}
+use Rattle.ss_resolved.specs.declared.resolved.Resolved.{Resolved}
 use Rattle.ss_code.specs.Nodes.{nodes}
 use Rattle.ss_code.specs.Machine.{Code}
 use Rattle.ss_code.specs.Running.{Behaves}

@@ -2,7 +2,7 @@
 use Rattle.std.specs.Prelude.{◌≡◌, ℕ, List}
 use Rattle.std.specs.declared.option.Option.{Option}
 use Rattle.std.specs.Io.KnownBytes.{Appends}
-use Rattle.ss_code.specs.declared.resolved.Resolved.{Resolved}
+use Rattle.ss_resolved.specs.declared.resolved.Resolved.{Resolved}
 use Rattle.ss_code.specs.Meaning.{Ending, Ended as EndedThere, Fault as FaultThere, meaning}
 use Rattle.ss_code.specs.Laws.{Grows}
 use Rattle.ss_machine.specs.declared.stop.Stop.{Stop}

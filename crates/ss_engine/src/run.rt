@@ -1,7 +1,7 @@
 ghost use Rattle.std.specs.Prelude.{◌≡◌};
 ghost use Rattle.std.specs.Io.KnownBytes.{Keeps};
 ghost use Rattle.ss_base.specs.Failures.{HasRisen};
-ghost use Rattle.ss_code.specs.declared.resolved.Resolved.{Resolved};
+ghost use Rattle.ss_resolved.specs.declared.resolved.Resolved.{Resolved};
 ghost use Rattle.ss_code.specs.Running.{Behaves};
 ghost use Rattle.ss_machine.specs.Held.{Held};
 ghost use Rattle.ss_machine.specs.Runs.{Ran};

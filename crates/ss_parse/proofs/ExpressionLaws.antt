@@ -9,12 +9,12 @@ use Rattle.ss_lex.specs.declared.token.Symbol.TheVariants.{OpenParenthesis, Clos
 use Rattle.ss_lex.specs.declared.token.TokenKind.{TokenKind}
 use Rattle.ss_lex.specs.declared.token.TokenKind.TheVariants as kinds
 use Rattle.ss_lex.specs.declared.token.Token.{Token}
-use Rattle.ss_parse.specs.declared.tree.expression.Sign.{Sign}
-use Rattle.ss_parse.specs.declared.tree.expression.Sign.TheVariants as signs
-use Rattle.ss_parse.specs.declared.tree.expression.Function.{Function}
-use Rattle.ss_parse.specs.declared.tree.expression.Designator.{Designator}
-use Rattle.ss_parse.specs.declared.tree.expression.Designator.TheVariants as designators
-use Rattle.ss_parse.specs.Tree.{ExpressionTree, number, text, named, call, parenthesised, product, signed, sum, ExpressionRow, no_expression, and_expression, expression_row, TermRow, no_term, and_term, term_row}
+use Rattle.ss_tree.specs.declared.expression.Sign.{Sign}
+use Rattle.ss_tree.specs.declared.expression.Sign.TheVariants as signs
+use Rattle.ss_tree.specs.declared.expression.Function.{Function}
+use Rattle.ss_tree.specs.declared.expression.Designator.{Designator}
+use Rattle.ss_tree.specs.declared.expression.Designator.TheVariants as designators
+use Rattle.ss_tree.specs.Tree.{ExpressionTree, number, text, named, call, parenthesised, product, signed, sum, ExpressionRow, no_expression, and_expression, expression_row, TermRow, no_term, and_term, term_row}
 use Rattle.ss_parse.specs.Shapes.{Shape, ◌▷◌, nothing, never, either, optional, provided, Token_is, Word_is, Symbol_is, Name_is, Said, separator, each, listed, within}
 use Rattle.ss_parse.specs.SpelledExpressions.{Place, sum_place, first_place, term_place, factor_place, Takes_product, Takes_sign, Takes_sum, Sign_is, function_of, Designated, Spelled, Further_arguments, Further_factors, Further_terms}
 use Rattle.ss_parse.specs.Openers.{opens, openers}

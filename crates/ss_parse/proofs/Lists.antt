@@ -2,8 +2,8 @@
 use Rattle.std.proofs.Common.{◌≡◌, ◌==◌, ◌<◌, suc, zero, get_or, arith, inl, inr, ℕ, Bool, true, false, List, [], ◌∷◌, length, map, refl, sym, subst}
 use Rattle.ss_lex.specs.declared.token.Token.{Token}
 use Rattle.ss_parse.specs.Promise.{Line_of_one}
-use Rattle.ss_parse.specs.declared.tree.expression.Sign.{Sign}
-use Rattle.ss_parse.specs.Tree.{ExpressionTree, product, sum, expression_row, term_row}
+use Rattle.ss_tree.specs.declared.expression.Sign.{Sign}
+use Rattle.ss_tree.specs.Tree.{ExpressionTree, product, sum, expression_row, term_row}
 use Rattle.ss_parse.specs.ReadExpressions.{sum_of, product_of}
 
 pub product_of_some : {X : Type 0} (view : X → ExpressionTree) (e : ExpressionTree) (xs : List X) (n : ℕ) → length xs ≡ n → (n == 0) ≡ false → product e (expression_row (map view xs)) ≡ product_of e (map view xs)

@@ -7,8 +7,8 @@ use Rattle.ss_lex.specs.declared.token.Span.{Span}
 use Rattle.ss_lex.specs.declared.token.TokenKind.{TokenKind}
 use Rattle.ss_lex.specs.declared.token.TokenKind.TheVariants as kinds
 use Rattle.ss_lex.specs.declared.token.Token.{Token}
-use Rattle.ss_parse.specs.declared.tree.preamble.Mode.{Mode}
-use Rattle.ss_parse.specs.Tree.{StatementTree, PreambleTree, normally, DefinitionTree, SectionKindTree, main, SectionTree, ProgramTree}
+use Rattle.ss_tree.specs.declared.preamble.Mode.{Mode}
+use Rattle.ss_tree.specs.Tree.{StatementTree, PreambleTree, normally, DefinitionTree, SectionKindTree, main, SectionTree, ProgramTree}
 use Rattle.ss_parse.specs.Openers.{opens, openers}
 use Rattle.ss_parse.specs.Shapes.{Shape, ◌▷◌, nothing, never, either, optional, provided, noise, Token_is, Word_is, Symbol_is, Said, at, first_line, each, within}
 use Rattle.ss_parse.specs.SpelledStatements.{Statement_is}

@@ -8,7 +8,7 @@ use Rattle.ss_lex.specs.declared.token.Symbol.TheVariants.{Equals}
 use Rattle.ss_lex.specs.declared.token.TokenKind.{TokenKind}
 use Rattle.ss_lex.specs.declared.token.TokenKind.TheVariants as kinds
 use Rattle.ss_lex.specs.declared.token.Token.{Token}
-use Rattle.ss_parse.specs.Tree.{ExpressionTree, NamedTree, StatementTree, let_statement, add_statement, subtract_statement, print_statement}
+use Rattle.ss_tree.specs.Tree.{ExpressionTree, NamedTree, StatementTree, let_statement, add_statement, subtract_statement, print_statement}
 use Rattle.ss_parse.specs.Openers.{opens, openers}
 use Rattle.ss_parse.specs.Shapes.{Shape, ◌▷◌, nothing, never, either, provided, noise, Token_is, Word_is, Symbol_is, at, first_line, each, within}
 use Rattle.ss_parse.specs.SpelledExpressions.{Sum_is, Target_is}

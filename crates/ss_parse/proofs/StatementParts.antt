@@ -8,9 +8,9 @@ use Rattle.ss_lex.specs.declared.token.Symbol.TheVariants.{OpenParenthesis, Clos
 use Rattle.ss_lex.specs.declared.token.TokenKind.{TokenKind}
 use Rattle.ss_lex.specs.declared.token.TokenKind.TheVariants as kinds
 use Rattle.ss_lex.specs.declared.token.Token.{Token}
-use Rattle.ss_parse.specs.declared.tree.expression.Designator.{Designator}
-use Rattle.ss_parse.specs.declared.tree.expression.Designator.TheVariants as designators
-use Rattle.ss_parse.specs.Tree.{ExpressionTree, ExpressionRow, no_expression, and_expression, NamedTree}
+use Rattle.ss_tree.specs.declared.expression.Designator.{Designator}
+use Rattle.ss_tree.specs.declared.expression.Designator.TheVariants as designators
+use Rattle.ss_tree.specs.Tree.{ExpressionTree, ExpressionRow, no_expression, and_expression, NamedTree}
 use Rattle.ss_parse.specs.Shapes.{Shape, ◌▷◌, nothing, never, either, provided, Token_is, Word_is, Symbol_is, each, listed, perhaps, within}
 use Rattle.ss_parse.specs.SpelledExpressions.{Designated, Sum_is, Subscript, Target_is}
 use Rattle.ss_parse.specs.SpelledStatements.{perhaps_listed, Trigger, Picture_is}

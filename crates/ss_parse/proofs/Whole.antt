@@ -3,7 +3,7 @@ use Rattle.std.proofs.Common.{◌≡◌, ℕ, zero, suc, ◌<◌, ◌≤◌, max
 use Rattle.ss_lex.specs.declared.token.Token.{Token}
 use Rattle.ss_parse.specs.declared.failure.Fault.{Fault}
 use Rattle.ss_parse.specs.declared.failure.Fault.TheVariants.{Syntax, TooDeep}
-use Rattle.ss_parse.specs.Tree.{ProgramTree}
+use Rattle.ss_tree.specs.Tree.{ProgramTree}
 use Rattle.ss_parse.specs.Openers.{openers}
 use Rattle.ss_parse.specs.SpelledPrograms.{Program_is, Spell}
 use Rattle.ss_parse.specs.Promise.{Without_tree, One_tree}

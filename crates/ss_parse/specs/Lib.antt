@@ -1,7 +1,3 @@
-pub mod Tree
-pub mod View
-pub mod Views
-pub mod Nodes
 pub mod Shapes
 pub mod SpelledExpressions
 pub mod SpelledConditions

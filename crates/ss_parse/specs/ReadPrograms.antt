@@ -8,7 +8,7 @@ use Rattle.ss_lex.specs.declared.token.TokenKind.TheVariants as kinds
 use Rattle.ss_lex.specs.declared.token.Token.{Token}
 use Rattle.ss_parse.specs.declared.failure.Fault.{Fault}
 use Rattle.ss_parse.specs.declared.failure.Fault.TheVariants.{Syntax, TooDeep}
-use Rattle.ss_parse.specs.Tree.{PreambleTree, normally, SectionTree, main, ProgramTree, StatementTree}
+use Rattle.ss_tree.specs.Tree.{PreambleTree, normally, SectionTree, main, ProgramTree, StatementTree}
 use Rattle.ss_parse.specs.Reading.{Reader, ◌>>=◌, Mark, word, symbol, begins, skip, expect, in_table, taken, seq, behind, closed, apply, lined, maybe_list, rows, skip_comma}
 use Rattle.ss_parse.specs.SpelledPrograms.{mode_of}
 use Rattle.ss_parse.specs.ReadStatements.{statements_in}

@@ -9,8 +9,8 @@ use Rattle.ss_lex.specs.declared.token.TokenKind.TheVariants as kinds
 use Rattle.ss_lex.specs.declared.token.Token.{Token}
 use Rattle.ss_parse.specs.declared.failure.Fault.{Fault}
 use Rattle.ss_parse.specs.declared.failure.Fault.TheVariants.{Syntax, TooDeep}
-use Rattle.ss_parse.specs.declared.tree.expression.Designator.{Designator}
-use Rattle.ss_parse.specs.Tree.{ExpressionTree, ExpressionRow, no_expression, and_expression, NamedTree, StatementTree, let_statement, add_statement, subtract_statement, print_statement}
+use Rattle.ss_tree.specs.declared.expression.Designator.{Designator}
+use Rattle.ss_tree.specs.Tree.{ExpressionTree, ExpressionRow, no_expression, and_expression, NamedTree, StatementTree, let_statement, add_statement, subtract_statement, print_statement}
 use Rattle.ss_parse.specs.Reading.{Reader, ◌>>=◌, Mark, word, symbol, begins, skip, expect, taken, seq, behind, closed, apply, maybe, maybe_list, flag, choose, too_deep, rows, skip_comma, list_of}
 use Rattle.ss_parse.specs.ReadExpressions.{opening, closing, designator_of, begins_sum, sum_in}
 

@@ -3,13 +3,13 @@ use Rattle.std.specs.Prelude.{◌≡◌, ℕ, zero, suc, ◌⊎◌, List, [], �
 use Rattle.ss_lex.specs.declared.token.Symbol.TheVariants.{Equals}
 use Rattle.ss_lex.specs.declared.word.Word.{Word}
 use Rattle.ss_lex.specs.declared.word.Word.TheVariants as words
-use Rattle.ss_parse.specs.declared.tree.condition.Relation.{Relation}
-use Rattle.ss_parse.specs.declared.tree.condition.Relation.TheVariants as relations
-use Rattle.ss_parse.specs.declared.tree.head.PhraseKind.{PhraseKind}
-use Rattle.ss_parse.specs.declared.tree.head.PhraseKind.TheVariants as phrases
-use Rattle.ss_parse.specs.declared.tree.head.GuardKind.{GuardKind}
-use Rattle.ss_parse.specs.declared.tree.head.GuardKind.TheVariants as guards
-use Rattle.ss_parse.specs.Tree.{TestTree, compare, empty, member, data_ended, ConditionTree, PhraseTree, GuardTree, StartTree, from_end, from_member, after_member, HeadTree, over_range, over_members, over_class, guarded}
+use Rattle.ss_tree.specs.declared.condition.Relation.{Relation}
+use Rattle.ss_tree.specs.declared.condition.Relation.TheVariants as relations
+use Rattle.ss_tree.specs.declared.head.PhraseKind.{PhraseKind}
+use Rattle.ss_tree.specs.declared.head.PhraseKind.TheVariants as phrases
+use Rattle.ss_tree.specs.declared.head.GuardKind.{GuardKind}
+use Rattle.ss_tree.specs.declared.head.GuardKind.TheVariants as guards
+use Rattle.ss_tree.specs.Tree.{TestTree, compare, empty, member, data_ended, ConditionTree, PhraseTree, GuardTree, StartTree, from_end, from_member, after_member, HeadTree, over_range, over_members, over_class, guarded}
 use Rattle.ss_parse.specs.Shapes.{Shape, ◌▷◌, nothing, never, either, optional, provided, Word_is, Symbol_is, Name_is, Said, noise, each, first_and, perhaps, flagged}
 use Rattle.ss_parse.specs.SpelledExpressions.{Sum_is, Reference_is}
 

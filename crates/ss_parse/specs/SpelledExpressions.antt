@@ -4,13 +4,13 @@ use Rattle.ss_lex.specs.declared.token.TokenKind.TheVariants as kinds
 use Rattle.ss_lex.specs.declared.token.Symbol.TheVariants.{OpenParenthesis, CloseParenthesis, Plus, Minus, Star}
 use Rattle.ss_lex.specs.declared.word.Word.{Word}
 use Rattle.ss_lex.specs.declared.word.Word.TheVariants as words
-use Rattle.ss_parse.specs.declared.tree.expression.Sign.{Sign}
-use Rattle.ss_parse.specs.declared.tree.expression.Sign.TheVariants as signs
-use Rattle.ss_parse.specs.declared.tree.expression.Function.{Function}
-use Rattle.ss_parse.specs.declared.tree.expression.Function.TheVariants as functions
-use Rattle.ss_parse.specs.declared.tree.expression.Designator.{Designator}
-use Rattle.ss_parse.specs.declared.tree.expression.Designator.TheVariants as designators
-use Rattle.ss_parse.specs.Tree.{ExpressionTree, number, text, named, call, parenthesised, product, signed, sum, ExpressionRow, no_expression, and_expression, TermRow, no_term, and_term, NamedTree}
+use Rattle.ss_tree.specs.declared.expression.Sign.{Sign}
+use Rattle.ss_tree.specs.declared.expression.Sign.TheVariants as signs
+use Rattle.ss_tree.specs.declared.expression.Function.{Function}
+use Rattle.ss_tree.specs.declared.expression.Function.TheVariants as functions
+use Rattle.ss_tree.specs.declared.expression.Designator.{Designator}
+use Rattle.ss_tree.specs.declared.expression.Designator.TheVariants as designators
+use Rattle.ss_tree.specs.Tree.{ExpressionTree, number, text, named, call, parenthesised, product, signed, sum, ExpressionRow, no_expression, and_expression, TermRow, no_term, and_term, NamedTree}
 use Rattle.ss_parse.specs.Shapes.{Shape, ◌▷◌, nothing, never, provided, Token_is, Word_is, Symbol_is, Name_is, Said, separator, within}
 
 -- Where an expression stands, by what may stand there without parentheses.

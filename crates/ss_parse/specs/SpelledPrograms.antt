@@ -4,17 +4,17 @@ use Rattle.ss_lex.specs.declared.token.Token.{Token}
 use Rattle.ss_lex.specs.declared.word.Word.{Word}
 use Rattle.ss_lex.specs.declared.word.Word.TheVariants as words
 use Rattle.ss_lex.specs.declared.token.Symbol.TheVariants.{Comma}
-use Rattle.ss_parse.specs.declared.tree.preamble.Mode.{Mode}
-use Rattle.ss_parse.specs.declared.tree.preamble.Mode.TheVariants as modes
-use Rattle.ss_parse.specs.declared.tree.preamble.ClassKind.{ClassKind}
-use Rattle.ss_parse.specs.declared.tree.preamble.ClassKind.TheVariants as classes
-use Rattle.ss_parse.specs.declared.tree.preamble.Key.{Key}
-use Rattle.ss_parse.specs.declared.tree.preamble.Weighting.{Weighting}
-use Rattle.ss_parse.specs.declared.tree.preamble.Weighting.TheVariants as weightings
-use Rattle.ss_parse.specs.declared.tree.preamble.StatisticKind.{StatisticKind}
-use Rattle.ss_parse.specs.declared.tree.preamble.StatisticKind.TheVariants as statistics_kinds
-use Rattle.ss_parse.specs.declared.tree.preamble.Statistic.{Statistic}
-use Rattle.ss_parse.specs.Tree.{ClauseTree, has, owns, belongs_to, OrderTree, fifo, lifo, ranked, PreambleTree, permanent_entities, temporary_entities, event_notices, every, normally, system_owns, define_variables, define_sets, priority_order, break_ties, statistics, DefinitionTree, SectionKindTree, main, routine, event, SectionTree, ProgramTree}
+use Rattle.ss_tree.specs.declared.preamble.Mode.{Mode}
+use Rattle.ss_tree.specs.declared.preamble.Mode.TheVariants as modes
+use Rattle.ss_tree.specs.declared.preamble.ClassKind.{ClassKind}
+use Rattle.ss_tree.specs.declared.preamble.ClassKind.TheVariants as classes
+use Rattle.ss_tree.specs.declared.preamble.Key.{Key}
+use Rattle.ss_tree.specs.declared.preamble.Weighting.{Weighting}
+use Rattle.ss_tree.specs.declared.preamble.Weighting.TheVariants as weightings
+use Rattle.ss_tree.specs.declared.preamble.StatisticKind.{StatisticKind}
+use Rattle.ss_tree.specs.declared.preamble.StatisticKind.TheVariants as statistics_kinds
+use Rattle.ss_tree.specs.declared.preamble.Statistic.{Statistic}
+use Rattle.ss_tree.specs.Tree.{ClauseTree, has, owns, belongs_to, OrderTree, fifo, lifo, ranked, PreambleTree, permanent_entities, temporary_entities, event_notices, every, normally, system_owns, define_variables, define_sets, priority_order, break_ties, statistics, DefinitionTree, SectionKindTree, main, routine, event, SectionTree, ProgramTree}
 use Rattle.ss_parse.specs.Shapes.{Shape, ◌▷◌, nothing, never, either, optional, provided, Word_is, Symbol_is, Name_is, Said, noise, separator, each, first_and, listed, perhaps, flagged, at}
 use Rattle.ss_parse.specs.SpelledStatements.{Statement_is}
 

@@ -4,11 +4,11 @@ use Rattle.ss_lex.specs.declared.token.TokenKind.TheVariants as kinds
 use Rattle.ss_lex.specs.declared.token.Symbol.TheVariants.{Equals}
 use Rattle.ss_lex.specs.declared.word.Word.{Word}
 use Rattle.ss_lex.specs.declared.word.Word.TheVariants as words
-use Rattle.ss_parse.specs.declared.tree.statement.SetEnd.{SetEnd}
-use Rattle.ss_parse.specs.declared.tree.statement.SetEnd.TheVariants as ends
-use Rattle.ss_parse.specs.declared.tree.statement.FindOutcome.{FindOutcome}
-use Rattle.ss_parse.specs.declared.tree.statement.FindOutcome.TheVariants as outcomes
-use Rattle.ss_parse.specs.Tree.{ExpressionTree, HeadTree, guarded, PositionTree, by_discipline, at_first, at_last, before, after, WhenTree, at_time, in_units, now, StatementTree, let_statement, add_statement, subtract_statement, call_statement, return_statement, stop_statement, read_statement, start_simulation, if_statement, loop_statement, find_statement, find_if_statement, create_statement, create_every, destroy_statement, file_statement, remove_end, remove_statement, schedule_new, schedule_statement, cancel_statement, reset_statement, print_statement, skip_statement, StatementRow, no_statement, and_statement}
+use Rattle.ss_tree.specs.declared.statement.SetEnd.{SetEnd}
+use Rattle.ss_tree.specs.declared.statement.SetEnd.TheVariants as ends
+use Rattle.ss_tree.specs.declared.statement.FindOutcome.{FindOutcome}
+use Rattle.ss_tree.specs.declared.statement.FindOutcome.TheVariants as outcomes
+use Rattle.ss_tree.specs.Tree.{ExpressionTree, HeadTree, guarded, PositionTree, by_discipline, at_first, at_last, before, after, WhenTree, at_time, in_units, now, StatementTree, let_statement, add_statement, subtract_statement, call_statement, return_statement, stop_statement, read_statement, start_simulation, if_statement, loop_statement, find_statement, find_if_statement, create_statement, create_every, destroy_statement, file_statement, remove_end, remove_statement, schedule_new, schedule_statement, cancel_statement, reset_statement, print_statement, skip_statement, StatementRow, no_statement, and_statement}
 use Rattle.ss_parse.specs.Shapes.{Shape, ◌▷◌, nothing, never, either, optional, provided, Token_is, Word_is, Symbol_is, Name_is, Said, noise, each, listed, perhaps, at, within}
 use Rattle.ss_parse.specs.SpelledExpressions.{Sum_is, Target_is, Reference_is}
 use Rattle.ss_parse.specs.SpelledConditions.{Condition_is, Head_is, Begins_with_for}

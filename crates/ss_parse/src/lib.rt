@@ -5,7 +5,6 @@ mod error;
 mod failure;
 mod parser;
 mod reading;
-pub mod tree;
 
 pub use error::ParseError;
 pub use parser::{one_tree, parse};

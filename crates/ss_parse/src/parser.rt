@@ -1,14 +1,14 @@
 //! From tokens to a program.
 
 ghost use Rattle.std.specs.Prelude.{◌<◌, IfOk, IfErr, length};
-ghost use Rattle.ss_parse.specs.View.{view_program};
+ghost use Rattle.ss_tree.specs.View.{view_program};
 ghost use Rattle.ss_parse.specs.SpelledPrograms.{Spell};
 ghost use Rattle.ss_parse.specs.Promise.{Is_refused, Has_line, Line_of_one, One_tree};
 
 use crate::error::ParseError;
 use crate::failure::{Failure, Fault};
 use crate::reading::programs::program;
-use crate::tree::program::Program;
+use ss_tree::program::Program;
 use ss_base::Line;
 use ss_lex::{Token, Tokens};
 use std::alloc::Global;

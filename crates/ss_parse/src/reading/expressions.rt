@@ -1,8 +1,8 @@
 //! Expressions.
 
 ghost use Rattle.std.specs.Prelude.{◌≡◌, IfOk, map};
-ghost use Rattle.ss_parse.specs.Tree.{signed};
-ghost use Rattle.ss_parse.specs.View.{view_expression, view_term};
+ghost use Rattle.ss_tree.specs.Tree.{signed};
+ghost use Rattle.ss_tree.specs.View.{view_expression, view_term};
 ghost use Rattle.ss_parse.specs.SpelledExpressions.{function_of};
 ghost use Rattle.ss_parse.specs.Reading.{Gives, word, begins_by, taken, begins_more};
 ghost use Rattle.ss_parse.specs.ReadExpressions.{sum_of, product_of, sign_of, begins_sign, designator_of_word, begins_sum, arguments_with, enclosed_with, subscripts_with, named_with, call_with, parenthesised_with, factor_in_words, factor_with, further_factors_with, term_with, signed_term_with, first_term_with, further_terms_with, sum_with, sum_in};
@@ -11,7 +11,7 @@ use crate::failure::Failure;
 use crate::reading::tokens::{
     begins_symbol, begins_word, expect_symbol, skip_separator, skip_symbol, syntax, too_deep,
 };
-use crate::tree::expression::{Designator, Expression, Function, Named, Sign, Term};
+use ss_tree::expression::{Designator, Expression, Function, Named, Sign, Term};
 use ss_lex::{Symbol, Token, TokenKind, Word};
 use std::alloc::{AllocError, Global};
 
@@ -86,7 +86,7 @@ pub fn begins_more_sums(tokens: &[Token]) -> bool
 }
 
 /// A term and further ones, of which there may be none.
-#[tactic(auto, using(crate::specs::Views::view_sum_made))]
+#[tactic(auto, using(ss_tree::specs::Views::view_sum_made))]
 fn sum_of(alloc: Global, first: Expression, further: Vec<Term>) -> Result<Expression, AllocError>
     ensures { IfOk result (λ e. view_expression e ≡ sum_of (view_expression first) (map view_term further.items)) }
 {
@@ -98,7 +98,7 @@ fn sum_of(alloc: Global, first: Expression, further: Vec<Term>) -> Result<Expres
 }
 
 /// A factor and further ones, of which there may be none.
-#[tactic(auto, using(crate::specs::Views::view_product_made))]
+#[tactic(auto, using(ss_tree::specs::Views::view_product_made))]
 fn product_of(
     alloc: Global,
     first: Expression,
@@ -114,7 +114,7 @@ fn product_of(
 }
 
 /// A term behind its sign.
-#[tactic(auto, using(crate::specs::Views::view_signed_made))]
+#[tactic(auto, using(ss_tree::specs::Views::view_signed_made))]
 fn signed(alloc: Global, term: Term) -> Result<Expression, AllocError>
     ensures { IfOk result (λ e. view_expression e ≡ signed term.sign (view_expression term.value)) }
 {
@@ -213,7 +213,7 @@ fn further_factors(
 
 /// A factor.
 #[cycle(expressions)]
-#[tactic(auto, unfolding(crate::specs::ReadExpressions::factor_at, crate::specs::View::view_expression))]
+#[tactic(auto, unfolding(crate::specs::ReadExpressions::factor_at, ss_tree::specs::View::view_expression))]
 fn factor(alloc: Global, tokens: &[Token], room: u8) -> Result<(Expression, &[Token]), Failure>
     ensures { Gives (λ x. (view_expression x.0, x.1.now)) result (factor_with (sum_in room) tokens.now) }
 {
@@ -252,7 +252,7 @@ fn factor_in_words(
 
 /// What stands behind a name.
 #[cycle(expressions)]
-#[tactic(auto, using(crate::specs::Views::view_named_made))]
+#[tactic(auto, using(ss_tree::specs::Views::view_named_made))]
 fn named(
     alloc: Global,
     designator: Designator,
@@ -271,7 +271,7 @@ fn named(
 
 /// What stands behind a function.
 #[cycle(expressions)]
-#[tactic(auto, using(crate::specs::Views::view_call_made))]
+#[tactic(auto, using(ss_tree::specs::Views::view_call_made))]
 fn call(
     alloc: Global,
     function: Function,
@@ -290,7 +290,7 @@ fn call(
 
 /// What stands behind an opening parenthesis.
 #[cycle(expressions)]
-#[tactic(auto, unfolding(crate::specs::ReadExpressions::parenthesised_with, crate::specs::View::view_expression))]
+#[tactic(auto, unfolding(crate::specs::ReadExpressions::parenthesised_with, ss_tree::specs::View::view_expression))]
 fn parenthesised(
     alloc: Global,
     tokens: &[Token],

@@ -2,7 +2,7 @@
 
 ghost use Rattle.std.specs.Prelude.{◌≡◌, map};
 ghost use Rattle.ss_parse.specs.Shapes.{first_line};
-ghost use Rattle.ss_parse.specs.View.{view_preamble, view_section, view_program};
+ghost use Rattle.ss_tree.specs.View.{view_preamble, view_section, view_program};
 ghost use Rattle.ss_parse.specs.SpelledPrograms.{mode_of};
 ghost use Rattle.ss_parse.specs.Reading.{Gives, taken, in_table, rows};
 ghost use Rattle.ss_parse.specs.ReadPrograms.{normally_at, begins_preamble, preamble_from, preambles, whole_preamble, begins_section, section_at, section_in, program_in, program_of};
@@ -10,8 +10,8 @@ ghost use Rattle.ss_parse.specs.ReadPrograms.{normally_at, begins_preamble, prea
 use crate::failure::Failure;
 use crate::reading::statements::statements;
 use crate::reading::tokens::{begins_word, expect_word, skip_symbol, syntax};
-use crate::tree::preamble::{Mode, PreambleStatement};
-use crate::tree::program::{Program, Section, SectionKind};
+use ss_tree::preamble::{Mode, PreambleStatement};
+use ss_tree::program::{Program, Section, SectionKind};
 use ss_base::Line;
 use ss_lex::{Symbol, Token, TokenKind, Word};
 use std::alloc::Global;

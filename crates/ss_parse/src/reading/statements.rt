@@ -1,8 +1,8 @@
 //! Statements.
 
 ghost use Rattle.std.specs.Prelude.{◌≡◌, ◌<◌, IfOk, length, map, drop};
-ghost use Rattle.ss_parse.specs.Tree.{expression_row};
-ghost use Rattle.ss_parse.specs.View.{view_expression, view_option, view_named, view_statement};
+ghost use Rattle.ss_tree.specs.Tree.{expression_row};
+ghost use Rattle.ss_tree.specs.View.{view_expression, view_option, view_named, view_statement};
 ghost use Rattle.ss_parse.specs.Reading.{Gives, begins, maybe, taken};
 ghost use Rattle.ss_parse.specs.ReadExpressions.{opening, designator_of, sum_in};
 ghost use Rattle.ss_parse.specs.ReadStatements.{subscript_row, subscript_with, target_in, positive_of, picture_of, items_in, trigger, pictures_at, print_head, let_at, add_at, subtract_at, print_at, begins_form, begins_statement, form_at, statement_from, statement_in, statements_in};
@@ -12,8 +12,8 @@ use crate::reading::expressions::{designator_of_word, sum, sums};
 use crate::reading::tokens::{
     begins_symbol, begins_word, expect_symbol, expect_word, skip_symbol, syntax, too_deep,
 };
-use crate::tree::expression::{Designator, Expression, Named};
-use crate::tree::statement::Statement;
+use ss_tree::expression::{Designator, Expression, Named};
+use ss_tree::statement::Statement;
 use ss_base::Line;
 use ss_lex::{PictureLine, Symbol, Token, TokenKind, Word};
 use std::alloc::{AllocError, Global};
@@ -162,7 +162,7 @@ fn pictures(
 }
 
 /// A LET behind its first word.
-#[tactic(auto, unfolding(crate::specs::ReadStatements::let_at, crate::specs::View::view_statement))]
+#[tactic(auto, unfolding(crate::specs::ReadStatements::let_at, ss_tree::specs::View::view_statement))]
 fn let_form(
     alloc: Global,
     line: Line,
@@ -183,7 +183,7 @@ fn let_form(
 }
 
 /// An ADD behind its first word.
-#[tactic(auto, unfolding(crate::specs::ReadStatements::add_at, crate::specs::View::view_statement))]
+#[tactic(auto, unfolding(crate::specs::ReadStatements::add_at, ss_tree::specs::View::view_statement))]
 fn add_form(
     alloc: Global,
     line: Line,
@@ -204,7 +204,7 @@ fn add_form(
 }
 
 /// A SUBTRACT behind its first word.
-#[tactic(auto, unfolding(crate::specs::ReadStatements::subtract_at, crate::specs::View::view_statement))]
+#[tactic(auto, unfolding(crate::specs::ReadStatements::subtract_at, ss_tree::specs::View::view_statement))]
 fn subtract_form(
     alloc: Global,
     line: Line,
@@ -241,7 +241,7 @@ fn print_head(
 }
 
 /// A PRINT behind its first word.
-#[tactic(auto, unfolding(crate::specs::ReadStatements::print_at, crate::specs::View::view_statement))]
+#[tactic(auto, unfolding(crate::specs::ReadStatements::print_at, ss_tree::specs::View::view_statement))]
 fn print_form(
     alloc: Global,
     line: Line,

@@ -1,6 +1,6 @@
 use Rattle.std.proofs.Common.{rules, ◌≡◌, [], map, true, false, None, refl, sym, ap, ◌∙◌}
 use Rattle.ss_base.specs.declared.line.Line.{Line}
-use Rattle.ss_parse.specs.View.{view_program, view_preamble, view_section, view_statement}
+use Rattle.ss_tree.specs.View.{view_program, view_preamble, view_section, view_statement}
 use Rattle.ss_check.specs.Checking.{served_preamble, without_mode}
 use Rattle.ss_check.proofs.Accepted.{empty_list, some_list, Known, lacks, with_preamble, nothing_named, misfit_found, accepted}
 use Rattle.ss_check.proofs.check.check_program.Goals.{then-is_absent+in_default-named, else-is_absent}

@@ -1,6 +1,6 @@
 use Rattle.std.proofs.Common.{rules, ◌≡◌, [], map, take, Err, refl, sym, ap, ◌∙◌}
 use Rattle.std.proofs.lemmas.Result.{err_from_is_err_and}
-use Rattle.ss_parse.specs.View.{view_statement}
+use Rattle.ss_tree.specs.View.{view_statement}
 use Rattle.ss_check.specs.declared.unready.Unready.TheVariants.{NotYet}
 use Rattle.ss_check.proofs.Trees.{next_taken, same_error}
 use Rattle.ss_check.proofs.Bodies.{body_names_more, body_resolve_more, body_unserved, named_next}

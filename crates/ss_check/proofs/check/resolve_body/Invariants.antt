@@ -1,5 +1,5 @@
 use Rattle.std.proofs.Common.{◌≡◌, [], map, take, drop}
-use Rattle.ss_parse.specs.View.{view_statement}
+use Rattle.ss_tree.specs.View.{view_statement}
 use Rattle.ss_check.specs.Naming.{with_names_of_body}
 use Rattle.ss_check.specs.Checking.{ResolveBody, first_named, or_first}
 use Rattle.ss_check.proofs.check.resolve_body.Given as goal

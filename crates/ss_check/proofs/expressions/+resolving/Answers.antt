@@ -1,8 +1,8 @@
 use Rattle.std.proofs.Common.{rules, ◌≡◌, ◌∷◌, [], ◌++◌, map, take, false, Err, List, refl, sym, ap, subst, ◌∙◌}
 use Rattle.std.proofs.lemmas.Result.{err_from_is_err_and}
-use Rattle.ss_parse.specs.View.{view_expression, view_term}
-use Rattle.ss_parse.specs.Views.{view_named_made}
-use Rattle.ss_code.specs.declared.resolved.Expression.{Fetch, Sum, Product}
+use Rattle.ss_tree.specs.View.{view_expression, view_term}
+use Rattle.ss_tree.specs.Views.{view_named_made}
+use Rattle.ss_resolved.specs.declared.resolved.Expression.{Fetch, Sum, Product}
 use Rattle.ss_check.specs.declared.unready.Unready.TheVariants.{NotYet}
 use Rattle.ss_check.specs.Resolving.{Resolves, served_expression}
 use Rattle.ss_check.proofs.Trees.{names_of_product, names_of_sum, resolves_product, resolves_sum, product_further_unserved, sum_further_unserved, all_unserved, terms_unserved, all_names_more, signed_names_more, all_resolve_more, signed_resolve_more, next_taken, same_error}

@@ -1,5 +1,5 @@
 use Rattle.std.proofs.Common.{◌≡◌, map, take}
-use Rattle.ss_parse.specs.View.{view_expression, view_term}
+use Rattle.ss_tree.specs.View.{view_expression, view_term}
 use Rattle.ss_check.specs.Naming.{with_names_of_all, with_names_of_signed}
 use Rattle.ss_check.specs.Resolving.{ResolveAll, ResolveSigned}
 use Rattle.ss_check.proofs.expressions.+resolving.Given as goal

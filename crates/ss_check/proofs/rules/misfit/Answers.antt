@@ -1,5 +1,5 @@
 use Rattle.std.proofs.Common.{rules, ◌≡◌, Bool, true, false, not, refl, sym, ap, ◌∙◌}
-use Rattle.ss_parse.specs.View.{view_statement}
+use Rattle.ss_tree.specs.View.{view_statement}
 use Rattle.ss_check.specs.Checking.{misfits}
 use Rattle.ss_check.proofs.Forms.{fits_next, misfit_here, print_misfits, print_line, other_fits}
 use Rattle.ss_check.proofs.rules.misfit.Goals.{in-Print+in_ok-has_fields+else-not-branch, in_default}

@@ -1,5 +1,5 @@
 use Rattle.std.proofs.Common.{◌≡◌, map, drop}
-use Rattle.ss_parse.specs.View.{view_statement}
+use Rattle.ss_tree.specs.View.{view_statement}
 use Rattle.ss_check.specs.Checking.{first_misfit}
 use Rattle.ss_check.proofs.rules.misfit.Given as goal
 

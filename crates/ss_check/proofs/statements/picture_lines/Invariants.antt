@@ -1,5 +1,5 @@
 use Rattle.std.proofs.Common.{◌≡◌, take}
-use Rattle.ss_code.specs.Meaning.{lines_of}
+use Rattle.ss_resolved.specs.Lines.{lines_of}
 use Rattle.ss_check.proofs.statements.picture_lines.Given as goal
 
 abbrev pub invariant-loop-picture : goal.invariant-loop-picture

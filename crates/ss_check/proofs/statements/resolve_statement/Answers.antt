@@ -1,8 +1,8 @@
 use Rattle.std.proofs.Common.{rules, ◌≡◌, false, Err, List, map, refl, sym, ap, subst, ◌∙◌}
 use Rattle.std.proofs.lemmas.Result.{err_from_is_err_and}
-use Rattle.ss_parse.specs.View.{view_statement}
-use Rattle.ss_code.specs.declared.resolved.Statement.TheVariants.{Let, Change, Print}
-use Rattle.ss_code.specs.declared.resolved.Sign.TheVariants.{Plus, Minus}
+use Rattle.ss_tree.specs.View.{view_statement}
+use Rattle.ss_resolved.specs.declared.resolved.Statement.TheVariants.{Let, Change, Print}
+use Rattle.ss_resolved.specs.declared.resolved.Sign.TheVariants.{Plus, Minus}
 use Rattle.ss_check.specs.declared.unready.Unready.TheVariants.{NotYet}
 use Rattle.ss_check.specs.Naming.{with_names_of_statement}
 use Rattle.ss_check.specs.Checking.{ResolvesStatement, served_statement}

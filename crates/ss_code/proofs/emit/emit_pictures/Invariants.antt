@@ -1,5 +1,5 @@
 use Rattle.std.proofs.Common.{◌≡◌, ◌++◌, drop}
-use Rattle.ss_code.specs.Meaning.{lines_of}
+use Rattle.ss_resolved.specs.Lines.{lines_of}
 use Rattle.ss_code.proofs.emit.emit_pictures.Given as goal
 
 abbrev pub invariant-loop-line : goal.invariant-loop-line

@@ -2,7 +2,7 @@ use Rattle.std.proofs.Common.{◌≡◌, ℕ, ◌<◌, List, ap, subst, ◌∙�
 use Rattle.ss_lex.specs.declared.token.Token.{Token}
 use Rattle.ss_parse.specs.declared.failure.Fault.{Fault}
 use Rattle.ss_parse.specs.declared.failure.Fault.TheVariants.{Syntax, TooDeep}
-use Rattle.ss_parse.specs.View.{view_program}
+use Rattle.ss_tree.specs.View.{view_program}
 use Rattle.ss_parse.specs.SpelledPrograms.{Spell}
 use Rattle.ss_parse.specs.Openers.{openers}
 use Rattle.ss_parse.specs.Promise.{Without_tree}

@@ -1,8 +1,8 @@
 use Rattle.std.proofs.Common.{sym, ap, subst, ◌∙◌, Ok}
-use Rattle.ss_parse.specs.Tree.{ExpressionTree}
-use Rattle.ss_parse.specs.Views.{view_named_made}
+use Rattle.ss_tree.specs.Tree.{ExpressionTree}
+use Rattle.ss_tree.specs.Views.{view_named_made}
 use Rattle.std.proofs.lemmas.Result.{err_from_is_err_and}
-use Rattle.ss_parse.specs.View.{view_expression, view_term}
+use Rattle.ss_tree.specs.View.{view_expression, view_term}
 use Rattle.ss_parse.specs.Reading.{Fails}
 use Rattle.ss_parse.specs.ReadExpressions.{factor_with, signed_term_with, sum_in}
 use Rattle.ss_parse.proofs.Rows.{grows, breaks, is_done}

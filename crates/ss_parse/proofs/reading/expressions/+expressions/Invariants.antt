@@ -1,5 +1,5 @@
 use Rattle.std.proofs.Common.{◌≡◌, ℕ, ◌+◌, ◌*◌, length, map}
-use Rattle.ss_parse.specs.View.{view_expression, view_term}
+use Rattle.ss_tree.specs.View.{view_expression, view_term}
 use Rattle.ss_parse.specs.Reading.{begins, begins_more, skip, skip_separator, rows}
 use Rattle.ss_parse.specs.ReadExpressions.{star, begins_sign, begins_sum, arguments_with, factor_with, further_factors_with, signed_term_with, further_terms_with, sum_in}
 use Rattle.ss_parse.proofs.Rows.{with_front}

@@ -1,7 +1,7 @@
 use Rattle.std.proofs.Common.{◌≡◌, ap, ◌∙◌, sym, map}
-use Rattle.ss_parse.specs.Tree.{ExpressionTree}
-use Rattle.ss_parse.specs.View.{view_expression}
-use Rattle.ss_parse.specs.Views.{view_product_made}
+use Rattle.ss_tree.specs.Tree.{ExpressionTree}
+use Rattle.ss_tree.specs.View.{view_expression}
+use Rattle.ss_tree.specs.Views.{view_product_made}
 use Rattle.ss_parse.proofs.Lists.{product_of_some}
 use Rattle.ss_parse.proofs.reading.expressions.product_of.Goals as goal
 

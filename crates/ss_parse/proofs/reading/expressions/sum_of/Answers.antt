@@ -1,7 +1,7 @@
 use Rattle.std.proofs.Common.{◌≡◌, ap, ◌∙◌, sym, map}
-use Rattle.ss_parse.specs.Tree.{ExpressionTree}
-use Rattle.ss_parse.specs.View.{view_expression, view_term}
-use Rattle.ss_parse.specs.Views.{view_sum_made}
+use Rattle.ss_tree.specs.Tree.{ExpressionTree}
+use Rattle.ss_tree.specs.View.{view_expression, view_term}
+use Rattle.ss_tree.specs.Views.{view_sum_made}
 use Rattle.ss_parse.proofs.Lists.{sum_of_some}
 use Rattle.ss_parse.proofs.reading.expressions.sum_of.Goals as goal
 

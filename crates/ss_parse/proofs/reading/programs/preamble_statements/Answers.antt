@@ -1,6 +1,6 @@
 use Rattle.std.proofs.Common.{sym, ap, subst, ◌∙◌}
 use Rattle.std.proofs.lemmas.Result.{err_from_is_err_and}
-use Rattle.ss_parse.specs.View.{view_preamble}
+use Rattle.ss_tree.specs.View.{view_preamble}
 use Rattle.ss_parse.specs.Reading.{rows}
 use Rattle.ss_parse.specs.ReadPrograms.{begins_preamble, preamble_from, preambles}
 use Rattle.ss_parse.specs.Reading.{Fails}

@@ -1,5 +1,5 @@
 use Rattle.std.proofs.Common.{◌≡◌, ℕ, ◌+◌, length, map}
-use Rattle.ss_parse.specs.View.{view_section}
+use Rattle.ss_tree.specs.View.{view_section}
 use Rattle.ss_parse.specs.Reading.{rows}
 use Rattle.ss_parse.specs.ReadPrograms.{begins_section, section_in}
 use Rattle.ss_parse.proofs.Rows.{with_front}

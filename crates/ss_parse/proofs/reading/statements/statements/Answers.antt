@@ -1,6 +1,6 @@
 use Rattle.std.proofs.Common.{sym, ap, subst, ◌∙◌}
 use Rattle.std.proofs.lemmas.Result.{err_from_is_err_and}
-use Rattle.ss_parse.specs.View.{view_statement}
+use Rattle.ss_tree.specs.View.{view_statement}
 use Rattle.ss_parse.specs.Reading.{rows, skip_comma}
 use Rattle.ss_parse.specs.ReadStatements.{begins_statement, statement_in, statements_in}
 use Rattle.ss_parse.specs.Reading.{Fails}

@@ -1,5 +1,5 @@
 use Rattle.std.proofs.Common.{◌≡◌, ℕ, ◌+◌, length, map}
-use Rattle.ss_parse.specs.View.{view_statement}
+use Rattle.ss_tree.specs.View.{view_statement}
 use Rattle.ss_parse.specs.Reading.{rows, skip_comma}
 use Rattle.ss_parse.specs.ReadStatements.{begins_statement, statement_in, statements_in}
 use Rattle.ss_parse.proofs.Rows.{with_front}

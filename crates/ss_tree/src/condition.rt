@@ -1,6 +1,6 @@
 //! Conditions.
 
-use crate::tree::expression::{Expression, Named};
+use crate::expression::{Expression, Named};
 
 /// How two values compare.
 #[derive(Clone, Copy, PartialEq, Eq, Debug)]

@@ -2,15 +2,15 @@
 use Rattle.std.specs.Prelude.{◌≡◌, ℕ, ℤ, List, [], ◌∷◌, map, refl}
 use Rattle.std.proofs.Common.{sym, ap, ◌∙◌}
 use Rattle.std.specs.Global.{Vec, Box}
-use Rattle.ss_parse.specs.declared.tree.expression.Sign.{Sign}
-use Rattle.ss_parse.specs.declared.tree.expression.Function.{Function}
-use Rattle.ss_parse.specs.declared.tree.expression.Named.{Named}
-use Rattle.ss_parse.specs.declared.tree.expression.Term.{Term}
-use Rattle.ss_parse.specs.declared.tree.expression.Expression.TheVariants as variants
-use Rattle.ss_parse.specs.declared.tree.expression.Expression.{Expression, Row_of-Expression, end_of-Expression, more_of-Expression, items-the_row-Expression, items_hidden-the_row-Expression-0, Row_of-Term, end_of-Term, more_of-Term, items-the_row-Term, items_hidden-the_row-Term-1}
-use Rattle.ss_parse.specs.declared.tree.expression.Expression.TheBlock.{hidden-the_row-Expression-0, hidden-the_row-Term-1}
-use Rattle.ss_parse.specs.Tree.{ExpressionTree, number, text, named, call, parenthesised, product, signed, sum, expression_row, and_expression, and_term, term_row}
-use Rattle.ss_parse.specs.View.{view_expression, view_expressions, view_terms, view_term}
+use Rattle.ss_tree.specs.declared.expression.Sign.{Sign}
+use Rattle.ss_tree.specs.declared.expression.Function.{Function}
+use Rattle.ss_tree.specs.declared.expression.Named.{Named}
+use Rattle.ss_tree.specs.declared.expression.Term.{Term}
+use Rattle.ss_tree.specs.declared.expression.Expression.TheVariants as variants
+use Rattle.ss_tree.specs.declared.expression.Expression.{Expression, Row_of-Expression, end_of-Expression, more_of-Expression, items-the_row-Expression, items_hidden-the_row-Expression-0, Row_of-Term, end_of-Term, more_of-Term, items-the_row-Term, items_hidden-the_row-Term-1}
+use Rattle.ss_tree.specs.declared.expression.Expression.TheBlock.{hidden-the_row-Expression-0, hidden-the_row-Term-1}
+use Rattle.ss_tree.specs.Tree.{ExpressionTree, number, text, named, call, parenthesised, product, signed, sum, expression_row, and_expression, and_term, term_row}
+use Rattle.ss_tree.specs.View.{view_expression, view_expressions, view_terms, view_term}
 
 pub view_expressions_listed : (n : _) (k : Row_of-Expression n) → view_expressions k ≡ expression_row (map view_expression (items-the_row-Expression n k))
 unfolding view_expression view_expressions view_terms

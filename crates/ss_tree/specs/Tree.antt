@@ -1,19 +1,19 @@
 -- The tree of a program, without where it lies in memory.
 use Rattle.std.specs.Prelude.{ℕ, ℤ, Bool, List, [], ◌∷◌, Option}
 use Rattle.ss_base.specs.declared.line.Line.{Line}
-use Rattle.ss_parse.specs.declared.tree.expression.Sign.{Sign}
-use Rattle.ss_parse.specs.declared.tree.expression.Function.{Function}
-use Rattle.ss_parse.specs.declared.tree.expression.Designator.{Designator}
-use Rattle.ss_parse.specs.declared.tree.condition.Relation.{Relation}
-use Rattle.ss_parse.specs.declared.tree.head.PhraseKind.{PhraseKind}
-use Rattle.ss_parse.specs.declared.tree.head.GuardKind.{GuardKind}
-use Rattle.ss_parse.specs.declared.tree.statement.SetEnd.{SetEnd}
-use Rattle.ss_parse.specs.declared.tree.statement.FindOutcome.{FindOutcome}
-use Rattle.ss_parse.specs.declared.tree.preamble.Mode.{Mode}
-use Rattle.ss_parse.specs.declared.tree.preamble.ClassKind.{ClassKind}
-use Rattle.ss_parse.specs.declared.tree.preamble.Key.{Key}
-use Rattle.ss_parse.specs.declared.tree.preamble.Weighting.{Weighting}
-use Rattle.ss_parse.specs.declared.tree.preamble.Statistic.{Statistic}
+use Rattle.ss_tree.specs.declared.expression.Sign.{Sign}
+use Rattle.ss_tree.specs.declared.expression.Function.{Function}
+use Rattle.ss_tree.specs.declared.expression.Designator.{Designator}
+use Rattle.ss_tree.specs.declared.condition.Relation.{Relation}
+use Rattle.ss_tree.specs.declared.head.PhraseKind.{PhraseKind}
+use Rattle.ss_tree.specs.declared.head.GuardKind.{GuardKind}
+use Rattle.ss_tree.specs.declared.statement.SetEnd.{SetEnd}
+use Rattle.ss_tree.specs.declared.statement.FindOutcome.{FindOutcome}
+use Rattle.ss_tree.specs.declared.preamble.Mode.{Mode}
+use Rattle.ss_tree.specs.declared.preamble.ClassKind.{ClassKind}
+use Rattle.ss_tree.specs.declared.preamble.Key.{Key}
+use Rattle.ss_tree.specs.declared.preamble.Weighting.{Weighting}
+use Rattle.ss_tree.specs.declared.preamble.Statistic.{Statistic}
 
 -- ---- expressions
 

@@ -2,6 +2,7 @@
 //!
 //! Every sequence is a `Vec`. A statement, a statement of the preamble, a local definition and a section
 //! keep the line of their first word.
+#![tactic(auto)]
 
 pub mod condition;
 pub mod expression;

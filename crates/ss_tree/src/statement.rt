@@ -1,8 +1,8 @@
 //! Statements.
 
-use crate::tree::condition::Condition;
-use crate::tree::expression::{Expression, Named};
-use crate::tree::head::Head;
+use crate::condition::Condition;
+use crate::expression::{Expression, Named};
+use crate::head::Head;
 use ss_base::Line;
 use ss_lex::{Name, PictureLine};
 

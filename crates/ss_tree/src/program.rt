@@ -1,7 +1,7 @@
 //! Sections and programs.
 
-use crate::tree::preamble::{Mode, PreambleStatement};
-use crate::tree::statement::Statement;
+use crate::preamble::{Mode, PreambleStatement};
+use crate::statement::Statement;
 use ss_base::Line;
 use ss_lex::Name;
 

@@ -1,36 +1,36 @@
 -- The tree that a program's value is, without where it lies in memory.
 use Rattle.std.specs.Prelude.{ℕ, List, map, Option, Some, None}
-use Rattle.ss_parse.specs.declared.tree.expression.Expression.{Expression, Number, Text, Named', Call', Parenthesised', Product', Signed', Sum', Row_of-Expression, end_of-Expression, more_of-Expression, Row_of-Term, end_of-Term, more_of-Term}
-use Rattle.ss_parse.specs.declared.tree.expression.Sign.{Sign}
-use Rattle.ss_parse.specs.declared.tree.expression.Term.{Term}
-use Rattle.ss_parse.specs.declared.tree.expression.Named.{Named}
-use Rattle.ss_parse.specs.declared.tree.condition.Test.{Test}
-use Rattle.ss_parse.specs.declared.tree.condition.Test.TheVariants as tests
-use Rattle.ss_parse.specs.declared.tree.condition.Conjunction.{Conjunction}
-use Rattle.ss_parse.specs.declared.tree.condition.Condition.{Condition}
-use Rattle.ss_parse.specs.declared.tree.head.Phrase.{Phrase}
-use Rattle.ss_parse.specs.declared.tree.head.Guard.{Guard}
-use Rattle.ss_parse.specs.declared.tree.head.MemberStart.{MemberStart}
-use Rattle.ss_parse.specs.declared.tree.head.MemberStart.TheVariants as starts
-use Rattle.ss_parse.specs.declared.tree.head.Head.{Head}
-use Rattle.ss_parse.specs.declared.tree.head.Head.TheVariants as heads
-use Rattle.ss_parse.specs.declared.tree.statement.Position.{Position}
-use Rattle.ss_parse.specs.declared.tree.statement.Position.TheVariants as positions
-use Rattle.ss_parse.specs.declared.tree.statement.When.{When}
-use Rattle.ss_parse.specs.declared.tree.statement.When.TheVariants as whens
-use Rattle.ss_parse.specs.declared.tree.statement.Statement.{Statement, Let, Add, Subtract, Call, Return, Stop, Read, StartSimulation, If', Loop', Find, FindIf', Create, CreateEvery, Destroy, File, RemoveEnd, Remove, ScheduleNew, Schedule, Cancel, Reset, Print, Skip, Row_of-Statement, end_of-Statement, more_of-Statement}
-use Rattle.ss_parse.specs.declared.tree.preamble.Clause.{Clause}
-use Rattle.ss_parse.specs.declared.tree.preamble.Clause.TheVariants as clauses
-use Rattle.ss_parse.specs.declared.tree.preamble.SetOrder.{SetOrder}
-use Rattle.ss_parse.specs.declared.tree.preamble.SetOrder.TheVariants as orders
-use Rattle.ss_parse.specs.declared.tree.preamble.PreambleStatement.{PreambleStatement}
-use Rattle.ss_parse.specs.declared.tree.preamble.PreambleStatement.TheVariants as preambles
-use Rattle.ss_parse.specs.declared.tree.program.LocalDefinition.{LocalDefinition}
-use Rattle.ss_parse.specs.declared.tree.program.SectionKind.{SectionKind}
-use Rattle.ss_parse.specs.declared.tree.program.SectionKind.TheVariants as kinds
-use Rattle.ss_parse.specs.declared.tree.program.Section.{Section}
-use Rattle.ss_parse.specs.declared.tree.program.Program.{Program}
-use Rattle.ss_parse.specs.Tree.{ExpressionTree, number, text, named, call, parenthesised, product, signed, sum, ExpressionRow, no_expression, and_expression, expression_row, TermRow, no_term, and_term, NamedTree, TestTree, compare, empty, member, data_ended, ConditionTree, PhraseTree, GuardTree, StartTree, from_end, from_member, after_member, HeadTree, over_range, over_members, over_class, guarded, PositionTree, by_discipline, at_first, at_last, before, after, WhenTree, at_time, in_units, now, StatementTree, let_statement, add_statement, subtract_statement, call_statement, return_statement, stop_statement, read_statement, start_simulation, if_statement, loop_statement, find_statement, find_if_statement, create_statement, create_every, destroy_statement, file_statement, remove_end, remove_statement, schedule_new, schedule_statement, cancel_statement, reset_statement, print_statement, skip_statement, StatementRow, no_statement, and_statement, ClauseTree, has, owns, belongs_to, OrderTree, fifo, lifo, ranked, PreambleTree, permanent_entities, temporary_entities, event_notices, every, normally, system_owns, define_variables, define_sets, priority_order, break_ties, statistics, DefinitionTree, SectionKindTree, main, routine, event, SectionTree, ProgramTree}
+use Rattle.ss_tree.specs.declared.expression.Expression.{Expression, Number, Text, Named', Call', Parenthesised', Product', Signed', Sum', Row_of-Expression, end_of-Expression, more_of-Expression, Row_of-Term, end_of-Term, more_of-Term}
+use Rattle.ss_tree.specs.declared.expression.Sign.{Sign}
+use Rattle.ss_tree.specs.declared.expression.Term.{Term}
+use Rattle.ss_tree.specs.declared.expression.Named.{Named}
+use Rattle.ss_tree.specs.declared.condition.Test.{Test}
+use Rattle.ss_tree.specs.declared.condition.Test.TheVariants as tests
+use Rattle.ss_tree.specs.declared.condition.Conjunction.{Conjunction}
+use Rattle.ss_tree.specs.declared.condition.Condition.{Condition}
+use Rattle.ss_tree.specs.declared.head.Phrase.{Phrase}
+use Rattle.ss_tree.specs.declared.head.Guard.{Guard}
+use Rattle.ss_tree.specs.declared.head.MemberStart.{MemberStart}
+use Rattle.ss_tree.specs.declared.head.MemberStart.TheVariants as starts
+use Rattle.ss_tree.specs.declared.head.Head.{Head}
+use Rattle.ss_tree.specs.declared.head.Head.TheVariants as heads
+use Rattle.ss_tree.specs.declared.statement.Position.{Position}
+use Rattle.ss_tree.specs.declared.statement.Position.TheVariants as positions
+use Rattle.ss_tree.specs.declared.statement.When.{When}
+use Rattle.ss_tree.specs.declared.statement.When.TheVariants as whens
+use Rattle.ss_tree.specs.declared.statement.Statement.{Statement, Let, Add, Subtract, Call, Return, Stop, Read, StartSimulation, If', Loop', Find, FindIf', Create, CreateEvery, Destroy, File, RemoveEnd, Remove, ScheduleNew, Schedule, Cancel, Reset, Print, Skip, Row_of-Statement, end_of-Statement, more_of-Statement}
+use Rattle.ss_tree.specs.declared.preamble.Clause.{Clause}
+use Rattle.ss_tree.specs.declared.preamble.Clause.TheVariants as clauses
+use Rattle.ss_tree.specs.declared.preamble.SetOrder.{SetOrder}
+use Rattle.ss_tree.specs.declared.preamble.SetOrder.TheVariants as orders
+use Rattle.ss_tree.specs.declared.preamble.PreambleStatement.{PreambleStatement}
+use Rattle.ss_tree.specs.declared.preamble.PreambleStatement.TheVariants as preambles
+use Rattle.ss_tree.specs.declared.program.LocalDefinition.{LocalDefinition}
+use Rattle.ss_tree.specs.declared.program.SectionKind.{SectionKind}
+use Rattle.ss_tree.specs.declared.program.SectionKind.TheVariants as kinds
+use Rattle.ss_tree.specs.declared.program.Section.{Section}
+use Rattle.ss_tree.specs.declared.program.Program.{Program}
+use Rattle.ss_tree.specs.Tree.{ExpressionTree, number, text, named, call, parenthesised, product, signed, sum, ExpressionRow, no_expression, and_expression, expression_row, TermRow, no_term, and_term, NamedTree, TestTree, compare, empty, member, data_ended, ConditionTree, PhraseTree, GuardTree, StartTree, from_end, from_member, after_member, HeadTree, over_range, over_members, over_class, guarded, PositionTree, by_discipline, at_first, at_last, before, after, WhenTree, at_time, in_units, now, StatementTree, let_statement, add_statement, subtract_statement, call_statement, return_statement, stop_statement, read_statement, start_simulation, if_statement, loop_statement, find_statement, find_if_statement, create_statement, create_every, destroy_statement, file_statement, remove_end, remove_statement, schedule_new, schedule_statement, cancel_statement, reset_statement, print_statement, skip_statement, StatementRow, no_statement, and_statement, ClauseTree, has, owns, belongs_to, OrderTree, fifo, lifo, ranked, PreambleTree, permanent_entities, temporary_entities, event_notices, every, normally, system_owns, define_variables, define_sets, priority_order, break_ties, statistics, DefinitionTree, SectionKindTree, main, routine, event, SectionTree, ProgramTree}
 
 unfoldable mutual
   pub view_expression : Expression → ExpressionTree

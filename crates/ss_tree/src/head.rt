@@ -1,7 +1,7 @@
 //! The heads of loops.
 
-use crate::tree::condition::Condition;
-use crate::tree::expression::{Expression, Named};
+use crate::condition::Condition;
+use crate::expression::{Expression, Named};
 use ss_lex::Name;
 
 /// What a phrase does with a candidate, by its condition.

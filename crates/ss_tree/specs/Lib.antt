@@ -1,0 +1,4 @@
+pub mod Tree
+pub mod View
+pub mod Views
+pub mod Nodes
