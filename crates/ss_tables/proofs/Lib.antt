@@ -1,0 +1,5 @@
+pub mod Noting
+pub mod Places
+pub mod Rooms
+pub mod Rows
+pub mod Known
