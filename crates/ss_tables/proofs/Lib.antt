@@ -3,3 +3,5 @@ pub mod Places
 pub mod Rooms
 pub mod Rows
 pub mod Known
+pub mod Serves
+pub mod Parts

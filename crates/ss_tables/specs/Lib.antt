@@ -12,4 +12,5 @@ pub mod Mentions
 pub mod Modes
 pub mod Refusals
 pub mod Served
+pub mod Serving
 pub mod Tables

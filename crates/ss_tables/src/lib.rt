@@ -15,6 +15,7 @@ mod rank;
 mod refusal;
 mod saying;
 mod sayings;
+mod served;
 mod spelling;
 mod tables;
 

@@ -7,6 +7,7 @@ ghost use Rattle.ss_tables.specs.Declarations.{place_among, kept_names};
 ghost use Rattle.ss_tables.specs.Marks.{marks_of};
 ghost use Rattle.ss_tables.specs.Names.{declared};
 ghost use Rattle.ss_tables.specs.Refusals.{refusal};
+ghost use Rattle.ss_tables.specs.Served.{served_program};
 ghost use Rattle.ss_tables.specs.Tables.{kind_among, found_among, AreTablesOf};
 
 use crate::error::TableError;
@@ -19,6 +20,7 @@ use crate::place::Facts;
 use crate::refusal::refusal;
 use crate::saying::Saying;
 use crate::sayings::sayings;
+use crate::served::served;
 use crate::spelling::Spelling;
 use indexmap::IndexSet;
 use ss_lex::Name;
@@ -108,6 +110,15 @@ impl Tables {
             return Err(error);
         }
         Ok(made(alloc, facts, &sayings)?)
+    }
+
+    /// Whether all forms of a program are served: a preamble of NORMALLY and DEFINE of variables, MAIN and
+    /// routines, and in them no statement, test or loop on entities, sets or notices, and neither TIME.V nor
+    /// TIME.A.
+    pub fn served(program: &Program) -> bool
+        ensures { result ≡ served_program (view_program program.now) }
+    {
+        served(program)
     }
 
     /// The global or derived name with this spelling, in capitals. None where there is none.
