@@ -1,0 +1,34 @@
+-- What is known of a program, by what it says.
+use Rattle.std.proofs.Common.{◌≡◌, ℕ, List, Option, refl, ap, sym, ◌∙◌}
+use Rattle.ss_tree.specs.declared.preamble.Mode.{Mode}
+use Rattle.ss_tree.specs.Tree.{ProgramTree}
+use Rattle.ss_tables.specs.declared.error.TableError.{TableError}
+use Rattle.ss_tables.specs.declared.keep.Kept.TheVariants as kept
+use Rattle.ss_tables.specs.declared.place.Facts.{Facts}
+use Rattle.ss_tables.specs.declared.saying.Saying.{Saying}
+use Rattle.ss_tables.specs.Declarations.{kept_names}
+use Rattle.ss_tables.specs.Marks.{marks_of}
+use Rattle.ss_tables.specs.Modes.{usual_mode}
+use Rattle.ss_tables.specs.Names.{Declared, declared, kind_in}
+use Rattle.ss_tables.specs.Refusals.{facts_of, refusal_by, refusal}
+use Rattle.ss_tables.specs.Sayings.{sayings}
+use Rattle.ss_tables.specs.Tables.{TablesSeen, AreTablesOf}
+
+-- these are the facts of a program
+pub facts_are : (p : ProgramTree) (f : Facts) (says : List Saying) → says ≡ sayings p → f.marks ≡ marks_of says → f.names ≡ declared (marks_of says) says → f.usual ≡ usual_mode p.preamble → f ≡ facts_of p
+facts_are p f says is m n u =
+    let marks = m ∙ ap marks_of is in
+    let names : f.names ≡ declared (marks_of (sayings p)) (sayings p) = n ∙ ap (λ (s : List Saying). declared (marks_of s) s) is in
+    λ i. record { marks = marks i; names = names i; usual = u i }
+
+pub same_refusal : (p : ProgramTree) (f : Facts) (says : List Saying) → f ≡ facts_of p → says ≡ sayings p → refusal_by f says p ≡ refusal p
+same_refusal p f says e is = λ i. refusal_by (e i) (is i) p
+
+-- what is made of them are the tables
+pub are_tables : (p : ProgramTree) (f : Facts) (says : List Saying) (t : TablesSeen) → f ≡ facts_of p → says ≡ sayings p → t.names ≡ f.names.names → t.globals ≡ kept_names kept.Variables f.marks says → t.routines ≡ kept_names kept.Routines f.marks says → t.usual ≡ f.usual → AreTablesOf p t
+are_tables p f says t e is n g r u = record {
+  kinds = λ name. ap (λ es. kind_in es name) (n ∙ ap (λ (x : Facts). x.names.names) e);
+  globals_are = g ∙ (λ i. kept_names kept.Variables (e i).marks (is i));
+  routines_are = r ∙ (λ i. kept_names kept.Routines (e i).marks (is i));
+  usual_is = u ∙ ap (λ (x : Facts). x.usual) e;
+}

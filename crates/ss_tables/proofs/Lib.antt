@@ -1,0 +1,7 @@
+pub mod Noting
+pub mod Places
+pub mod Rooms
+pub mod Rows
+pub mod Known
+pub mod Serves
+pub mod Parts

@@ -1,0 +1,183 @@
+-- The two ways to say which forms are served agree.
+use Rattle.std.proofs.Common.{◌≡◌, Bool, true, false, List, [], ◌∷◌, ◌++◌, map, Option, Some, None, refl, sym, ap, ◌∙◌}
+use Rattle.std.specs.Prelude.{◌&&◌}
+use Rattle.std.specs.List.{list_all, flat_map}
+use Rattle.ss_tree.specs.declared.expression.Sign.{Sign}
+use Rattle.ss_tree.specs.Tree.{ExpressionTree, number, text, named, call, parenthesised, product, signed, sum, ExpressionRow, no_expression, and_expression, expression_row, TermRow, no_term, and_term, NamedTree, TestTree, compare, empty, member, data_ended, ConditionTree, PhraseTree, GuardTree, HeadTree, over_range, over_members, over_class, guarded, StatementTree, let_statement, add_statement, subtract_statement, call_statement, return_statement, stop_statement, read_statement, start_simulation, if_statement, loop_statement, find_statement, find_if_statement, create_statement, create_every, destroy_statement, file_statement, remove_end, remove_statement, schedule_new, schedule_statement, cancel_statement, reset_statement, print_statement, skip_statement, StatementRow, no_statement, and_statement, SectionTree, ProgramTree}
+use Rattle.ss_tables.specs.declared.mentions.Role.TheVariants.{Target}
+use Rattle.ss_tables.specs.declared.mentions.Mention.{Mention}
+use Rattle.ss_tables.specs.Mentions.{in_expression, in_expressions, in_terms, in_named, in_option, in_test, in_condition, in_phrases, in_guards, in_head, in_all, in_targets, in_statement, with_inner, with_inner_row, statements_of}
+use Rattle.ss_tables.specs.Served.{served_name, served_mention, served_form, served_statement, served_section, served_preamble, served_kind, served_program}
+use Rattle.ss_tables.specs.Serving.{served_expression, served_row, served_terms, served_target, served_test, served_conjunction, served_condition, served_phrase, served_guard, served_step, served_finding, served_loop, served_itself, served_inner, served_statements, served_whole, serves_section, serves_program}
+
+-- ---- all of some lists
+
+and_assoc : (a b c : Bool) → ((a && b) && c) ≡ (a && (b && c))
+and_assoc true b c = refl
+and_assoc false b c = refl
+
+and_false : (a : Bool) → (a && false) ≡ false
+and_false true = refl
+and_false false = refl
+
+and_true : (a : Bool) → (a && true) ≡ a
+and_true true = refl
+and_true false = refl
+
+all_append : {A : Type 0} (q : A → Bool) (xs ys : List A) → list_all q (xs ++ ys) ≡ (list_all q xs && list_all q ys)
+all_append q [] ys = refl
+all_append q (x ∷ xs) ys = ap (λ b. q x && b) (all_append q xs ys) ∙ sym (and_assoc (q x) (list_all q xs) (list_all q ys))
+
+-- all of what each gives, where each is judged so
+all_flat : {A B : Type 0} (q : B → Bool) (f : A → List B) (p : A → Bool) → ((x : A) → list_all q (f x) ≡ p x) → (xs : List A) → list_all q (flat_map f xs) ≡ list_all p xs
+all_flat q f p h [] = refl
+all_flat q f p h (x ∷ xs) = all_append q (f x) (flat_map f xs) ∙ (λ i. h x i && all_flat q f p h xs i)
+
+all_same : {A : Type 0} (p q : A → Bool) → ((x : A) → p x ≡ q x) → (xs : List A) → list_all p xs ≡ list_all q xs
+all_same p q h [] = refl
+all_same p q h (x ∷ xs) = λ i. h x i && all_same p q h xs i
+
+-- ---- expressions
+
+mutual
+  expression_is : (e : ExpressionTree) → list_all served_mention (in_expression e) ≡ served_expression e
+  expression_is (number z) = refl
+  expression_is (text t) = refl
+  expression_is (named d es) = ap (λ b. served_name d && b) (row_is es)
+  expression_is (call f es) = row_is es
+  expression_is (parenthesised e) = expression_is e
+  expression_is (product e es) = all_append served_mention (in_expression e) (in_expressions es) ∙ (λ i. expression_is e i && row_is es i)
+  expression_is (signed s e) = expression_is e
+  expression_is (sum e ts) = all_append served_mention (in_expression e) (in_terms ts) ∙ (λ i. expression_is e i && terms_is ts i)
+
+  row_is : (es : ExpressionRow) → list_all served_mention (in_expressions es) ≡ served_row es
+  row_is no_expression = refl
+  row_is (and_expression e es) = all_append served_mention (in_expression e) (in_expressions es) ∙ (λ i. expression_is e i && row_is es i)
+
+  terms_is : (ts : TermRow) → list_all served_mention (in_terms ts) ≡ served_terms ts
+  terms_is no_term = refl
+  terms_is (and_term s e ts) = all_append served_mention (in_expression e) (in_terms ts) ∙ (λ i. expression_is e i && terms_is ts i)
+
+target_is : (n : NamedTree) → list_all served_mention (in_named Target n) ≡ served_target n
+target_is n = ap (λ b. served_name n.designator && b) (row_is n.subscripts)
+
+test_is : (t : TestTree) → list_all served_mention (in_test t) ≡ served_test t
+test_is (compare l r e) = all_append served_mention (in_expression l) (in_expression e) ∙ (λ i. expression_is l i && expression_is e i)
+test_is (empty s n) = refl
+test_is (member x s n) = all_append served_mention (in_expression x) _ ∙ and_false (list_all served_mention (in_expression x))
+test_is (data_ended n) = refl
+
+conjunction_is : (c : List TestTree) → list_all served_mention (flat_map in_test c) ≡ served_conjunction c
+conjunction_is c = all_flat served_mention in_test served_test test_is c
+
+condition_is : (c : ConditionTree) → list_all served_mention (in_condition c) ≡ served_condition c
+condition_is c = all_flat served_mention (flat_map in_test) served_conjunction conjunction_is c
+
+phrases_is : (ps : List PhraseTree) → list_all served_mention (in_phrases ps) ≡ list_all served_phrase ps
+phrases_is ps = all_flat served_mention (λ (p : PhraseTree). in_condition p.condition) served_phrase (λ (p : PhraseTree). condition_is p.condition) ps
+
+guards_is : (gs : List GuardTree) → list_all served_mention (in_guards gs) ≡ list_all served_guard gs
+guards_is gs = all_flat served_mention (λ (g : GuardTree). in_condition g.condition) served_guard (λ (g : GuardTree). condition_is g.condition) gs
+
+step_is : (o : Option ExpressionTree) → list_all served_mention (in_option in_expression o) ≡ served_step o
+step_is None = refl
+step_is (Some e) = expression_is e
+
+all_is : (es : List ExpressionTree) → list_all served_mention (in_all es) ≡ list_all served_expression es
+all_is es = all_flat served_mention in_expression served_expression expression_is es
+
+targets_is : (ts : List NamedTree) → list_all served_mention (in_targets ts) ≡ list_all served_target ts
+targets_is ts = all_flat served_mention (in_named Target) served_target target_is ts
+
+range_is : (v : List _) (f t : ExpressionTree) (s : Option ExpressionTree) (ps : List PhraseTree) → list_all served_mention (in_head (over_range v f t s ps)) ≡ served_finding (over_range v f t s ps)
+range_is v f t s ps =
+    let fs = in_expression f in
+    let ts = in_expression t in
+    let ss = in_option in_expression s in
+    all_append served_mention ((fs ++ ts) ++ ss) (in_phrases ps)
+    ∙ (λ i. all_append served_mention (fs ++ ts) ss i && phrases_is ps i)
+    ∙ (λ i. (all_append served_mention fs ts i && step_is s i) && list_all served_phrase ps)
+    ∙ (λ i. ((expression_is f i && expression_is t i) && served_step s) && list_all served_phrase ps)
+    ∙ and_assoc (served_expression f && served_expression t) (served_step s) (list_all served_phrase ps)
+    ∙ and_assoc (served_expression f) (served_expression t) (served_step s && list_all served_phrase ps)
+
+-- ---- statements
+
+itself_is : (s : StatementTree) → served_statement s ≡ served_itself s
+itself_is (let_statement l n e) = all_append served_mention (in_named Target n) (in_expression e) ∙ (λ i. target_is n i && expression_is e i)
+itself_is (add_statement l e n) = all_append served_mention (in_expression e) (in_named Target n) ∙ (λ i. expression_is e i && target_is n i)
+itself_is (subtract_statement l e n) = all_append served_mention (in_expression e) (in_named Target n) ∙ (λ i. expression_is e i && target_is n i)
+itself_is (call_statement l n es ts) = all_append served_mention (in_all es) (in_targets ts) ∙ (λ i. all_is es i && targets_is ts i)
+itself_is (return_statement l) = refl
+itself_is (stop_statement l) = refl
+itself_is (read_statement l ts) = targets_is ts
+itself_is (start_simulation l) = refl
+itself_is (if_statement l c a b) = condition_is c
+itself_is (loop_statement l (over_range v f t s ps) b) = range_is v f t s ps
+itself_is (loop_statement l (over_members v s st r ps) b) = refl
+itself_is (loop_statement l (over_class n c ps) b) = refl
+itself_is (loop_statement l (guarded gs) b) = guards_is gs
+itself_is (find_statement l (over_range v f t s ps)) = range_is v f t s ps
+itself_is (find_statement l (over_members v s st r ps)) = refl
+itself_is (find_statement l (over_class n c ps)) = refl
+itself_is (find_statement l (guarded gs)) = refl
+itself_is (find_if_statement l (over_range v f t s ps) o a b) = range_is v f t s ps
+itself_is (find_if_statement l (over_members v s st r ps) o a b) = refl
+itself_is (find_if_statement l (over_class n c ps) o a b) = refl
+itself_is (find_if_statement l (guarded gs) o a b) = refl
+itself_is (create_statement l n c) = refl
+itself_is (create_every l ns) = refl
+itself_is (destroy_statement l n c) = refl
+itself_is (file_statement l x p s) = refl
+itself_is (remove_end l e t s) = refl
+itself_is (remove_statement l x s) = refl
+itself_is (schedule_new l n c g w) = refl
+itself_is (schedule_statement l n c g w) = refl
+itself_is (cancel_statement l n c) = refl
+itself_is (reset_statement l ts) = refl
+itself_is (print_statement l es ps) = all_is es
+itself_is (skip_statement l e) = expression_is e
+
+alone : (s : StatementTree) → (served_statement s && true) ≡ (served_itself s && true)
+alone s = ap (λ b. b && true) (itself_is s)
+
+mutual
+  whole_is : (s : StatementTree) → list_all served_statement (with_inner s) ≡ served_whole s
+  whole_is (if_statement l c a b) =
+      ap (λ x. served_statement (if_statement l c a b) && x) (all_append served_statement (with_inner_row a) (with_inner_row b))
+      ∙ (λ i. itself_is (if_statement l c a b) i && (statements_is a i && statements_is b i))
+  whole_is (loop_statement l h b) = λ i. itself_is (loop_statement l h b) i && statements_is b i
+  whole_is (find_if_statement l h o a b) =
+      ap (λ x. served_statement (find_if_statement l h o a b) && x) (all_append served_statement (with_inner_row a) (with_inner_row b))
+      ∙ (λ i. itself_is (find_if_statement l h o a b) i && (statements_is a i && statements_is b i))
+  whole_is (let_statement l n e) = alone (let_statement l n e)
+  whole_is (add_statement l e n) = alone (add_statement l e n)
+  whole_is (subtract_statement l e n) = alone (subtract_statement l e n)
+  whole_is (call_statement l n es ts) = alone (call_statement l n es ts)
+  whole_is (return_statement l) = refl
+  whole_is (stop_statement l) = refl
+  whole_is (read_statement l ts) = alone (read_statement l ts)
+  whole_is (start_simulation l) = refl
+  whole_is (find_statement l h) = alone (find_statement l h)
+  whole_is (create_statement l n c) = refl
+  whole_is (create_every l ns) = refl
+  whole_is (destroy_statement l n c) = refl
+  whole_is (file_statement l x p s) = refl
+  whole_is (remove_end l e t s) = refl
+  whole_is (remove_statement l x s) = refl
+  whole_is (schedule_new l n c g w) = refl
+  whole_is (schedule_statement l n c g w) = refl
+  whole_is (cancel_statement l n c) = refl
+  whole_is (reset_statement l ts) = refl
+  whole_is (print_statement l es ps) = alone (print_statement l es ps)
+  whole_is (skip_statement l e) = alone (skip_statement l e)
+
+  statements_is : (ss : StatementRow) → list_all served_statement (with_inner_row ss) ≡ served_statements ss
+  statements_is no_statement = refl
+  statements_is (and_statement s ss) = all_append served_statement (with_inner s) (with_inner_row ss) ∙ (λ i. whole_is s i && statements_is ss i)
+
+section_is : (s : SectionTree) → served_section s ≡ serves_section s
+section_is s = λ i. served_kind s.kind && all_flat served_statement with_inner served_whole whole_is s.body i
+
+pub serves_served : (p : ProgramTree) → serves_program p ≡ served_program p
+serves_served p = λ i. list_all served_preamble p.preamble && sym (all_same served_section serves_section section_is p.sections) i

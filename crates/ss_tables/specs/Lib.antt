@@ -1,0 +1,16 @@
+pub mod Spellings
+pub mod Sayings
+pub mod Marks
+pub mod Names
+pub mod Once
+pub mod Places
+pub mod Counts
+pub mod Ranks
+pub mod Declarations
+pub mod Repeated
+pub mod Mentions
+pub mod Modes
+pub mod Refusals
+pub mod Served
+pub mod Serving
+pub mod Tables

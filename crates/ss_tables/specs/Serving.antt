@@ -1,0 +1,102 @@
+-- The forms that are served, by recursion on the tree.
+use Rattle.std.specs.Prelude.{Bool, true, false, ◌&&◌, List, Option, Some, None}
+use Rattle.std.specs.List.{list_all}
+use Rattle.ss_tree.specs.declared.expression.Sign.{Sign}
+use Rattle.ss_tree.specs.Tree.{ExpressionTree, number, text, named, call, parenthesised, product, signed, sum, ExpressionRow, no_expression, and_expression, expression_row, TermRow, no_term, and_term, NamedTree, TestTree, compare, empty, member, data_ended, ConditionTree, PhraseTree, GuardTree, HeadTree, over_range, over_members, over_class, guarded, StatementTree, let_statement, add_statement, subtract_statement, call_statement, return_statement, stop_statement, read_statement, if_statement, loop_statement, find_statement, find_if_statement, print_statement, skip_statement, StatementRow, no_statement, and_statement, SectionTree, ProgramTree}
+use Rattle.ss_tables.specs.Served.{served_name, served_preamble, served_kind}
+
+abbrev mutual
+  pub served_expression : ExpressionTree → Bool
+  served_expression (number z) = true
+  served_expression (text t) = true
+  served_expression (named designator subscripts) = served_name designator && served_row subscripts
+  served_expression (call function arguments) = served_row arguments
+  served_expression (parenthesised e) = served_expression e
+  served_expression (product e further) = served_expression e && served_row further
+  served_expression (signed sign e) = served_expression e
+  served_expression (sum e further) = served_expression e && served_terms further
+
+  pub served_row : ExpressionRow → Bool
+  served_row no_expression = true
+  served_row (and_expression e es) = served_expression e && served_row es
+
+  pub served_terms : TermRow → Bool
+  served_terms no_term = true
+  served_terms (and_term sign e es) = served_expression e && served_terms es
+
+abbrev pub served_term : Sign × ExpressionTree → Bool
+served_term t = served_expression t.1
+
+abbrev pub served_target : NamedTree → Bool
+served_target n = served_name n.designator && served_row n.subscripts
+
+abbrev pub served_test : TestTree → Bool
+served_test (compare left relation right) = served_expression left && served_expression right
+served_test (empty set negated) = false
+served_test (member x set negated) = false
+served_test (data_ended negated) = true
+
+abbrev pub served_conjunction : List TestTree → Bool
+served_conjunction tests = list_all served_test tests
+
+abbrev pub served_condition : ConditionTree → Bool
+served_condition c = list_all served_conjunction c
+
+abbrev pub served_phrase : PhraseTree → Bool
+served_phrase p = served_condition p.condition
+
+abbrev pub served_guard : GuardTree → Bool
+served_guard g = served_condition g.condition
+
+abbrev pub served_step : Option ExpressionTree → Bool
+served_step None = true
+served_step (Some e) = served_expression e
+
+-- the head of a loop that FIND may stand behind
+abbrev pub served_finding : HeadTree → Bool
+served_finding (over_range variable from to step phrases) =
+    served_expression from && (served_expression to && (served_step step && list_all served_phrase phrases))
+served_finding _ = false
+
+abbrev pub served_loop : HeadTree → Bool
+served_loop (over_range variable from to step phrases) = served_finding (over_range variable from to step phrases)
+served_loop (guarded guards) = list_all served_guard guards
+served_loop _ = false
+
+-- a statement, but for those in it
+abbrev pub served_itself : StatementTree → Bool
+served_itself (let_statement line place e) = served_target place && served_expression e
+served_itself (add_statement line e place) = served_expression e && served_target place
+served_itself (subtract_statement line e place) = served_expression e && served_target place
+served_itself (call_statement line name given yielding) = list_all served_expression given && list_all served_target yielding
+served_itself (return_statement line) = true
+served_itself (stop_statement line) = true
+served_itself (read_statement line targets) = list_all served_target targets
+served_itself (if_statement line condition first second) = served_condition condition
+served_itself (loop_statement line head body) = served_loop head
+served_itself (find_statement line head) = served_finding head
+served_itself (find_if_statement line head outcome first second) = served_finding head
+served_itself (print_statement line items pictures) = list_all served_expression items
+served_itself (skip_statement line count) = served_expression count
+served_itself _ = false
+
+abbrev mutual
+  -- the statements in a statement
+  pub served_inner : StatementTree → Bool
+  served_inner (if_statement line condition first second) = served_statements first && served_statements second
+  served_inner (loop_statement line head body) = served_statements body
+  served_inner (find_if_statement line head outcome first second) = served_statements first && served_statements second
+  served_inner _ = true
+
+  pub served_statements : StatementRow → Bool
+  served_statements no_statement = true
+  served_statements (and_statement s ss) = (served_itself s && served_inner s) && served_statements ss
+
+abbrev pub served_whole : StatementTree → Bool
+served_whole s = served_itself s && served_inner s
+
+abbrev pub serves_section : SectionTree → Bool
+serves_section s = served_kind s.kind && list_all served_whole s.body
+
+abbrev pub serves_program : ProgramTree → Bool
+serves_program p = list_all served_preamble p.preamble && list_all serves_section p.sections

@@ -1,0 +1,176 @@
+//! The tables of a program.
+
+ghost use Rattle.std.specs.Prelude.{◌≡◌, ◌≢◌, ◌<◌, length, slice_get, option_map, None, Some, IfOk, IfErr};
+ghost use Rattle.std.specs.Map.{keys_of};
+ghost use Rattle.ss_tree.specs.View.{view_program};
+ghost use Rattle.ss_tables.specs.Declarations.{place_among, kept_names};
+ghost use Rattle.ss_tables.specs.Marks.{marks_of};
+ghost use Rattle.ss_tables.specs.Names.{declared};
+ghost use Rattle.ss_tables.specs.Refusals.{refusal};
+ghost use Rattle.ss_tables.specs.Served.{served_program};
+ghost use Rattle.ss_tables.specs.Tables.{kind_among, found_among, AreTablesOf};
+
+use crate::error::TableError;
+use crate::keep::{Kept, kept_names};
+use crate::kind::Kind;
+use crate::mark::marks_of;
+use crate::mode::usual_mode;
+use crate::names::{Names, names_of};
+use crate::place::Facts;
+use crate::refusal::refusal;
+use crate::saying::Saying;
+use crate::sayings::sayings;
+use crate::served::served;
+use crate::spelling::Spelling;
+use indexmap::IndexSet;
+use ss_lex::Name;
+use ss_tree::preamble::Mode;
+use ss_tree::program::Program;
+use std::alloc::{AllocError, Global};
+use std::marker::Model;
+
+/// What the names of a program stand for.
+#[derive(Drop)]
+pub struct Tables {
+    names: Names,
+    globals: IndexSet<Spelling>,
+    routines: IndexSet<Spelling>,
+    usual: Option<Mode>,
+}
+
+impl Model for Tables {
+    ghost use Rattle.ss_tables.specs.Tables.{TablesSeen};
+
+    ghost Value = { TablesSeen };
+
+    ghost view = { λ t. record { names = t.names.names; globals = t.globals.keys; routines = t.routines.keys; usual = t.usual } };
+}
+
+// The place of a name among some, or how many there are where it is none of them.
+fn place_in(names: &IndexSet<Spelling>, name: Spelling) -> usize
+    ensures { result ≡ place_among names.now.keys name }
+{
+    match names.get_index_of(&name) {
+        Some(place) => place,
+        None => names.len(),
+    }
+}
+
+/// A global name or a derived name of a program, by its place among the names of its tables.
+#[derive(Clone, Copy, PartialEq, Eq, Debug)]
+pub struct NameId(pub usize);
+
+/// What is known of a program that says this, where NORMALLY gives this mode.
+fn facts_of(alloc: Global, sayings: &[Saying], usual: Option<Mode>) -> Result<Facts, AllocError>
+    ensures marks { IfOk result (λ f. f.marks ≡ marks_of sayings.now) }
+    ensures names { IfOk result (λ f. f.names ≡ declared (marks_of sayings.now) sayings.now) }
+    ensures usual { IfOk result (λ f. f.usual ≡ usual) }
+{
+    let marks = marks_of(alloc, sayings)?;
+    let names = names_of(alloc, &marks, sayings)?;
+    Ok(Facts {
+        marks,
+        names,
+        usual,
+    })
+}
+
+/// The tables of a program that says this, of which this is known.
+fn made(alloc: Global, facts: Facts, sayings: &[Saying]) -> Result<Tables, AllocError>
+    ensures names { IfOk result (λ t. t.names ≡ facts.names.names) }
+    ensures globals { IfOk result (λ t. t.globals ≡ kept_names Kept.Variables facts.marks sayings.now) }
+    ensures routines { IfOk result (λ t. t.routines ≡ kept_names Kept.Routines facts.marks sayings.now) }
+    ensures usual { IfOk result (λ t. t.usual ≡ facts.usual) }
+{
+    let globals = kept_names(alloc, Kept::Variables, &facts.marks, sayings)?;
+    let routines = kept_names(alloc, Kept::Routines, &facts.marks, sayings)?;
+    Ok(Tables {
+        names: facts.names,
+        globals,
+        routines,
+        usual: facts.usual,
+    })
+}
+
+impl Tables {
+    /// The tables of a program.
+    ///
+    /// # Errors
+    /// The first broken rule, each over the whole program in the order of `TableError`, with the line of its
+    /// first place: `Twice`, `RealMode`, `UnknownClass`, `UnknownSet`, `NoOwner`, `NoMember`, `RankKey`,
+    /// `TallyTwice`, `TooMany`, `TieKey`. `Memory` where memory is refused, before any of them.
+    pub fn of(alloc: Global, program: &Program) -> Result<Tables, TableError>
+        ensures found { IfOk result (AreTablesOf (view_program program.now)) }
+        ensures kept { IfOk result (λ t. refusal (view_program program.now) ≡ None) }
+        ensures refused { IfErr result (λ e. e ≢ TableError.Memory → refusal (view_program program.now) ≡ Some e) }
+    {
+        let sayings = sayings(alloc, program)?;
+        let facts = facts_of(alloc, &sayings, usual_mode(&program.preamble))?;
+        if let Some(error) = refusal(alloc, &facts, &sayings, program)? {
+            return Err(error);
+        }
+        Ok(made(alloc, facts, &sayings)?)
+    }
+
+    /// Whether all forms of a program are served: a preamble of NORMALLY and DEFINE of variables, MAIN and
+    /// routines, and in them no statement, test or loop on entities, sets or notices, and neither TIME.V nor
+    /// TIME.A.
+    pub fn served(program: &Program) -> bool
+        ensures { result ≡ served_program (view_program program.now) }
+    {
+        served(program)
+    }
+
+    /// The global or derived name with this spelling, in capitals. None where there is none.
+    pub fn find(&self, spelling: &[u8]) -> Option<NameId>
+        ensures { option_map (λ id. id.0) result ≡ found_among self.now.names spelling.now }
+    {
+        let spelling = Spelling::of(spelling)?;
+        let place = self.names.place(spelling)?;
+        Some(NameId(place))
+    }
+
+    /// How many names there are. They have the places below that.
+    pub fn len(&self) -> usize
+        ensures { result ≡ length self.now.names }
+    {
+        self.names.len()
+    }
+
+    /// The spelling of a name, which is one of these tables.
+    pub fn name(&self, id: NameId) -> &[u8]
+        requires { id.0 < length self.now.names }
+        ensures { slice_get (keys_of self.now.names) id.0 ≡ Some result.now }
+    {
+        self.names.spelling(id.0)
+    }
+
+    /// What a name stands for in the whole program.
+    pub fn kind(&self, name: Name) -> Option<Kind>
+        ensures { result ≡ kind_among self.now.names name }
+    {
+        self.names.kind(Spelling::of_name(&name))
+    }
+
+    /// The number of a global variable among all of them, from 0; as many as there are where it is
+    /// none.
+    pub fn global(&self, name: Name) -> usize
+        ensures { result ≡ place_among self.now.globals name }
+    {
+        place_in(&self.globals, Spelling::of_name(&name))
+    }
+
+    /// The number of a routine among all of them, from 0; as many as there are where it is none.
+    pub fn routine(&self, name: Name) -> usize
+        ensures { result ≡ place_among self.now.routines name }
+    {
+        place_in(&self.routines, Spelling::of_name(&name))
+    }
+
+    /// The mode that NORMALLY gives to every name that has none.
+    pub fn usual(&self) -> Option<Mode>
+        ensures { result ≡ self.now.usual }
+    {
+        self.usual
+    }
+}
