@@ -4,8 +4,8 @@ ghost use Rattle.ss_check.specs.Checking.{fields_of, first_misfit};
 
 use ss_base::Line;
 use ss_lex::PictureLine;
-use ss_tree::statement::Statement;
 use ss_picture::Picture;
+use ss_tree::statement::Statement;
 use std::alloc::{AllocError, Global};
 
 // How many fields some pictures have, or as many as so many: more than that is not told apart.

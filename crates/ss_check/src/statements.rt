@@ -7,8 +7,8 @@ ghost use Rattle.ss_check.specs.Checking.{ResolvesStatement, served_statement};
 use crate::expressions::{resolve_expression, resolve_factors, resolve_variable};
 use crate::names::Names;
 use crate::unready::Unready;
-use ss_resolved::resolved::{Sign, Statement as Resolved};
 use ss_lex::PictureLine;
+use ss_resolved::resolved::{Sign, Statement as Resolved};
 use ss_tree::statement::Statement;
 use std::alloc::{AllocError, Global};
 

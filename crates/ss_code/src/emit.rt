@@ -7,9 +7,9 @@ ghost use Rattle.ss_code.specs.Translation.{variable_operand, destination_of, op
 ghost use Rattle.ss_code.specs.Rows.{sum_list, product_list};
 
 use crate::instruction::{Destination, Instruction, Operand, Operator};
-use ss_resolved::resolved::{Expression, Function, Sign, Statement, Variable};
 use ss_base::{Line, Mode, Value};
 use ss_picture::Picture;
+use ss_resolved::resolved::{Expression, Function, Sign, Statement, Variable};
 use std::alloc::{AllocError, Global};
 
 // The number 0 as an operand.

@@ -123,13 +123,8 @@ fn parentheses_stand_64_deep(rt: HostRuntime) -> Result<(), Fail> {
     let text = nested(rt.alloc(), 64)?;
     expect_report(&rt, rt.alloc(), &text, ENDED, b"")?;
     let text = nested(rt.alloc(), 65)?;
-    expect_report(
-        &rt,
-        rt.alloc(),
-        &text,
-        Outcome::Refused(Refusal::NotYet),
-        b"",
-    )?;
+    let too_deep = Outcome::Refused(Refusal::TooDeep(Line(2)));
+    expect_report(&rt, rt.alloc(), &text, too_deep, b"")?;
     Ok(())
 }
 
@@ -282,6 +277,8 @@ fn refusals_have_their_numbers_names_and_lines(rt: HostRuntime) {
         (Refusal::PictureCut(Line(5)), 36, "PictureCut", 5),
         (Refusal::NameTooLong(Line(6)), 37, "NameTooLong", 6),
         (Refusal::NotYet, 40, "NotYet", 0),
+        (Refusal::Syntax(Line(2)), 41, "Syntax", 2),
+        (Refusal::TooDeep(Line(3)), 42, "TooDeep", 3),
         (Refusal::RealMode(Line(7)), 52, "RealMode", 7),
         (Refusal::Fields(Line(8)), 77, "Fields", 8),
         (Refusal::CodeTooLong, 81, "CodeTooLong", 0),

@@ -11,8 +11,8 @@ use crate::failure::Failure;
 use crate::reading::tokens::{
     begins_symbol, begins_word, expect_symbol, skip_separator, skip_symbol, syntax, too_deep,
 };
-use ss_tree::expression::{Designator, Expression, Function, Named, Sign, Term};
 use ss_lex::{Symbol, Token, TokenKind, Word};
+use ss_tree::expression::{Designator, Expression, Function, Named, Sign, Term};
 use std::alloc::{AllocError, Global};
 
 fn begins_sign(tokens: &[Token]) -> bool

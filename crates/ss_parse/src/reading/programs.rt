@@ -10,10 +10,10 @@ ghost use Rattle.ss_parse.specs.ReadPrograms.{normally_at, begins_preamble, prea
 use crate::failure::Failure;
 use crate::reading::statements::statements;
 use crate::reading::tokens::{begins_word, expect_word, skip_symbol, syntax};
-use ss_tree::preamble::{Mode, PreambleStatement};
-use ss_tree::program::{Program, Section, SectionKind};
 use ss_base::Line;
 use ss_lex::{Symbol, Token, TokenKind, Word};
+use ss_tree::preamble::{Mode, PreambleStatement};
+use ss_tree::program::{Program, Section, SectionKind};
 use std::alloc::Global;
 
 /// The levels of nesting that may be open at a place.

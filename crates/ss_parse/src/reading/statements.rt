@@ -12,10 +12,10 @@ use crate::reading::expressions::{designator_of_word, sum, sums};
 use crate::reading::tokens::{
     begins_symbol, begins_word, expect_symbol, expect_word, skip_symbol, syntax, too_deep,
 };
-use ss_tree::expression::{Designator, Expression, Named};
-use ss_tree::statement::Statement;
 use ss_base::Line;
 use ss_lex::{PictureLine, Symbol, Token, TokenKind, Word};
+use ss_tree::expression::{Designator, Expression, Named};
+use ss_tree::statement::Statement;
 use std::alloc::{AllocError, Global};
 
 /// What is named first, TIME.V and TIME.A included.
