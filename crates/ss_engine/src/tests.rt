@@ -9,6 +9,9 @@ const ANSWER: &[u8] = b"MAIN\nPRINT 1 LINE WITH 6*7 THUS\nANSWER ***\nEND";
 // A line "1" and a line "2".
 const TWO_LINES: &[u8] = b"MAIN\nPRINT 1 LINE WITH 1 THUS\n*\nPRINT 1 LINE WITH 2 THUS\n*\nEND";
 
+// What stands before the name in a text that assigns to it.
+const ASSIGNS: &[u8] = b"PREAMBLE NORMALLY, MODE IS INTEGER END\nMAIN LET ";
+
 const ENDED: Outcome = Outcome::Stopped(Stop::Ended, 0);
 
 // A reader of no byte.
@@ -65,11 +68,12 @@ fn reports(rt: HostRuntime) -> Result<(), Fail> {
 
 #[test]
 fn refused_texts(rt: HostRuntime) -> Result<(), Fail> {
-    let cases: [(&[u8], Refusal); 9] = [
+    let cases: [(&[u8], Refusal); 10] = [
         (
             b"MAIN\nPRINT 2 LINES THUS\nONE\n",
             Refusal::PictureCut(Line(2)),
         ),
+        (b"MAIN LET = 1 END", Refusal::Syntax(Line(1))),
         (b"MAIN LET X = 1 END", Refusal::RealMode(Line(1))),
         (
             b"PREAMBLE NORMALLY, MODE IS INTEGER END\nMAIN\nLET X = 1.5\nEND",
@@ -82,8 +86,8 @@ fn refused_texts(rt: HostRuntime) -> Result<(), Fail> {
         (b"MAIN LET X = \"AB", Refusal::OpenText(Line(1))),
         (b"MAIN\n''\xc8", Refusal::NotAscii(Line(2))),
         (
-            b"MAIN LET ABCDEFGHIJKLMNOPQRSTUVWXYZABCDEFG = 1 END",
-            Refusal::NameTooLong(Line(1)),
+            b"MAIN\nPRINT 2 LINES THUS LET X = 1.5\nONE\n",
+            Refusal::PictureCut(Line(2)),
         ),
         (
             b"MAIN\nPRINT 1 LINE WITH 1, 2 THUS\n*\nEND",
@@ -101,30 +105,57 @@ fn refused_texts(rt: HostRuntime) -> Result<(), Fail> {
     Ok(())
 }
 
+// So many of this byte behind a text.
+fn add_run(text: &mut Vec<u8>, byte: u8, count: usize) -> Result<(), AllocError> {
+    for place in 0..count {
+        text.push(byte)?;
+    }
+    Ok(())
+}
+
 // A text that assigns 1 inside so many parentheses.
 fn nested(alloc: Global, levels: usize) -> Result<Vec<u8>, AllocError> {
-    let mut text = Vec::from_slice(
-        alloc,
-        b"PREAMBLE NORMALLY, MODE IS INTEGER END\nMAIN LET X = ",
-    )?;
-    for level in 0..levels {
-        text.push(b'(')?;
-    }
+    let mut text = Vec::from_slice(alloc, ASSIGNS)?;
+    text.extend_from_slice(b"X = ")?;
+    add_run(&mut text, b'(', levels)?;
     text.push(b'1')?;
-    for level in 0..levels {
-        text.push(b')')?;
-    }
+    add_run(&mut text, b')', levels)?;
     text.extend_from_slice(b" END")?;
     Ok(text)
 }
 
 #[test]
 fn parentheses_stand_64_deep(rt: HostRuntime) -> Result<(), Fail> {
-    let text = nested(rt.alloc(), 64)?;
-    expect_report(&rt, rt.alloc(), &text, ENDED, b"")?;
-    let text = nested(rt.alloc(), 65)?;
     let too_deep = Outcome::Refused(Refusal::TooDeep(Line(2)));
-    expect_report(&rt, rt.alloc(), &text, too_deep, b"")?;
+    for (levels, outcome) in [(64, ENDED), (65, too_deep)] {
+        let text = nested(rt.alloc(), levels)?;
+        expect_report(&rt, rt.alloc(), &text, outcome, b"")?;
+    }
+    Ok(())
+}
+
+#[test]
+fn names_have_32_letters(rt: HostRuntime) -> Result<(), Fail> {
+    let too_long = Outcome::Refused(Refusal::NameTooLong(Line(2)));
+    for (letters, outcome) in [(32, ENDED), (33, too_long)] {
+        let mut text = Vec::from_slice(rt.alloc(), ASSIGNS)?;
+        add_run(&mut text, b'A', letters)?;
+        text.extend_from_slice(b" = 1 END")?;
+        expect_report(&rt, rt.alloc(), &text, outcome, b"")?;
+    }
+    Ok(())
+}
+
+#[test]
+fn texts_have_1_048_576_bytes(rt: HostRuntime) -> Result<(), Fail> {
+    for (bytes, refusal) in [
+        (1_048_576, Refusal::NotYet),
+        (1_048_577, Refusal::TooLong(Line(0))),
+    ] {
+        let mut text = Vec::new(rt.alloc());
+        add_run(&mut text, b' ', bytes)?;
+        expect_report(&rt, rt.alloc(), &text, Outcome::Refused(refusal), b"")?;
+    }
     Ok(())
 }
 
