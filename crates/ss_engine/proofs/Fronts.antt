@@ -1,5 +1,5 @@
 -- From what each layer refuses to why the text is refused.
-use Rattle.std.proofs.Common.{◌≡◌, ◌≢◌, ℕ, ◌≤◌, ◌<◌, List, false, refl, sym, subst, arith, ◌⊎◌, inl, inr}
+use Rattle.std.proofs.Common.{◌≡◌, ◌≢◌, ℕ, ◌≤◌, ◌<◌, List, false, refl, arith}
 use Rattle.ss_base.specs.declared.line.Line.{Line}
 use Rattle.ss_lex.specs.declared.token.Token.{Token}
 use Rattle.ss_lex.specs.declared.error.LexError.{LexError}

@@ -1,4 +1,4 @@
-use Rattle.std.proofs.Common.{◌≡◌, ap, sym, ◌∙◌, Err, subst}
+use Rattle.std.proofs.Common.{ap, sym, ◌∙◌, Err, subst}
 use Rattle.ss_tree.specs.View.{view_program}
 use Rattle.ss_engine.specs.Accepting.{IsTreeOf, IsProgramOf, Compiles, RefusedFor}
 use Rattle.ss_engine.proofs.Fronts.{parser_refused, checker_refused, generator_refused}
