@@ -51,11 +51,20 @@ impl Trouble {
     }
 }
 
+// What is wrong where a call failed so: memory was refused, or else this.
+fn trouble_of(error: &io::Error, otherwise: Trouble) -> Trouble {
+    if error.kind() == io::ErrorKind::OutOfMemory {
+        Trouble::Memory
+    } else {
+        otherwise
+    }
+}
+
 // Whether the command line has a word behind the program's name.
 fn has_words(rt: &(impl Env + AllocGlobal)) -> Result<bool, Trouble> {
     match env::args(rt) {
         Ok(words) => Ok(words.skip(1).next().is_some()),
-        Err(_) => Err(Trouble::Words),
+        Err(error) => Err(trouble_of(&error, Trouble::Words)),
     }
 }
 
@@ -64,7 +73,7 @@ fn read_source(rt: &(impl Input + AllocGlobal)) -> Result<Vec<u8>, Trouble> {
     let mut text = Vec::new(rt.alloc());
     match rt.reader().take(SOURCE_READ).read_to_end(&mut text) {
         Ok(_) => Ok(text),
-        Err(_) => Err(Trouble::Source),
+        Err(error) => Err(trouble_of(&error, Trouble::Source)),
     }
 }
 

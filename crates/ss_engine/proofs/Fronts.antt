@@ -1,5 +1,5 @@
 -- From what each layer refuses to why the text is refused.
-use Rattle.std.proofs.Common.{◌≡◌, ◌≢◌, ℕ, ◌≤◌, ◌<◌, List, false, refl, sym, subst, arith, ◌⊎◌, inl, inr}
+use Rattle.std.proofs.Common.{◌≡◌, ◌≢◌, ℕ, ◌≤◌, ◌<◌, List, false, refl, arith}
 use Rattle.ss_base.specs.declared.line.Line.{Line}
 use Rattle.ss_lex.specs.declared.token.Token.{Token}
 use Rattle.ss_lex.specs.declared.error.LexError.{LexError}
@@ -9,7 +9,7 @@ use Rattle.ss_lex.specs.Refusals.{IsRefused}
 use Rattle.ss_parse.specs.declared.error.ParseError.{ParseError}
 use Rattle.ss_parse.specs.declared.error.ParseError.TheVariants as parsing
 use Rattle.ss_tree.specs.Tree.{ProgramTree}
-use Rattle.ss_parse.specs.Promise.{Is_refused, One_tree}
+use Rattle.ss_parse.specs.Promise.{Is_refused, Has_line}
 use Rattle.ss_check.specs.declared.check.CheckError.{CheckError}
 use Rattle.ss_check.specs.declared.check.CheckError.TheVariants as checking
 use Rattle.ss_check.specs.Checking.{served_program, LacksMode, HasMisfit}
@@ -30,17 +30,16 @@ lexer_refused text (lexical.PictureCut line) h = h (λ q. cc)
 lexer_refused text (lexical.NameTooLong line) h = h (λ q. cc)
 lexer_refused text lexical.Memory h = tt
 
-pub parser_refused : (text : List ℕ) (ts : List Token) → AreTokens text ts → (e : ParseError) → Is_refused ts e → RefusedFor text (refusal_of_parser e)
-parser_refused text ts are (parsing.Syntax line) h = record { tokens = ts; are = are; none = λ tree s. absurd (h 64 tree s) }
-parser_refused text ts are (parsing.TooDeep line) h = record { tokens = ts; are = are; none = λ tree s. absurd (h.0 tree s) }
-parser_refused text ts are parsing.Memory h = tt
+pub parser_refused : (text : List ℕ) (ts : List Token) → AreTokens text ts → (e : ParseError) → Is_refused ts e → Has_line ts e → RefusedFor text (refusal_of_parser e)
+parser_refused text ts are (parsing.Syntax line) h l = record { tokens = ts; are = are; refused = h; line = l }
+parser_refused text ts are (parsing.TooDeep line) h l = record { tokens = ts; are = are; refused = h; line = l }
+parser_refused text ts are parsing.Memory h l = tt
 
-pub checker_refused : (text : List ℕ) (tree : ProgramTree) → IsTreeOf text tree → One_tree → (e : CheckError) → (e ≡ checking.NotYet → served_program tree ≡ false) → ((line : Line) → e ≡ checking.RealMode line → LacksMode tree line) → ((line : Line) → e ≡ checking.Fields line → HasMisfit tree line) → RefusedFor text (refusal_of_checker e)
-checker_refused text tree r one checking.NotYet n m f =
-    record { tokens = r.tokens; are = r.are; none = λ other s. subst (λ t. served_program t ≡ false) (one r.tokens 64 64 tree other r.spelled s) (n refl) }
-checker_refused text tree r one (checking.RealMode line) n m f = record { tree = tree; read = r; holds = m line refl }
-checker_refused text tree r one (checking.Fields line) n m f = record { tree = tree; read = r; holds = f line refl }
-checker_refused text tree r one checking.Memory n m f = tt
+pub checker_refused : (text : List ℕ) (tree : ProgramTree) → IsTreeOf text tree → (e : CheckError) → (e ≡ checking.NotYet → served_program tree ≡ false) → ((line : Line) → e ≡ checking.RealMode line → LacksMode tree line) → ((line : Line) → e ≡ checking.Fields line → HasMisfit tree line) → RefusedFor text (refusal_of_checker e)
+checker_refused text tree r checking.NotYet n m f = record { tree = tree; read = r; holds = n refl }
+checker_refused text tree r (checking.RealMode line) n m f = record { tree = tree; read = r; holds = m line refl }
+checker_refused text tree r (checking.Fields line) n m f = record { tree = tree; read = r; holds = f line refl }
+checker_refused text tree r checking.Memory n m f = tt
 
 larger : (n : ℕ) → (n ≤ 16384 → ⊥) → 16384 < n
 larger n h = omega (arith, h)

@@ -1,12 +1,13 @@
 -- What a text is a program of, and why one is refused.
-use Rattle.std.specs.Prelude.{◌≡◌, ℕ, ◌<◌, ◌⊎◌, List, false}
-use Rattle.ss_base.specs.declared.line.Line.{Line}
+use Rattle.std.specs.Prelude.{◌≡◌, ℕ, ◌<◌, List, false}
 use Rattle.ss_lex.specs.declared.token.Token.{Token}
-use Rattle.ss_lex.specs.declared.error.LexError.{LexError}
 use Rattle.ss_lex.specs.declared.error.LexError.TheVariants as lexical
 use Rattle.ss_lex.specs.Tokens.{AreTokens}
 use Rattle.ss_lex.specs.Refusals.{IsRefused}
 use Rattle.ss_tree.specs.Tree.{ProgramTree}
+use Rattle.ss_parse.specs.declared.error.ParseError.{ParseError}
+use Rattle.ss_parse.specs.declared.error.ParseError.TheVariants as parsing
+use Rattle.ss_parse.specs.Promise.{Is_refused, Has_line}
 use Rattle.ss_parse.specs.SpelledPrograms.{Spell}
 use Rattle.ss_check.specs.Checking.{served_program, IsResolved, LacksMode, HasMisfit}
 use Rattle.ss_resolved.specs.declared.resolved.Resolved.{Resolved}
@@ -14,7 +15,7 @@ use Rattle.ss_code.specs.Nodes.{nodes}
 use Rattle.ss_code.specs.Machine.{Code}
 use Rattle.ss_code.specs.Running.{Behaves}
 use Rattle.ss_engine.specs.declared.refusal.Refusal.{Refusal}
-use Rattle.ss_engine.specs.declared.refusal.Refusal.TheVariants.{TooLong, NotAscii, BadNumber, OpenText, AlphaTooLong, PictureCut, NameTooLong, NotYet, RealMode, Fields, CodeTooLong, Memory}
+use Rattle.ss_engine.specs.declared.refusal.Refusal.TheVariants.{TooLong, NotAscii, BadNumber, OpenText, AlphaTooLong, PictureCut, NameTooLong, NotYet, Syntax, TooDeep, RealMode, Fields, CodeTooLong, Memory}
 
 -- how deep parentheses may stand in one another
 abbrev pub nesting_limit : ℕ
@@ -38,11 +39,13 @@ pub record Compiles (text : List ℕ) (code : Code) : Type 0 where
   pub meant : IsProgramOf text program
   pub behaves : Behaves program code
 
--- the text has tokens, and no tree of a served form
-pub record IsUnserved (text : List ℕ) : Type 0 where
+-- the text has tokens, and they spell no program: for syntax none of any depth; where it is too deep, none within the
+-- limit on nesting, while more than 64 tokens open a level; the line is that of a token
+pub record IsNoProgram (text : List ℕ) (e : ParseError) : Type 0 where
   pub tokens : List Token
   pub are : AreTokens text tokens
-  pub none : (tree : ProgramTree) → Spell tokens nesting_limit tree → served_program tree ≡ false
+  pub refused : Is_refused tokens e
+  pub line : Has_line tokens e
 
 -- the text has a tree of which this holds
 pub record HasTree (text : List ℕ) (Holds : ProgramTree → Type 0) : Type 0 where
@@ -65,7 +68,9 @@ RefusedFor text (OpenText line) = IsRefused text (lexical.OpenText line)
 RefusedFor text (AlphaTooLong line) = IsRefused text (lexical.AlphaTooLong line)
 RefusedFor text (PictureCut line) = IsRefused text (lexical.PictureCut line)
 RefusedFor text (NameTooLong line) = IsRefused text (lexical.NameTooLong line)
-RefusedFor text NotYet = IsUnserved text
+RefusedFor text NotYet = HasTree text (λ tree. served_program tree ≡ false)
+RefusedFor text (Syntax line) = IsNoProgram text (parsing.Syntax line)
+RefusedFor text (TooDeep line) = IsNoProgram text (parsing.TooDeep line)
 RefusedFor text (RealMode line) = HasTree text (λ tree. LacksMode tree line)
 RefusedFor text (Fields line) = HasTree text (λ tree. HasMisfit tree line)
 RefusedFor text CodeTooLong = IsLarge text

@@ -9,7 +9,7 @@ use Rattle.ss_check.specs.declared.check.CheckError.TheVariants as checking
 use Rattle.ss_code.specs.declared.error.CodeError.{CodeError}
 use Rattle.ss_code.specs.declared.error.CodeError.TheVariants as generating
 use Rattle.ss_engine.specs.declared.refusal.Refusal.{Refusal}
-use Rattle.ss_engine.specs.declared.refusal.Refusal.TheVariants.{TooLong, NotAscii, BadNumber, OpenText, AlphaTooLong, PictureCut, NameTooLong, NotYet, RealMode, Fields, CodeTooLong, Memory}
+use Rattle.ss_engine.specs.declared.refusal.Refusal.TheVariants.{TooLong, NotAscii, BadNumber, OpenText, AlphaTooLong, PictureCut, NameTooLong, NotYet, Syntax, TooDeep, RealMode, Fields, CodeTooLong, Memory}
 
 -- the number of a refusal, which is 0 for memory
 abbrev pub refusal_number : Refusal → ℕ
@@ -21,6 +21,8 @@ refusal_number (AlphaTooLong line) = 35
 refusal_number (PictureCut line) = 36
 refusal_number (NameTooLong line) = 37
 refusal_number NotYet = 40
+refusal_number (Syntax line) = 41
+refusal_number (TooDeep line) = 42
 refusal_number (RealMode line) = 52
 refusal_number (Fields line) = 77
 refusal_number CodeTooLong = 81
@@ -36,6 +38,8 @@ refusal_name (AlphaTooLong line) = codes "AlphaTooLong"
 refusal_name (PictureCut line) = codes "PictureCut"
 refusal_name (NameTooLong line) = codes "NameTooLong"
 refusal_name NotYet = codes "NotYet"
+refusal_name (Syntax line) = codes "Syntax"
+refusal_name (TooDeep line) = codes "TooDeep"
 refusal_name (RealMode line) = codes "RealMode"
 refusal_name (Fields line) = codes "Fields"
 refusal_name CodeTooLong = codes "CodeTooLong"
@@ -51,6 +55,8 @@ refusal_line (AlphaTooLong line) = line.0
 refusal_line (PictureCut line) = line.0
 refusal_line (NameTooLong line) = line.0
 refusal_line NotYet = 0
+refusal_line (Syntax line) = line.0
+refusal_line (TooDeep line) = line.0
 refusal_line (RealMode line) = line.0
 refusal_line (Fields line) = line.0
 refusal_line CodeTooLong = 0
@@ -69,8 +75,8 @@ refusal_of_lexer lexical.Memory = Memory
 
 -- the refusals for what the parser, the checker and the generator refuse
 abbrev pub refusal_of_parser : ParseError → Refusal
-refusal_of_parser (parsing.Syntax line) = NotYet
-refusal_of_parser (parsing.TooDeep line) = NotYet
+refusal_of_parser (parsing.Syntax line) = Syntax line
+refusal_of_parser (parsing.TooDeep line) = TooDeep line
 refusal_of_parser parsing.Memory = Memory
 
 abbrev pub refusal_of_checker : CheckError → Refusal

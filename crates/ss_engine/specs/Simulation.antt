@@ -1,5 +1,5 @@
 -- The headline: what comes of a text, and what the writer took.
-use Rattle.std.specs.Prelude.{◌≡◌, ℕ, List}
+use Rattle.std.specs.Prelude.{ℕ, List}
 use Rattle.std.specs.declared.option.Option.{Option}
 use Rattle.ss_resolved.specs.declared.resolved.Resolved.{Resolved}
 use Rattle.ss_machine.specs.declared.stop.Stop.{Stop}

@@ -8,7 +8,7 @@ use ss_check::{CheckError, check_program};
 use ss_code::CodeError;
 use ss_code::generate::generate;
 use ss_lex::{LexError, tokens};
-use ss_parse::{ParseError, one_tree, parse};
+use ss_parse::{ParseError, parse};
 use std::alloc::Global;
 
 // The refusal for what the lexer refuses.
@@ -27,12 +27,13 @@ fn lexical(error: LexError) -> Refusal
     }
 }
 
-// The refusal for what the parser refuses: a form that is not served.
+// The refusal for what the parser refuses.
 fn syntactic(error: ParseError) -> Refusal
     ensures { result ≡ refusal_of_parser error }
 {
     match error {
-        ParseError::Syntax(_) | ParseError::TooDeep(_) => Refusal::NotYet,
+        ParseError::Syntax(line) => Refusal::Syntax(line),
+        ParseError::TooDeep(line) => Refusal::TooDeep(line),
         ParseError::Memory => Refusal::Memory,
     }
 }
@@ -61,7 +62,8 @@ fn generated(error: CodeError) -> Refusal
 
 /// The program of a text, ready to run.
 ///
-/// A text is refused for its tokens (31 to 37); as `NotYet` where it has a form that is not served;
+/// A text is refused for its tokens (31 to 37); as `Syntax` or `TooDeep` where they spell no program;
+/// as `NotYet` where it has a form that is not served;
 /// for a name without a mode (52) or a PRINT whose items are not as many as its fields (77); as
 /// `CodeTooLong` where it has more than 16,384 nodes and too many instructions; or for want of
 /// memory, which says nothing of the text.
@@ -69,7 +71,6 @@ pub fn compile(alloc: Global, text: &[u8]) -> Result<Model, Refusal>
     ensures accepted { IfOk result (λ model. Compiles text.now model) }
     ensures refused { IfErr result (λ refusal. RefusedFor text.now refusal) }
 {
-    one_tree();
     let tokens = match tokens(alloc, text) {
         Ok(tokens) => tokens,
         Err(error) => return Err(lexical(error)),

@@ -20,6 +20,10 @@ pub enum Refusal {
     PictureCut(Line),
     /// A name with more than 32 characters.
     NameTooLong(Line),
+    /// The tokens spell no program.
+    Syntax(Line),
+    /// More than 64 parentheses, IFs and loops are open at a place.
+    TooDeep(Line),
     /// The text has a form that is not served yet.
     NotYet,
     /// A name without a mode, or with the mode REAL.
@@ -46,6 +50,8 @@ impl Refusal {
             Refusal::PictureCut(_) => 36,
             Refusal::NameTooLong(_) => 37,
             Refusal::NotYet => 40,
+            Refusal::Syntax(_) => 41,
+            Refusal::TooDeep(_) => 42,
             Refusal::RealMode(_) => 52,
             Refusal::Fields(_) => 77,
             Refusal::CodeTooLong => 81,
@@ -66,6 +72,8 @@ impl Refusal {
             Refusal::PictureCut(_) => "PictureCut",
             Refusal::NameTooLong(_) => "NameTooLong",
             Refusal::NotYet => "NotYet",
+            Refusal::Syntax(_) => "Syntax",
+            Refusal::TooDeep(_) => "TooDeep",
             Refusal::RealMode(_) => "RealMode",
             Refusal::Fields(_) => "Fields",
             Refusal::CodeTooLong => "CodeTooLong",
@@ -86,6 +94,8 @@ impl Refusal {
             Refusal::PictureCut(line) => line.0,
             Refusal::NameTooLong(line) => line.0,
             Refusal::NotYet => 0,
+            Refusal::Syntax(line) => line.0,
+            Refusal::TooDeep(line) => line.0,
             Refusal::RealMode(line) => line.0,
             Refusal::Fields(line) => line.0,
             Refusal::CodeTooLong => 0,
