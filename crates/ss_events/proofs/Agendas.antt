@@ -1,19 +1,19 @@
 -- The entries of a heap stand for those of an event list, before and after each call.
-use Rattle.std.proofs.Common.{◌≡◌, ◌≢◌, ℕ, zero, suc, ◌+◌, ◌<◌, ◌≤◌, ℤ, Bool, true, false, not, cond, ◌||◌, nat_eq, List, [], ◌∷◌, ◌++◌, map, filter, fold, length, get_or, position, Option, None, Some, is_some, refl, sym, ap, subst, ◌∙◌, ◌⊎◌, ⊎_elim, inl, inr, arith}
+use Rattle.std.proofs.Common.{◌≡◌, ℕ, ◌+◌, ◌<◌, ℤ, Bool, true, false, not, cond, ◌||◌, nat_eq, List, [], ◌∷◌, ◌++◌, fold, length, get_or, position, None, Some, refl, sym, ap, subst, ◌∙◌, ◌⊎◌, ⊎_elim, inl, inr, arith}
 use Rattle.std.specs.Ordering.{int_eq}
 use Rattle.std.specs.List.{list_any, IsDistinct, AllByRecursion, All}
 use Rattle.std.specs.List.Sorted.{IsPermutation}
-use Rattle.std.specs.Cmp.{nat_eq_equiv, int_eq_equiv}
-use Rattle.std.proofs.lemmas.List.Sorted.{IsPermutation-sym, IsPermutation-map, All-permutation}
+use Rattle.std.specs.Cmp.{int_eq_equiv}
+use Rattle.std.proofs.lemmas.List.Sorted.{IsPermutation-map, All-permutation}
 use Rattle.std.proofs.lemmas.List.Elements.{All-cons, All-tail, recursion_from_All}
 use Rattle.std.proofs.lemmas.Map.Keys.{IsDistinct-IsPermutation, IsDistinct-head, IsDistinct-tail, IsDistinct-cons}
-use Rattle.std.proofs.lemmas.Bool.{cases_lt, cases_eq, cases_Bool, or_cases}
+use Rattle.std.proofs.lemmas.Bool.{cases_lt, cases_Bool}
 use Rattle.ss_events.specs.declared.entry.Entry.{Entry}
 use Rattle.ss_events.specs.declared.entry.TheConstants.{MOST_SCHEDULINGS}
 use Rattle.ss_events.specs.HeapEntries.{HeapEntries, notices_of}
 use Rattle.ss_events.specs.Sifting.{IsLogarithmic}
 use Rattle.ss_events.specs.BinaryHeap.{IsHeap}
-use Rattle.ss_events.specs.Order.{comes_before, entry_order}
+use Rattle.ss_events.specs.Order.{comes_before}
 use Rattle.ss_events.specs.PendingList.{PendingList, is_pending, without, earlier, least, next, after_next}
 use Rattle.ss_events.specs.InOrder.{put, in_order, numbers_of, IsAgenda}
 use Rattle.ss_events.proofs.EntryOrder.{entries_rank, tied_numbers}

@@ -1,11 +1,11 @@
 -- What a step up or down a binary heap keeps.
-use Rattle.std.proofs.Common.{◌≡◌, ◌≢◌, ℕ, zero, suc, ◌+◌, ◌-◌, ◌*◌, ◌/◌, ◌<◌, ◌≤◌, Bool, true, false, List, [], ◌∷◌, ◌++◌, length, get_or, swap, take, set, refl, sym, ap, subst, ◌∙◌, ◌⊎◌, ⊎_elim, arith, length-append}
+use Rattle.std.proofs.Common.{◌≡◌, ◌≢◌, ℕ, zero, suc, ◌+◌, ◌-◌, ◌*◌, ◌/◌, ◌<◌, ◌≤◌, Bool, true, false, List, [], ◌∷◌, ◌++◌, length, get_or, swap, set, refl, ap, subst, ◌∙◌, ◌⊎◌, ⊎_elim, arith, length-append}
 use Rattle.std.specs.Cmp.{IsStrictWeakOrder}
 use Rattle.std.specs.List.{swap_remove}
 use Rattle.std.proofs.lemmas.List.{get_or-take, get_or-set_other, length-take, length-set, get_or_append_left}
 use Rattle.std.proofs.lemmas.List.Edits.{Swapped, swapped_from_swap, length-swap}
 use Rattle.std.proofs.lemmas.Bool.{cases_eq}
-use Rattle.ss_events.specs.BinaryHeap.{IsChild, InOrder, IsHeap, IsUnderParent, IsOverChildren, IsHeapBut, IsFirstChild}
+use Rattle.ss_events.specs.BinaryHeap.{IsChild, IsHeap, IsUnderParent, IsOverChildren, IsHeapBut, IsFirstChild}
 
 -- by cases
 either : {A B C : Type 0} → A ⊎ B → (A → C) → (B → C) → C

@@ -1,11 +1,10 @@
 -- What a schedule and a cancel answer, by the cases of their definitions.
-use Rattle.std.proofs.Common.{◌≡◌, ◌≢◌, ℕ, ◌+◌, ◌==◌, ℤ, Bool, true, false, cond, List, [], ◌∷◌, ◌++◌, Result, Ok, Err, refl, sym, ap, ◌∙◌, arith}
+use Rattle.std.proofs.Common.{◌≡◌, ◌≢◌, ◌==◌, ℤ, Bool, true, false, cond, Result, Ok, Err, ap, arith}
 use Rattle.std.proofs.lemmas.Bool.Decides.{nat_tests}
 use Rattle.ss_base.specs.declared.fault.FaultKind.{FaultKind}
 use Rattle.ss_base.specs.declared.fault.FaultKind.TheVariants.{AlreadyScheduled, NotScheduled, Overflow}
 use Rattle.ss_events.specs.declared.entry.TheConstants.{MOST_SCHEDULINGS}
 use Rattle.ss_events.specs.SortKey.{SortKey}
-use Rattle.ss_events.specs.HeapEntries.{notices_of}
 use Rattle.ss_events.specs.PendingList.{PendingList, is_pending, without, with_entry, scheduled, cancelled}
 
 -- ---- schedule

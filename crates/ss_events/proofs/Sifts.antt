@@ -1,12 +1,10 @@
 -- Each step of an entry that rises or sinks in a heap.
-use Rattle.std.proofs.Common.{◌≡◌, ◌≢◌, ℕ, zero, suc, ◌+◌, ◌-◌, ◌*◌, ◌/◌, ◌<◌, ◌≤◌, ◌^◌, Bool, true, false, List, length, get_or, swap, refl, sym, ap, subst, ◌∙◌, ◌⊎◌, ⊎_elim, arith, [], ◌∷◌, ◌++◌, length-append}
+use Rattle.std.proofs.Common.{◌≡◌, ℕ, ◌+◌, ◌-◌, ◌*◌, ◌/◌, ◌<◌, ◌≤◌, ◌^◌, true, false, List, length, get_or, swap, sym, ap, subst, ⊎_elim, arith, [], ◌∷◌, ◌++◌, length-append}
 use Rattle.std.specs.List.Sorted.{IsPermutation}
-use Rattle.std.specs.Cmp.{IsStrictWeakOrder, IsTotalOrder}
-use Rattle.std.specs.Ordering.{nat_cmp}
 use Rattle.std.specs.List.{swap_remove}
 use Rattle.std.proofs.lemmas.List.Sorted.{IsPermutation-sym, IsPermutation-to_front, IsPermutation-cons, IsPermutation-swap_remove, IsPermutation-refl, IsPermutation-swap, IsPermutation-trans, length_permutation}
 use Rattle.std.proofs.lemmas.List.Edits.{length-swap}
-use Rattle.std.proofs.lemmas.Nat.{pow_pos, pow_below}
+use Rattle.std.proofs.lemmas.Nat.{pow_below}
 use Rattle.std.proofs.lemmas.Grind.{pow_more}
 use Rattle.std.proofs.lemmas.Bool.{cases_lt, cases_eq}
 use Rattle.std.proofs.Math.Nat.{mul-le-mul_left, mul-le-mul_right}

@@ -1,6 +1,5 @@
 -- The order of a binary heap: the place p has the children 2 p + 1 and 2 p + 2.
-use Rattle.std.specs.Prelude.{◌≡◌, ◌≢◌, ℕ, ◌+◌, ◌*◌, ◌<◌, ◌≤◌, ◌^◌, Bool, false, List, length, slice_index_or}
-use Rattle.ss_events.specs.HeapEntries.{HeapEntries}
+use Rattle.std.specs.Prelude.{◌≡◌, ◌≢◌, ℕ, ◌+◌, ◌*◌, ◌<◌, ◌≤◌, Bool, false, List, length, slice_index_or}
 
 -- k is a child of p
 pub record IsChild (p k : ℕ) : Type 0 where

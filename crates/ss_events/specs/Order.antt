@@ -1,7 +1,7 @@
 -- The order of pending entries: by time, then by the rank of the class, then by the ties in turn, then by the order of scheduling.
-use Rattle.std.specs.Prelude.{ℕ, ℤ, Bool, true, false, List}
+use Rattle.std.specs.Prelude.{Bool, true, false}
 use Rattle.std.specs.declared.cmp.Ordering.{Ordering}
-use Rattle.std.specs.declared.cmp.Ordering.TheVariants.{Less, Equal, Greater}
+use Rattle.std.specs.declared.cmp.Ordering.TheVariants.{Less, Greater}
 use Rattle.std.specs.Ordering.{int_cmp, nat_cmp, is_lt, ordering_then}
 use Rattle.std.specs.Cmp.Lexicographic.{slice_cmp}
 use Rattle.ss_base.specs.declared.value.Value.{Value}

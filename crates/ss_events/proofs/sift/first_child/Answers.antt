@@ -1,4 +1,4 @@
-use Rattle.std.proofs.Common.{◌<◌, ◌+◌, ◌*◌, length, sym, arith}
+use Rattle.std.proofs.Common.{sym, arith}
 use Rattle.ss_events.specs.Order.{comes_before}
 use Rattle.ss_events.proofs.EntryOrder.{entries_rank}
 use Rattle.ss_events.proofs.Heaps.{only_child, right_child, left_child}

@@ -1,6 +1,5 @@
-use Rattle.std.proofs.Common.{◌≡◌, ◌+◌, ◌-◌, ◌/◌, ap, sym, subst, arith, ◌∙◌, swap}
+use Rattle.std.proofs.Common.{◌+◌, ◌-◌, ◌/◌, ap, sym, arith, ◌∙◌, swap}
 use Rattle.ss_events.proofs.Sifts.{rising_few, rising_steps, rising_rests, rising_tops}
-use Rattle.ss_events.specs.Sifting.{CostsToRaise}
 use Rattle.ss_events.proofs.sift.raise.Goals as goal
 
 pub is_before-requires-clause-countable : goal.is_before-requires-clause-countable

@@ -1,4 +1,4 @@
-use Rattle.std.proofs.Common.{◌≡◌, ◌+◌, ◌≤◌, ◌∙◌, ap, get_or, length, arith, ◌==◌, if◌then◌else◌, ℕ, Bool, true, false, refl}
+use Rattle.std.proofs.Common.{◌≡◌, ◌+◌, ◌≤◌, ◌∙◌, ap, get_or, length, arith, ◌==◌, if◌then◌else◌, ℕ, Bool, true, false}
 use Rattle.std.specs.List.{swap_remove}
 use Rattle.ss_events.proofs.Sifts.{taken_long, taken_all, taken_last, taken_but, taken_mended, take_work}
 use Rattle.ss_events.proofs.sift.take_out.Goals as goal

@@ -1,4 +1,4 @@
-use Rattle.std.proofs.Common.{◌≡◌, ◌<◌, length, ◌∙◌, ap, sym, arith}
+use Rattle.std.proofs.Common.{◌<◌, length, ◌∙◌, ap, sym, arith}
 use Rattle.std.specs.List.{swap_remove}
 use Rattle.indexmap.proofs.SetLemmas.{map-swap_remove}
 use Rattle.ss_events.specs.HeapEntries.{notices_of}

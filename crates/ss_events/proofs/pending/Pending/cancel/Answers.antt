@@ -1,7 +1,6 @@
-use Rattle.std.proofs.Common.{◌≡◌, ◌<◌, ◌∷◌, ◌∙◌, true, List, Some, Ok, length, map, get_or, position, int_eq, ap, subst, refl, sym, to_z-of_z, w64, arith, IsPermutation}
+use Rattle.std.proofs.Common.{◌≡◌, ◌∷◌, ◌∙◌, true, List, Ok, length, map, ap, subst, sym, to_z-of_z, IsPermutation}
 use Rattle.ss_events.specs.declared.entry.Entry.{Entry}
-use Rattle.ss_events.specs.HeapEntries.{notices_of}
-use Rattle.ss_events.specs.PendingList.{is_pending, without, cancelled}
+use Rattle.ss_events.specs.PendingList.{is_pending, without}
 use Rattle.ss_events.specs.Sifting.{IsLogarithmic}
 use Rattle.ss_events.proofs.Agendas.{found-pending, found-at, agenda-taken, in_order-taken, work_of}
 use Rattle.ss_events.proofs.Outcomes.{cancelled-pending, cancelled-none}

@@ -1,4 +1,4 @@
-use Rattle.std.proofs.Common.{◌≡◌, ◌<◌, ◌∙◌, Some, length, slice_get, ap, refl, sym, to_z-of_z, w64, arith}
+use Rattle.std.proofs.Common.{◌<◌, ◌∙◌, Some, length, slice_get, ap, sym, to_z-of_z, w64, arith}
 use Rattle.std.proofs.lemmas.Option.{get_or_from_slice_get}
 use Rattle.ss_events.proofs.Agendas.{next-none, next-first}
 use Rattle.ss_events.proofs.pending.Pending.least.Goals as goal

@@ -1,4 +1,4 @@
-use Rattle.std.proofs.Common.{◌≡◌, ◌∙◌, [], map, ap, refl, sym}
+use Rattle.std.proofs.Common.{◌∙◌, [], map, ap}
 use Rattle.ss_events.specs.InOrder.{in_order}
 use Rattle.ss_events.proofs.Agendas.{agenda-none}
 use Rattle.ss_events.proofs.pending.Pending.new.Goals as goal

@@ -1,9 +1,8 @@
-use Rattle.std.proofs.Common.{◌≡◌, ◌≢◌, ◌+◌, ◌<◌, ◌∷◌, ◌++◌, [], ◌∙◌, Bool, true, false, List, map, ℤ, w64, int_eq, to_z, of_z, IsPermutation, is_ok, Ok, length, ap, refl, sym, subst, to_z-of_z, arith}
+use Rattle.std.proofs.Common.{◌≢◌, ◌+◌, ◌∷◌, ◌∙◌, List, map, ℤ, w64, int_eq, to_z, of_z, IsPermutation, is_ok, Ok, length, ap, refl, sym, subst, to_z-of_z, arith}
 use Rattle.std.proofs.lemmas.Result.{err_from_is_err_and}
 use Rattle.ss_events.specs.declared.entry.Entry.{Entry}
 use Rattle.ss_events.specs.declared.entry.TheConstants.{MOST_SCHEDULINGS}
-use Rattle.ss_events.specs.PendingList.{scheduled, with_entry}
-use Rattle.ss_events.specs.InOrder.{in_order}
+use Rattle.ss_events.specs.PendingList.{with_entry}
 use Rattle.std.specs.List.{list_any}
 use Rattle.ss_events.specs.HeapEntries.{notices_of}
 use Rattle.ss_events.specs.Sifting.{IsLogarithmic}

@@ -1,4 +1,4 @@
-use Rattle.std.proofs.Common.{◌≡◌, ◌<◌, ◌∷◌, ◌∙◌, List, Some, length, map, get_or, ap, subst, refl, sym, to_z-of_z, w64, arith, IsPermutation}
+use Rattle.std.proofs.Common.{◌<◌, ◌∷◌, ◌∙◌, List, Some, length, map, get_or, ap, subst, sym, to_z-of_z, w64, arith, IsPermutation}
 use Rattle.std.specs.Cmp.{int_eq_equiv}
 use Rattle.ss_events.specs.declared.entry.Entry.{Entry}
 use Rattle.ss_events.specs.PendingList.{without}
