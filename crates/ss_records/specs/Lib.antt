@@ -7,6 +7,7 @@ pub mod Ownership
 pub mod Parts
 pub mod Places
 pub mod Reading
+pub mod Sets
 pub mod Shape
 pub mod Slotted
 pub mod State
