@@ -22,7 +22,7 @@ use Rattle.ss_records.proofs.Leading.{To, leads, at_target, its_number, positive
 
 module _ (r : Records) (K : IsKept r) (s : ℕ) (inside : s < length r.layout.sets.items) where
   abbrev at : ℕ → Ptr
-  at = numbered_at r.system.at r.directory
+  at = numbered_at r.system.at r.directory.places
 
   abbrev f : ℕ → List ℕ
   f = members_of r.notes.lists s
@@ -37,12 +37,12 @@ module _ (r : Records) (K : IsKept r) (s : ℕ) (inside : s < length r.layout.se
   module _ (e : Entry) (h : Owns r s e) (b : ℕ) (base : (u : SetLayout) → slice_get r.layout.sets.items s ≡ Some u → b ≡ owner_base r.layout s u) (q : Entry) where
     pub at_first : word_at r.blocks.cells e.place.at b ≡ link q.place.at → word_at r.blocks.cells q.place.at 1 ≡ number q.number → Between r s e.number end q [] (f e.number)
     at_first w v =
-        let l = lies_there e.place.at b _ (first_to r.layout r.blocks.cells r.system.at r.directory r.notes.lists K s inside e.place.at e.number h.lies h.may b base) q w v in
+        let l = lies_there e.place.at b _ (first_to r.layout r.blocks.cells r.system.at r.directory.places r.notes.lists K s inside e.place.at e.number h.lies h.may b base) q w v in
         record { list = refl; before = refl; last = refl; after = l.0; first = l.1 }
 
     pub at_last : word_at r.blocks.cells e.place.at (b + 1) ≡ link q.place.at → word_at r.blocks.cells q.place.at 1 ≡ number q.number → Between r s e.number q end (f e.number) []
     at_last w v =
-        let l = lies_there e.place.at (b + 1) _ (last_to r.layout r.blocks.cells r.system.at r.directory r.notes.lists K s inside e.place.at e.number h.lies h.may b base) q w v in
+        let l = lies_there e.place.at (b + 1) _ (last_to r.layout r.blocks.cells r.system.at r.directory.places r.notes.lists K s inside e.place.at e.number h.lies h.may b base) q w v in
         record { list = sym (append-nil (f e.number)); before = l.0; last = l.1; after = refl; first = refl }
 
   -- beside a member y
@@ -60,7 +60,7 @@ module _ (r : Records) (K : IsKept r) (s : ℕ) (inside : s < length r.layout.se
     ys = parts.1
 
     some : 0 ≡ y.number → ⊥
-    some = positive r.layout r.blocks.cells r.system.at r.directory r.notes.lists K s inside y.place.at y.number j.lies j.is b base
+    some = positive r.layout r.blocks.cells r.system.at r.directory.places r.notes.lists K s inside y.place.at y.number j.lies j.is b base
 
     apart : Distinct (xs ++ y.number ∷ ys)
     apart = let k = get_there r.layout.sets.items s inside in subst Distinct parts.2 ((K.names s k.0 k.1).distinct o)
@@ -69,10 +69,10 @@ module _ (r : Records) (K : IsKept r) (s : ℕ) (inside : s < length r.layout.se
     not_before = not_in_front y.number xs ys (distinct_less xs y.number ys apart).1
 
     next_there : To r.blocks.cells at y.place.at b (succ y.number (f o))
-    next_there = next_to r.layout r.blocks.cells r.system.at r.directory r.notes.lists K s inside y.place.at y.number j.lies j.is b base o here
+    next_there = next_to r.layout r.blocks.cells r.system.at r.directory.places r.notes.lists K s inside y.place.at y.number j.lies j.is b base o here
 
     prev_there : To r.blocks.cells at y.place.at (b + 1) (pred_from 0 y.number (f o))
-    prev_there = prev_to r.layout r.blocks.cells r.system.at r.directory r.notes.lists K s inside y.place.at y.number j.lies j.is b base o here
+    prev_there = prev_to r.layout r.blocks.cells r.system.at r.directory.places r.notes.lists K s inside y.place.at y.number j.lies j.is b base o here
 
     pub next_found : Leads r.blocks.cells y.place.at b
     next_found = leads r.blocks.cells at y.place.at b _ next_there

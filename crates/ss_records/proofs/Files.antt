@@ -65,7 +65,7 @@ module _ (r : Records) (K : IsKept r) (s : ℕ) (inside : s < length r.layout.se
   cs = r.blocks.cells
 
   abbrev at : ℕ → Ptr
-  at = numbered_at r.system.at r.directory
+  at = numbered_at r.system.at r.directory.places
 
   abbrev f : ℕ → List ℕ
   f = members_of r.notes.lists s
@@ -79,39 +79,39 @@ module _ (r : Records) (K : IsKept r) (s : ℕ) (inside : s < length r.layout.se
   g : slice_get r.layout.sets.items s ≡ Some t
   g = (get_there r.layout.sets.items s inside).1
 
-  lo : MayOwn cs r.directory t.owner o
-  lo = subst (λ u. MayOwn cs r.directory u o) (ap owner_in g) h.may
+  lo : MayOwn cs r.directory.places t.owner o
+  lo = subst (λ u. MayOwn cs r.directory.places u o) (ap owner_in g) h.may
 
   pub owner_words : IsLink (word_at cs e.place.at b) × IsLink (word_at cs e.place.at (b + 1)) × IsCounter (word_at cs e.place.at (b + 2))
   owner_words = (
-    is_link cs at e.place.at b _ (first_to r.layout cs r.system.at r.directory r.notes.lists K s inside e.place.at o h.lies h.may b ob),
-    is_link cs at e.place.at (b + 1) _ (last_to r.layout cs r.system.at r.directory r.notes.lists K s inside e.place.at o h.lies h.may b ob),
-    is_counter r.layout cs r.system.at r.directory r.notes.lists K s inside e.place.at o h.lies h.may b ob,
+    is_link cs at e.place.at b _ (first_to r.layout cs r.system.at r.directory.places r.notes.lists K s inside e.place.at o h.lies h.may b ob),
+    is_link cs at e.place.at (b + 1) _ (last_to r.layout cs r.system.at r.directory.places r.notes.lists K s inside e.place.at o h.lies h.may b ob),
+    is_counter r.layout cs r.system.at r.directory.places r.notes.lists K s inside e.place.at o h.lies h.may b ob,
   )
 
   -- a member of the set has links
   module _ (z : Entry) (lies : z.place.at ≡ at z.number) (inn : In z.number (f o)) where
-    of_it : IsOf cs r.directory t.member z.number
+    of_it : IsOf cs r.directory.places t.member z.number
     of_it = ((K.names s t g).members o z.number inn).0
 
-    its : IsOf cs r.directory (member_in (slice_get r.layout.sets.items s)) z.number
-    its = subst (λ c. IsOf cs r.directory c z.number) (sym (ap member_in g)) of_it
+    its : IsOf cs r.directory.places (member_in (slice_get r.layout.sets.items s)) z.number
+    its = subst (λ c. IsOf cs r.directory.places c z.number) (sym (ap member_in g)) of_it
 
     pub next_link : IsLink (word_at cs z.place.at m)
-    next_link = is_link cs at z.place.at m _ (next_to r.layout cs r.system.at r.directory r.notes.lists K s inside z.place.at z.number lies its m mb o inn)
+    next_link = is_link cs at z.place.at m _ (next_to r.layout cs r.system.at r.directory.places r.notes.lists K s inside z.place.at z.number lies its m mb o inn)
 
     pub prev_link : IsLink (word_at cs z.place.at (m + 1))
-    prev_link = is_link cs at z.place.at (m + 1) _ (prev_to r.layout cs r.system.at r.directory r.notes.lists K s inside z.place.at z.number lies its m mb o inn)
+    prev_link = is_link cs at z.place.at (m + 1) _ (prev_to r.layout cs r.system.at r.directory.places r.notes.lists K s inside z.place.at z.number lies its m mb o inn)
 
     pub owner_link : IsLink (word_at cs z.place.at (m + 2))
-    owner_link = is_link cs at z.place.at (m + 2) _ (owner_to r.layout cs r.system.at r.directory r.notes.lists K s inside z.place.at z.number lies its m mb o inn)
+    owner_link = is_link cs at z.place.at (m + 2) _ (owner_to r.layout cs r.system.at r.directory.places r.notes.lists K s inside z.place.at z.number lies its m mb o inn)
 
   module _ (j : Joins r s x) where
-    lx : IsOf cs r.directory t.member x.number
-    lx = subst (λ c. IsOf cs r.directory c x.number) (ap member_in g) j.is
+    lx : IsOf cs r.directory.places t.member x.number
+    lx = subst (λ c. IsOf cs r.directory.places c x.number) (ap member_in g) j.is
 
     some : 0 ≡ x.number → ⊥
-    some = above_zero r.layout cs r.system.at r.directory r.notes.lists K s t g x.number lx
+    some = above_zero r.layout cs r.system.at r.directory.places r.notes.lists K s t g x.number lx
 
     none0 : (l : List ℕ) → f o ≡ l → NotIn 0 l
     none0 l w = not_in 0 l (λ i. ((K.names s t g).members o 0 (subst (In 0) (sym w) i)).1 refl)
@@ -123,9 +123,9 @@ module _ (r : Records) (K : IsKept r) (s : ℕ) (inside : s < length r.layout.se
 
       pub member_words : IsLink (word_at cs x.place.at m) × IsLink (word_at cs x.place.at (m + 1)) × IsLink (word_at cs x.place.at (m + 2))
       member_words = (
-        is_link cs at x.place.at m _ (next_self r.layout cs r.system.at r.directory r.notes.lists K s inside x.place.at x.number j.lies j.is m mb out),
-        is_link cs at x.place.at (m + 1) _ (prev_self r.layout cs r.system.at r.directory r.notes.lists K s inside x.place.at x.number j.lies j.is m mb out),
-        is_link cs at x.place.at (m + 2) _ (owner_self r.layout cs r.system.at r.directory r.notes.lists K s inside x.place.at x.number j.lies j.is m mb out),
+        is_link cs at x.place.at m _ (next_self r.layout cs r.system.at r.directory.places r.notes.lists K s inside x.place.at x.number j.lies j.is m mb out),
+        is_link cs at x.place.at (m + 1) _ (prev_self r.layout cs r.system.at r.directory.places r.notes.lists K s inside x.place.at x.number j.lies j.is m mb out),
+        is_link cs at x.place.at (m + 2) _ (owner_self r.layout cs r.system.at r.directory.places r.notes.lists K s inside x.place.at x.number j.lies j.is m mb out),
       )
 
       module _ (a z : Entry) (xs ys : List ℕ) (w : Between r s o a z xs ys) where
@@ -148,11 +148,11 @@ module _ (r : Records) (K : IsKept r) (s : ℕ) (inside : s < length r.layout.se
           cells_are : ds ≡ linked_in (slots_of r.layout s t) cs (at o) (at (last_or 0 xs)) (last_or 0 xs == 0) (at x.number) (at (head0 ys)) (head0 ys == 0) (length (f o))
           cells_are = λ i. linked_in (slots_at (mb t g i) (ob t g i)) cs (h.lies i) ((w.before ∙ ap at w.last) i) (w.last i == 0) (j.lies i) ((w.after ∙ ap at w.first) i) (w.first i == 0) (count i)
 
-          pub kept_in : Kept r.layout ds r.system.at r.directory (with_members r.notes.lists s o (put_before z.number x.number (f o)))
-          kept_in = rw (cells_are, list_is) (kept_linked r.layout cs r.system.at r.directory r.notes.lists K s t g o x.number xs ys lo lx some w.list out)
+          pub kept_in : Kept r.layout ds r.system.at r.directory.places (with_members r.notes.lists s o (put_before z.number x.number (f o)))
+          kept_in = rw (cells_are, list_is) (kept_linked r.layout cs r.system.at r.directory.places r.notes.lists K s t g o x.number xs ys lo lx some w.list out)
 
-          pub state_in : state_of r.layout ds r.directory (with_members r.notes.lists s o (put_before z.number x.number (f o))) ≡ with_list_of (state r) s o (xs ++ x.number ∷ ys)
-          state_in = rw (cells_are, list_is) (state_linked r.layout cs r.system.at r.directory r.notes.lists K s t g o x.number xs ys lo lx some w.list out)
+          pub state_in : state_of r.layout ds r.directory.places (with_members r.notes.lists s o (put_before z.number x.number (f o))) ≡ with_list_of (state r) s o (xs ++ x.number ∷ ys)
+          state_in = rw (cells_are, list_is) (state_linked r.layout cs r.system.at r.directory.places r.notes.lists K s t g o x.number xs ys lo lx some w.list out)
 
     -- out of the set
     module _ (a z : Entry) (xs ys : List ℕ) (w : Around r s o x.number a z xs ys) where
@@ -187,8 +187,8 @@ module _ (r : Records) (K : IsKept r) (s : ℕ) (inside : s < length r.layout.se
         cells_are' : es ≡ unlinked_in (slots_of r.layout s t) cs (at o) (at (last_or 0 xs)) (last_or 0 xs == 0) (at x.number) (at (head0 ys)) (head0 ys == 0) (length (f o))
         cells_are' = λ i. unlinked_in (slots_at (mb t g i) (ob t g i)) cs (h.lies i) ((w.before ∙ ap at w.last) i) (w.last i == 0) (j.lies i) ((w.after ∙ ap at w.first) i) (w.first i == 0) (count i)
 
-        pub kept_out : Kept r.layout es r.system.at r.directory (with_members r.notes.lists s o (less x.number (f o)))
-        kept_out = rw (cells_are', list_is') (kept_unlinked r.layout cs r.system.at r.directory r.notes.lists K s t g o x.number xs ys lo w.list)
+        pub kept_out : Kept r.layout es r.system.at r.directory.places (with_members r.notes.lists s o (less x.number (f o)))
+        kept_out = rw (cells_are', list_is') (kept_unlinked r.layout cs r.system.at r.directory.places r.notes.lists K s t g o x.number xs ys lo w.list)
 
-        pub state_out : state_of r.layout es r.directory (with_members r.notes.lists s o (less x.number (f o))) ≡ with_list_of (state r) s o (xs ++ ys)
-        state_out = rw (cells_are', list_is') (state_unlinked r.layout cs r.system.at r.directory r.notes.lists K s t g o x.number xs ys lo w.list)
+        pub state_out : state_of r.layout es r.directory.places (with_members r.notes.lists s o (less x.number (f o))) ≡ with_list_of (state r) s o (xs ++ ys)
+        state_out = rw (cells_are', list_is') (state_unlinked r.layout cs r.system.at r.directory.places r.notes.lists K s t g o x.number xs ys lo w.list)

@@ -24,6 +24,7 @@ pub mod NamesGone
 pub mod NamesKept
 pub mod Numbers
 pub mod Owning
+pub mod Paging
 pub mod Puts
 pub mod ReadBack
 pub mod ReadWords

@@ -25,11 +25,11 @@ module _ (r : Records) (K : IsKept r) (c : ℕ) (x : ℤ) (p : Place) (f : Found
     number_of : n ≡ suc f.index
     number_of = ap plain (sym w ∙ (K.formed f.index p f.entry).number)
 
-    lies_at : p.at ≡ numbered_at r.system.at r.directory n
-    lies_at = sym (ap (numbered_at r.system.at r.directory) number_of ∙ ap place_in f.entry)
+    lies_at : p.at ≡ numbered_at r.system.at r.directory.places n
+    lies_at = sym (ap (numbered_at r.system.at r.directory.places) number_of ∙ ap place_in f.entry)
 
-    is_it : IsOf r.blocks.cells r.directory c n
-    is_it = subst (IsOf r.blocks.cells r.directory c) (sym number_of) (is_of r.blocks.cells r.directory c f.index p f.entry f.class)
+    is_it : IsOf r.blocks.cells r.directory.places c n
+    is_it = subst (IsOf r.blocks.cells r.directory.places c) (sym number_of) (is_of r.blocks.cells r.directory.places c f.index p f.entry f.class)
 
     named : number_in x ≡ n
     named = ap number_in f.is ∙ sym number_of
@@ -37,18 +37,18 @@ module _ (r : Records) (K : IsKept r) (c : ℕ) (x : ℤ) (p : Place) (f : Found
     module _ (s : ℕ) where
       pub joins_found : member_class r.layout s ≡ c → Joins r s (record { place = p; number = n }) × (joiner (state r) s x ≡ Ok n)
       joins_found e = (
-        record { lies = lies_at; is = subst (λ b. IsOf r.blocks.cells r.directory b n) (sym e) is_it },
+        record { lies = lies_at; is = subst (λ b. IsOf r.blocks.cells r.directory.places b n) (sym e) is_it },
         ap (λ b. and_then (entity (state r) b x) (λ q. Ok (number_in x))) e ∙ ap (λ z. and_then z (λ q. Ok (number_in x))) f.entity ∙ ap Ok named,
       )
 
       pub owns_found : owner_kind r.layout s ≡ Class c → Owns r s (record { place = p; number = n }) × (owner (state r) s x ≡ Ok n)
       owns_found e = (
-        record { lies = lies_at; may = subst (λ u. MayOwn r.blocks.cells r.directory u n) (sym e) is_it },
+        record { lies = lies_at; may = subst (λ u. MayOwn r.blocks.cells r.directory.places u n) (sym e) is_it },
         ap (λ u. owner_by (state r) u x) e ∙ ap (λ z. and_then z (λ q. Ok (number_in x))) f.entity ∙ ap Ok named,
       )
 
 pub system_owns : (r : Records) (s : ℕ) (x : ℤ) → owner_kind r.layout s ≡ System → Owns r s (record { place = r.system; number = 0 }) × (owner (state r) s x ≡ Ok 0)
-system_owns r s x e = (record { lies = refl; may = subst (λ u. MayOwn r.blocks.cells r.directory u 0) (sym e) refl }, ap (λ u. owner_by (state r) u x) e)
+system_owns r s x e = (record { lies = refl; may = subst (λ u. MayOwn r.blocks.cells r.directory.places u 0) (sym e) refl }, ap (λ u. owner_by (state r) u x) e)
 
 pub not_joiner : (st : State) (s : ℕ) (c : ℕ) (x : ℤ) (e : FaultKind) → member_class st.layout s ≡ c → entity st c x ≡ Err e → joiner st s x ≡ Err e
 not_joiner st s c x e h k = ap (λ b. and_then (entity st b x) (λ q. Ok (number_in x))) h ∙ ap (λ z. and_then z (λ q. Ok (number_in x))) k

@@ -4,6 +4,7 @@ pub mod Laid
 pub mod Links
 pub mod Lists
 pub mod Ownership
+pub mod Pages
 pub mod Parts
 pub mod Places
 pub mod Reading

@@ -1,6 +1,6 @@
 ghost use Rattle.std.specs.Prelude.{◌≡◌, ℕ, ◌+◌, ◌<◌, ◌≤◌, [], length, IsTrue, MatchResult, Ok, Err, Some, IsOk, slice_get, ⊤};
 ghost use Rattle.ss_base.specs.Layout.{mode_of, is_sound};
-ghost use Rattle.ss_records.specs.State.{State, first_state, known_in, known_notice_in, kind_of, modes_of, value_in, time_in, created, destroyed, assigned, timed, living_records};
+ghost use Rattle.ss_records.specs.State.{State, first_state, known_in, known_notice_in, kind_of, modes_of, value_in, time_in, created, destroyed, assigned, timed, living_numbers, living_records};
 ghost use Rattle.ss_records.specs.Sets.{first_in, last_in, count_in, next_in, previous_in, owner_of_member, filed_first, filed_last, filed_before, filed_after, removed};
 ghost use Rattle.ss_records.specs.Kept.{IsPermanent};
 
@@ -268,6 +268,15 @@ impl Heap {
         ensures { result ≡ self.now.touches }
     {
         self.records.touches()
+    }
+
+    /// How many pages of 256 numbers the directory of creation numbers holds: at most one more than entities with a
+    /// creation number are living.
+    pub fn pages(&self) -> usize
+        ensures value { result ≡ self.now.pages }
+        ensures bound { result ≤ living_numbers self.now.state.records + 1 }
+    {
+        self.records.pages()
     }
 
     /// How many blocks of memory are held: one for each living entity, and one for the system.

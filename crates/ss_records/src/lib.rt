@@ -7,6 +7,7 @@ mod heap;
 pub(crate) mod laying;
 pub(crate) mod links;
 pub(crate) mod notes;
+pub(crate) mod page;
 pub(crate) mod records;
 pub(crate) mod sets;
 pub(crate) mod shape;

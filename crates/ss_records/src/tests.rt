@@ -212,3 +212,28 @@ fn a_member_in_the_middle_of_a_long_set_is_removed_at_once(rt: HostRuntime) -> R
     assert_eq!(rt; heap.blocks(), 10001);
     Ok(())
 }
+
+#[test]
+fn a_page_without_a_living_number_is_given_back(rt: HostRuntime) -> Result<(), Fail> {
+    let mut heap = yard(&rt)?;
+    for x in 1..1001 {
+        assert_eq!(rt; create(&mut heap, JOB), Some(x));
+        assert_eq!(rt; destroy(&mut heap, JOB, x), Some(Ok(())));
+        assert!(rt; heap.pages() <= 1);
+    }
+    assert!(rt; rank(&heap, 1) == Some(Err(FaultKind::DestroyedEntity)));
+    assert_eq!(rt; heap.blocks(), 1);
+    for x in 1001..1601 {
+        assert_eq!(rt; create(&mut heap, JOB), Some(x));
+    }
+    assert!(rt; heap.pages() >= 3);
+    for x in 1001..1601 {
+        if x != 1300 {
+            assert_eq!(rt; destroy(&mut heap, JOB, x), Some(Ok(())));
+        }
+    }
+    assert!(rt; heap.pages() <= 2);
+    assert!(rt; rank(&heap, 1300) == Some(Ok(Value::Whole(0))));
+    assert!(rt; rank(&heap, 1299) == Some(Err(FaultKind::DestroyedEntity)));
+    Ok(())
+}
