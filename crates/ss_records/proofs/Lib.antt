@@ -1,3 +1,4 @@
+pub mod Apart
 pub mod Assigns
 pub mod Blocks
 pub mod Calls

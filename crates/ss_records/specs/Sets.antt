@@ -1,12 +1,12 @@
 -- The sets: who may own and join one, its members in order, filing and removing.
-use Rattle.std.specs.Prelude.{ℕ, cond, if◌then◌else◌, ◌==◌, List, [], ◌∷◌, ◌++◌, length, ℤ, pos, Option, Some, None, Result, Ok, Err, slice_get}
+use Rattle.std.specs.Prelude.{◌≡◌, ℕ, ◌<◌, cond, if◌then◌else◌, ◌==◌, List, [], ◌∷◌, ◌++◌, length, ℤ, pos, Option, Some, None, Result, Ok, Err, slice_get}
 use Rattle.ss_base.specs.declared.fault.FaultKind.{FaultKind}
 use Rattle.ss_base.specs.declared.fault.FaultKind.TheVariants.{FiledTwice, NotFiled}
 use Rattle.ss_base.specs.declared.layout.Owner.{Owner}
 use Rattle.ss_base.specs.declared.layout.Owner.TheVariants.{System, Class}
 use Rattle.ss_base.specs.declared.layout.SetLayout.{SetLayout}
 use Rattle.ss_base.specs.declared.layout.Layout.{Layout}
-use Rattle.ss_records.specs.Lists.{head0, last_or}
+use Rattle.ss_records.specs.Lists.{head0, last_or, In, Distinct}
 use Rattle.ss_records.specs.State.{State, Members, and_then, entity, number_in, members_of, contains, owner_of, is_filed, with_members}
 
 -- ## Owners and members
@@ -132,3 +132,11 @@ taken_out st s o x = if contains (members_of st.lists s o) x then Ok (with_list_
 
 abbrev pub removed : State → ℕ → ℤ → ℤ → Result State FaultKind
 removed st s o x = and_then (joiner st s x) (λ n. and_then (owner st s o) (λ m. taken_out st s m n))
+
+-- ## What holds of every heap
+
+-- members are entities of their class; none is twice in a set, or in two sets of a name
+pub record Apart (st : State) : Type 0 where
+  pub distinct : (s o : ℕ) → s < length st.layout.sets.items → Distinct (members_of st.lists s o)
+  pub members : (s o x : ℕ) → s < length st.layout.sets.items → In x (members_of st.lists s o) → (0 ≡ x → ⊥) × (joiner st s (pos x) ≡ Ok x)
+  pub sole : (s o x : ℕ) → s < length st.layout.sets.items → In x (members_of st.lists s o) → owner_of st.lists s x ≡ Some o

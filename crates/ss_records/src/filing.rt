@@ -180,17 +180,17 @@ impl Records {
         ensures touches { (self.new.blocks.touches ≤ 12) × (IsOk result → 4 ≤ self.new.blocks.touches) × (self.new.blocks.total ≡ self.old.blocks.total + self.new.blocks.touches) }
     {
         match self.pair(s, o, x) {
-            Ok(pair) => {
+            Ok(both) => {
                 let base = shape::owner_base(&self.layout, s);
                 let end = Entry {
                     place: self.system,
                     number: 0,
                 };
-                if self.is_filed(s, pair.x) {
+                if self.is_filed(s, both.x) {
                     return Err(FaultKind::FiledTwice);
                 }
-                let last = self.blocks.follow(pair.owner.place, base + 1);
-                self.link_in(s, pair.owner, last, pair.x, end);
+                let last = self.blocks.follow(both.owner.place, base + 1);
+                self.link_in(s, both.owner, last, both.x, end);
                 Ok(())
             }
             Err(fault) => Err(fault),

@@ -1,7 +1,7 @@
 ghost use Rattle.std.specs.Prelude.{◌≡◌, ℕ, ◌+◌, ◌<◌, ◌≤◌, [], length, IsTrue, MatchResult, Ok, Err, Some, IsOk, slice_get, ⊤};
 ghost use Rattle.ss_base.specs.Layout.{mode_of, is_sound};
 ghost use Rattle.ss_records.specs.State.{State, first_state, known_in, known_notice_in, kind_of, modes_of, value_in, time_in, created, destroyed, assigned, timed, living_numbers, living_records};
-ghost use Rattle.ss_records.specs.Sets.{first_in, last_in, count_in, next_in, previous_in, owner_of_member, filed_first, filed_last, filed_before, filed_after, removed};
+ghost use Rattle.ss_records.specs.Sets.{first_in, last_in, count_in, next_in, previous_in, owner_of_member, filed_first, filed_last, filed_before, filed_after, removed, Apart};
 ghost use Rattle.ss_records.specs.Kept.{IsPermanent};
 
 use crate::records::Records;
@@ -254,6 +254,14 @@ impl Heap {
     {
         self.records.start();
         self.records.remove(set, o, x)
+    }
+
+    /// A law, for contracts: members are entities of their class, and none is twice in a set or in two sets of a
+    /// name. It does nothing.
+    pub fn sets_are_apart(&self)
+        ensures { Apart self.now.state }
+    {
+        self.records.law();
     }
 
     /// The classes and sets that it was made for.

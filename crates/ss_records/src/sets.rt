@@ -1,7 +1,7 @@
 // The sets: their ends, the neighbours of a member, and its owner.
 ghost use Rattle.std.specs.Prelude.{◌≡◌, ℕ, ◌+◌, ◌^◌, ◌<◌, ◌≤◌, length, MatchResult, IsOk, Ok, Err};
 ghost use Rattle.ss_records.specs.State.{State, is_filed};
-ghost use Rattle.ss_records.specs.Sets.{joiner, owner, first_in, last_in, count_in, next_in, previous_in, owner_of_member};
+ghost use Rattle.ss_records.specs.Sets.{joiner, owner, first_in, last_in, count_in, next_in, previous_in, owner_of_member, Apart};
 ghost use Rattle.ss_records.specs.Parts.{IsKept, state, Owns, Joins};
 
 use crate::links::Entry;
@@ -10,6 +10,12 @@ use crate::shape::{self, NUMBER};
 use ss_base::{FaultKind, Owner};
 
 impl Records {
+    /// What holds of the sets.
+    pub(crate) fn law(&self)
+        requires kept { IsKept self.now }
+        ensures { Apart (state self.now) }
+    {}
+
     /// What o means as an owner of a set: the system where the set is one of its own.
     pub(crate) fn owner(&self, s: usize, o: i64) -> Result<Entry, FaultKind>
         requires kept { IsKept self.now }

@@ -10,11 +10,11 @@ use Rattle.ss_records.proofs.Cuts.{at_last, put_twice, put_done}
 use Rattle.ss_records.proofs.records.Records.file_last.Goals as goal
 
 pub follow-last-requires-clause-leads : goal.follow-last-requires-clause-leads
-follow-last-requires-clause-leads c = rw c.is_filed.ensures.cells (last_leads c.args.self.now c.requires.kept c.args.s c.requires.set c.in-Ok.pair.owner c.in-Ok.ensures.found.0 c.owner_base-base.result c.owner_base-base.ensures.at)
+follow-last-requires-clause-leads c = rw c.is_filed.ensures.cells (last_leads c.args.self.now c.requires.kept c.args.s c.requires.set c.in-Ok.both.owner c.in-Ok.ensures.found.0 c.owner_base-base.result c.owner_base-base.ensures.at)
 
 pub link_in-requires-clause-between : goal.link_in-requires-clause-between
 link_in-requires-clause-between c =
-    let r = c.args.self.now in let pair = c.in-Ok.pair in let p = c.is_filed.new.self in let q = c.follow-last.result in let cells = c.is_filed.ensures.cells in
+    let r = c.args.self.now in let pair = c.in-Ok.both in let p = c.is_filed.new.self in let q = c.follow-last.result in let cells = c.is_filed.ensures.cells in
     let h : held (record p { blocks = c.follow-last.new.self }) ≡ held r = looked r p c.follow-last.new.self c.is_filed.ensures.same cells c.follow-last.ensures.cells in
     let w : word_at r.blocks.cells pair.owner.place.at (c.owner_base-base.result + 1) ≡ link q.place.at = (λ i. word_at (sym cells i) pair.owner.place.at (c.owner_base-base.result + 1)) ∙ c.follow-last.ensures.word in
     let v : word_at r.blocks.cells q.place.at 1 ≡ number q.number = (λ i. word_at (sym cells i) q.place.at 1) ∙ c.follow-last.ensures.there in
@@ -29,7 +29,7 @@ returns-then-is_filed-clause-done c =
 pub returns-else-is_filed-clause-done : goal.returns-else-is_filed-clause-done
 returns-else-is_filed-clause-done c =
     let fo = c.ranges.o in let fx = c.ranges.x in let f = simp to_z-of_z at c.in-Ok.ensures.found in
-    let r = c.args.self.now in let pair = c.in-Ok.pair in let p = c.is_filed.new.self in let q = c.follow-last.result in let cells = c.is_filed.ensures.cells in
+    let r = c.args.self.now in let pair = c.in-Ok.both in let p = c.is_filed.new.self in let q = c.follow-last.result in let cells = c.is_filed.ensures.cells in
     let h : held (record p { blocks = c.follow-last.new.self }) ≡ held r = looked r p c.follow-last.new.self c.is_filed.ensures.same cells c.follow-last.ensures.cells in
     let w : word_at r.blocks.cells pair.owner.place.at (c.owner_base-base.result + 1) ≡ link q.place.at = (λ i. word_at (sym cells i) pair.owner.place.at (c.owner_base-base.result + 1)) ∙ c.follow-last.ensures.word in
     let v : word_at r.blocks.cells q.place.at 1 ≡ number q.number = (λ i. word_at (sym cells i) q.place.at 1) ∙ c.follow-last.ensures.there in
