@@ -67,7 +67,7 @@ get_new : (d : Directory) (q : Place) → slice_get (d ++ Some q ∷ []) (length
 get_new [] q = refl
 get_new (z ∷ zs) q = get_new zs q
 
-living_push : (d : Directory) (q : Place) → living (d ++ Some q ∷ []) ≡ living d + 1
+pub living_push : (d : Directory) (q : Place) → living (d ++ Some q ∷ []) ≡ living d + 1
 living_push [] q = omega arith
 living_push (None ∷ ps) q = living_push ps q
 living_push (Some p ∷ ps) q = omega (arith, living_push ps q)

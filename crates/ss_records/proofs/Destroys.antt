@@ -38,7 +38,7 @@ living_gone (Some q ∷ ps) zero p h = omega arith
 living_gone (None ∷ ps) (suc i) p h = living_gone ps i p h
 living_gone (Some q ∷ ps) (suc i) p h = omega (arith, living_gone ps i p h)
 
-length_set : (d : Directory) (i : ℕ) (v : Option Place) → length (slice_set d i v) ≡ length d
+pub length_set : (d : Directory) (i : ℕ) (v : Option Place) → length (slice_set d i v) ≡ length d
 length_set [] i v = refl
 length_set (z ∷ zs) zero v = refl
 length_set (z ∷ zs) (suc i) v = ap suc (length_set zs i v)

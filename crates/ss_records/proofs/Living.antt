@@ -17,7 +17,7 @@ use Rattle.ss_records.proofs.Count.{blocks_without}
 use Rattle.ss_records.proofs.Creates.{length-blanks}
 use Rattle.ss_records.proofs.NamesGone.{name_first}
 
-numbers_are : (l : Layout) (cs : Cells) (d : Directory) → living_numbers (map (record_at l cs) d) ≡ living d
+pub numbers_are : (l : Layout) (cs : Cells) (d : Directory) → living_numbers (map (record_at l cs) d) ≡ living d
 numbers_are l cs [] = refl
 numbers_are l cs (None ∷ ps) = numbers_are l cs ps
 numbers_are l cs (Some p ∷ ps) = ap suc (numbers_are l cs ps)

@@ -4,9 +4,11 @@ pub mod Laid
 pub mod Links
 pub mod Lists
 pub mod Ownership
+pub mod Pages
 pub mod Parts
 pub mod Places
 pub mod Reading
+pub mod Sets
 pub mod Shape
 pub mod Slotted
 pub mod State

@@ -1,27 +1,31 @@
 -- The parts of a heap, and what its contracts see of them.
-use Rattle.std.specs.Prelude.{◌≡◌, ℕ, suc, ℤ, pos, length, slice_get, Some, Ok}
+use Rattle.std.specs.Prelude.{◌≡◌, ℕ, suc, ℤ, pos, List, ◌∷◌, ◌++◌, length, slice_get, Some, Ok}
 use Rattle.ss_records.specs.declared.store.Place.{Place}
 use Rattle.ss_records.specs.declared.records.Records.{Records}
-use Rattle.ss_records.specs.State.{State, Heaped, entity, notice}
+use Rattle.ss_records.specs.declared.links.Entry.{Entry}
+use Rattle.ss_records.specs.State.{State, Heaped, entity, notice, members_of}
+use Rattle.ss_records.specs.Sets.{member_class, owner_kind}
+use Rattle.ss_records.specs.Lists.{head0, last_or}
 use Rattle.ss_records.specs.Cells.{words_at}
 use Rattle.ss_records.specs.Reading.{record_of}
 use Rattle.ss_records.specs.Kept.{Kept, state_of}
-use Rattle.ss_records.specs.Places.{class_at}
+use Rattle.ss_records.specs.Places.{class_at, numbered_at}
+use Rattle.ss_records.specs.Slotted.{IsOf, MayOwn}
 
 abbrev pub IsKept : Records → Type 0
-IsKept r = Kept r.layout r.blocks.cells r.system.at r.directory r.notes.lists
+IsKept r = Kept r.layout r.blocks.cells r.system.at r.directory.places r.notes.lists
 
 abbrev pub state : Records → State
-state r = state_of r.layout r.blocks.cells r.directory r.notes.lists
+state r = state_of r.layout r.blocks.cells r.directory.places r.notes.lists
 
 abbrev pub heaped : Records → Heaped
-heaped r = record { state = state r; touches = r.blocks.touches; total = r.blocks.total; pages = 0; blocks = length r.blocks.cells }
+heaped r = record { state = state r; touches = r.blocks.touches; total = r.blocks.total; pages = r.directory.pages; blocks = length r.blocks.cells }
 
 -- p is the place of the entity x of the class c
 pub record Found (r : Records) (c : ℕ) (x : ℤ) (p : Place) : Type 0 where
   pub index : ℕ
   pub is : x ≡ pos (suc index)
-  pub entry : slice_get r.directory index ≡ Some (Some p)
+  pub entry : slice_get r.directory.places index ≡ Some (Some p)
   pub class : class_at r.blocks.cells p ≡ c
   pub entity : entity (state r) c x ≡ Ok (record_of r.layout (words_at r.blocks.cells p.at))
 
@@ -29,5 +33,39 @@ pub record Found (r : Records) (c : ℕ) (x : ℤ) (p : Place) : Type 0 where
 pub record FoundNotice (r : Records) (x : ℤ) (p : Place) : Type 0 where
   pub index : ℕ
   pub is : x ≡ pos (suc index)
-  pub entry : slice_get r.directory index ≡ Some (Some p)
+  pub entry : slice_get r.directory.places index ≡ Some (Some p)
   pub notice : notice (state r) x ≡ Ok (record_of r.layout (words_at r.blocks.cells p.at))
+
+-- e is where the block of its number lies
+abbrev pub Lies : Records → Entry → Type 0
+Lies r e = e.place.at ≡ numbered_at r.system.at r.directory.places e.number
+
+-- e is an owner of the set s
+pub record Owns (r : Records) (s : ℕ) (e : Entry) : Type 0 where
+  pub lies : Lies r e
+  pub may : MayOwn r.blocks.cells r.directory.places (owner_kind r.layout s) e.number
+
+-- e is of the class of the members of the set s
+pub record Joins (r : Records) (s : ℕ) (e : Entry) : Type 0 where
+  pub lies : Lies r e
+  pub is : IsOf r.blocks.cells r.directory.places (member_class r.layout s) e.number
+
+-- the set s of o has the members xs and then ys, of which a is the last and b the first
+pub record Between (r : Records) (s o : ℕ) (a b : Entry) (xs ys : List ℕ) : Type 0 where
+  pub list : members_of r.notes.lists s o ≡ xs ++ ys
+  pub before : Lies r a
+  pub last : a.number ≡ last_or 0 xs
+  pub after : Lies r b
+  pub first : b.number ≡ head0 ys
+
+-- the set s of o has the members xs, then x, then ys
+pub record Around (r : Records) (s o x : ℕ) (a b : Entry) (xs ys : List ℕ) : Type 0 where
+  pub list : members_of r.notes.lists s o ≡ xs ++ x ∷ ys
+  pub before : Lies r a
+  pub last : a.number ≡ last_or 0 xs
+  pub after : Lies r b
+  pub first : b.number ≡ head0 ys
+
+-- what a call that only looks leaves: all but the counts of touches
+abbrev pub held : Records → Records
+held r = record r { blocks = record { cells = r.blocks.cells; touches = 0; total = 0 } }

@@ -1,64 +1,187 @@
-// Where the block of each creation number lies.
-ghost use Rattle.std.specs.Prelude.{◌≡◌, ◌+◌, ◌<◌, ◌++◌, [], ◌∷◌, length, Some, None, slice_get, slice_set, MatchResult};
+// Where the block of each creation number lies, in pages.
+ghost use Rattle.std.specs.Prelude.{◌≡◌, ℕ, ◌+◌, ◌^◌, ◌<◌, ◌≤◌, ◌++◌, [], ◌∷◌, length, List, cond, nat_eq, Option, Some, None, slice_get, slice_set, MatchResult, ⊤};
+ghost use Rattle.std.specs.Ordering.{nat_cmp};
+ghost use Rattle.std.specs.BTreeMap.{is_at};
+ghost use Rattle.std.specs.Map.{set_value};
+ghost use Rattle.ss_records.specs.Pages.{page_of};
+ghost use Rattle.ss_records.specs.declared.store.Place.{Place};
+ghost use Rattle.ss_records.specs.Places.{living};
 
+use crate::page::{PAGE, Page};
 use crate::store::Place;
 use std::alloc::{AllocError, Global};
+use std::collections::BTreeMap;
 use std::marker::Model;
+use std::mem;
 
-/// A contract sees it as a list: the place of each number, none where it is destroyed.
+/// A contract sees the place of each number, none where it is destroyed. The page of the next number is held
+/// always, an earlier one as long as one of its numbers is living.
 #[derive(Drop)]
 pub(crate) struct Directory {
-    entries: Vec<Option<Place>>,
+    alloc: Global,
+    earlier: BTreeMap<usize, Page>,
+    current: Page,
+    start: usize,
+    issued: usize,
 }
 
 impl Model for Directory {
-    ghost use Rattle.std.specs.Prelude.{List, Option};
-    ghost use Rattle.ss_records.specs.declared.store.Place.{Place};
+    ghost use Rattle.std.specs.Prelude.{◌+◌, length};
+    ghost use Rattle.ss_records.specs.Pages.{Listed, Paged, entry, upto};
 
-    ghost Value = { List (Option Place) };
+    ghost Value = { Listed };
 
-    ghost view = { λ d. d.entries.items };
+    ghost view = { λ d. record { places = upto (entry d.earlier.entries d.current d.start) d.issued; pages = length d.earlier.entries + 1; start = d.start } };
+
+    ghost invariant = { λ d. Paged d.earlier.entries d.current d.start d.issued };
 }
 
 impl Directory {
-    pub(crate) fn new(alloc: Global) -> Directory
-        ensures { result ≡ [] }
+    /// No number.
+    pub(crate) fn new(alloc: Global) -> Result<Directory, AllocError>
+        ensures { MatchResult result (λ d. d.places ≡ []) (λ _. ⊤) }
     {
-        Directory {
-            entries: Vec::new(alloc),
-        }
+        let current = Page::new(alloc)?;
+        Ok(Directory {
+            alloc,
+            earlier: BTreeMap::new(alloc),
+            current,
+            start: 0,
+            issued: 0,
+        })
     }
 
     /// How many numbers were issued.
     pub(crate) fn len(&self) -> usize
-        ensures { result ≡ length self.now }
+        ensures { result ≡ length self.now.places }
     {
-        self.entries.len()
+        self.issued
+    }
+
+    /// How many pages are held: at most one more than numbers are living.
+    pub(crate) fn pages(&self) -> usize
+        ensures value { result ≡ self.now.pages }
+        ensures bound { result ≤ living self.now.places + 1 }
+    {
+        self.earlier.len() + 1
     }
 
     /// The entry i, from 0 on.
     pub(crate) fn get(&self, i: usize) -> Option<Place>
-        requires { i < length self.now }
-        ensures { slice_get self.now i ≡ Some result }
+        requires { i < length self.now.places }
+        ensures { slice_get self.now.places i ≡ Some result }
     {
-        self.entries[i]
+        if i >= self.start {
+            return self.current.get(i - self.start);
+        }
+        match self.earlier.get(&(i / PAGE)) {
+            Some(page) => page.get(i % PAGE),
+            None => None,
+        }
     }
 
     /// The place of the next number.
     pub(crate) fn push(&mut self, place: Place) -> Result<(), AllocError>
-        ensures { MatchResult result (λ _. self.new ≡ self.old ++ Some place ∷ []) (λ _. self.new ≡ self.old) }
+        requires room { length self.old.places < 2 ^ 62 }
+        ensures { MatchResult result (λ _. self.new.places ≡ self.old.places ++ Some place ∷ []) (λ _. self.new.places ≡ self.old.places) }
     {
-        match self.entries.push(Some(place)) {
-            Ok(()) => Ok(()),
-            Err(_) => Err(AllocError),
+        if self.is_full() {
+            self.turn()?;
+        }
+        self.note(place);
+        Ok(())
+    }
+
+    // Whether the current page has taken its last number.
+    fn is_full(&self) -> bool
+        ensures value { result ≡ nat_eq (length self.now.places) (self.now.start + 256) }
+        ensures bound { length self.now.places ≤ self.now.start + 256 }
+    {
+        self.issued - self.start == PAGE
+    }
+
+    // Notes the place of the next number, where the current page has room.
+    fn note(&mut self, place: Place)
+        requires free { length self.old.places < self.old.start + 256 }
+        requires room { length self.old.places < 2 ^ 62 }
+        ensures { self.new.places ≡ self.old.places ++ Some place ∷ [] }
+    {
+        let k = self.issued - self.start;
+        self.current.set(k, place);
+        self.issued += 1;
+    }
+
+    // Makes the page of the next number, where the current one is full. One without a living number serves again.
+    fn turn(&mut self) -> Result<(), AllocError>
+        requires full { length self.old.places ≡ self.old.start + 256 }
+        requires room { length self.old.places < 2 ^ 62 }
+        ensures { MatchResult result (λ _. (self.new.places ≡ self.old.places) × (length self.new.places < self.new.start + 256)) (λ _. self.new.places ≡ self.old.places) }
+    {
+        if self.current.is_empty() {
+            self.start += PAGE;
+            return Ok(());
+        }
+        let page = Page::new(self.alloc)?;
+        let full = mem::replace(&mut self.current, page);
+        match self.earlier.insert(self.start / PAGE, full) {
+            Ok(_) => {
+                self.start += PAGE;
+                Ok(())
+            }
+            Err(failed) => {
+                let (_, full) = failed.value;
+                self.current = full;
+                Err(AllocError)
+            }
         }
     }
 
     /// Lets go of the entry i.
     pub(crate) fn clear(&mut self, i: usize)
-        requires { i < length self.old }
-        ensures { self.new ≡ slice_set self.old i None }
+        requires { (p : Place) × (slice_get self.old.places i ≡ Some (Some p)) }
+        ensures { self.new.places ≡ slice_set self.old.places i None }
     {
-        self.entries[i] = None;
+        if i >= self.start {
+            self.clear_current(i);
+        } else {
+            self.clear_earlier(i);
+        }
+    }
+
+    // Lets go of an entry in the current page.
+    fn clear_current(&mut self, i: usize)
+        requires there { (p : Place) × (slice_get self.old.places i ≡ Some (Some p)) }
+        requires current { self.old.start ≤ i }
+        ensures { self.new.places ≡ slice_set self.old.places i None }
+    {
+        let k = i - self.start;
+        self.current.clear(k);
+    }
+
+    // Lets go of an entry in an earlier page, and of the page where none of its numbers is living.
+    fn clear_earlier(&mut self, i: usize)
+        requires there { (p : Place) × (slice_get self.old.places i ≡ Some (Some p)) }
+        requires earlier { i < self.old.start }
+        ensures { self.new.places ≡ slice_set self.old.places i None }
+    {
+        let number = i / PAGE;
+        if clear_in(&mut self.earlier, number, i % PAGE) {
+            self.earlier.remove(&number);
+        }
+    }
+}
+
+// Lets go of the entry k of a page, and says whether the page is empty then.
+fn clear_in(pages: &mut BTreeMap<usize, Page>, number: usize, k: usize) -> bool
+    requires there { (page : List (Option Place)) × (p : Place) × (page_of pages.old.entries number ≡ Some page) × (slice_get page k ≡ Some (Some p)) }
+    ensures cleared { (page : List (Option Place)) → page_of pages.old.entries number ≡ Some page → (pages.new.entries ≡ set_value (is_at (nat_cmp number)) pages.old.entries (slice_set page k None)) × ((q : ℕ) → page_of pages.new.entries q ≡ cond (is_at (nat_cmp number) q) (Some (slice_set page k None)) (page_of pages.old.entries q)) }
+    ensures empty { (page : List (Option Place)) → page_of pages.old.entries number ≡ Some page → result ≡ nat_eq (living (slice_set page k None)) 0 }
+{
+    match pages.get_mut(&number) {
+        Some(page) => {
+            page.clear(k);
+            page.is_empty()
+        }
+        None => false,
     }
 }

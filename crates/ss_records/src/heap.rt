@@ -1,6 +1,7 @@
-ghost use Rattle.std.specs.Prelude.{◌≡◌, ℕ, ◌+◌, ◌<◌, ◌≤◌, [], length, IsTrue, MatchResult, Ok, Err, Some, slice_get, ⊤};
+ghost use Rattle.std.specs.Prelude.{◌≡◌, ℕ, ◌+◌, ◌<◌, ◌≤◌, [], length, IsTrue, MatchResult, Ok, Err, Some, IsOk, slice_get, ⊤};
 ghost use Rattle.ss_base.specs.Layout.{mode_of, is_sound};
-ghost use Rattle.ss_records.specs.State.{State, first_state, known_in, known_notice_in, kind_of, modes_of, value_in, time_in, created, destroyed, assigned, timed, living_records};
+ghost use Rattle.ss_records.specs.State.{State, first_state, known_in, known_notice_in, kind_of, modes_of, value_in, time_in, created, destroyed, assigned, timed, living_numbers, living_records};
+ghost use Rattle.ss_records.specs.Sets.{first_in, last_in, count_in, next_in, previous_in, owner_of_member, filed_first, filed_last, filed_before, filed_after, removed, Apart};
 ghost use Rattle.ss_records.specs.Kept.{IsPermanent};
 
 use crate::records::Records;
@@ -133,11 +134,157 @@ impl Heap {
         self.records.destroy(&self.alloc, class, r)
     }
 
+    /// The first member of the set of an owner, 0 where there is none. THE SYSTEM is the owner 0. Faults: 1 to
+    /// 5.
+    pub fn first(&mut self, set: usize, o: i64) -> Result<i64, FaultKind>
+        requires set { set < length self.old.state.layout.sets.items }
+        ensures value { result ≡ first_in self.old.state set o }
+        ensures same { self.new.state ≡ self.old.state }
+        ensures touches { (self.new.touches ≤ 2) × (IsOk result → 1 ≤ self.new.touches) × (self.new.total ≡ self.old.total + self.new.touches) }
+    {
+        self.records.start();
+        self.records.first(set, o)
+    }
+
+    /// The last member of the set of an owner, 0 where there is none. Faults: 1 to 5.
+    pub fn last(&mut self, set: usize, o: i64) -> Result<i64, FaultKind>
+        requires set { set < length self.old.state.layout.sets.items }
+        ensures value { result ≡ last_in self.old.state set o }
+        ensures same { self.new.state ≡ self.old.state }
+        ensures touches { (self.new.touches ≤ 2) × (IsOk result → 1 ≤ self.new.touches) × (self.new.total ≡ self.old.total + self.new.touches) }
+    {
+        self.records.start();
+        self.records.last(set, o)
+    }
+
+    /// How many members the set of an owner has. Faults: 1 to 5.
+    pub fn count(&mut self, set: usize, o: i64) -> Result<i64, FaultKind>
+        requires set { set < length self.old.state.layout.sets.items }
+        ensures value { result ≡ count_in self.old.state set o }
+        ensures same { self.new.state ≡ self.old.state }
+        ensures touches { (self.new.touches ≤ 2) × (IsOk result → 1 ≤ self.new.touches) × (self.new.total ≡ self.old.total + self.new.touches) }
+    {
+        self.records.start();
+        self.records.count(set, o)
+    }
+
+    /// The member that follows x in its set, 0 where there is none or x is in no set. Faults: 1 to 5.
+    pub fn next(&mut self, set: usize, x: i64) -> Result<i64, FaultKind>
+        requires set { set < length self.old.state.layout.sets.items }
+        ensures value { result ≡ next_in self.old.state set x }
+        ensures same { self.new.state ≡ self.old.state }
+        ensures touches { (self.new.touches ≤ 2) × (IsOk result → 1 ≤ self.new.touches) × (self.new.total ≡ self.old.total + self.new.touches) }
+    {
+        self.records.start();
+        self.records.next(set, x)
+    }
+
+    /// The member that precedes x in its set, 0 where there is none or x is in no set. Faults: 1 to 5.
+    pub fn previous(&mut self, set: usize, x: i64) -> Result<i64, FaultKind>
+        requires set { set < length self.old.state.layout.sets.items }
+        ensures value { result ≡ previous_in self.old.state set x }
+        ensures same { self.new.state ≡ self.old.state }
+        ensures touches { (self.new.touches ≤ 2) × (IsOk result → 1 ≤ self.new.touches) × (self.new.total ≡ self.old.total + self.new.touches) }
+    {
+        self.records.start();
+        self.records.previous(set, x)
+    }
+
+    /// The owner whose set of this name x is in, if any. Faults: 1 to 5.
+    pub fn owner_in(&mut self, set: usize, x: i64) -> Result<Option<i64>, FaultKind>
+        requires set { set < length self.old.state.layout.sets.items }
+        ensures value { result ≡ owner_of_member self.old.state set x }
+        ensures same { self.new.state ≡ self.old.state }
+        ensures touches { (self.new.touches ≤ 2) × (IsOk result → 1 ≤ self.new.touches) × (self.new.total ≡ self.old.total + self.new.touches) }
+    {
+        self.records.start();
+        self.records.owner_in(set, x)
+    }
+
+    /// Files x as the first member of the set of an owner. Faults: those of x (1 to 5), then those of the owner,
+    /// then 6 where x is in some set of this name.
+    pub fn file_first(&mut self, set: usize, o: i64, x: i64) -> Result<(), FaultKind>
+        requires set { set < length self.old.state.layout.sets.items }
+        ensures done { MatchResult result (λ _. filed_first self.old.state set o x ≡ Ok self.new.state) (λ e. (filed_first self.old.state set o x ≡ Err e) × (self.new.state ≡ self.old.state)) }
+        ensures touches { (self.new.touches ≤ 12) × (IsOk result → 4 ≤ self.new.touches) × (self.new.total ≡ self.old.total + self.new.touches) }
+    {
+        self.records.start();
+        self.records.file_first(set, o, x)
+    }
+
+    /// Files x as the last member of the set of an owner. Faults: those of x (1 to 5), then those of the owner,
+    /// then 6 where x is in some set of this name.
+    pub fn file_last(&mut self, set: usize, o: i64, x: i64) -> Result<(), FaultKind>
+        requires set { set < length self.old.state.layout.sets.items }
+        ensures done { MatchResult result (λ _. filed_last self.old.state set o x ≡ Ok self.new.state) (λ e. (filed_last self.old.state set o x ≡ Err e) × (self.new.state ≡ self.old.state)) }
+        ensures touches { (self.new.touches ≤ 12) × (IsOk result → 4 ≤ self.new.touches) × (self.new.total ≡ self.old.total + self.new.touches) }
+    {
+        self.records.start();
+        self.records.file_last(set, o, x)
+    }
+
+    /// Files x directly before y in the set of an owner. Faults: those of x (1 to 5), of y, of the owner, then 6
+    /// where x is in some set of this name, then 7 where y isn't in this one.
+    pub fn file_before(&mut self, set: usize, o: i64, x: i64, y: i64) -> Result<(), FaultKind>
+        requires set { set < length self.old.state.layout.sets.items }
+        ensures done { MatchResult result (λ _. filed_before self.old.state set o x y ≡ Ok self.new.state) (λ e. (filed_before self.old.state set o x y ≡ Err e) × (self.new.state ≡ self.old.state)) }
+        ensures touches { (self.new.touches ≤ 12) × (IsOk result → 4 ≤ self.new.touches) × (self.new.total ≡ self.old.total + self.new.touches) }
+    {
+        self.records.start();
+        self.records.file_before(set, o, x, y)
+    }
+
+    /// Files x directly after y in the set of an owner. Faults: those of x (1 to 5), of y, of the owner, then 6
+    /// where x is in some set of this name, then 7 where y isn't in this one.
+    pub fn file_after(&mut self, set: usize, o: i64, x: i64, y: i64) -> Result<(), FaultKind>
+        requires set { set < length self.old.state.layout.sets.items }
+        ensures done { MatchResult result (λ _. filed_after self.old.state set o x y ≡ Ok self.new.state) (λ e. (filed_after self.old.state set o x y ≡ Err e) × (self.new.state ≡ self.old.state)) }
+        ensures touches { (self.new.touches ≤ 12) × (IsOk result → 4 ≤ self.new.touches) × (self.new.total ≡ self.old.total + self.new.touches) }
+    {
+        self.records.start();
+        self.records.file_after(set, o, x, y)
+    }
+
+    /// Takes x out of the set of an owner. Faults: those of x (1 to 5), of the owner, then 7 where x isn't in this
+    /// set.
+    pub fn remove(&mut self, set: usize, o: i64, x: i64) -> Result<(), FaultKind>
+        requires set { set < length self.old.state.layout.sets.items }
+        ensures done { MatchResult result (λ _. removed self.old.state set o x ≡ Ok self.new.state) (λ e. (removed self.old.state set o x ≡ Err e) × (self.new.state ≡ self.old.state)) }
+        ensures touches { (self.new.touches ≤ 12) × (IsOk result → 4 ≤ self.new.touches) × (self.new.total ≡ self.old.total + self.new.touches) }
+    {
+        self.records.start();
+        self.records.remove(set, o, x)
+    }
+
+    /// A law, for contracts: members are entities of their class, and none is twice in a set or in two sets of a
+    /// name. It does nothing.
+    pub fn sets_are_apart(&self)
+        ensures { Apart self.now.state }
+    {
+        self.records.law();
+    }
+
+    /// The classes and sets that it was made for.
+    pub fn layout(&self) -> &Layout
+        ensures { result.now ≡ self.now.state.layout }
+    {
+        &self.records.layout
+    }
+
     /// How many links, ends and counts of members the last call that takes `&mut self` read and wrote.
     pub fn touches(&self) -> u64
         ensures { result ≡ self.now.touches }
     {
         self.records.touches()
+    }
+
+    /// How many pages of 256 numbers the directory of creation numbers holds: at most one more than entities with a
+    /// creation number are living.
+    pub fn pages(&self) -> usize
+        ensures value { result ≡ self.now.pages }
+        ensures bound { result ≤ living_numbers self.now.state.records + 1 }
+    {
+        self.records.pages()
     }
 
     /// How many blocks of memory are held: one for each living entity, and one for the system.

@@ -2,12 +2,18 @@
 #![tactic(auto)]
 
 pub(crate) mod directory;
+pub(crate) mod filing;
 mod heap;
 pub(crate) mod laying;
+pub(crate) mod links;
 pub(crate) mod notes;
+pub(crate) mod page;
 pub(crate) mod records;
+pub(crate) mod sets;
 pub(crate) mod shape;
 pub(crate) mod store;
+#[cfg(test)]
+mod tests;
 pub(crate) mod ties;
 pub(crate) mod words;
 

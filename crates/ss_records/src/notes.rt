@@ -1,7 +1,8 @@
 // The lists that the links show, for contracts alone.
 ghost use Rattle.std.specs.Prelude.{◌≡◌, List, []};
 ghost use base.Fml.{ftrue};
-ghost use Rattle.ss_records.specs.State.{Members};
+ghost use Rattle.ss_records.specs.State.{Members, members_of, with_members};
+ghost use Rattle.ss_records.specs.Sets.{put_before, less};
 
 use std::marker::Model;
 
@@ -23,4 +24,14 @@ impl Notes {
     {
         Notes {}
     }
+
+    /// Notes that x stands directly before y in the set s of the owner o, or last where y is no member.
+    pub(crate) fn put_before(&mut self, s: usize, o: u64, x: u64, y: u64)
+        ensures { self.new.lists ≡ with_members self.old.lists s o (put_before y x (members_of self.old.lists s o)) }
+    {}
+
+    /// Notes that x has left the set s of the owner o.
+    pub(crate) fn take_out(&mut self, s: usize, o: u64, x: u64)
+        ensures { self.new.lists ≡ with_members self.old.lists s o (less x (members_of self.old.lists s o)) }
+    {}
 }

@@ -1,6 +1,6 @@
 // The records: where each lies, and what its block says.
 ghost use Rattle.std.specs.Prelude.{◌≡◌, ℕ, ◌+◌, ◌-◌, ◌*◌, ◌^◌, ◌<◌, ◌≤◌, ◌++◌, [], ◌∷◌, length, IsTrue, MatchResult, Ok, Err, Some, None, slice_get, slice_set, pos, true, ⊤, suc};
-ghost use Rattle.ss_records.specs.State.{Record, State, Members, entity, notice, numbered, and_then, of_class, kind_of, modes_of, is_notice, first_state, living_records, value_in, time_in, in_a_set, owns_members, destroyed, created, with_created, assigned, timed, with_entity};
+ghost use Rattle.ss_records.specs.State.{Record, State, Members, entity, notice, numbered, and_then, of_class, kind_of, modes_of, is_notice, first_state, living_numbers, living_records, value_in, time_in, in_a_set, owns_members, destroyed, created, with_created, assigned, timed, with_entity};
 ghost use Rattle.ss_records.specs.Cells.{words_at, word_at, number};
 ghost use Rattle.ss_records.specs.Reading.{record_of, value_of};
 ghost use Rattle.ss_base.specs.Layout.{mode_of, is_sound};
@@ -39,6 +39,10 @@ impl Records {
         }
         let mut blocks = Blocks::new();
         let words = shape::block_words(&layout, Owner::System);
+        let Ok(directory) = Directory::new(alloc) else {
+            blocks.close();
+            return Err(AllocError);
+        };
         let Ok(system) = blocks.place(&alloc, words) else {
             blocks.close();
             return Err(AllocError);
@@ -49,7 +53,7 @@ impl Records {
             blocks,
             notes: Notes::new(),
             system,
-            directory: Directory::new(alloc),
+            directory,
         })
     }
 
@@ -65,6 +69,15 @@ impl Records {
         ensures { result ≡ self.now.blocks.touches }
     {
         self.blocks.touches()
+    }
+
+    /// How many pages the directory has.
+    pub(crate) fn pages(&self) -> usize
+        requires kept { IsKept self.now }
+        ensures value { result ≡ self.now.directory.pages }
+        ensures bound { result ≤ living_numbers (state self.now).records + 1 }
+    {
+        self.directory.pages()
     }
 
     /// How many blocks there are.
@@ -94,7 +107,7 @@ impl Records {
 
     // The block of a creation number.
     fn numbered(&self, r: i64) -> Result<Place, FaultKind>
-        ensures { result ≡ numbered_place self.now.directory r }
+        ensures { result ≡ numbered_place self.now.directory.places r }
     {
         if r == 0 {
             return Err(FaultKind::NoEntity);
@@ -128,7 +141,7 @@ impl Records {
     // The block of a creation number of a class.
     fn of_class(&self, class: usize, r: i64) -> Result<Place, FaultKind>
         requires kept { IsKept self.now }
-        ensures found { MatchResult result (λ p. (numbered_place self.now.directory r ≡ Ok p) × (class_at self.now.blocks.cells p ≡ class) × (and_then (numbered (state self.now) r) (of_class class) ≡ Ok (record_of self.now.layout (words_at self.now.blocks.cells p.at)))) (λ e. and_then (numbered (state self.now) r) (of_class class) ≡ Err e) }
+        ensures found { MatchResult result (λ p. (numbered_place self.now.directory.places r ≡ Ok p) × (class_at self.now.blocks.cells p ≡ class) × (and_then (numbered (state self.now) r) (of_class class) ≡ Ok (record_of self.now.layout (words_at self.now.blocks.cells p.at)))) (λ e. and_then (numbered (state self.now) r) (of_class class) ≡ Err e) }
     {
         match self.numbered(r) {
             Ok(place) => {
@@ -228,7 +241,7 @@ impl Records {
     // Where the time of a notice stands.
     fn time_word(&self, place: Place) -> usize
         requires kept { IsKept self.now }
-        requires entry { (i : ℕ) × (slice_get self.now.directory i ≡ Some (Some place)) }
+        requires entry { (i : ℕ) × (slice_get self.now.directory.places i ≡ Some (Some place)) }
         requires notice { is_notice (kind_of self.now.layout (class_at self.now.blocks.cells place)) ≡ true }
         ensures { result ≡ values_end self.now.layout (class_at self.now.blocks.cells place) }
     {
@@ -295,7 +308,7 @@ impl Records {
     // Whether an entity is in a set.
     fn in_a_set(&mut self, class: usize, place: Place, number: u64) -> bool
         requires kept { IsKept self.old }
-        requires entry { (i : ℕ) × (slice_get self.old.directory i ≡ Some (Some place)) × (number ≡ suc i) }
+        requires entry { (i : ℕ) × (slice_get self.old.directory.places i ≡ Some (Some place)) × (number ≡ suc i) }
         requires class { class_at self.old.blocks.cells place ≡ class }
         requires touches { self.old.blocks.touches ≤ 2 ^ 32 }
         ensures value { result ≡ in_a_set self.old.layout.sets.items 0 self.old.notes.lists class number }
@@ -318,7 +331,7 @@ impl Records {
     // Whether an entity has members in a set.
     fn owns_members(&mut self, class: usize, place: Place, number: u64) -> bool
         requires kept { IsKept self.old }
-        requires entry { (i : ℕ) × (slice_get self.old.directory i ≡ Some (Some place)) × (number ≡ suc i) }
+        requires entry { (i : ℕ) × (slice_get self.old.directory.places i ≡ Some (Some place)) × (number ≡ suc i) }
         requires class { class_at self.old.blocks.cells place ≡ class }
         requires touches { self.old.blocks.touches ≤ 2 ^ 33 }
         ensures value { result ≡ owns_members self.old.layout.sets.items 0 self.old.notes.lists class number }
@@ -375,7 +388,7 @@ fn give_all_back(
     notes: &Notes,
     system: Place,
 )
-    requires kept { Kept layout.now blocks.old.cells system.at directory.now notes.now.lists }
+    requires kept { Kept layout.now blocks.old.cells system.at directory.now.places notes.now.lists }
     ensures system { words_at blocks.new.cells system.at ≡ words_at blocks.old.cells system.at }
     ensures count { length blocks.new.cells ≡ 1 }
 {

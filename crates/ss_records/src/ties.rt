@@ -22,9 +22,9 @@ pub(crate) fn filed_in(
     place: Place,
     number: u64,
 ) -> bool
-    requires kept { Kept layout.now blocks.old.cells system.at directory.now notes.now.lists }
+    requires kept { Kept layout.now blocks.old.cells system.at directory.now.places notes.now.lists }
     requires set { s < length layout.now.sets.items }
-    requires entry { (i : ℕ) × (slice_get directory.now i ≡ Some (Some place)) × (number ≡ suc i) }
+    requires entry { (i : ℕ) × (slice_get directory.now.places i ≡ Some (Some place)) × (number ≡ suc i) }
     requires class { (t : SetLayout) → slice_get layout.now.sets.items s ≡ Some t → class_at blocks.old.cells place ≡ t.member }
     requires touches { blocks.old.touches + 1 < 2 ^ 64 }
     ensures value { result ≡ is_filed notes.now.lists s number }
@@ -47,9 +47,9 @@ pub(crate) fn owns_in(
     place: Place,
     number: u64,
 ) -> bool
-    requires kept { Kept layout.now blocks.old.cells system.at directory.now notes.now.lists }
+    requires kept { Kept layout.now blocks.old.cells system.at directory.now.places notes.now.lists }
     requires set { s < length layout.now.sets.items }
-    requires entry { (i : ℕ) × (slice_get directory.now i ≡ Some (Some place)) × (number ≡ suc i) }
+    requires entry { (i : ℕ) × (slice_get directory.now.places i ≡ Some (Some place)) × (number ≡ suc i) }
     requires class { (t : SetLayout) → slice_get layout.now.sets.items s ≡ Some t → t.owner ≡ Owner.Class (class_at blocks.old.cells place) }
     requires touches { blocks.old.touches + 1 < 2 ^ 64 }
     ensures value { result ≡ has_members (members_of notes.now.lists s number) }
@@ -71,8 +71,8 @@ pub(crate) fn in_a_set(
     place: Place,
     number: u64,
 ) -> bool
-    requires kept { Kept layout.now blocks.old.cells system.at directory.now notes.now.lists }
-    requires entry { (i : ℕ) × (slice_get directory.now i ≡ Some (Some place)) × (number ≡ suc i) }
+    requires kept { Kept layout.now blocks.old.cells system.at directory.now.places notes.now.lists }
+    requires entry { (i : ℕ) × (slice_get directory.now.places i ≡ Some (Some place)) × (number ≡ suc i) }
     requires class { class_at blocks.old.cells place ≡ class }
     requires touches { blocks.old.touches ≤ 2 ^ 32 }
     ensures value { result ≡ in_a_set layout.now.sets.items 0 notes.now.lists class number }
@@ -100,8 +100,8 @@ pub(crate) fn owns_members(
     place: Place,
     number: u64,
 ) -> bool
-    requires kept { Kept layout.now blocks.old.cells system.at directory.now notes.now.lists }
-    requires entry { (i : ℕ) × (slice_get directory.now i ≡ Some (Some place)) × (number ≡ suc i) }
+    requires kept { Kept layout.now blocks.old.cells system.at directory.now.places notes.now.lists }
+    requires entry { (i : ℕ) × (slice_get directory.now.places i ≡ Some (Some place)) × (number ≡ suc i) }
     requires class { class_at blocks.old.cells place ≡ class }
     requires touches { blocks.old.touches ≤ 2 ^ 33 }
     ensures value { result ≡ owns_members layout.now.sets.items 0 notes.now.lists class number }

@@ -23,7 +23,7 @@ block_words-words-requires-clause-class c = λ k e.
 
 pub loop-i-preserved : goal.loop-i-preserved
 loop-i-preserved c =
-    let l = c.args.layout.now in let cs = c.args.blocks.now.cells in let d = c.args.directory.now in let K = c.requires.kept in let h = c.loop-i.invariant in let i = c.loop-i.i in
+    let l = c.args.layout.now in let cs = c.args.blocks.now.cells in let d = c.args.directory.now.places in let K = c.requires.kept in let h = c.loop-i.invariant in let i = c.loop-i.i in
     elim c.match-get.branch [
       | in-Some w ↦ let bs = c.loop-i.blocks.cells in let p = w.in-Some.place in let g = w.in-Some.ensures in record {
         kept = rw (w.blocks-is, w.give_back.ensures.cells) (kept_rest l cs bs c.args.system.at d c.args.notes.now.lists K i p g h.kept);

@@ -6,7 +6,7 @@ use Rattle.ss_records.proofs.records.give_all_back.Given as goal
 
 abbrev pub invariant-loop-i : goal.invariant-loop-i
 invariant-loop-i l = record {
-  kept : (j : ℕ) (p : Place) → l.i ≤ j → slice_get l.directory j ≡ Some (Some p) → words_at l.blocks.cells p.at ≡ words_at l.initial.blocks.cells p.at;
+  kept : (j : ℕ) (p : Place) → l.i ≤ j → slice_get l.directory.places j ≡ Some (Some p) → words_at l.blocks.cells p.at ≡ words_at l.initial.blocks.cells p.at;
   system : words_at l.blocks.cells l.fn.system.at ≡ words_at l.initial.blocks.cells l.fn.system.at;
-  count : length l.blocks.cells ≡ living (drop l.i l.directory) + 1;
+  count : length l.blocks.cells ≡ living (drop l.i l.directory.places) + 1;
 }

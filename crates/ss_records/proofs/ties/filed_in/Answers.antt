@@ -8,14 +8,14 @@ use Rattle.ss_records.proofs.ties.filed_in.Goals as goal
 
 pub link-next-requires-clause-word : goal.link-next-requires-clause-word
 link-next-requires-clause-word c =
-    let l = c.args.layout.now in let cs = c.args.blocks.now.cells in let sys = c.args.system.at in let d = c.args.directory.now in let ms = c.args.notes.now.lists in
+    let l = c.args.layout.now in let cs = c.args.blocks.now.cells in let sys = c.args.system.at in let d = c.args.directory.now.places in let ms = c.args.notes.now.lists in
     let K = c.requires.kept in let s = c.args.s in let y = get_there l.sets.items s c.requires.set in let t = y.0 in let g = y.1 in
     let e = c.requires.entry in let i = e.0 in let p = c.args.place in
     rw (c.member_base-base.ensures.at t g) (may_next l cs sys d ms K s t g i p e.1 (c.requires.class t g))
 
 pub number-requires : goal.number-requires
 number-requires c =
-    let l = c.args.layout.now in let cs = c.args.blocks.now.cells in let sys = c.args.system.at in let d = c.args.directory.now in let ms = c.args.notes.now.lists in
+    let l = c.args.layout.now in let cs = c.args.blocks.now.cells in let sys = c.args.system.at in let d = c.args.directory.now.places in let ms = c.args.notes.now.lists in
     let K = c.requires.kept in let s = c.args.s in let y = get_there l.sets.items s c.requires.set in let t = y.0 in let g = y.1 in
     let e = c.requires.entry in let i = e.0 in let p = c.args.place in
     let w = ap (λ k. word_at cs p.at k) (sym (c.member_base-base.ensures.at t g)) ∙ c.link-next.ensures.word in
@@ -23,7 +23,7 @@ number-requires c =
 
 pub returns-clause-value : goal.returns-clause-value
 returns-clause-value c =
-    let l = c.args.layout.now in let cs = c.args.blocks.now.cells in let sys = c.args.system.at in let d = c.args.directory.now in let ms = c.args.notes.now.lists in
+    let l = c.args.layout.now in let cs = c.args.blocks.now.cells in let sys = c.args.system.at in let d = c.args.directory.now.places in let ms = c.args.notes.now.lists in
     let K = c.requires.kept in let s = c.args.s in let y = get_there l.sets.items s c.requires.set in let t = y.0 in let g = y.1 in
     let e = c.requires.entry in let i = e.0 in let p = c.args.place in
     let w = ap (λ k. word_at cs p.at k) (sym (c.member_base-base.ensures.at t g)) ∙ c.link-next.ensures.word in

@@ -23,8 +23,8 @@ returns-else-owns_members-clause-kept c =
     let n : nat_abs (cast_signed w64 (cast_unsigned w64 c.args.r)) - 1 ≡ f.index = ap (λ z. z - 1) m ∙ omega arith in
     let none : in_a_set r.layout.sets.items 0 r.notes.lists c.args.class (suc f.index) ≡ false = subst (λ k. in_a_set r.layout.sets.items 0 r.notes.lists c.args.class k ≡ false) m (sym c.if-in_a_set.ensures.value) in
     let few : owns_members r.layout.sets.items 0 r.notes.lists c.args.class (suc f.index) ≡ false = subst (λ (z : Records). owns_members z.layout.sets.items 0 z.notes.lists c.args.class (suc f.index) ≡ false) first (subst (λ k. owns_members a.layout.sets.items 0 a.notes.lists c.args.class k ≡ false) m (sym c.if-owns_members.ensures.value)) in
-    let k = kept_destroyed r.layout r.blocks.cells r.system.at r.directory r.notes.lists c.requires.kept f.index p f.entry (free_by r.layout r.blocks.cells r.system.at r.directory r.notes.lists c.requires.kept f.index p f.entry c.args.class f.class none few) in
-    rw (c.give_back.ensures.cells, c.clear.ensures, n) (subst (λ (z : Records). Kept z.layout (without q.blocks.cells p.at) z.system.at (slice_set z.directory f.index None) z.notes.lists) (sym whole) (rw cells k))
+    let k = kept_destroyed r.layout r.blocks.cells r.system.at r.directory.places r.notes.lists c.requires.kept f.index p f.entry (free_by r.layout r.blocks.cells r.system.at r.directory.places r.notes.lists c.requires.kept f.index p f.entry c.args.class f.class none few) in
+    rw (c.give_back.ensures.cells, c.clear.ensures, n) (subst (λ (z : Records). Kept z.layout (without q.blocks.cells p.at) z.system.at (slice_set z.directory.places f.index None) z.notes.lists) (sym whole) (rw cells k))
 
 pub returns-else-owns_members-clause-done : goal.returns-else-owns_members-clause-done
 returns-else-owns_members-clause-done c =
@@ -38,5 +38,5 @@ returns-else-owns_members-clause-done c =
     let n : nat_abs (cast_signed w64 (cast_unsigned w64 c.args.r)) - 1 ≡ f.index = ap (λ z. z - 1) m ∙ omega arith in
     let none : in_a_set r.layout.sets.items 0 r.notes.lists c.args.class (suc f.index) ≡ false = subst (λ k. in_a_set r.layout.sets.items 0 r.notes.lists c.args.class k ≡ false) m (sym c.if-in_a_set.ensures.value) in
     let few : owns_members r.layout.sets.items 0 r.notes.lists c.args.class (suc f.index) ≡ false = subst (λ (z : Records). owns_members z.layout.sets.items 0 z.notes.lists c.args.class (suc f.index) ≡ false) first (subst (λ k. owns_members a.layout.sets.items 0 a.notes.lists c.args.class k ≡ false) m (sym c.if-owns_members.ensures.value)) in
-    let k = is_destroyed r.layout r.blocks.cells r.system.at r.directory r.notes.lists c.requires.kept f.index p f.entry c.args.class c.args.r h.is h.entity none few in
-    rw (c.give_back.ensures.cells, c.clear.ensures, n) (subst (λ (z : Records). destroyed (state r) c.args.class c.args.r ≡ Ok (state_of z.layout (without q.blocks.cells p.at) (slice_set z.directory f.index None) z.notes.lists)) (sym whole) (rw cells k))
+    let k = is_destroyed r.layout r.blocks.cells r.system.at r.directory.places r.notes.lists c.requires.kept f.index p f.entry c.args.class c.args.r h.is h.entity none few in
+    rw (c.give_back.ensures.cells, c.clear.ensures, n) (subst (λ (z : Records). destroyed (state r) c.args.class c.args.r ≡ Ok (state_of z.layout (without q.blocks.cells p.at) (slice_set z.directory.places f.index None) z.notes.lists)) (sym whole) (rw cells k))

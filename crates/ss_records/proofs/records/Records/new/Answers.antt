@@ -7,13 +7,13 @@ use Rattle.ss_records.proofs.Living.{kept_first}
 use Rattle.ss_records.proofs.records.Records.new.Goals as goal
 
 pub lay_system-requires-clause-room : goal.lay_system-requires-clause-room
-lay_system-requires-clause-room c = rw (c.in-Ok.ensures.placed.1, words_new c.new-blocks.result.cells c.in-Ok.system.at (blanks c.block_words-words.result)) (length-blanks c.block_words-words.result ∙ c.block_words-words.ensures.size)
+lay_system-requires-clause-room c = rw (c.in-Ok-place.ensures.placed.1, words_new c.new-blocks.result.cells c.in-Ok-place.system.at (blanks c.block_words-words.result)) (length-blanks c.block_words-words.result ∙ c.block_words-words.ensures.size)
 
 pub lay_system-requires-clause-blank : goal.lay_system-requires-clause-blank
-lay_system-requires-clause-blank c = λ k. rw (c.in-Ok.ensures.placed.1, words_new c.new-blocks.result.cells c.in-Ok.system.at (blanks c.block_words-words.result)) (word_blank c.block_words-words.result k)
+lay_system-requires-clause-blank c = λ k. rw (c.in-Ok-place.ensures.placed.1, words_new c.new-blocks.result.cells c.in-Ok-place.system.at (blanks c.block_words-words.result)) (word_blank c.block_words-words.result k)
 
 pub returns : goal.returns
 returns c =
-    let laid = subst (λ bs. LaidSystem c.args.layout bs c.lay_system.new.blocks.cells c.in-Ok.system.at) (c.in-Ok.ensures.placed.1 ∙ ap (λ bs. (c.in-Ok.system.at, blanks c.block_words-words.result) ∷ bs) c.new-blocks.ensures.cells) c.lay_system.ensures.laid in
+    let laid = subst (λ bs. LaidSystem c.args.layout bs c.lay_system.new.blocks.cells c.in-Ok-place.system.at) (c.in-Ok-place.ensures.placed.1 ∙ ap (λ bs. (c.in-Ok-place.system.at, blanks c.block_words-words.result) ∷ bs) c.new-blocks.ensures.cells) c.lay_system.ensures.laid in
     let yes : IsTrue true = search rules in
-    rw (c.new-2.ensures, c.new.ensures) (kept_first c.args.layout c.lay_system.new.blocks.cells c.in-Ok.system c.block_words-words.result (c.if-not-is_small.ensures yes) c.block_words-words.ensures.size laid, refl)
+    rw (c.in-Ok.ensures, c.new-2.ensures) (kept_first c.args.layout c.lay_system.new.blocks.cells c.in-Ok-place.system c.block_words-words.result (c.if-not-is_small.ensures yes) c.block_words-words.ensures.size laid, refl)

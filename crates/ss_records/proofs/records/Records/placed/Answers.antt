@@ -3,4 +3,4 @@ use Rattle.ss_records.proofs.Living.{living_is}
 use Rattle.ss_records.proofs.records.Records.placed.Goals as goal
 
 pub returns : goal.returns
-returns c = let r = c.args.self.now in c.placed.ensures ∙ c.requires.kept.counted ∙ living_is r.layout r.blocks.cells r.directory r.notes.lists
+returns c = let r = c.args.self.now in c.placed.ensures ∙ c.requires.kept.counted ∙ living_is r.layout r.blocks.cells r.directory.places r.notes.lists

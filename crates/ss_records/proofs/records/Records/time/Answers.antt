@@ -4,4 +4,4 @@ use Rattle.ss_records.proofs.records.Records.time.Goals as goal
 pub number-requires : goal.number-requires
 number-requires c =
     let r = c.args.self.now in let f = c.in-Ok.ensures.found in
-    rw c.time_word-k.ensures (time_number r.layout r.blocks.cells r.system.at r.directory r.notes.lists c.requires.kept f.index c.in-Ok.place f.entry _ f.is f.notice)
+    rw c.time_word-k.ensures (time_number r.layout r.blocks.cells r.system.at r.directory.places r.notes.lists c.requires.kept f.index c.in-Ok.place f.entry _ f.is f.notice)

@@ -1,0 +1,61 @@
+-- What a reference means as an owner, or as one that may be a member, of a set.
+use Rattle.std.proofs.Common.{◌≡◌, ℕ, suc, ◌<◌, length, slice_get, Some, Ok, Err, refl, sym, ap, subst, ◌∙◌}
+use Rattle.std.specs.Prelude.{ℤ}
+use Rattle.ss_base.specs.declared.fault.FaultKind.{FaultKind}
+use Rattle.ss_base.specs.declared.layout.Owner.TheVariants.{System, Class}
+use Rattle.ss_base.specs.declared.layout.SetLayout.{SetLayout}
+use Rattle.ss_base.specs.declared.layout.Layout.{Layout}
+use Rattle.ss_records.specs.declared.records.Records.{Records}
+use Rattle.ss_records.specs.declared.store.Place.{Place}
+use Rattle.ss_records.specs.Cells.{number, IsNumber, word_at}
+use Rattle.ss_records.specs.State.{State, and_then, entity, number_in}
+use Rattle.ss_records.specs.Sets.{member_class, owner_kind, joiner, owner_by, owner}
+use Rattle.ss_records.specs.Reading.{plain}
+use Rattle.ss_records.specs.Places.{place_in, numbered_at}
+use Rattle.ss_records.specs.Slotted.{IsOf, MayOwn}
+use Rattle.ss_records.specs.Parts.{IsKept, state, Found, Owns, Joins}
+use Rattle.ss_records.proofs.Disjoint.{is_of}
+use Rattle.ss_records.proofs.Filed.{get_there}
+
+module _ (r : Records) (K : IsKept r) (c : ℕ) (x : ℤ) (p : Place) (f : Found r c x p) where
+  pub has_number : IsNumber (word_at r.blocks.cells p.at 1)
+  has_number = subst IsNumber (sym (K.formed f.index p f.entry).number) tt
+
+  module _ (n : ℕ) (w : word_at r.blocks.cells p.at 1 ≡ number n) where
+    number_of : n ≡ suc f.index
+    number_of = ap plain (sym w ∙ (K.formed f.index p f.entry).number)
+
+    lies_at : p.at ≡ numbered_at r.system.at r.directory.places n
+    lies_at = sym (ap (numbered_at r.system.at r.directory.places) number_of ∙ ap place_in f.entry)
+
+    is_it : IsOf r.blocks.cells r.directory.places c n
+    is_it = subst (IsOf r.blocks.cells r.directory.places c) (sym number_of) (is_of r.blocks.cells r.directory.places c f.index p f.entry f.class)
+
+    named : number_in x ≡ n
+    named = ap number_in f.is ∙ sym number_of
+
+    module _ (s : ℕ) where
+      pub joins_found : member_class r.layout s ≡ c → Joins r s (record { place = p; number = n }) × (joiner (state r) s x ≡ Ok n)
+      joins_found e = (
+        record { lies = lies_at; is = subst (λ b. IsOf r.blocks.cells r.directory.places b n) (sym e) is_it },
+        ap (λ b. and_then (entity (state r) b x) (λ q. Ok (number_in x))) e ∙ ap (λ z. and_then z (λ q. Ok (number_in x))) f.entity ∙ ap Ok named,
+      )
+
+      pub owns_found : owner_kind r.layout s ≡ Class c → Owns r s (record { place = p; number = n }) × (owner (state r) s x ≡ Ok n)
+      owns_found e = (
+        record { lies = lies_at; may = subst (λ u. MayOwn r.blocks.cells r.directory.places u n) (sym e) is_it },
+        ap (λ u. owner_by (state r) u x) e ∙ ap (λ z. and_then z (λ q. Ok (number_in x))) f.entity ∙ ap Ok named,
+      )
+
+pub system_owns : (r : Records) (s : ℕ) (x : ℤ) → owner_kind r.layout s ≡ System → Owns r s (record { place = r.system; number = 0 }) × (owner (state r) s x ≡ Ok 0)
+system_owns r s x e = (record { lies = refl; may = subst (λ u. MayOwn r.blocks.cells r.directory.places u 0) (sym e) refl }, ap (λ u. owner_by (state r) u x) e)
+
+pub not_joiner : (st : State) (s : ℕ) (c : ℕ) (x : ℤ) (e : FaultKind) → member_class st.layout s ≡ c → entity st c x ≡ Err e → joiner st s x ≡ Err e
+not_joiner st s c x e h k = ap (λ b. and_then (entity st b x) (λ q. Ok (number_in x))) h ∙ ap (λ z. and_then z (λ q. Ok (number_in x))) k
+
+pub not_owner : (st : State) (s : ℕ) (c : ℕ) (x : ℤ) (e : FaultKind) → owner_kind st.layout s ≡ Class c → entity st c x ≡ Err e → owner st s x ≡ Err e
+not_owner st s c x e h k = ap (λ u. owner_by st u x) h ∙ ap (λ z. and_then z (λ q. Ok (number_in x))) k
+
+-- what a function that reads the layout of a set says
+pub kind_is : {A : Type 0} (l : Layout) (s : ℕ) (of : SetLayout → A) (a : A) → s < length l.sets.items → ((t : SetLayout) → slice_get l.sets.items s ≡ Some t → a ≡ of t) → (t : SetLayout) × (slice_get l.sets.items s ≡ Some t) × (of t ≡ a)
+kind_is l s of a inside h = let y = get_there l.sets.items s inside in (y.0, y.1, sym (h y.0 y.1))

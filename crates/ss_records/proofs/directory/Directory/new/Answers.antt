@@ -1,0 +1,7 @@
+use Rattle.std.proofs.Common.{◌≡◌, sym, subst}
+use Rattle.ss_records.specs.Pages.{Pages, Page, Paged}
+use Rattle.ss_records.proofs.Paging.{paged_first}
+use Rattle.ss_records.proofs.directory.Directory.new.Goals as goal
+
+pub invariant_of-result : goal.invariant_of-result
+invariant_of-result c = rw (c.new-2.ensures.empty, c.in_ok-current.ensures) paged_first

@@ -1,0 +1,7 @@
+use Rattle.std.proofs.Common.{◌≡◌, ◌+◌, ◌<◌, length, sym, ap, ◌∙◌, arith}
+use Rattle.ss_records.specs.Pages.{Listed}
+use Rattle.ss_records.proofs.Same.{equal}
+use Rattle.ss_records.proofs.directory.Directory.push.Goals as goal
+
+pub turn-requires-clause-full : goal.turn-requires-clause-full
+turn-requires-clause-full c = equal _ _ (sym c.is_full.ensures.value ∙ c.if-is_full.true)

@@ -1,0 +1,13 @@
+use Rattle.std.proofs.Common.{◌≡◌, ap, subst, ◌∙◌}
+use Rattle.std.specs.Prelude.{MatchResult, Ok, Err}
+use Rattle.std.proofs.lemmas.Int.{to_z-of_z}
+use Rattle.ss_records.specs.State.{Heaped, State}
+use Rattle.ss_records.specs.Sets.{filed_first}
+use Rattle.ss_records.specs.Parts.{state}
+use Rattle.ss_records.proofs.heap.Heap.file_first.Goals as goal
+
+pub returns-clause-done : goal.returns-clause-done
+returns-clause-done c =
+    let e : state c.start.new.self ≡ c.args.self.now.state = ap state c.start.ensures ∙ ap (λ (w : Heaped). w.state) c.self.view_is in
+    let fo = c.ranges.o in let fx = c.ranges.x in let h = simp to_z-of_z at c.file_first.ensures.done in
+    subst (λ (s : State). MatchResult c.file_first.result (λ _. filed_first s c.args.set c.args.o c.args.x ≡ Ok (state c.file_first.new.self)) (λ f. (filed_first s c.args.set c.args.o c.args.x ≡ Err f) × (state c.file_first.new.self ≡ s))) e h

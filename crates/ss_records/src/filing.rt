@@ -1,0 +1,275 @@
+// Filing and removing.
+ghost use Rattle.std.specs.Prelude.{◌≡◌, ℕ, ◌+◌, ◌<◌, ◌≤◌, List, ◌∷◌, ◌++◌, length, false, true, Result, MatchResult, IsOk, Ok, Err};
+ghost use Rattle.ss_records.specs.State.{State, and_then, is_filed, contains, members_of};
+ghost use Rattle.ss_records.specs.Sets.{joiner, owner, with_list_of, put_in, put_beside, taken_out, filed_first, filed_last, filed_before, filed_after, removed};
+ghost use Rattle.ss_records.specs.Parts.{IsKept, state, held, Owns, Joins, Between, Around};
+
+use crate::links::Entry;
+use crate::records::Records;
+use crate::shape;
+use ss_base::FaultKind;
+
+// An owner of a set, and one that may be in the set.
+#[derive(Clone, Copy)]
+struct Pair {
+    owner: Entry,
+    x: Entry,
+}
+
+// An owner of a set, and two that may be in the set.
+#[derive(Clone, Copy)]
+struct Triple {
+    owner: Entry,
+    x: Entry,
+    y: Entry,
+}
+
+impl Records {
+    // What x and then o mean.
+    fn pair(&self, s: usize, o: i64, x: i64) -> Result<Pair, FaultKind>
+        requires kept { IsKept self.now }
+        requires set { s < length self.now.layout.sets.items }
+        ensures found { MatchResult result (λ p. Owns self.now s p.owner × Joins self.now s p.x × (joiner (state self.now) s x ≡ Ok p.x.number) × (owner (state self.now) s o ≡ Ok p.owner.number)) (λ f. (g : ℕ → ℕ → Result State FaultKind) → and_then (joiner (state self.now) s x) (λ n. and_then (owner (state self.now) s o) (g n)) ≡ Err f) }
+    {
+        match self.joiner(s, x) {
+            Ok(x) => match self.owner(s, o) {
+                Ok(owner) => Ok(Pair { owner, x }),
+                Err(fault) => Err(fault),
+            },
+            Err(fault) => Err(fault),
+        }
+    }
+
+    // What x, then y and then o mean.
+    fn triple(&self, s: usize, o: i64, x: i64, y: i64) -> Result<Triple, FaultKind>
+        requires kept { IsKept self.now }
+        requires set { s < length self.now.layout.sets.items }
+        ensures found { MatchResult result (λ p. Owns self.now s p.owner × Joins self.now s p.x × Joins self.now s p.y × (joiner (state self.now) s x ≡ Ok p.x.number) × (joiner (state self.now) s y ≡ Ok p.y.number) × (owner (state self.now) s o ≡ Ok p.owner.number)) (λ f. (g : ℕ → ℕ → ℕ → Result State FaultKind) → and_then (joiner (state self.now) s x) (λ n. and_then (joiner (state self.now) s y) (λ k. and_then (owner (state self.now) s o) (g n k))) ≡ Err f) }
+    {
+        match self.joiner(s, x) {
+            Ok(x) => match self.pair(s, o, y) {
+                Ok(pair) => Ok(Triple {
+                    owner: pair.owner,
+                    x,
+                    y: pair.x,
+                }),
+                Err(fault) => Err(fault),
+            },
+            Err(fault) => Err(fault),
+        }
+    }
+
+    // Whether x is in the set of this owner: at most two touches.
+    fn is_in(&mut self, s: usize, owner: Entry, x: Entry) -> bool
+        requires kept { IsKept self.old }
+        requires set { s < length self.old.layout.sets.items }
+        requires owns { Owns self.old s owner }
+        requires joins { Joins self.old s x }
+        requires touches { self.old.blocks.touches ≤ 8 }
+        ensures value { result ≡ contains (members_of self.old.notes.lists s owner.number) x.number }
+        ensures same { self.new ≡ record self.old { blocks = self.new.blocks } }
+        ensures cells { self.new.blocks.cells ≡ self.old.blocks.cells }
+        ensures touches { (self.new.blocks.touches ≤ self.old.blocks.touches + 2) × (self.new.blocks.total + self.old.blocks.touches ≡ self.old.blocks.total + self.new.blocks.touches) }
+    {
+        if !self.is_filed(s, x) {
+            return false;
+        }
+        let base = shape::member_base(&self.layout, s);
+        let its_owner = self.blocks.follow(x.place, base + 2);
+        its_owner.number == owner.number
+    }
+
+    // Links x into the set of an owner between two neighbours: seven touches.
+    fn link_in(&mut self, s: usize, owner: Entry, before: Entry, x: Entry, after: Entry)
+        requires kept { IsKept self.old }
+        requires set { s < length self.old.layout.sets.items }
+        requires owns { Owns self.old s owner }
+        requires joins { Joins self.old s x }
+        requires free { is_filed self.old.notes.lists s x.number ≡ false }
+        requires between { (xs : List ℕ) × (ys : List ℕ) × Between self.old s owner.number before after xs ys }
+        requires touches { self.old.blocks.touches ≤ 16 }
+        ensures kept { IsKept self.new }
+        ensures done { (xs : List ℕ) (ys : List ℕ) → Between self.old s owner.number before after xs ys → state self.new ≡ with_list_of (state self.old) s owner.number (xs ++ x.number ∷ ys) }
+        ensures touches { (self.new.blocks.touches ≡ self.old.blocks.touches + 7) × (self.new.blocks.total ≡ self.old.blocks.total + 7) }
+    {
+        let member = shape::member_base(&self.layout, s);
+        let set = shape::owner_base(&self.layout, s);
+        let count = self.blocks.count(owner.place, set + 2);
+        let is_first = before.number == 0;
+        let is_last = after.number == 0;
+        self.blocks.link_between(
+            member,
+            set,
+            owner.place,
+            before.place,
+            is_first,
+            x.place,
+            after.place,
+            is_last,
+            count,
+        );
+        self.notes
+            .put_before(s, owner.number, x.number, after.number);
+    }
+
+    // Links x out of the set of an owner, from between its neighbours: seven touches.
+    fn link_out(&mut self, s: usize, owner: Entry, before: Entry, x: Entry, after: Entry)
+        requires kept { IsKept self.old }
+        requires set { s < length self.old.layout.sets.items }
+        requires owns { Owns self.old s owner }
+        requires joins { Joins self.old s x }
+        requires around { (xs : List ℕ) × (ys : List ℕ) × Around self.old s owner.number x.number before after xs ys }
+        requires touches { self.old.blocks.touches ≤ 16 }
+        ensures kept { IsKept self.new }
+        ensures done { (xs : List ℕ) (ys : List ℕ) → Around self.old s owner.number x.number before after xs ys → state self.new ≡ with_list_of (state self.old) s owner.number (xs ++ ys) }
+        ensures touches { (self.new.blocks.touches ≡ self.old.blocks.touches + 7) × (self.new.blocks.total ≡ self.old.blocks.total + 7) }
+    {
+        let member = shape::member_base(&self.layout, s);
+        let set = shape::owner_base(&self.layout, s);
+        let count = self.blocks.count(owner.place, set + 2);
+        let is_first = before.number == 0;
+        let is_last = after.number == 0;
+        self.blocks.unlink(
+            member,
+            set,
+            owner.place,
+            before.place,
+            is_first,
+            x.place,
+            after.place,
+            is_last,
+            count,
+        );
+        self.notes.take_out(s, owner.number, x.number);
+    }
+
+    /// Files x first.
+    pub(crate) fn file_first(&mut self, s: usize, o: i64, x: i64) -> Result<(), FaultKind>
+        requires kept { IsKept self.old }
+        requires set { s < length self.old.layout.sets.items }
+        requires touches { self.old.blocks.touches ≡ 0 }
+        ensures kept { IsKept self.new }
+        ensures done { MatchResult result (λ _. filed_first (state self.old) s o x ≡ Ok (state self.new)) (λ e. (filed_first (state self.old) s o x ≡ Err e) × (state self.new ≡ state self.old)) }
+        ensures touches { (self.new.blocks.touches ≤ 12) × (IsOk result → 4 ≤ self.new.blocks.touches) × (self.new.blocks.total ≡ self.old.blocks.total + self.new.blocks.touches) }
+    {
+        match self.pair(s, o, x) {
+            Ok(pair) => {
+                let base = shape::owner_base(&self.layout, s);
+                let end = Entry {
+                    place: self.system,
+                    number: 0,
+                };
+                if self.is_filed(s, pair.x) {
+                    return Err(FaultKind::FiledTwice);
+                }
+                let first = self.blocks.follow(pair.owner.place, base);
+                self.link_in(s, pair.owner, end, pair.x, first);
+                Ok(())
+            }
+            Err(fault) => Err(fault),
+        }
+    }
+
+    /// Files x last.
+    pub(crate) fn file_last(&mut self, s: usize, o: i64, x: i64) -> Result<(), FaultKind>
+        requires kept { IsKept self.old }
+        requires set { s < length self.old.layout.sets.items }
+        requires touches { self.old.blocks.touches ≡ 0 }
+        ensures kept { IsKept self.new }
+        ensures done { MatchResult result (λ _. filed_last (state self.old) s o x ≡ Ok (state self.new)) (λ e. (filed_last (state self.old) s o x ≡ Err e) × (state self.new ≡ state self.old)) }
+        ensures touches { (self.new.blocks.touches ≤ 12) × (IsOk result → 4 ≤ self.new.blocks.touches) × (self.new.blocks.total ≡ self.old.blocks.total + self.new.blocks.touches) }
+    {
+        match self.pair(s, o, x) {
+            Ok(both) => {
+                let base = shape::owner_base(&self.layout, s);
+                let end = Entry {
+                    place: self.system,
+                    number: 0,
+                };
+                if self.is_filed(s, both.x) {
+                    return Err(FaultKind::FiledTwice);
+                }
+                let last = self.blocks.follow(both.owner.place, base + 1);
+                self.link_in(s, both.owner, last, both.x, end);
+                Ok(())
+            }
+            Err(fault) => Err(fault),
+        }
+    }
+
+    /// Files x directly before y.
+    pub(crate) fn file_before(&mut self, s: usize, o: i64, x: i64, y: i64) -> Result<(), FaultKind>
+        requires kept { IsKept self.old }
+        requires set { s < length self.old.layout.sets.items }
+        requires touches { self.old.blocks.touches ≡ 0 }
+        ensures kept { IsKept self.new }
+        ensures done { MatchResult result (λ _. filed_before (state self.old) s o x y ≡ Ok (state self.new)) (λ e. (filed_before (state self.old) s o x y ≡ Err e) × (state self.new ≡ state self.old)) }
+        ensures touches { (self.new.blocks.touches ≤ 12) × (IsOk result → 4 ≤ self.new.blocks.touches) × (self.new.blocks.total ≡ self.old.blocks.total + self.new.blocks.touches) }
+    {
+        match self.triple(s, o, x, y) {
+            Ok(triple) => {
+                let base = shape::member_base(&self.layout, s);
+                if self.is_filed(s, triple.x) {
+                    return Err(FaultKind::FiledTwice);
+                }
+                if !self.is_in(s, triple.owner, triple.y) {
+                    return Err(FaultKind::NotFiled);
+                }
+                let beside = self.blocks.follow(triple.y.place, base + 1);
+                self.link_in(s, triple.owner, beside, triple.x, triple.y);
+                Ok(())
+            }
+            Err(fault) => Err(fault),
+        }
+    }
+
+    /// Files x directly after y.
+    pub(crate) fn file_after(&mut self, s: usize, o: i64, x: i64, y: i64) -> Result<(), FaultKind>
+        requires kept { IsKept self.old }
+        requires set { s < length self.old.layout.sets.items }
+        requires touches { self.old.blocks.touches ≡ 0 }
+        ensures kept { IsKept self.new }
+        ensures done { MatchResult result (λ _. filed_after (state self.old) s o x y ≡ Ok (state self.new)) (λ e. (filed_after (state self.old) s o x y ≡ Err e) × (state self.new ≡ state self.old)) }
+        ensures touches { (self.new.blocks.touches ≤ 12) × (IsOk result → 4 ≤ self.new.blocks.touches) × (self.new.blocks.total ≡ self.old.blocks.total + self.new.blocks.touches) }
+    {
+        match self.triple(s, o, x, y) {
+            Ok(triple) => {
+                let base = shape::member_base(&self.layout, s);
+                if self.is_filed(s, triple.x) {
+                    return Err(FaultKind::FiledTwice);
+                }
+                if !self.is_in(s, triple.owner, triple.y) {
+                    return Err(FaultKind::NotFiled);
+                }
+                let beside = self.blocks.follow(triple.y.place, base);
+                self.link_in(s, triple.owner, triple.y, triple.x, beside);
+                Ok(())
+            }
+            Err(fault) => Err(fault),
+        }
+    }
+
+    /// Takes x out of a set.
+    pub(crate) fn remove(&mut self, s: usize, o: i64, x: i64) -> Result<(), FaultKind>
+        requires kept { IsKept self.old }
+        requires set { s < length self.old.layout.sets.items }
+        requires touches { self.old.blocks.touches ≡ 0 }
+        ensures kept { IsKept self.new }
+        ensures done { MatchResult result (λ _. removed (state self.old) s o x ≡ Ok (state self.new)) (λ e. (removed (state self.old) s o x ≡ Err e) × (state self.new ≡ state self.old)) }
+        ensures touches { (self.new.blocks.touches ≤ 12) × (IsOk result → 4 ≤ self.new.blocks.touches) × (self.new.blocks.total ≡ self.old.blocks.total + self.new.blocks.touches) }
+    {
+        match self.pair(s, o, x) {
+            Ok(pair) => {
+                let base = shape::member_base(&self.layout, s);
+                if !self.is_in(s, pair.owner, pair.x) {
+                    return Err(FaultKind::NotFiled);
+                }
+                let before = self.blocks.follow(pair.x.place, base + 1);
+                let after = self.blocks.follow(pair.x.place, base);
+                self.link_out(s, pair.owner, before, pair.x, after);
+                Ok(())
+            }
+            Err(fault) => Err(fault),
+        }
+    }
+}

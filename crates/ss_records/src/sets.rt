@@ -1,0 +1,200 @@
+// The sets: their ends, the neighbours of a member, and its owner.
+ghost use Rattle.std.specs.Prelude.{◌≡◌, ℕ, ◌+◌, ◌^◌, ◌<◌, ◌≤◌, length, MatchResult, IsOk, Ok, Err};
+ghost use Rattle.ss_records.specs.State.{State, is_filed};
+ghost use Rattle.ss_records.specs.Sets.{joiner, owner, first_in, last_in, count_in, next_in, previous_in, owner_of_member, Apart};
+ghost use Rattle.ss_records.specs.Parts.{IsKept, state, Owns, Joins};
+
+use crate::links::Entry;
+use crate::records::Records;
+use crate::shape::{self, NUMBER};
+use ss_base::{FaultKind, Owner};
+
+impl Records {
+    /// What holds of the sets.
+    pub(crate) fn law(&self)
+        requires kept { IsKept self.now }
+        ensures { Apart (state self.now) }
+    {}
+
+    /// What o means as an owner of a set: the system where the set is one of its own.
+    pub(crate) fn owner(&self, s: usize, o: i64) -> Result<Entry, FaultKind>
+        requires kept { IsKept self.now }
+        requires set { s < length self.now.layout.sets.items }
+        ensures found { MatchResult result (λ e. Owns self.now s e × (owner (state self.now) s o ≡ Ok e.number)) (λ f. owner (state self.now) s o ≡ Err f) }
+    {
+        match shape::owner_class(&self.layout, s) {
+            Owner::System => Ok(Entry {
+                place: self.system,
+                number: 0,
+            }),
+            Owner::Class(class) => match self.find(class, o) {
+                Ok(place) => Ok(Entry {
+                    place,
+                    number: self.blocks.number(place, NUMBER),
+                }),
+                Err(fault) => Err(fault),
+            },
+        }
+    }
+
+    /// What x means as one that may be in a set.
+    pub(crate) fn joiner(&self, s: usize, x: i64) -> Result<Entry, FaultKind>
+        requires kept { IsKept self.now }
+        requires set { s < length self.now.layout.sets.items }
+        ensures found { MatchResult result (λ e. Joins self.now s e × (joiner (state self.now) s x ≡ Ok e.number)) (λ f. joiner (state self.now) s x ≡ Err f) }
+    {
+        match self.find(shape::member_class(&self.layout, s), x) {
+            Ok(place) => Ok(Entry {
+                place,
+                number: self.blocks.number(place, NUMBER),
+            }),
+            Err(fault) => Err(fault),
+        }
+    }
+
+    /// Whether an entity is in a set of the name: a touch.
+    pub(crate) fn is_filed(&mut self, s: usize, x: Entry) -> bool
+        requires kept { IsKept self.old }
+        requires set { s < length self.old.layout.sets.items }
+        requires joins { Joins self.old s x }
+        requires touches { self.old.blocks.touches ≤ 16 }
+        ensures value { result ≡ is_filed self.old.notes.lists s x.number }
+        ensures same { self.new ≡ record self.old { blocks = self.new.blocks } }
+        ensures cells { self.new.blocks.cells ≡ self.old.blocks.cells }
+        ensures touches { (self.new.blocks.touches ≡ self.old.blocks.touches + 1) × (self.new.blocks.total ≡ self.old.blocks.total + 1) }
+    {
+        let base = shape::member_base(&self.layout, s);
+        let next = self.blocks.follow(x.place, base);
+        next.number != x.number
+    }
+
+    /// The first member of a set, 0 where there is none: a touch.
+    pub(crate) fn first(&mut self, s: usize, o: i64) -> Result<i64, FaultKind>
+        requires kept { IsKept self.old }
+        requires set { s < length self.old.layout.sets.items }
+        requires touches { self.old.blocks.touches ≡ 0 }
+        ensures value { result ≡ first_in (state self.old) s o }
+        ensures kept { IsKept self.new }
+        ensures same { state self.new ≡ state self.old }
+        ensures touches { (self.new.blocks.touches ≤ 1) × (IsOk result → 1 ≤ self.new.blocks.touches) × (self.new.blocks.total ≡ self.old.blocks.total + self.new.blocks.touches) }
+    {
+        match self.owner(s, o) {
+            Ok(owner) => {
+                let base = shape::owner_base(&self.layout, s);
+                let first = self.blocks.follow(owner.place, base);
+                Ok(first.number as i64)
+            }
+            Err(fault) => Err(fault),
+        }
+    }
+
+    /// The last member of a set, 0 where there is none: a touch.
+    pub(crate) fn last(&mut self, s: usize, o: i64) -> Result<i64, FaultKind>
+        requires kept { IsKept self.old }
+        requires set { s < length self.old.layout.sets.items }
+        requires touches { self.old.blocks.touches ≡ 0 }
+        ensures value { result ≡ last_in (state self.old) s o }
+        ensures kept { IsKept self.new }
+        ensures same { state self.new ≡ state self.old }
+        ensures touches { (self.new.blocks.touches ≤ 1) × (IsOk result → 1 ≤ self.new.blocks.touches) × (self.new.blocks.total ≡ self.old.blocks.total + self.new.blocks.touches) }
+    {
+        match self.owner(s, o) {
+            Ok(owner) => {
+                let base = shape::owner_base(&self.layout, s);
+                let last = self.blocks.follow(owner.place, base + 1);
+                Ok(last.number as i64)
+            }
+            Err(fault) => Err(fault),
+        }
+    }
+
+    /// How many members a set has: a touch.
+    pub(crate) fn count(&mut self, s: usize, o: i64) -> Result<i64, FaultKind>
+        requires kept { IsKept self.old }
+        requires set { s < length self.old.layout.sets.items }
+        requires touches { self.old.blocks.touches ≡ 0 }
+        ensures value { result ≡ count_in (state self.old) s o }
+        ensures kept { IsKept self.new }
+        ensures same { state self.new ≡ state self.old }
+        ensures touches { (self.new.blocks.touches ≤ 1) × (IsOk result → 1 ≤ self.new.blocks.touches) × (self.new.blocks.total ≡ self.old.blocks.total + self.new.blocks.touches) }
+    {
+        match self.owner(s, o) {
+            Ok(owner) => {
+                let base = shape::owner_base(&self.layout, s);
+                Ok(self.blocks.count(owner.place, base + 2) as i64)
+            }
+            Err(fault) => Err(fault),
+        }
+    }
+
+    /// The member that follows x in its set, 0 where there is none: a touch.
+    pub(crate) fn next(&mut self, s: usize, x: i64) -> Result<i64, FaultKind>
+        requires kept { IsKept self.old }
+        requires set { s < length self.old.layout.sets.items }
+        requires touches { self.old.blocks.touches ≡ 0 }
+        ensures value { result ≡ next_in (state self.old) s x }
+        ensures kept { IsKept self.new }
+        ensures same { state self.new ≡ state self.old }
+        ensures touches { (self.new.blocks.touches ≤ 1) × (IsOk result → 1 ≤ self.new.blocks.touches) × (self.new.blocks.total ≡ self.old.blocks.total + self.new.blocks.touches) }
+    {
+        match self.joiner(s, x) {
+            Ok(member) => {
+                let base = shape::member_base(&self.layout, s);
+                let next = self.blocks.follow(member.place, base);
+                Ok(other_than(next.number, member.number) as i64)
+            }
+            Err(fault) => Err(fault),
+        }
+    }
+
+    /// The member that precedes x in its set, 0 where there is none: a touch.
+    pub(crate) fn previous(&mut self, s: usize, x: i64) -> Result<i64, FaultKind>
+        requires kept { IsKept self.old }
+        requires set { s < length self.old.layout.sets.items }
+        requires touches { self.old.blocks.touches ≡ 0 }
+        ensures value { result ≡ previous_in (state self.old) s x }
+        ensures kept { IsKept self.new }
+        ensures same { state self.new ≡ state self.old }
+        ensures touches { (self.new.blocks.touches ≤ 1) × (IsOk result → 1 ≤ self.new.blocks.touches) × (self.new.blocks.total ≡ self.old.blocks.total + self.new.blocks.touches) }
+    {
+        match self.joiner(s, x) {
+            Ok(member) => {
+                let base = shape::member_base(&self.layout, s);
+                let previous = self.blocks.follow(member.place, base + 1);
+                Ok(other_than(previous.number, member.number) as i64)
+            }
+            Err(fault) => Err(fault),
+        }
+    }
+
+    /// Whose set x is in: at most two touches.
+    pub(crate) fn owner_in(&mut self, s: usize, x: i64) -> Result<Option<i64>, FaultKind>
+        requires kept { IsKept self.old }
+        requires set { s < length self.old.layout.sets.items }
+        requires touches { self.old.blocks.touches ≡ 0 }
+        ensures value { result ≡ owner_of_member (state self.old) s x }
+        ensures kept { IsKept self.new }
+        ensures same { state self.new ≡ state self.old }
+        ensures touches { (self.new.blocks.touches ≤ 2) × (IsOk result → 1 ≤ self.new.blocks.touches) × (self.new.blocks.total ≡ self.old.blocks.total + self.new.blocks.touches) }
+    {
+        match self.joiner(s, x) {
+            Ok(member) => {
+                if !self.is_filed(s, member) {
+                    return Ok(None);
+                }
+                let base = shape::member_base(&self.layout, s);
+                let owner = self.blocks.follow(member.place, base + 2);
+                Ok(Some(owner.number as i64))
+            }
+            Err(fault) => Err(fault),
+        }
+    }
+}
+
+// A number, or 0 where it is that of the member itself: then it is in no set.
+fn other_than(number: u64, member: u64) -> u64
+    ensures same { number ≡ member → result ≡ 0 }
+    ensures other { (number ≡ member → ⊥) → result ≡ number }
+{
+    if number == member { 0 } else { number }
+}

@@ -1,0 +1,239 @@
+use crate::Heap;
+use ss_base::{ClassKind, ClassLayout, FaultKind, Layout, Mode, Owner, SetLayout, Value};
+use std::rt::HostRuntime;
+use std::test::Fail;
+
+const JOB: usize = 0;
+
+const TOOL: usize = 1;
+
+const BELL: usize = 2;
+
+const POOL: usize = 0;
+
+const RACK: usize = 1;
+
+const ROW: usize = 2;
+
+// Jobs with a rank, tools and bells. A job may be in the pool of the system, in a rack and in a row, of
+// which each tool owns one.
+fn yard(rt: &HostRuntime) -> Result<Heap, Fail> {
+    let alloc = rt.alloc();
+    let job = ClassLayout {
+        kind: ClassKind::Temporary,
+        fields: vec![in alloc; Mode::Integer]?,
+    };
+    let tool = ClassLayout {
+        kind: ClassKind::Temporary,
+        fields: Vec::new(alloc),
+    };
+    let bell = ClassLayout {
+        kind: ClassKind::Notice,
+        fields: Vec::new(alloc),
+    };
+    let mut classes = Vec::new(alloc);
+    classes.push(job).map_err(|_| "memory")?;
+    classes.push(tool).map_err(|_| "memory")?;
+    classes.push(bell).map_err(|_| "memory")?;
+    let pool = SetLayout {
+        owner: Owner::System,
+        member: JOB,
+    };
+    let rack = SetLayout {
+        owner: Owner::Class(TOOL),
+        member: JOB,
+    };
+    let sets = vec![in alloc; pool, rack, rack]?;
+    Ok(Heap::new(alloc, Layout { classes, sets })?)
+}
+
+// A new entity, where the class is there and its entities are created one by one.
+fn create(heap: &mut Heap, class: usize) -> Option<i64> {
+    let kind = heap.layout().classes.get(class)?.kind;
+    match kind {
+        ClassKind::Permanent => None,
+        ClassKind::Temporary | ClassKind::Notice => heap.create(class).ok(),
+    }
+}
+
+fn destroy(heap: &mut Heap, class: usize, r: i64) -> Option<Result<(), FaultKind>> {
+    let kind = heap.layout().classes.get(class)?.kind;
+    match kind {
+        ClassKind::Permanent => None,
+        ClassKind::Temporary | ClassKind::Notice => Some(heap.destroy(class, r)),
+    }
+}
+
+fn known(heap: &Heap, class: usize, r: i64) -> Option<Result<(), FaultKind>> {
+    if class >= heap.layout().classes.len() {
+        return None;
+    }
+    Some(heap.known(class, r))
+}
+
+fn rank(heap: &Heap, r: i64) -> Option<Result<Value, FaultKind>> {
+    let _mode = heap.layout().classes.get(JOB)?.fields.get(0)?;
+    Some(heap.value(JOB, 0, r))
+}
+
+fn set_rank(heap: &mut Heap, r: i64, rank: i64) -> Option<Result<(), FaultKind>> {
+    let mode = *heap.layout().classes.get(JOB)?.fields.get(0)?;
+    match mode {
+        Mode::Integer => Some(heap.set_value(JOB, 0, r, Value::Whole(rank))),
+        Mode::Alpha => None,
+    }
+}
+
+// What a set's calls are asked, or told to do.
+#[derive(Clone, Copy)]
+enum Ask {
+    First(i64),
+    Last(i64),
+    Count(i64),
+    Next(i64),
+    Previous(i64),
+    Owner(i64),
+    FileFirst(i64, i64),
+    FileLast(i64, i64),
+    FileBefore(i64, i64, i64),
+    FileAfter(i64, i64, i64),
+    Remove(i64, i64),
+}
+
+// What a set's call answers, where the set is there: 0 for done, -1 for in no set.
+fn answer(heap: &mut Heap, set: usize, asked: Ask) -> Option<Result<i64, FaultKind>> {
+    if set >= heap.layout().sets.len() {
+        return None;
+    }
+    Some(match asked {
+        Ask::First(o) => heap.first(set, o),
+        Ask::Last(o) => heap.last(set, o),
+        Ask::Count(o) => heap.count(set, o),
+        Ask::Next(x) => heap.next(set, x),
+        Ask::Previous(x) => heap.previous(set, x),
+        Ask::Owner(x) => heap.owner_in(set, x).map(|owner| owner.unwrap_or(-1)),
+        Ask::FileFirst(o, x) => heap.file_first(set, o, x).map(|_| 0),
+        Ask::FileLast(o, x) => heap.file_last(set, o, x).map(|_| 0),
+        Ask::FileBefore(o, x, y) => heap.file_before(set, o, x, y).map(|_| 0),
+        Ask::FileAfter(o, x, y) => heap.file_after(set, o, x, y).map(|_| 0),
+        Ask::Remove(o, x) => heap.remove(set, o, x).map(|_| 0),
+    })
+}
+
+#[test]
+fn numbers_are_never_used_again(rt: HostRuntime) -> Result<(), Fail> {
+    let mut heap = yard(&rt)?;
+    assert_eq!(rt; create(&mut heap, JOB), Some(1));
+    assert_eq!(rt; destroy(&mut heap, JOB, 1), Some(Ok(())));
+    assert_eq!(rt; create(&mut heap, JOB), Some(2));
+    assert_eq!(rt; create(&mut heap, BELL), Some(3));
+    let faults = [
+        (0, FaultKind::NoEntity),
+        (99, FaultKind::NeverCreated),
+        (-1, FaultKind::NeverCreated),
+        (1, FaultKind::DestroyedEntity),
+        (3, FaultKind::WrongClass),
+    ];
+    for (r, fault) in faults {
+        assert_eq!(rt; known(&heap, JOB, r), Some(Err(fault)));
+        assert!(rt; rank(&heap, r) == Some(Err(fault)));
+        assert_eq!(rt; set_rank(&mut heap, r, 5), Some(Err(fault)));
+        assert_eq!(rt; answer(&mut heap, POOL, Ask::Next(r)), Some(Err(fault)));
+    }
+    assert_eq!(rt; heap.known_notice(2), Err(FaultKind::WrongClass));
+    assert_eq!(rt; heap.time_a(3), Ok(0));
+    assert_eq!(rt; heap.set_time_a(3, -7), Ok(()));
+    assert_eq!(rt; heap.time_a(3), Ok(-7));
+    assert_eq!(rt; set_rank(&mut heap, 2, -5), Some(Ok(())));
+    assert!(rt; rank(&heap, 2) == Some(Ok(Value::Whole(-5))));
+    assert_eq!(rt; heap.blocks(), 3);
+    Ok(())
+}
+
+#[test]
+fn an_entity_is_in_three_sets_at_once(rt: HostRuntime) -> Result<(), Fail> {
+    let mut heap = yard(&rt)?;
+    assert_eq!(rt; create(&mut heap, TOOL), Some(1));
+    for x in 2..5 {
+        assert_eq!(rt; create(&mut heap, JOB), Some(x));
+    }
+    let asked = [
+        (POOL, Ask::FileLast(0, 2), Ok(0)),
+        (POOL, Ask::FileLast(0, 3), Ok(0)),
+        (POOL, Ask::FileLast(0, 4), Ok(0)),
+        (RACK, Ask::FileFirst(1, 2), Ok(0)),
+        (RACK, Ask::FileFirst(1, 3), Ok(0)),
+        (RACK, Ask::FileFirst(1, 4), Ok(0)),
+        (ROW, Ask::FileLast(1, 2), Ok(0)),
+        (ROW, Ask::FileBefore(1, 3, 2), Ok(0)),
+        (ROW, Ask::FileAfter(1, 4, 3), Ok(0)),
+        (ROW, Ask::FileAfter(1, 4, 3), Err(FaultKind::FiledTwice)),
+        (POOL, Ask::Remove(0, 3), Ok(0)),
+        (POOL, Ask::Remove(0, 3), Err(FaultKind::NotFiled)),
+        (POOL, Ask::FileBefore(0, 3, 3), Err(FaultKind::NotFiled)),
+        (POOL, Ask::Count(0), Ok(2)),
+        (POOL, Ask::First(0), Ok(2)),
+        (POOL, Ask::Last(0), Ok(4)),
+        (POOL, Ask::Next(2), Ok(4)),
+        (POOL, Ask::Previous(4), Ok(2)),
+        (POOL, Ask::Next(3), Ok(0)),
+        (POOL, Ask::Owner(2), Ok(0)),
+        (POOL, Ask::Owner(3), Ok(-1)),
+        (RACK, Ask::Owner(2), Ok(1)),
+        (RACK, Ask::Next(4), Ok(3)),
+        (RACK, Ask::Next(3), Ok(2)),
+        (RACK, Ask::Next(2), Ok(0)),
+        (ROW, Ask::Next(3), Ok(4)),
+        (ROW, Ask::Next(4), Ok(2)),
+        (ROW, Ask::Previous(3), Ok(0)),
+    ];
+    for (set, what, wanted) in asked {
+        assert_eq!(rt; answer(&mut heap, set, what), Some(wanted));
+    }
+    assert_eq!(rt; destroy(&mut heap, JOB, 3), Some(Err(FaultKind::InASet)));
+    assert_eq!(rt;
+        destroy(&mut heap, TOOL, 1),
+        Some(Err(FaultKind::OwnsMembers))
+    );
+    Ok(())
+}
+
+#[test]
+fn a_member_in_the_middle_of_a_long_set_is_removed_at_once(rt: HostRuntime) -> Result<(), Fail> {
+    let mut heap = yard(&rt)?;
+    for x in 1..10001 {
+        assert_eq!(rt; create(&mut heap, JOB), Some(x));
+        assert_eq!(rt; answer(&mut heap, POOL, Ask::FileLast(0, x)), Some(Ok(0)));
+    }
+    assert_eq!(rt; answer(&mut heap, POOL, Ask::Remove(0, 5000)), Some(Ok(0)));
+    assert!(rt; heap.touches() <= 12);
+    assert_eq!(rt; answer(&mut heap, POOL, Ask::Next(4999)), Some(Ok(5001)));
+    assert_eq!(rt; answer(&mut heap, POOL, Ask::Count(0)), Some(Ok(9999)));
+    assert_eq!(rt; heap.blocks(), 10001);
+    Ok(())
+}
+
+#[test]
+fn a_page_without_a_living_number_is_given_back(rt: HostRuntime) -> Result<(), Fail> {
+    let mut heap = yard(&rt)?;
+    for x in 1..1001 {
+        assert_eq!(rt; create(&mut heap, JOB), Some(x));
+        assert_eq!(rt; destroy(&mut heap, JOB, x), Some(Ok(())));
+        assert!(rt; heap.pages() <= 1);
+    }
+    assert!(rt; rank(&heap, 1) == Some(Err(FaultKind::DestroyedEntity)));
+    assert_eq!(rt; heap.blocks(), 1);
+    for x in 1001..1601 {
+        assert_eq!(rt; create(&mut heap, JOB), Some(x));
+    }
+    assert!(rt; heap.pages() >= 3);
+    for x in 1001..1601 {
+        if x != 1300 {
+            assert_eq!(rt; destroy(&mut heap, JOB, x), Some(Ok(())));
+        }
+    }
+    assert!(rt; heap.pages() <= 2);
+    assert!(rt; rank(&heap, 1300) == Some(Ok(Value::Whole(0))));
+    assert!(rt; rank(&heap, 1299) == Some(Err(FaultKind::DestroyedEntity)));
+    Ok(())
+}
