@@ -11,7 +11,7 @@ use ss_base::Counted;
 use ss_engine::{Outcome, Stop, compile, outcome_line, outcome_status, simulate};
 use std::alloc::Global;
 use std::convert::AsStr;
-use std::io::{BufReader, BufWriter, Read, Write};
+use std::io::{BufReader, BufWriter, ErrorKind, Read, Write};
 
 /// The most bytes of a text that are read: one more than a text may have.
 const SOURCE_READ: u64 = 1_048_577;
@@ -79,7 +79,7 @@ fn obey<F: FileStore, I: Read + Drop, O: Write + Drop>(
 
 // The file of this name, open for reading.
 fn open<F: FileStore>(files: &F, name: &str, trouble: Trouble) -> Result<F::File, Trouble> {
-    files.open(name).map_err(|error| trouble.by(&error))
+    files.open(name).map_err(|_error| trouble)
 }
 
 // The text in the file of this name, or as much of it as shows that it is too long.
@@ -92,7 +92,8 @@ fn read_source<R: Read + Drop>(alloc: Global, reader: R) -> Result<Vec<u8>, Trou
     let mut text = Vec::new(alloc);
     match reader.take(SOURCE_READ).read_to_end(&mut text) {
         Ok(_) => Ok(text),
-        Err(error) => Err(Trouble::Source.by(&error)),
+        Err(error) if error.kind() == ErrorKind::OutOfMemory => Err(Trouble::Memory),
+        Err(_) => Err(Trouble::Source),
     }
 }
 
@@ -125,7 +126,7 @@ fn run<R: Read + Drop, O: Write + Drop>(
     let (outcome, _reader, writer) = simulate(alloc, text, reader, writer, &[ticks]);
     match writer.into_inner().flush() {
         Ok(()) => Ok(outcome),
-        Err(error) => Err(Trouble::Report.by(&error)),
+        Err(_) => Err(Trouble::Report),
     }
 }
 
@@ -154,7 +155,7 @@ fn print<O: Write + Drop>(mut output: O, bytes: &[u8]) -> Result<Outcome, Troubl
     let written = output.write_all(bytes).and_then(|()| output.flush());
     match written {
         Ok(()) => Ok(Outcome::Stopped(Stop::Ended, 0)),
-        Err(error) => Err(Trouble::Report.by(&error)),
+        Err(_) => Err(Trouble::Report),
     }
 }
 
@@ -200,6 +201,6 @@ fn explain<O: Write + Drop, E: Write + Drop>(misuse: &Misuse, mut output: O, mut
     let written = write!(output, "{misuse}").and_then(|()| output.flush());
     match written {
         Ok(()) => 0,
-        Err(error) => tell_trouble(Trouble::Report.by(&error), errors),
+        Err(_) => tell_trouble(Trouble::Report, errors),
     }
 }

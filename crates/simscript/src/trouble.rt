@@ -2,9 +2,6 @@
 ghost use Rattle.std.specs.Prelude.{◌≡◌};
 ghost use Rattle.simscript.specs.Statuses.{trouble_status};
 
-use std::io;
-use std::io::ErrorKind;
-
 /// Why the program stops with no outcome of a run.
 #[derive(Clone, Copy, PartialEq, Eq, Debug)]
 pub enum Trouble {
@@ -19,15 +16,6 @@ pub enum Trouble {
 }
 
 impl Trouble {
-    /// What stops the program where this failed: `self`, or memory where the error says so.
-    pub fn by(self, error: &io::Error) -> Trouble {
-        if error.kind() == ErrorKind::OutOfMemory {
-            Trouble::Memory
-        } else {
-            self
-        }
-    }
-
     /// The exit status.
     pub fn status(self) -> u8
         ensures { result ≡ trouble_status self }
