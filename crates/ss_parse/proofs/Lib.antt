@@ -1,11 +1,7 @@
-pub mod Tools
-pub mod Depth
-pub mod Marks
-pub mod ReaderLaws
-pub mod Rows
-pub mod ExpressionLaws
 pub mod Lists
+pub mod FirstWords
 pub mod StatementParts
+pub mod SimpleLaws
 pub mod StatementLaws
 pub mod ProgramLaws
 pub mod Whole

@@ -1,39 +1,32 @@
 -- Programs: what is read is spelled, and what is spelled is read.
-use Rattle.std.proofs.Common.{◌≡◌, ℕ, zero, suc, ◌+◌, ◌<◌, ◌≤◌, Bool, true, false, ◌||◌, List, [], ◌∷◌, length, Option, Some, None, Result, Ok, Err, refl, sym, ap, subst, ◌∙◌, arith, inl, inr, ◌⊎◌}
+use Rattle.std.proofs.Common.{◌≡◌, ℕ, zero, suc, ◌+◌, ◌<◌, ◌≤◌, Bool, true, false, ◌||◌, List, [], ◌∷◌, length, Some, Ok, refl, sym, ap, subst, ◌∙◌, arith, inl, inr, ◌⊎◌}
 use Rattle.ss_base.specs.declared.line.Line.{Line}
 use Rattle.ss_lex.specs.declared.word.Word.{Word}
 use Rattle.ss_lex.specs.declared.word.Word.TheVariants as words
 use Rattle.ss_lex.specs.declared.token.Span.{Span}
+use Rattle.ss_lex.specs.declared.token.Symbol.TheVariants.{Comma}
 use Rattle.ss_lex.specs.declared.token.TokenKind.{TokenKind}
 use Rattle.ss_lex.specs.declared.token.TokenKind.TheVariants as kinds
 use Rattle.ss_lex.specs.declared.token.Token.{Token}
 use Rattle.ss_tree.specs.declared.preamble.Mode.{Mode}
-use Rattle.ss_tree.specs.Tree.{StatementTree, PreambleTree, normally, DefinitionTree, SectionKindTree, main, SectionTree, ProgramTree}
-use Rattle.ss_parse.specs.Openers.{opens, openers}
-use Rattle.ss_parse.specs.Shapes.{Shape, ◌▷◌, nothing, never, either, optional, provided, noise, Token_is, Word_is, Symbol_is, Said, at, first_line, each, within}
-use Rattle.ss_parse.specs.SpelledStatements.{Statement_is}
-use Rattle.ss_parse.specs.SpelledPrograms.{mode_of, Preamble_from, Kind_is, Definitions_are, Section_is, Whole_preamble, Program_is}
-use Rattle.ss_parse.specs.Reading.{Reader, ◌>>=◌, Mark, word, symbol, begins, skip, expect, in_table, taken, seq, behind, closed, apply, lined, maybe_list, rows, comma, skip_comma}
-use Rattle.ss_parse.specs.ReadStatements.{begins_statement, statements_in}
-use Rattle.ss_parse.specs.ReadPrograms.{normally_at, preamble_word, begins_preamble_kind, begins_preamble, preamble_at, preamble_of_kind, preamble_from, preambles, whole_preamble, main_tree, begins_section, section_at, section_in, program_tree, program_in}
-use Rattle.ss_parse.proofs.Tools.{bind_ok, carry, or_false}
-use Rattle.ss_parse.proofs.Marks.{token, mark_begins, token_less, no_skip, In_table}
-use Rattle.ss_parse.proofs.Depth.{Upto, upto_same, Bounded, bounded_more}
-use Rattle.ss_parse.proofs.ReaderLaws.{Reads, Item, nowise, Made, made_reads, said_reads, taken_reads, seq_reads, marked_reads, closed_reads, before_mark_reads, optional_reads, apply_reads, fewer_reads, lined_reads, item_of, item_marked, maybe_list_reads}
-use Rattle.ss_parse.proofs.Rows.{rows_reads, Loop, loop_of}
-use Rattle.ss_parse.proofs.StatementLaws.{continues_statement, In_statement, statements_reads}
-
--- ---- words of a table
-
-said_to : {A : Type 0} (table : Word → Option A) (x : A) (ts rest : List Token) → In_table (in_table table) x ts rest → Said table x ts rest
-said_to table x ts rest (k, takes, at) = go k takes at
-  where
-    go : (k : TokenKind) → in_table table k ≡ Some x → Token_is k ts rest → Said table x ts rest
-    go (kinds.Word w) e at = (w, e, at)
-    go _ e at = absurd cc
-
-pub word_in_reads : {A : Type 0} (k : ℕ) (table : Word → Option A) → Reads k (taken (in_table table)) (taken (in_table table)) (Said table) nowise
-word_in_reads k table = said_reads (taken_reads k (in_table table)) (Said table) (said_to table) (λ x ts rest s. (kinds.Word s.0, s.1, s.2))
+use Rattle.ss_tree.specs.Tree.{StatementTree, PreambleTree, normally, DefinitionTree, SectionKindTree, main, routine, event, SectionTree}
+use Rattle.ss_grammar.specs.declared.classes.Class.TheVariants as classes
+use Rattle.ss_grammar.specs.Openers.{opens, openers}
+use Rattle.ss_grammar.specs.Shapes.{Shape, ◌▷◌, nothing, optional, provided, noise, Word_is, Name_is, Said, at, first_line, each, flagged}
+use Rattle.ss_grammar.specs.Words.{has_word, One_of, perhaps_listed}
+use Rattle.ss_grammar.specs.Reading.{word, is, begins, expect, behind, maybe_list, rows, comma, begins_more}
+use Rattle.ss_grammar.specs.ReadWords.{fail, begins_class, begins_among, begins_name, names}
+use Rattle.ss_grammar.proofs.Tools.{or_false}
+use Rattle.ss_grammar.proofs.Marks.{token, mark_begins, token_less}
+use Rattle.ss_grammar.proofs.Depth.{upto_same, Bounded, bounded_more}
+use Rattle.ss_grammar.proofs.ReaderLaws.{Reads, Item, nowise, Made, made_reads, said_reads, seq_reads, marked_reads, closed_reads, before_mark_reads, optional_reads, apply_reads, fewer_reads, lined_reads, item_of, item_marked, maybe_list_reads, flag_reads, expect_reads}
+use Rattle.ss_grammar.proofs.Rows.{rows_reads, Loop, loop_of}
+use Rattle.ss_grammar.proofs.WordLaws.{word_in_reads, optional_class_reads, done_reads, fail_reads, name_reads, names_reads, perhaps_listed_reads, no_word}
+use Rattle.ss_parse.specs.SpelledPrograms.{mode_of, Preamble_from, section_word, Saving_words, Kind_behind, Variables_are, Definition_is, Section_is, Whole_preamble, Program_is}
+use Rattle.ss_parse.specs.ReadStatements.{form_word}
+use Rattle.ss_parse.specs.ReadPrograms.{normally_at, begins_preamble, preamble_at, preamble_of_kind, preamble_from, whole_preamble, section_words, begins_section, saving, routine_kind, event_kind, kind_at, variables, definition_tree, definition_at, definition, definitions, body_in, section_tree, section_at, section_in, program_tree, program_in}
+use Rattle.ss_parse.proofs.FirstWords.{Form, plain_form, by_word_reads, first_less}
+use Rattle.ss_parse.proofs.StatementLaws.{blank_behind, In_statement, all_statements_reads}
 
 -- ---- preambles
 
@@ -126,60 +119,201 @@ module _ (k : ℕ) where
 pub preambles_loop : Loop begins_preamble preamble_from
 preambles_loop = loop_of (preamble_item 0) refl
 
+-- ---- the headers of sections
+
+section_known : (kind : SectionKindTree) → section_words (section_word kind) ≡ true
+section_known main = refl
+section_known (routine name given yielding) = refl
+section_known (event name given saving) = refl
+
+-- words that go on with the header of a section
+abbrev kind_more : Word → Bool
+kind_more words.Given = true
+kind_more words.Yielding = true
+kind_more words.Saving = true
+kind_more _ = false
+
+-- what continues the header of a section
+abbrev continues_kind : List Token → Bool
+continues_kind ts = begins_among kind_more ts || begins_more begins_name ts
+
+abbrev continues_listed : Word → List Token → Bool
+continues_listed w ts = begins (word w) ts || (begins_more begins_name ts || (nowise ts || nowise ts))
+
+kind_word : (w : Word) → kind_more w ≡ true → (ts : List Token) → continues_kind ts ≡ false → begins (word w) ts ≡ false
+kind_word w held ts stop = no_word kind_more w held ts (or_false (begins_among kind_more ts) (begins_more begins_name ts) stop).0
+
+kind_names : (w : Word) → kind_more w ≡ true → (ts : List Token) → continues_kind ts ≡ false → continues_listed w ts ≡ false
+kind_names w held ts stop =
+    let a : begins (word w) ts ≡ false = kind_word w held ts stop in
+    let b : begins_more begins_name ts ≡ false = (or_false (begins_among kind_more ts) (begins_more begins_name ts) stop).1 in
+    rw (a, b) refl
+
+mode_no_article : (w : Word) (mode : Mode) → mode_of w ≡ Some mode → has_word classes.Article w ≡ false
+mode_no_article words.Integer mode e = refl
+mode_no_article words.Alpha mode e = refl
+mode_no_article words.Real mode e = refl
+mode_no_article _ mode e = absurd cc
+
+module _ (k : ℕ) where
+  names_behind : (w : Word) → Reads k (maybe_list (begins (word w)) (behind (expect (word w)) names)) (maybe_list (begins (word w)) (behind (expect (word w)) names)) (perhaps_listed (Word_is w) Name_is) (continues_listed w)
+  names_behind w = perhaps_listed_reads (item_marked (word w) (names_reads k))
+
+  yielding_stops : (ys : List (List ℕ)) (ts rest : List Token) → perhaps_listed (Word_is words.Yielding) Name_is ys ts rest → continues_kind rest ≡ false → continues_listed words.Given ts ≡ false
+  yielding_stops [] ts rest e stop = ap (continues_listed words.Given) e ∙ kind_names words.Given refl rest stop
+  yielding_stops (y ∷ ys) ts rest (a, (span, line, f), s) stop = ap (continues_listed words.Given) f
+
+  abbrev Routine_parts : List ℕ × (List (List ℕ) × List (List ℕ)) → Shape
+  Routine_parts p = optional (One_of classes.Towards) ▷ Name_is p.0 ▷ perhaps_listed (Word_is words.Given) Name_is p.1.0 ▷ perhaps_listed (Word_is words.Yielding) Name_is p.1.1
+
+  routine_reads : Reads k routine_kind routine_kind (Made (λ p. routine p.0 p.1.0 p.1.1) Routine_parts) continues_kind
+  unfolding routine_kind
+  routine_reads = made_reads {S = Routine_parts} (optional_class_reads (seq_reads (name_reads k) (seq_reads (names_behind words.Given) (fewer_reads (names_behind words.Yielding) continues_kind (kind_names words.Yielding refl)) yielding_stops) (λ p ts rest s stop. refl)) classes.Towards (λ x ts rest s. ap (begins_class classes.Towards) s.1.2)) (λ p. routine p.0 p.1.0 p.1.1)
+
+  saving_reads : Reads k saving saving (flagged Saving_words) continues_kind
+  unfolding saving
+  saving_reads = fewer_reads (flag_reads (item_marked (word words.Saving) (optional_reads (marked_reads (word words.Event) (expect_reads k (word words.Notice))) (word words.The) (λ u ts rest s. ap (begins (word words.The)) s.1.2)))) continues_kind (λ ts stop. let a = kind_word words.Saving refl ts stop in rw a refl)
+
+  saving_stops : (b : Bool) (ts rest : List Token) → flagged Saving_words b ts rest → continues_kind rest ≡ false → continues_listed words.Given ts ≡ false
+  saving_stops false ts rest e stop = ap (continues_listed words.Given) e ∙ kind_names words.Given refl rest stop
+  saving_stops true ts rest (a, (span, line, f), s) stop = ap (continues_listed words.Given) f
+
+  abbrev Event_parts : List ℕ × (List (List ℕ) × Bool) → Shape
+  Event_parts p = Name_is p.0 ▷ perhaps_listed (Word_is words.Given) Name_is p.1.0 ▷ flagged Saving_words p.1.1
+
+  event_reads : Reads k event_kind event_kind (Made (λ p. event p.0 p.1.0 p.1.1) Event_parts) continues_kind
+  unfolding event_kind
+  event_reads = made_reads {S = Event_parts} (seq_reads (name_reads k) (seq_reads (names_behind words.Given) saving_reads saving_stops) (λ p ts rest s stop. refl)) (λ p. event p.0 p.1.0 p.1.1)
+
+  abbrev Kind_is : Word → SectionKindTree → Shape
+  Kind_is w x = provided (section_word x ≡ w) (Kind_behind x)
+
+  no_kind : (w : Word) → section_words w ≡ false → Reads k fail fail (Kind_is w) continues_kind
+  no_kind w other = fewer_reads (said_reads (fail_reads k) (Kind_is w) (λ x ts rest s. absurd s) (λ x ts rest s. absurd (let a = section_known x in let b : section_words (section_word x) ≡ section_words w = ap section_words s.0 in cc))) continues_kind (λ ts stop. refl)
+
+  kind_reads : (w : Word) → Reads k (kind_at w) (kind_at w) (Kind_is w) continues_kind
+  kind_reads words.Main = fewer_reads (said_reads (done_reads k main) (Kind_is words.Main) (λ x ts rest s. subst (λ x. Kind_is words.Main x ts rest) s.0 (refl, s.1)) from) continues_kind (λ ts stop. refl)
+    where
+      from : (x : SectionKindTree) (ts rest : List Token) → Kind_is words.Main x ts rest → provided (main ≡ x) nothing ts rest
+      from main ts rest (u, s) = (refl, s)
+      from (routine name given yielding) ts rest (u, s) = absurd cc
+      from (event name given saving) ts rest (u, s) = absurd cc
+  kind_reads words.Routine = said_reads routine_reads (Kind_is words.Routine) (λ x ts rest s. subst (λ x. Kind_is words.Routine x ts rest) s.1 (refl, s.2)) from
+    where
+      from : (x : SectionKindTree) (ts rest : List Token) → Kind_is words.Routine x ts rest → Made (λ p. routine p.0 p.1.0 p.1.1) Routine_parts x ts rest
+      from main ts rest (u, s) = absurd cc
+      from (routine name given yielding) ts rest (u, s) = ((name, (given, yielding)), refl, s)
+      from (event name given saving) ts rest (u, s) = absurd cc
+  kind_reads words.Event = said_reads event_reads (Kind_is words.Event) (λ x ts rest s. subst (λ x. Kind_is words.Event x ts rest) s.1 (refl, s.2)) from
+    where
+      from : (x : SectionKindTree) (ts rest : List Token) → Kind_is words.Event x ts rest → Made (λ p. event p.0 p.1.0 p.1.1) Event_parts x ts rest
+      from main ts rest (u, s) = absurd cc
+      from (routine name given yielding) ts rest (u, s) = absurd cc
+      from (event name given saving) ts rest (u, s) = ((name, (given, saving)), refl, s)
+  kind_reads _ = no_kind _ refl
+
+  -- ---- definitions
+
+  pub variables_reads : Reads k variables variables Variables_are nowise
+  unfolding variables
+  variables_reads = seq_reads (names_reads k) (marked_reads (word words.As) (optional_class_reads (closed_reads (word_in_reads k mode_of) (expect_reads k (word words.Variable)) (λ ts rest s stop. refl)) classes.Article (λ mode ts rest s. ap (begins_class classes.Article) s.1.2.2 ∙ mode_no_article s.1.0 mode s.1.1))) (λ mode ts rest s stop. ap (λ (r : List Token). begins_more begins_name r || (nowise r || nowise r)) s.1.2)
+
+  definition_at_reads : (line : Line) → Reads k (definition_at line) (definition_at line) (Made (definition_tree line) (λ p. Word_is words.Define ▷ Variables_are p)) nowise
+  unfolding definition_at
+  definition_at_reads line = made_reads (marked_reads (word words.Define) variables_reads) (definition_tree line)
+
+  definition_reads : Reads k definition definition Definition_is nowise
+  definition_reads = lined_reads definition_at_reads Definition_is (λ x ts rest s. subst (λ x. Definition_is x ts rest) s.1 (refl, s.2)) (λ x ts rest s. ((x.names, x.mode), (λ i. record { line = s.0 i; names = x.names; mode = x.mode }), s.1))
+
+  definition_item : Item k (begins (word words.Define)) definition definition Definition_is nowise
+  definition_item = item_of (begins (word words.Define)) definition_reads (λ ts x rest s. mark_begins (word words.Define) ts s.1.0 s.1.1) (λ ts x rest s. omega (arith, token_less (kinds.Word words.Define) ts s.1.0 s.1.1, variables_reads.shorter s.1.0 (x.names, x.mode) rest s.1.2))
+
+  definitions_reads : Reads k definitions definitions (each Definition_is) (λ ts. begins (word words.Define) ts || nowise ts)
+  definitions_reads = rows_reads definition_item (λ ts x rest s. refl)
+
+pub definitions_loop : Loop (begins (word words.Define)) definition
+definitions_loop = loop_of (definition_item 0) refl
+
+-- ---- bodies
+
+word_no_define : (w : Word) → form_word w ≡ true → (is (word words.Define) (kinds.Word w) ≡ false) × (is (word words.And) (kinds.Word w) ≡ false) × (kind_more w ≡ false)
+word_no_define words.Define e = absurd cc
+word_no_define words.And e = absurd cc
+word_no_define words.Given e = absurd cc
+word_no_define words.Yielding e = absurd cc
+word_no_define words.Saving e = absurd cc
+word_no_define _ e = (refl, refl, refl)
+
+module _ (n : ℕ) where
+  abbrev Room_statement : StatementTree → Shape
+  Room_statement x = noise ▷ In_statement n x
+
+  statement_blank : (c : List Token → Bool) → ((span span' : Span) (line line' : Line) (w : Word) (ts : List Token) → form_word w ≡ true → c (token (kinds.Symbol Comma) span line ∷ token (kinds.Word w) span' line' ∷ ts) ≡ false) → ((w : Word) (span : Span) (line : Line) (ts : List Token) → form_word w ≡ true → c (token (kinds.Word w) span line ∷ ts) ≡ false) → (x : StatementTree) (ts rest : List Token) → Room_statement x ts rest → c ts ≡ false
+  statement_blank = go n
+    where
+      go : (n : ℕ) (c : List Token → Bool) → ((span span' : Span) (line line' : Line) (w : Word) (ts : List Token) → form_word w ≡ true → c (token (kinds.Symbol Comma) span line ∷ token (kinds.Word w) span' line' ∷ ts) ≡ false) → ((w : Word) (span : Span) (line : Line) (ts : List Token) → form_word w ≡ true → c (token (kinds.Word w) span line ∷ ts) ≡ false) → (x : StatementTree) (ts rest : List Token) → (noise ▷ In_statement n x) ts rest → c ts ≡ false
+      go zero c on_comma on_word x ts rest (a, m, s) = absurd s
+      go (suc l) c on_comma on_word x ts rest s = blank_behind c on_comma on_word l x ts rest s
+
+  -- the statements of a section, and END
+  abbrev Statements_end : List StatementTree → Shape
+  Statements_end xs = each Room_statement xs ▷ Word_is words.End
+
+  end_blank : (c : List Token → Bool) → ((span span' : Span) (line line' : Line) (w : Word) (ts : List Token) → form_word w ≡ true → c (token (kinds.Symbol Comma) span line ∷ token (kinds.Word w) span' line' ∷ ts) ≡ false) → ((w : Word) (span : Span) (line : Line) (ts : List Token) → form_word w ≡ true → c (token (kinds.Word w) span line ∷ ts) ≡ false) → ((span : Span) (line : Line) (ts : List Token) → c (token (kinds.Word words.End) span line ∷ ts) ≡ false) → (xs : List StatementTree) (ts rest : List Token) → Statements_end xs ts rest → c ts ≡ false
+  end_blank c on_comma on_word on_end [] ts rest (a, e, (span, line, f)) = ap c (e ∙ f) ∙ on_end span line rest
+  end_blank c on_comma on_word on_end (x ∷ xs) ts rest (a, (b, one, more), s) = statement_blank c on_comma on_word x ts b one
+
+  no_define : (xs : List StatementTree) (ts rest : List Token) → Statements_end xs ts rest → begins (word words.Define) ts ≡ false
+  no_define xs ts rest s = end_blank (begins (word words.Define)) (λ span span' line line' w r e. refl) (λ w span line r e. (word_no_define w e).0) (λ span line ts. refl) xs ts rest s
+
+  abbrev Body_is : List DefinitionTree × List StatementTree → Shape
+  Body_is p = each Definition_is p.0 ▷ Statements_end p.1
+
+  body_no_kind : (p : List DefinitionTree × List StatementTree) (ts rest : List Token) → Body_is p ts rest → continues_kind ts ≡ false
+  body_no_kind (d ∷ ds, xs) ts rest (a, (b, (at, (c, (span, line, e), s)), more), t) = ap continues_kind e
+  body_no_kind ([], xs) ts rest (a, f, s) =
+      ap continues_kind f ∙ end_blank continues_kind
+      (λ span span' line line' w r e. let no : is (word words.And) (kinds.Word w) ≡ false = (word_no_define w e).1 in rw no refl)
+      (λ w span line r e. let no : is (word words.And) (kinds.Word w) ≡ false = (word_no_define w e).1 in let more : kind_more w ≡ false = (word_no_define w e).2 in rw (no, more) refl)
+      (λ span line ts. refl) xs a rest s
+
 -- ---- sections
 
 module _ (n m : ℕ) (le : n ≤ m) where
-  -- a section where so many levels may be opened, a statement's own among them
-  abbrev pub Body : List StatementTree → Shape
-  Body body = Word_is words.Main ▷ each (λ x. noise ▷ In_statement n x) body ▷ Word_is words.End
+  body_reads : Reads n (body_in n) (body_in m) (Body_is n) nowise
+  body_reads = seq_reads (definitions_reads n) (before_mark_reads (word words.End) (all_statements_reads n m le) (λ span line ts. refl)) (λ xs ts rest s stop. let none : begins (word words.Define) ts ≡ false = no_define n xs ts rest s in rw none refl)
 
-  abbrev pub In_section : SectionTree → Shape
-  In_section x ts rest = Made (main_tree (first_line ts)) Body x ts rest
+  abbrev Sections_by : Line → Word → SectionTree → Shape
+  Sections_by line w x ts rest = (x.line ≡ line) × (section_word x.kind ≡ w) × (Kind_behind x.kind ▷ Body_is n (x.definitions, x.body)) ts rest
 
-  body_reads : Reads n (closed (statements_in n) (expect (word words.End))) (closed (statements_in m) (expect (word words.End))) (λ body. each (λ x. noise ▷ In_statement n x) body ▷ Word_is words.End) nowise
-  body_reads = before_mark_reads (word words.End) (statements_reads n m le) (λ span line ts. refl)
-
-  section_at_reads : (line : Line) → Reads n (section_at n line) (section_at m line) (Made (main_tree line) Body) nowise
+  section_law : (line : Line) (w : Word) → Form n w (section_at n line w) (section_at m line w) (Sections_by line w) nowise
   unfolding section_at
-  section_at_reads line = made_reads (marked_reads (word words.Main) body_reads) (main_tree line)
+  section_law line w =
+      plain_form w (apply_reads (seq_reads (kind_reads n w) body_reads (λ p ts rest s stop. body_no_kind n p ts rest s)) (section_tree line) (Sections_by line w)
+      (λ p ts rest s. (refl, s.1.0, (s.0, s.1.1, s.2)))
+      (λ x ts rest s. ((x.kind, (x.definitions, x.body)), (λ i. record { line = sym s.0 i; kind = x.kind; definitions = x.definitions; body = x.body }), (s.2.0, (s.1, s.2.1), s.2.2))))
 
-  in_section_reads : Reads n (section_in n) (section_in m) In_section nowise
-  in_section_reads = lined_reads section_at_reads In_section (λ x ts rest s. s) (λ x ts rest s. s)
+  abbrev In_section : SectionTree → Shape
+  In_section x = at x.line (Word_is (section_word x.kind) ▷ Kind_behind x.kind ▷ Body_is n (x.definitions, x.body))
 
-  in_section_begins : (ts : List Token) (x : SectionTree) (rest : List Token) → In_section x ts rest → begins_section ts ≡ true
-  in_section_begins ts x rest (body, is, (a, w, s)) = mark_begins (word words.Main) ts a w
+  section_to : (x : SectionTree) (w : Word) (span : Span) (line : Line) (ts rest : List Token) → Sections_by line w x ts rest → In_section x (token (kinds.Word w) span line ∷ ts) rest
+  section_to x w span line ts rest (at, is, s) = (sym at, (ts, subst (λ (v : Word). Word_is v (token (kinds.Word w) span line ∷ ts) ts) (sym is) (span, line, refl), s))
 
-  in_section_less : (ts : List Token) (x : SectionTree) (rest : List Token) → In_section x ts rest → length rest < length ts
-  in_section_less ts x rest (body, is, (a, w, s)) = omega (arith, token_less (kinds.Word words.Main) ts a w, body_reads.shorter a body rest s)
+  section_from : (x : SectionTree) (ts rest : List Token) → In_section x ts rest → (w : Word) × (r : List Token) × (Word_is w ts r) × Sections_by (first_line ts) w x r rest
+  section_from x ts rest (at, (r, w, s)) = (section_word x.kind, r, w, (sym at, refl, s))
+
+  section_reads : Reads n (section_in n) (section_in m) In_section nowise
+  section_reads = by_word_reads section_law In_section section_to section_from
 
   in_section_item : Item n begins_section (section_in n) (section_in m) In_section nowise
-  in_section_item = item_of begins_section in_section_reads in_section_begins in_section_less
+  in_section_item = item_of begins_section section_reads (λ ts x rest s. ap begins_section s.1.1.2 ∙ section_known x.kind) (λ ts x rest s. first_less section_law In_section section_to section_from ts x rest s)
 
 pub sections_loop : (room : ℕ) → Loop begins_section (section_in room)
 sections_loop room = loop_of (in_section_item room room (omega arith)) refl
 
 module _ (n m : ℕ) (le : n ≤ m) where
-  section_to : (x : SectionTree) (ts rest : List Token) → In_section (suc n) (suc n) (omega arith) x ts rest → Section_is n x ts rest
-  section_to x ts rest (body, is, (a, w, s)) = subst (λ (x : SectionTree). Section_is n x ts rest) is (refl, (a, w, (a, refl, s)))
-
-  section_from : (x : SectionTree) (ts rest : List Token) → Section_is n x ts rest → In_section (suc n) (suc n) (omega arith) x ts rest
-  section_from x ts rest (begins_at, s) =
-      let found = go x.kind x.definitions s in
-      (x.body, (λ i. record { line = begins_at i; kind = found.0 i; definitions = found.1 i; body = x.body }), found.2)
-    where
-      go : (kind : SectionKindTree) (definitions : List DefinitionTree) → (Kind_is kind ▷ Definitions_are definitions ▷ each (Statement_is n) x.body ▷ Word_is words.End) ts rest → (main ≡ kind) × ([] ≡ definitions) × Body (suc n) (suc n) (omega arith) x.body ts rest
-      go main [] (a, w, (b, e, s)) = (refl, refl, (a, w, subst (λ r. (each (Statement_is n) x.body ▷ Word_is words.End) r rest) (sym e) s))
-      go main (d ∷ ds) (a, w, (b, none, s)) = absurd none
-      go _ ds (a, w, s) = absurd w
-
-  section_reads : Reads (suc n) (section_in (suc n)) (section_in (suc m)) (Section_is n) nowise
-  section_reads = said_reads (in_section_reads (suc n) (suc m) (omega arith)) (Section_is n) section_to section_from
-
   pub section_item : Item (suc n) begins_section (section_in (suc n)) (section_in (suc m)) (Section_is n) nowise
-  section_item =
-      item_of begins_section section_reads
-      (λ ts x rest s. in_section_begins (suc n) (suc n) (omega arith) ts x rest (section_from x ts rest s))
-      (λ ts x rest s. in_section_less (suc n) (suc n) (omega arith) ts x rest (section_from x ts rest s))
+  section_item = in_section_item (suc n) (suc m) (omega arith)
 
   -- ---- programs
 
@@ -189,9 +323,17 @@ module _ (n m : ℕ) (le : n ≤ m) where
   sections_reads : Reads (suc n) (rows begins_section (section_in (suc n))) (rows begins_section (section_in (suc m))) (each (Section_is n)) continues_program
   sections_reads = fewer_reads (rows_reads section_item (λ ts x rest s. refl)) continues_program (λ ts stop. let none = (or_false (begins (word words.Preamble) ts) (begins_section ts) stop).1 in rw none refl)
 
+  section_no_preamble : (x : SectionTree) (ts rest : List Token) → Section_is n x ts rest → (begins (word words.Preamble) ts || nowise ts) ≡ false
+  section_no_preamble x ts rest (at, (m, (span, line, e), s)) = go x.kind e
+    where
+      go : (kind : SectionKindTree) → ts ≡ token (kinds.Word (section_word kind)) span line ∷ m → (begins (word words.Preamble) ts || nowise ts) ≡ false
+      go main e = rw e refl
+      go (routine name given yielding) e = rw e refl
+      go (event name given saving) e = rw e refl
+
   sections_stop : (xs : List SectionTree) (ts rest : List Token) → each (Section_is n) xs ts rest → continues_program rest ≡ false → (begins (word words.Preamble) ts || nowise ts) ≡ false
   sections_stop [] ts rest e stop = let none = (or_false (begins (word words.Preamble) rest) (begins_section rest) stop).0 in rw (e, none) refl
-  sections_stop (x ∷ xs) ts rest (a, one, more) stop = let made = section_from x ts a one in ap (λ r. begins (word words.Preamble) r || nowise r) made.2.1.2
+  sections_stop (x ∷ xs) ts rest (a, one, more) stop = section_no_preamble x ts a one
 
   pub program_reads : Reads (suc n) (program_in (suc n)) (program_in (suc m)) (Program_is n) continues_program
   unfolding program_in

@@ -1,128 +1,41 @@
 -- Parts of statements: what is read is spelled, and what is spelled is read.
-use Rattle.std.proofs.Common.{◌≡◌, ℕ, zero, suc, ◌+◌, ◌-◌, ◌<◌, ◌≤◌, ℤ, pos, negsuc, Bool, true, false, ◌||◌, List, [], ◌∷◌, ◌++◌, length, Option, Some, None, Result, Ok, Err, refl, sym, ap, subst, ◌∙◌, arith, inl, inr, ◌⊎◌}
+use Rattle.std.proofs.Common.{◌≡◌, ℕ, zero, suc, ◌+◌, ◌-◌, ◌<◌, ◌≤◌, ℤ, pos, negsuc, Bool, true, false, ◌||◌, List, [], ◌∷◌, ◌++◌, length, Some, Result, Ok, Err, refl, sym, ap, subst, ◌∙◌, arith, inl, inr, ◌⊎◌}
+use Rattle.std.proofs.lemmas.List.{append-nil}
 use Rattle.ss_base.specs.declared.line.Line.{Line}
 use Rattle.ss_lex.specs.declared.word.Word.{Word}
 use Rattle.ss_lex.specs.declared.word.Word.TheVariants as words
 use Rattle.ss_lex.specs.declared.token.Span.{Span}
-use Rattle.ss_lex.specs.declared.token.Symbol.TheVariants.{OpenParenthesis, CloseParenthesis}
 use Rattle.ss_lex.specs.declared.token.TokenKind.{TokenKind}
 use Rattle.ss_lex.specs.declared.token.TokenKind.TheVariants as kinds
 use Rattle.ss_lex.specs.declared.token.Token.{Token}
-use Rattle.ss_tree.specs.declared.expression.Designator.{Designator}
-use Rattle.ss_tree.specs.declared.expression.Designator.TheVariants as designators
-use Rattle.ss_tree.specs.Tree.{ExpressionTree, ExpressionRow, no_expression, and_expression, NamedTree}
-use Rattle.ss_parse.specs.Shapes.{Shape, ◌▷◌, nothing, never, either, provided, Token_is, Word_is, Symbol_is, each, listed, perhaps, within}
-use Rattle.ss_parse.specs.SpelledExpressions.{Designated, Sum_is, Subscript, Target_is}
-use Rattle.ss_parse.specs.SpelledStatements.{perhaps_listed, Trigger, Picture_is}
-use Rattle.ss_parse.specs.Openers.{openers}
-use Rattle.ss_parse.specs.Reading.{Reader, ◌>>=◌, Fails, Mark, word, symbol, begins, skip, expect, taken, seq, behind, closed, apply, maybe, maybe_list, choose, too_deep, begins_more, list_of}
-use Rattle.ss_parse.specs.ReadExpressions.{opening, closing, designator_of_word, designator_of, begins_sum, sum_in}
-use Rattle.ss_parse.specs.ReadStatements.{subscript_row, named_tree, subscript_with, target_in, sums_in, positive, positive_of, items_in, trigger, picture_of, pictures_at, print_head}
-use Rattle.ss_parse.proofs.Tools.{bind_ok, carry, or_false}
-use Rattle.ss_parse.proofs.Marks.{token, mark_begins, token_less, In_table}
-use Rattle.ss_parse.proofs.Depth.{Upto, upto_same, upto_bind, Bounded, bounded_bind}
-use Rattle.ss_parse.proofs.ReaderLaws.{Reads, Item, nowise, item_of, item_marked, expect_reads, taken_reads, seq_reads, marked_reads, before_mark_reads, closed_reads, opened_reads, apply_reads, said_reads, maybe_reads, maybe_list_reads, choose_reads, too_deep_reads}
-use Rattle.ss_parse.proofs.Rows.{list_reads, with_front, with_front_more}
-use Rattle.std.proofs.lemmas.List.{append-nil}
-use Rattle.ss_parse.specs.declared.failure.Fault.{Fault}
-use Rattle.ss_parse.specs.declared.failure.Failure.{Failure}
-use Rattle.ss_parse.specs.declared.failure.Failure.TheVariants as failures
-use Rattle.ss_parse.proofs.ExpressionLaws.{In, in_begins, in_less, sum_in_reads, sum_no_and, continues_sum, designated_begins, designated_less, word_designates}
-
--- ---- targets
-
-designated_to : (d : Designator) (ts rest : List Token) → In_table designator_of d ts rest → Designated d ts rest
-designated_to d ts rest (k, takes, at) = go k takes at
-  where
-    go : (k : TokenKind) → designator_of k ≡ Some d → Token_is k ts rest → Designated d ts rest
-    go (kinds.Name n) e at = let is_name : designators.Name n ≡ d = cc in subst (λ d. Designated d ts rest) is_name at
-    go (kinds.Word w) e (span, line, at) = subst (λ (r : List Token). Designated d r rest) (sym at) (word_designates w d span line rest e)
-    go _ e at = absurd cc
-
-designated_from : (d : Designator) (ts rest : List Token) → Designated d ts rest → In_table designator_of d ts rest
-designated_from (designators.Name n) ts rest at = (kinds.Name n, refl, at)
-designated_from designators.TimeV ts rest at = (kinds.Word words.TimeV, refl, at)
-designated_from designators.TimeA ts rest at = (kinds.Word words.TimeA, refl, at)
-
-pub designator_reads : (k : ℕ) → Reads k (taken designator_of) (taken designator_of) Designated nowise
-designator_reads k = said_reads (taken_reads k designator_of) Designated designated_to designated_from
-
-abbrev pub continues_target : List Token → Bool
-continues_target ts = begins opening ts || nowise ts
-
-pub target_begins : (n : ℕ) (ts : List Token) (t : NamedTree) (rest : List Token) → Target_is n t ts rest → begins_sum ts ≡ true
-target_begins n ts t rest s = (designated_begins t.designator ts s.0 s.1).0
-
-module _ (n m : ℕ) (le : n ≤ m) where
-  -- one subscript in parentheses
-  abbrev Subscript_is : ExpressionTree → Shape
-  Subscript_is e = Symbol_is OpenParenthesis ▷ In n e ▷ Symbol_is CloseParenthesis
-
-  subscript_reads : Reads (suc n) (subscript_with (sum_in n)) (subscript_with (sum_in m)) Subscript_is nowise
-  unfolding subscript_with
-  subscript_reads = opened_reads opening refl (before_mark_reads closing (sum_in_reads n m le) (λ span line ts. refl))
-
-  subscript_item : Item (suc n) (begins opening) (subscript_with (sum_in n)) (subscript_with (sum_in m)) Subscript_is nowise
-  subscript_item =
-      item_of (begins opening) subscript_reads (λ ts e rest s. mark_begins opening ts s.0 s.1)
-      (λ ts e rest s. omega (arith, token_less (kinds.Symbol OpenParenthesis) ts s.0 s.1, in_less n s.0 e s.2.0 s.2.1, token_less (kinds.Symbol CloseParenthesis) s.2.0 rest s.2.2))
-
-  target_to : (p : Designator × Option ExpressionTree) (ts rest : List Token) → (Designated p.0 ▷ perhaps Subscript_is p.1) ts rest → Target_is n (named_tree p) ts rest
-  target_to (d, None) ts rest s = s
-  target_to (d, Some e) ts rest s = s
-
-  subscript_from : (row : ExpressionRow) (ts rest : List Token) → Subscript row n ts rest → (o : Option ExpressionTree) × (subscript_row o ≡ row) × perhaps Subscript_is o ts rest
-  subscript_from no_expression ts rest s = (None, refl, s)
-  subscript_from (and_expression e no_expression) ts rest s = (Some e, refl, s)
-  subscript_from (and_expression e (and_expression f fs)) ts rest s = absurd s
-
-  target_from : (t : NamedTree) (ts rest : List Token) → Target_is n t ts rest → (p : Designator × Option ExpressionTree) × (named_tree p ≡ t) × (Designated p.0 ▷ perhaps Subscript_is p.1) ts rest
-  target_from t ts rest (a, at, s) =
-      let found = subscript_from t.subscripts a rest s in
-      ((t.designator, found.0), (λ i. record { designator = t.designator; subscripts = found.1 i }), (a, at, found.2))
-
-  target_with_reads : Reads (suc n) (apply named_tree (seq (taken designator_of) (maybe (begins opening) (subscript_with (sum_in n))))) (apply named_tree (seq (taken designator_of) (maybe (begins opening) (subscript_with (sum_in m))))) (Target_is n) continues_target
-  target_with_reads = apply_reads (seq_reads (designator_reads (suc n)) (maybe_reads subscript_item) (λ x ts rest s stop. refl)) named_tree (Target_is n) target_to target_from
-
-pub target_less : (n : ℕ) (ts : List Token) (t : NamedTree) (rest : List Token) → Target_is n t ts rest → length rest < length ts
-target_less n ts t rest s =
-    let p = target_from n n (omega arith) t ts rest s in
-    omega (arith, designated_less p.0.0 ts p.2.0 p.2.1, (maybe_reads (subscript_item n n (omega arith))).shorter p.2.0 p.0.1 rest p.2.2)
-
--- what a value is put into, within one level more
-abbrev pub In_target : ℕ → NamedTree → Shape
-In_target room t = within (λ l. Target_is l t) room
-
-pub target_in_reads : (n m : ℕ) → n ≤ m → Reads n (target_in n) (target_in m) (In_target n) continues_target
-unfolding target_in
-target_in_reads zero m le = too_deep_reads
-target_in_reads (suc n) zero le = absurd (omega arith)
-target_in_reads (suc n) (suc m) le = target_with_reads n m (omega arith)
-
--- ---- lists
-
-abbrev pub continues_sums : List Token → Bool
-continues_sums ts = begins_more begins_sum ts || (continues_sum ts || continues_sum ts)
-
-pub sums_in_reads : (n m : ℕ) → n ≤ m → Reads n (sums_in n) (sums_in m) (listed (In n)) continues_sums
-sums_in_reads n m le = list_reads (sum_in_reads n m le) begins_sum (in_begins n) sum_no_and (in_less n) (λ span line ts. refl) (λ span line ts. refl)
-
--- a list behind words, or neither
-pub perhaps_listed_reads : {X : Type 0} {k : ℕ} {starts : List Token → Bool} {r r' : Reader (List X)} {P : Shape} {S : X → Shape} {c : List Token → Bool} → Item k starts r r' (λ xs. P ▷ listed S xs) c → Reads k (maybe_list starts r) (maybe_list starts r') (perhaps_listed P S) (λ ts. starts ts || c ts)
-perhaps_listed_reads {X = X} {P = P} {S = S} item = maybe_list_reads item to from (λ ts. refl)
-  where
-    to : (xs : List X) (ts rest : List Token) → (P ▷ listed S xs) ts rest → perhaps_listed P S xs ts rest
-    to [] ts rest s = absurd s.2
-    to (x ∷ xs) ts rest s = s
-
-    from : (xs : List X) (ts rest : List Token) → perhaps_listed P S xs ts rest → ((xs ≡ []) × (ts ≡ rest)) ⊎ (P ▷ listed S xs) ts rest
-    from [] ts rest s = inl (refl, s)
-    from (x ∷ xs) ts rest s = inr s
+use Rattle.ss_tree.specs.Tree.{ExpressionTree, NamedTree, PositionTree, by_discipline, at_first, at_last, before, after, WhenTree, at_time, in_units, now}
+use Rattle.ss_grammar.specs.declared.failure.Fault.{Fault}
+use Rattle.ss_grammar.specs.declared.failure.Failure.{Failure}
+use Rattle.ss_grammar.specs.declared.failure.Failure.TheVariants as failures
+use Rattle.ss_grammar.specs.declared.classes.Class.TheVariants as classes
+use Rattle.ss_grammar.specs.Shapes.{Shape, ◌▷◌, nothing, either, provided, Token_is, Word_is, each}
+use Rattle.ss_grammar.specs.Words.{has_word, One_of, the, perhaps_listed}
+use Rattle.ss_grammar.specs.SpelledExpressions.{Sum_is, Target_is, Reference_is}
+use Rattle.ss_grammar.specs.Openers.{openers}
+use Rattle.ss_grammar.specs.Reading.{Fails, word, is, begins, expect, taken, apply, begins_more}
+use Rattle.ss_grammar.specs.ReadWords.{begins_class, begins_among, begins_name}
+use Rattle.ss_grammar.specs.ReadExpressions.{begins_sum, sum_in}
+use Rattle.ss_grammar.specs.ReadPlaces.{target_in, begins_target}
+use Rattle.ss_grammar.proofs.Tools.{bind_ok, carry, or_false}
+use Rattle.ss_grammar.proofs.Marks.{token, mark_begins, token_less, In_table}
+use Rattle.ss_grammar.proofs.Depth.{upto_same, Bounded, bounded_bind}
+use Rattle.ss_grammar.proofs.ReaderLaws.{Reads, Item, nowise, Made, item_of, item_marked, expect_reads, taken_reads, seq_reads, marked_reads, closed_reads, made_reads, behind_reads, said_reads, before_mark_reads, maybe_reads, choose_reads}
+use Rattle.ss_grammar.proofs.Rows.{with_front, with_front_more}
+use Rattle.ss_grammar.proofs.WordLaws.{expect_class_reads, one_begins, one_less, done_reads, perhaps_listed_reads, either_reads, item_made, no_word, no_class}
+use Rattle.ss_grammar.proofs.ExpressionLaws.{In, sum_in_reads, continues_sum}
+use Rattle.ss_grammar.proofs.PlaceLaws.{target_in_reads, targets_in_reads, sums_in_reads, continues_place, continues_targets, continues_sums}
+use Rattle.ss_grammar.proofs.ConditionLaws.{the_set_reads, stops_place}
+use Rattle.ss_parse.specs.SpelledStatements.{Trigger, Picture_is, Called, Position_is, When_is}
+use Rattle.ss_parse.specs.ReadStatements.{called, positive, positive_of, items_in, trigger, picture_of, pictures_at, given_in, yielding_in, position_in, when_in, due_in, set_in, print_head}
 
 -- ---- PRINT
 
 pub items_in_reads : (n m : ℕ) → n ≤ m → Reads n (items_in n) (items_in m) (perhaps_listed (Word_is words.With) (In n)) (λ ts. begins (word words.With) ts || continues_sums ts)
-unfolding items_in
 items_in_reads n m le = perhaps_listed_reads (item_marked (word words.With) (sums_in_reads n m le))
 
 pub trigger_reads : (k : ℕ) → Reads k trigger trigger (λ u. Trigger) nowise
@@ -227,11 +140,11 @@ pictures_reads k n = record { sound = sound n; complete = λ ts ps rest s stop. 
 
 -- ---- the loop over the pictures
 
-pub picture_grows : (front : List (List ℕ)) (count i : ℕ) (ts : List Token) (p : List ℕ) (after : List Token) (total : Result (List (List ℕ) × List Token) Fault) → i < count → taken picture_of ts ≡ Ok (p, after) → with_front front (pictures_at (count - i) ts) ≡ total → with_front (front ++ p ∷ []) (pictures_at (count - (i + 1)) after) ≡ total
+pub picture_grows : (front : List (List ℕ)) (count i : ℕ) (ts : List Token) (p : List ℕ) (left : List Token) (total : Result (List (List ℕ) × List Token) Fault) → i < count → taken picture_of ts ≡ Ok (p, left) → with_front front (pictures_at (count - i) ts) ≡ total → with_front (front ++ p ∷ []) (pictures_at (count - (i + 1)) left) ≡ total
 unfolding pictures_at
-picture_grows front count i ts p after total lt h so_far =
+picture_grows front count i ts p left total lt h so_far =
     let k : count - i ≡ suc (count - (i + 1)) = omega arith in
-    let one : with_front front (pictures_at (count - i) ts) ≡ with_front (front ++ p ∷ []) (pictures_at (count - (i + 1)) after) = rw (k, h) (sym (with_front_more front p (pictures_at (count - (i + 1)) after))) in
+    let one : with_front front (pictures_at (count - i) ts) ≡ with_front (front ++ p ∷ []) (pictures_at (count - (i + 1)) left) = rw (k, h) (sym (with_front_more front p (pictures_at (count - (i + 1)) left))) in
     sym one ∙ so_far
 
 pub picture_breaks : (front : List (List ℕ)) (count i : ℕ) (ts : List Token) (e : Failure) (total : Result (List (List ℕ) × List Token) Fault) → i < count → Fails e (taken picture_of ts) → with_front front (pictures_at (count - i) ts) ≡ total → Fails e total
@@ -248,3 +161,225 @@ pictures_done front count i ts total le so_far =
     let k : count - i ≡ 0 = omega arith in
     let one : with_front front (pictures_at (count - i) ts) ≡ Ok (front, ts) = rw k (ap (λ (ps : List (List ℕ)). Ok (ps, ts)) (append-nil front)) in
     sym so_far ∙ one
+
+-- ---- words that may follow a statement and go on with it
+
+abbrev pub statement_more : Word → Bool
+statement_more words.Called = true
+statement_more words.Given = true
+statement_more words.Giving = true
+statement_more words.Yielding = true
+statement_more words.First = true
+statement_more words.Last = true
+statement_more words.Before = true
+statement_more words.After = true
+statement_more _ = false
+
+given_more : (w : Word) → has_word classes.Given w ≡ true → statement_more w ≡ true
+given_more words.Given e = refl
+given_more words.Giving e = refl
+given_more _ e = absurd cc
+
+-- what continues a simple statement
+abbrev pub continues_simple : List Token → Bool
+continues_simple ts = begins_among statement_more ts || (begins_more begins_sum ts || (begins_more begins_target ts || (begins_more begins_name ts || continues_sum ts)))
+
+-- what doesn't continue a simple statement continues none of its parts
+pub record Ended (ts : List Token) : Type 0 where
+  pub no_more : begins_among statement_more ts ≡ false
+  pub no_sums : begins_more begins_sum ts ≡ false
+  pub no_targets : begins_more begins_target ts ≡ false
+  pub no_names : begins_more begins_name ts ≡ false
+  pub no_sum : continues_sum ts ≡ false
+
+pub ended : (ts : List Token) → continues_simple ts ≡ false → Ended ts
+ended ts stop =
+    let a = or_false (begins_among statement_more ts) _ stop in
+    let b = or_false (begins_more begins_sum ts) _ a.1 in
+    let c = or_false (begins_more begins_target ts) _ b.1 in
+    let d = or_false (begins_more begins_name ts) _ c.1 in
+    record { no_more = a.0; no_sums = b.0; no_targets = c.0; no_names = d.0; no_sum = d.1 }
+
+module _ (ts : List Token) (over : Ended ts) where
+  pub over_word : (w : Word) → statement_more w ≡ true → begins (word w) ts ≡ false
+  over_word w held = no_word statement_more w held ts over.no_more
+
+  pub over_place : continues_place ts ≡ false
+  over_place = stops_place ts over.no_sum
+
+  pub over_sums : continues_sums ts ≡ false
+  over_sums = let a : begins_more begins_sum ts ≡ false = over.no_sums in let b : continues_sum ts ≡ false = over.no_sum in rw (a, b) refl
+
+  pub over_targets : continues_targets ts ≡ false
+  over_targets = let a : begins_more begins_target ts ≡ false = over.no_targets in let b : continues_place ts ≡ false = over_place in rw (a, b) refl
+
+  pub over_given : (begins_class classes.Given ts || continues_sums ts) ≡ false
+  over_given = let a : begins_class classes.Given ts ≡ false = no_class statement_more classes.Given given_more ts over.no_more in let b : continues_sums ts ≡ false = over_sums in rw (a, b) refl
+
+  pub over_yielding : (begins (word words.Yielding) ts || continues_targets ts) ≡ false
+  over_yielding = let a : begins (word words.Yielding) ts ≡ false = over_word words.Yielding refl in let b : continues_targets ts ≡ false = over_targets in rw (a, b) refl
+
+  pub over_called : (begins (word words.Called) ts || continues_sum ts) ≡ false
+  over_called = let a : begins (word words.Called) ts ≡ false = over_word words.Called refl in let b : continues_sum ts ≡ false = over.no_sum in rw (a, b) refl
+
+  pub over_called_place : (begins (word words.Called) ts || continues_place ts) ≡ false
+  over_called_place = let a : begins (word words.Called) ts ≡ false = over_word words.Called refl in let b : continues_place ts ≡ false = over_place in rw (a, b) refl
+
+-- ---- parts, where so many levels may be opened behind the first word
+
+module _ (n m : ℕ) (le : n ≤ m) where
+  pub sum_reads : Reads (suc n) (sum_in (suc n)) (sum_in (suc m)) (λ e. Sum_is n e) continues_sum
+  sum_reads = sum_in_reads (suc n) (suc m) (omega arith)
+
+  pub target_reads : Reads (suc n) (target_in (suc n)) (target_in (suc m)) (λ t. Target_is n t) continues_place
+  target_reads = target_in_reads (suc n) (suc m) (omega arith)
+
+  pub set_reads : Reads (suc n) (set_in (suc n)) (set_in (suc m)) (λ set. the ▷ Reference_is n set) continues_place
+  set_reads = the_set_reads n m le
+
+  pub given_reads : Reads (suc n) (given_in (suc n)) (given_in (suc m)) (perhaps_listed (One_of classes.Given) (Sum_is n)) (λ ts. begins_class classes.Given ts || continues_sums ts)
+  given_reads = perhaps_listed_reads (item_of (begins_class classes.Given) (behind_reads (expect_class_reads (suc n) classes.Given) (sums_in_reads (suc n) (suc m) (omega arith)) (λ xs ts rest s stop. refl)) (λ ts xs rest s. one_begins classes.Given ts s.0 s.1)
+      (λ ts xs rest s. omega (arith, one_less classes.Given ts s.0 s.1, (sums_in_reads (suc n) (suc m) (omega arith)).shorter s.0 xs rest s.2)))
+
+  pub yielding_reads : Reads (suc n) (yielding_in (suc n)) (yielding_in (suc m)) (perhaps_listed (Word_is words.Yielding) (Target_is n)) (λ ts. begins (word words.Yielding) ts || continues_targets ts)
+  yielding_reads = perhaps_listed_reads (item_marked (word words.Yielding) (targets_in_reads (suc n) (suc m) (omega arith)))
+
+  pub called_sum_reads : Reads (suc n) (called (sum_in (suc n))) (called (sum_in (suc m))) (Called (Sum_is n)) (λ ts. begins (word words.Called) ts || continues_sum ts)
+  called_sum_reads = maybe_reads (item_marked (word words.Called) sum_reads)
+
+  pub called_target_reads : Reads (suc n) (called (target_in (suc n))) (called (target_in (suc m))) (Called (Target_is n)) (λ ts. begins (word words.Called) ts || continues_place ts)
+  called_target_reads = maybe_reads (item_marked (word words.Called) target_reads)
+
+  -- ---- where a member is filed: always before IN
+
+  abbrev pub Position_then : PositionTree × NamedTree → Shape
+  Position_then p = Position_is n p.0 ▷ Word_is words.In ▷ (the ▷ Reference_is n p.1)
+
+  word_item : {A : Type 0} (w : Word) (f : Unit {0} → A) → Item (suc n) (begins (word w)) (apply f (expect (word w))) (apply f (expect (word w))) (Made f (λ u. Word_is w)) nowise
+  word_item w f = item_of (begins (word w)) (made_reads (expect_reads (suc n) (word w)) f) (λ ts x rest s. mark_begins (word w) ts rest s.2) (λ ts x rest s. omega (arith, token_less (kinds.Word w) ts rest s.2))
+
+  -- what continues the place where a member is filed
+  abbrev pub continues_position : List Token → Bool
+  continues_position ts = begins_among statement_more ts || continues_sum ts
+
+  abbrev After_is : PositionTree → Shape
+  After_is x = either (Made after (λ e. Word_is words.After ▷ Sum_is n e) x) (provided (by_discipline ≡ x) nothing)
+
+  abbrev Before_is : PositionTree → Shape
+  Before_is x = either (Made before (λ e. Word_is words.Before ▷ Sum_is n e) x) (After_is x)
+
+  abbrev Last_is : PositionTree → Shape
+  Last_is x = either (Made (λ (u : Unit {0}). at_last) (λ (u : Unit {0}). Word_is words.Last) x) (Before_is x)
+
+  abbrev First_is : PositionTree → Shape
+  First_is x = either (Made (λ (u : Unit {0}). at_first) (λ (u : Unit {0}). Word_is words.First) x) (Last_is x)
+
+  position_word : (ts : List Token) → continues_position ts ≡ false → (w : Word) → statement_more w ≡ true → begins (word w) ts ≡ false
+  position_word ts stop w held = no_word statement_more w held ts (or_false (begins_among statement_more ts) (continues_sum ts) stop).0
+
+  position_sum : (ts : List Token) → continues_position ts ≡ false → continues_sum ts ≡ false
+  position_sum ts stop = (or_false (begins_among statement_more ts) (continues_sum ts) stop).1
+
+  after_late : (w : Word) → statement_more w ≡ true → is (word w) (kinds.Word words.After) ≡ false → (x : PositionTree) (ts rest : List Token) → After_is x ts rest → continues_position rest ≡ false → begins (word w) ts ≡ false
+  after_late w held other x ts rest (inl (e, q, (a, (span, line, f), s))) stop = ap (begins (word w)) f ∙ other
+  after_late w held other x ts rest (inr (q, e)) stop = ap (begins (word w)) e ∙ position_word rest stop w held
+
+  before_late : (w : Word) → statement_more w ≡ true → is (word w) (kinds.Word words.After) ≡ false → is (word w) (kinds.Word words.Before) ≡ false → (x : PositionTree) (ts rest : List Token) → Before_is x ts rest → continues_position rest ≡ false → begins (word w) ts ≡ false
+  before_late w held other other' x ts rest (inl (e, q, (a, (span, line, f), s))) stop = ap (begins (word w)) f ∙ other'
+  before_late w held other other' x ts rest (inr s) stop = after_late w held other x ts rest s stop
+
+  last_late : (x : PositionTree) (ts rest : List Token) → Last_is x ts rest → continues_position rest ≡ false → begins (word words.First) ts ≡ false
+  last_late x ts rest (inl (e, q, (span, line, f))) stop = ap (begins (word words.First)) f
+  last_late x ts rest (inr s) stop = before_late words.First refl refl refl x ts rest s stop
+
+  position_any_reads : Reads (suc n) (position_in (suc n)) (position_in (suc m)) First_is continues_position
+  unfolding position_in
+  position_any_reads =
+      either_reads (word_item words.First (λ u. at_first))
+      (either_reads (word_item words.Last (λ u. at_last))
+      (either_reads (item_made (word words.Before) sum_reads before)
+      (either_reads (item_made (word words.After) sum_reads after) (done_reads (suc n) by_discipline) continues_position (λ ts stop. (position_sum ts stop, refl)) (λ x ts rest s stop. ap (begins (word words.After)) s.1 ∙ position_word rest stop words.After refl))
+      continues_position (λ ts stop. (position_sum ts stop, stop)) (after_late words.Before refl refl))
+      continues_position (λ ts stop. (refl, stop)) (before_late words.Last refl refl refl))
+      continues_position (λ ts stop. (refl, stop)) last_late
+
+  position_to : (x : PositionTree) (ts rest : List Token) → First_is x ts rest → Position_is n x ts rest
+  position_to x ts rest (inl (u, q, s)) = subst (λ x. Position_is n x ts rest) q s
+  position_to x ts rest (inr (inl (u, q, s))) = subst (λ x. Position_is n x ts rest) q s
+  position_to x ts rest (inr (inr (inl (e, q, s)))) = subst (λ x. Position_is n x ts rest) q s
+  position_to x ts rest (inr (inr (inr (inl (e, q, s))))) = subst (λ x. Position_is n x ts rest) q s
+  position_to x ts rest (inr (inr (inr (inr (q, s))))) = subst (λ x. Position_is n x ts rest) q s
+
+  position_from : (x : PositionTree) (ts rest : List Token) → Position_is n x ts rest → First_is x ts rest
+  position_from by_discipline ts rest s = inr (inr (inr (inr (refl, s))))
+  position_from at_first ts rest s = inl (tt, refl, s)
+  position_from at_last ts rest s = inr (inl (tt, refl, s))
+  position_from (before e) ts rest s = inr (inr (inl (e, refl, s)))
+  position_from (after e) ts rest s = inr (inr (inr (inl (e, refl, s))))
+
+  pub position_reads : Reads (suc n) (position_in (suc n)) (position_in (suc m)) (Position_is n) continues_position
+  position_reads = said_reads position_any_reads (Position_is n) position_to position_from
+
+  -- it doesn't continue the member
+  pub position_stops : (x : PositionTree) (ts a : List Token) → Position_is n x ts a → continues_sum a ≡ false → continues_sum ts ≡ false
+  position_stops by_discipline ts a s stop = ap continues_sum s ∙ stop
+  position_stops at_first ts a (span, line, e) stop = ap continues_sum e
+  position_stops at_last ts a (span, line, e) stop = ap continues_sum e
+  position_stops (before x) ts a (b, (span, line, e), s) stop = ap continues_sum e
+  position_stops (after x) ts a (b, (span, line, e), s) stop = ap continues_sum e
+
+  -- ---- when a notice is due
+
+  abbrev In_units_or_now : WhenTree → Shape
+  In_units_or_now x = either (Made in_units (λ e. Word_is words.In ▷ Sum_is n e ▷ Word_is words.Unit) x) (Made (λ (u : Unit {0}). now) (λ (u : Unit {0}). Word_is words.Now) x)
+
+  now_late : (x : WhenTree) (ts rest : List Token) → Made (λ (u : Unit {0}). now) (λ (u : Unit {0}). Word_is words.Now) x ts rest → begins (word words.In) ts ≡ false
+  now_late x ts rest (u, q, (span, line, e)) = ap (begins (word words.In)) e
+
+  in_late : (x : WhenTree) (ts rest : List Token) → In_units_or_now x ts rest → begins (word words.At) ts ≡ false
+  in_late x ts rest (inl (e, q, (a, (span, line, f), s))) = ap (begins (word words.At)) f
+  in_late x ts rest (inr (u, q, (span, line, f))) = ap (begins (word words.At)) f
+
+  pub when_reads : Reads (suc n) (when_in (suc n)) (when_in (suc m)) (When_is n) continues_sum
+  unfolding when_in
+  when_reads =
+      said_reads (either_reads (item_made (word words.At) sum_reads at_time)
+      (either_reads (item_made (word words.In) (before_mark_reads (word words.Unit) sum_reads (λ span line ts. refl)) in_units) (made_reads (expect_reads (suc n) (word words.Now)) (λ u. now)) continues_sum (λ ts stop. (refl, refl)) (λ x ts rest s stop. now_late x ts rest s))
+      continues_sum (λ ts stop. (stop, stop)) (λ x ts rest s stop. in_late x ts rest s))
+      (When_is n) to from
+    where
+      to : (x : WhenTree) (ts rest : List Token) → either (Made at_time (λ e. Word_is words.At ▷ Sum_is n e) x) (In_units_or_now x) ts rest → When_is n x ts rest
+      to x ts rest (inl (e, q, s)) = subst (λ x. When_is n x ts rest) q s
+      to x ts rest (inr (inl (e, q, s))) = subst (λ x. When_is n x ts rest) q s
+      to x ts rest (inr (inr (u, q, s))) = subst (λ x. When_is n x ts rest) q s
+
+      from : (x : WhenTree) (ts rest : List Token) → When_is n x ts rest → either (Made at_time (λ e. Word_is words.At ▷ Sum_is n e) x) (In_units_or_now x) ts rest
+      from (at_time e) ts rest s = inl (e, refl, s)
+      from (in_units e) ts rest s = inr (inl (e, refl, s))
+      from now ts rest s = inr (inr (tt, refl, s))
+
+  when_stops : (x : WhenTree) (ts rest : List Token) → When_is n x ts rest → (begins_class classes.Given ts || continues_sums ts) ≡ false
+  when_stops (at_time e) ts rest (a, (span, line, f), s) = rw f refl
+  when_stops (in_units e) ts rest (a, (span, line, f), s) = rw f refl
+  when_stops now ts rest (span, line, f) = rw f refl
+
+  abbrev pub Due_is : List ExpressionTree × WhenTree → Shape
+  Due_is p = perhaps_listed (One_of classes.Given) (Sum_is n) p.0 ▷ When_is n p.1
+
+  pub due_reads : Reads (suc n) (due_in (suc n)) (due_in (suc m)) Due_is continues_sum
+  due_reads = seq_reads given_reads when_reads (λ x ts rest s stop. when_stops x ts rest s)
+
+  given_word_stops : (c : List Token → Bool) → ((span : Span) (line : Line) (rest : List Token) → c (token (kinds.Word words.Given) span line ∷ rest) ≡ false) → ((span : Span) (line : Line) (rest : List Token) → c (token (kinds.Word words.Giving) span line ∷ rest) ≡ false) → (ts a : List Token) → One_of classes.Given ts a → c ts ≡ false
+  given_word_stops c on_given on_giving ts a (w, held, at) = go w held at
+    where
+      go : (w : Word) → has_word classes.Given w ≡ true → Word_is w ts a → c ts ≡ false
+      go words.Given e (span, line, f) = ap c f ∙ on_given span line a
+      go words.Giving e (span, line, f) = ap c f ∙ on_giving span line a
+      go _ e at = absurd cc
+
+  -- what is given, and when, continues nothing behind CALLED
+  pub due_stops : (p : List ExpressionTree × WhenTree) (ts rest : List Token) → Due_is p ts rest → (begins (word words.Called) ts || continues_sum ts) ≡ false
+  due_stops ([], at_time x) ts rest (a, e, (b, (span, line, f), s)) = rw (e, f) refl
+  due_stops ([], in_units x) ts rest (a, e, (b, (span, line, f), s)) = rw (e, f) refl
+  due_stops ([], now) ts rest (a, e, (span, line, f)) = rw (e, f) refl
+  due_stops (x ∷ xs, w) ts rest (a, (b, given, s), t) = given_word_stops (λ ts. begins (word words.Called) ts || continues_sum ts) (λ span line rest. refl) (λ span line rest. refl) ts b given

@@ -1,11 +1,5 @@
-pub mod Shapes
-pub mod SpelledExpressions
-pub mod SpelledConditions
 pub mod SpelledStatements
 pub mod SpelledPrograms
-pub mod Openers
-pub mod Reading
-pub mod ReadExpressions
 pub mod ReadStatements
 pub mod ReadPrograms
 pub mod Promise

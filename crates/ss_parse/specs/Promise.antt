@@ -5,7 +5,7 @@ use Rattle.ss_lex.specs.declared.token.Token.{Token}
 use Rattle.ss_parse.specs.declared.error.ParseError.{ParseError}
 use Rattle.ss_parse.specs.declared.error.ParseError.TheVariants as errors
 use Rattle.ss_tree.specs.Tree.{ProgramTree}
-use Rattle.ss_parse.specs.Openers.{openers}
+use Rattle.ss_grammar.specs.Openers.{openers}
 use Rattle.ss_parse.specs.SpelledPrograms.{Spell}
 
 -- The tokens have no tree of so many levels.

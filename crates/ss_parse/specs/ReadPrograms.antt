@@ -1,17 +1,20 @@
 -- Reading programs from left to right.
-use Rattle.std.specs.Prelude.{◌≡◌, ℕ, zero, suc, Bool, true, false, ◌||◌, ◌&&◌, List, [], ◌∷◌, length, Option, Some, None, Result, Ok, Err, if◌then◌else◌}
+use Rattle.std.specs.Prelude.{ℕ, suc, Bool, true, false, List, [], ◌∷◌, Result, Ok, Err}
 use Rattle.ss_base.specs.declared.line.Line.{Line}
 use Rattle.ss_lex.specs.declared.word.Word.{Word}
 use Rattle.ss_lex.specs.declared.word.Word.TheVariants as words
 use Rattle.ss_lex.specs.declared.token.TokenKind.{TokenKind}
 use Rattle.ss_lex.specs.declared.token.TokenKind.TheVariants as kinds
 use Rattle.ss_lex.specs.declared.token.Token.{Token}
-use Rattle.ss_parse.specs.declared.failure.Fault.{Fault}
-use Rattle.ss_parse.specs.declared.failure.Fault.TheVariants.{Syntax, TooDeep}
-use Rattle.ss_tree.specs.Tree.{PreambleTree, normally, SectionTree, main, ProgramTree, StatementTree}
-use Rattle.ss_parse.specs.Reading.{Reader, ◌>>=◌, Mark, word, symbol, begins, skip, expect, in_table, taken, seq, behind, closed, apply, lined, maybe_list, rows, skip_comma}
+use Rattle.ss_grammar.specs.declared.failure.Fault.{Fault}
+use Rattle.ss_grammar.specs.declared.failure.Fault.TheVariants.{Syntax}
+use Rattle.ss_tree.specs.declared.preamble.Mode.{Mode}
+use Rattle.ss_tree.specs.Tree.{PreambleTree, normally, DefinitionTree, SectionKindTree, main, routine, event, SectionTree, ProgramTree, StatementTree}
+use Rattle.ss_grammar.specs.declared.classes.Class.TheVariants as classes
+use Rattle.ss_grammar.specs.ReadWords.{done, fail, skip_class, begins_among, names}
+use Rattle.ss_grammar.specs.Reading.{Reader, ◌>>=◌, word, begins, expect, in_table, taken, name_of, flag, seq, behind, closed, apply, lined, maybe_list, rows, skip_comma}
 use Rattle.ss_parse.specs.SpelledPrograms.{mode_of}
-use Rattle.ss_parse.specs.ReadStatements.{statements_in}
+use Rattle.ss_parse.specs.ReadStatements.{by_word, behind_the, statements_in}
 
 -- ---- preambles
 
@@ -53,18 +56,64 @@ whole_preamble = maybe_list (begins (word words.Preamble)) (behind (expect (word
 
 -- ---- sections
 
-abbrev pub main_tree : Line → List StatementTree → SectionTree
-main_tree line body = record { line = line; kind = main; definitions = []; body = body }
+abbrev pub section_words : Word → Bool
+section_words words.Main = true
+section_words words.Routine = true
+section_words words.Event = true
+section_words _ = false
 
 abbrev pub begins_section : List Token → Bool
-begins_section = begins (word words.Main)
+begins_section = begins_among section_words
 
--- a section that begins in this line
-unfoldable pub section_at : ℕ → Line → Reader SectionTree
-section_at room line = apply (main_tree line) (behind (expect (word words.Main)) (closed (statements_in room) (expect (word words.End))))
+abbrev pub given_names : Reader (List (List ℕ))
+given_names = maybe_list (begins (word words.Given)) (behind (expect (word words.Given)) names)
+
+abbrev pub yielding_names : Reader (List (List ℕ))
+yielding_names = maybe_list (begins (word words.Yielding)) (behind (expect (word words.Yielding)) names)
+
+unfoldable pub saving : Reader Bool
+saving = flag (begins (word words.Saving)) (behind (expect (word words.Saving)) (behind_the (behind (expect (word words.Event)) (expect (word words.Notice)))))
+
+unfoldable pub routine_kind : Reader SectionKindTree
+routine_kind = apply (λ p. routine p.0 p.1.0 p.1.1) (λ ts. seq (taken name_of) (seq given_names yielding_names) (skip_class classes.Towards ts))
+
+unfoldable pub event_kind : Reader SectionKindTree
+event_kind = apply (λ p. event p.0 p.1.0 p.1.1) (seq (taken name_of) (seq given_names saving))
+
+-- the header of a section, behind its first word
+abbrev pub kind_at : Word → Reader SectionKindTree
+kind_at words.Main = done main
+kind_at words.Routine = routine_kind
+kind_at words.Event = event_kind
+kind_at _ = fail
+
+-- names and their mode, behind DEFINE
+unfoldable pub variables : Reader (List (List ℕ) × Mode)
+variables = seq names (behind (expect (word words.As)) (λ ts. closed (taken (in_table mode_of)) (expect (word words.Variable)) (skip_class classes.Article ts)))
+
+abbrev pub definition_tree : Line → List (List ℕ) × Mode → DefinitionTree
+definition_tree line p = record { line = line; names = p.0; mode = p.1 }
+
+unfoldable pub definition_at : Line → Reader DefinitionTree
+definition_at line = apply (definition_tree line) (behind (expect (word words.Define)) variables)
+
+abbrev pub definition : Reader DefinitionTree
+definition = lined definition_at
+
+abbrev pub definitions : Reader (List DefinitionTree)
+definitions = rows (begins (word words.Define)) definition
+
+abbrev pub body_in : ℕ → Reader (List DefinitionTree × List StatementTree)
+body_in room = seq definitions (closed (statements_in room) (expect (word words.End)))
+
+abbrev pub section_tree : Line → SectionKindTree × (List DefinitionTree × List StatementTree) → SectionTree
+section_tree line p = record { line = line; kind = p.0; definitions = p.1.0; body = p.1.1 }
+
+unfoldable pub section_at : ℕ → Line → Word → Reader SectionTree
+section_at room line w = apply (section_tree line) (seq (kind_at w) (body_in room))
 
 abbrev pub section_in : ℕ → Reader SectionTree
-section_in room = lined (section_at room)
+section_in room = by_word (section_at room)
 
 -- ---- programs
 

@@ -1,21 +1,14 @@
 -- Which tokens spell a program.
-use Rattle.std.specs.Prelude.{◌≡◌, ℕ, zero, suc, ◌⊎◌, List, [], ◌∷◌, Option, Some, None, Bool, true, false}
+use Rattle.std.specs.Prelude.{ℕ, List, [], ◌∷◌, Option, Some, None}
 use Rattle.ss_lex.specs.declared.token.Token.{Token}
 use Rattle.ss_lex.specs.declared.word.Word.{Word}
 use Rattle.ss_lex.specs.declared.word.Word.TheVariants as words
-use Rattle.ss_lex.specs.declared.token.Symbol.TheVariants.{Comma}
 use Rattle.ss_tree.specs.declared.preamble.Mode.{Mode}
 use Rattle.ss_tree.specs.declared.preamble.Mode.TheVariants as modes
-use Rattle.ss_tree.specs.declared.preamble.ClassKind.{ClassKind}
-use Rattle.ss_tree.specs.declared.preamble.ClassKind.TheVariants as classes
-use Rattle.ss_tree.specs.declared.preamble.Key.{Key}
-use Rattle.ss_tree.specs.declared.preamble.Weighting.{Weighting}
-use Rattle.ss_tree.specs.declared.preamble.Weighting.TheVariants as weightings
-use Rattle.ss_tree.specs.declared.preamble.StatisticKind.{StatisticKind}
-use Rattle.ss_tree.specs.declared.preamble.StatisticKind.TheVariants as statistics_kinds
-use Rattle.ss_tree.specs.declared.preamble.Statistic.{Statistic}
-use Rattle.ss_tree.specs.Tree.{ClauseTree, has, owns, belongs_to, OrderTree, fifo, lifo, ranked, PreambleTree, permanent_entities, temporary_entities, event_notices, every, normally, system_owns, define_variables, define_sets, priority_order, break_ties, statistics, DefinitionTree, SectionKindTree, main, routine, event, SectionTree, ProgramTree}
-use Rattle.ss_parse.specs.Shapes.{Shape, ◌▷◌, nothing, never, either, optional, provided, Word_is, Symbol_is, Name_is, Said, noise, separator, each, first_and, listed, perhaps, flagged, at}
+use Rattle.ss_tree.specs.Tree.{PreambleTree, normally, DefinitionTree, SectionKindTree, main, routine, event, SectionTree, ProgramTree}
+use Rattle.ss_grammar.specs.Shapes.{Shape, ◌▷◌, nothing, never, optional, Word_is, Name_is, Said, noise, each, listed, flagged, at}
+use Rattle.ss_grammar.specs.declared.classes.Class.TheVariants as alike
+use Rattle.ss_grammar.specs.Words.{One_of, the, perhaps_listed}
 use Rattle.ss_parse.specs.SpelledStatements.{Statement_is}
 
 -- ---- parts of preambles
@@ -36,18 +29,31 @@ Preamble_from _ = never
 
 -- ---- programs
 
--- sections but MAIN aren't read yet
-abbrev pub Kind_is : SectionKindTree → Shape
-Kind_is main = Word_is words.Main
-Kind_is _ = never
+-- the word that a section begins with
+abbrev pub section_word : SectionKindTree → Word
+section_word main = words.Main
+section_word (routine name given yielding) = words.Routine
+section_word (event name given saving) = words.Event
 
--- nor are definitions in sections
-abbrev pub Definitions_are : List DefinitionTree → Shape
-Definitions_are [] = nothing
-Definitions_are (d ∷ ds) = never
+abbrev pub Saving_words : Shape
+Saving_words = Word_is words.Saving ▷ the ▷ Word_is words.Event ▷ Word_is words.Notice
+
+-- the header of a section behind its first word
+abbrev pub Kind_behind : SectionKindTree → Shape
+Kind_behind main = nothing
+Kind_behind (routine name given yielding) =
+    optional (One_of alike.Towards) ▷ Name_is name ▷ perhaps_listed (Word_is words.Given) Name_is given ▷ perhaps_listed (Word_is words.Yielding) Name_is yielding
+Kind_behind (event name given saving) = Name_is name ▷ perhaps_listed (Word_is words.Given) Name_is given ▷ flagged Saving_words saving
+
+-- names and their mode, behind DEFINE
+abbrev pub Variables_are : List (List ℕ) × Mode → Shape
+Variables_are p = listed Name_is p.0 ▷ Word_is words.As ▷ optional (One_of alike.Article) ▷ Said mode_of p.1 ▷ Word_is words.Variable
+
+abbrev pub Definition_is : DefinitionTree → Shape
+Definition_is d = at d.line (Word_is words.Define ▷ Variables_are (d.names, d.mode))
 
 abbrev pub Section_is : ℕ → SectionTree → Shape
-Section_is levels s = at s.line (Kind_is s.kind ▷ Definitions_are s.definitions ▷ each (Statement_is levels) s.body ▷ Word_is words.End)
+Section_is levels s = at s.line (Word_is (section_word s.kind) ▷ Kind_behind s.kind ▷ each Definition_is s.definitions ▷ each (Statement_is levels) s.body ▷ Word_is words.End)
 
 -- a preamble, which may be left out where it would be empty
 abbrev pub Whole_preamble : List PreambleTree → Shape

@@ -2,7 +2,6 @@
 #![tactic(auto)]
 
 mod error;
-mod failure;
 mod parser;
 mod reading;
 

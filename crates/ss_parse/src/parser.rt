@@ -6,9 +6,9 @@ ghost use Rattle.ss_parse.specs.SpelledPrograms.{Spell};
 ghost use Rattle.ss_parse.specs.Promise.{Is_refused, Has_line, Line_of_one, One_tree};
 
 use crate::error::ParseError;
-use crate::failure::{Failure, Fault};
 use crate::reading::programs::program;
 use ss_base::Line;
+use ss_grammar::failure::{Failure, Fault};
 use ss_lex::{Token, Tokens};
 use ss_tree::program::Program;
 use std::alloc::Global;

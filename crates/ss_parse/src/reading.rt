@@ -1,6 +1,6 @@
 //! Reading tokens from left to right.
 
-pub mod expressions;
+pub mod parts;
 pub mod programs;
+pub mod simple;
 pub mod statements;
-pub mod tokens;

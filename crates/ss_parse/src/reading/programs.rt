@@ -1,19 +1,22 @@
 //! Programs.
 
 ghost use Rattle.std.specs.Prelude.{◌≡◌, map};
-ghost use Rattle.ss_parse.specs.Shapes.{first_line};
-ghost use Rattle.ss_tree.specs.View.{view_preamble, view_section, view_program};
+ghost use Rattle.ss_grammar.specs.Shapes.{first_line};
+ghost use Rattle.ss_tree.specs.View.{view_preamble, view_definition, view_kind, view_section, view_program};
 ghost use Rattle.ss_parse.specs.SpelledPrograms.{mode_of};
-ghost use Rattle.ss_parse.specs.Reading.{Gives, taken, in_table, rows};
-ghost use Rattle.ss_parse.specs.ReadPrograms.{normally_at, begins_preamble, preamble_from, preambles, whole_preamble, begins_section, section_at, section_in, program_in, program_of};
+ghost use Rattle.ss_grammar.specs.Reading.{Gives, word, begins, expect, behind, maybe_list, taken, in_table, rows};
+ghost use Rattle.ss_grammar.specs.ReadWords.{names};
+ghost use Rattle.ss_parse.specs.ReadPrograms.{normally_at, begins_preamble, preamble_from, preambles, whole_preamble, begins_section, saving, routine_kind, event_kind, kind_at, variables, definition, definitions, section_at, section_in, program_in, program_of};
 
-use crate::failure::Failure;
 use crate::reading::statements::statements;
-use crate::reading::tokens::{begins_word, expect_word, skip_symbol, syntax};
 use ss_base::Line;
-use ss_lex::{Symbol, Token, TokenKind, Word};
+use ss_grammar::classes::{Class, skip_class};
+use ss_grammar::failure::Failure;
+use ss_grammar::names::{name, names};
+use ss_grammar::tokens::{begins_word, behind_first, expect_word, skip_symbol, skip_word, syntax};
+use ss_lex::{Name, Symbol, Token, TokenKind, Word};
 use ss_tree::preamble::{Mode, PreambleStatement};
-use ss_tree::program::{Program, Section, SectionKind};
+use ss_tree::program::{LocalDefinition, Program, Section, SectionKind};
 use std::alloc::Global;
 
 /// The levels of nesting that may be open at a place.
@@ -125,22 +128,169 @@ fn preamble(alloc: Global, tokens: &[Token]) -> Result<(Vec<PreambleStatement>, 
     Ok((statements, rest))
 }
 
-/// A section.
-#[tactic(auto, unfolding(crate::specs::ReadPrograms::section_at))]
-fn section(alloc: Global, tokens: &[Token], room: u8) -> Result<(Section, &[Token]), Failure>
-    ensures { Gives (λ x. (view_section x.0, x.1.now)) result (section_in room tokens.now) }
+/// Names behind the word, if it is there.
+fn names_behind(
+    alloc: Global,
+    tokens: &[Token],
+    wanted: Word,
+) -> Result<(Vec<Name>, &[Token]), Failure>
+    ensures { Gives (λ x. (x.0.items, x.1.now)) result (maybe_list (begins (word wanted)) (behind (expect (word wanted)) names) tokens.now) }
+{
+    if !begins_word(tokens, wanted) {
+        return Ok((Vec::new(alloc), tokens));
+    }
+    let rest = expect_word(tokens, wanted)?;
+    names(alloc, rest)
+}
+
+/// Whether SAVING THE EVENT NOTICE is first.
+#[tactic(auto, unfolding(crate::specs::ReadPrograms::saving))]
+fn saving(tokens: &[Token]) -> Result<(bool, &[Token]), Failure>
+    ensures { Gives (λ x. (x.0, x.1.now)) result (saving tokens.now) }
+{
+    if !begins_word(tokens, Word::Saving) {
+        return Ok((false, tokens));
+    }
+    let rest = expect_word(tokens, Word::Saving)?;
+    let rest = expect_word(skip_word(rest, Word::The), Word::Event)?;
+    let rest = expect_word(rest, Word::Notice)?;
+    Ok((true, rest))
+}
+
+/// The header of a routine behind its first word.
+#[tactic(auto, unfolding(crate::specs::ReadPrograms::routine_kind))]
+fn routine(alloc: Global, tokens: &[Token]) -> Result<(SectionKind, &[Token]), Failure>
+    ensures { Gives (λ x. (view_kind x.0, x.1.now)) result (routine_kind tokens.now) }
+{
+    let rest = skip_class(tokens, Class::Towards);
+    let name = name(rest)?;
+    let (given, rest) = names_behind(alloc, behind_first(rest), Word::Given)?;
+    let (yielding, rest) = names_behind(alloc, rest, Word::Yielding)?;
+    let kind = SectionKind::Routine {
+        name,
+        given,
+        yielding,
+    };
+    Ok((kind, rest))
+}
+
+/// The header of an event routine behind its first word.
+#[tactic(auto, unfolding(crate::specs::ReadPrograms::event_kind))]
+fn event(alloc: Global, tokens: &[Token]) -> Result<(SectionKind, &[Token]), Failure>
+    ensures { Gives (λ x. (view_kind x.0, x.1.now)) result (event_kind tokens.now) }
+{
+    let name = name(tokens)?;
+    let (given, rest) = names_behind(alloc, behind_first(tokens), Word::Given)?;
+    let (saving, rest) = saving(rest)?;
+    let kind = SectionKind::Event {
+        name,
+        given,
+        saving,
+    };
+    Ok((kind, rest))
+}
+
+/// The header of a section behind its first word.
+fn section_kind(
+    alloc: Global,
+    word: Word,
+    tokens: &[Token],
+) -> Result<(SectionKind, &[Token]), Failure>
+    ensures { Gives (λ x. (view_kind x.0, x.1.now)) result (kind_at word tokens.now) }
+{
+    match word {
+        Word::Main => Ok((SectionKind::Main, tokens)),
+        Word::Routine => routine(alloc, tokens),
+        Word::Event => event(alloc, tokens),
+        _ => Err(syntax(tokens)),
+    }
+}
+
+/// Names and their mode, behind DEFINE.
+#[tactic(auto, unfolding(crate::specs::ReadPrograms::variables))]
+fn variables(alloc: Global, tokens: &[Token]) -> Result<(Vec<Name>, Mode, &[Token]), Failure>
+    ensures { Gives (λ x. ((x.0.items, x.1), x.2.now)) result (variables tokens.now) }
+{
+    let (names, rest) = names(alloc, tokens)?;
+    let rest = expect_word(rest, Word::As)?;
+    let (mode, rest) = mode(skip_class(rest, Class::Article))?;
+    let rest = expect_word(rest, Word::Variable)?;
+    Ok((names, mode, rest))
+}
+
+/// A DEFINE at the head of a section's body.
+#[tactic(auto, unfolding(crate::specs::ReadPrograms::definition_at))]
+fn definition(alloc: Global, tokens: &[Token]) -> Result<(LocalDefinition, &[Token]), Failure>
+    ensures { Gives (λ x. (view_definition x.0, x.1.now)) result (definition tokens.now) }
 {
     let line = line_at(tokens);
-    let rest = expect_word(tokens, Word::Main)?;
+    let rest = expect_word(tokens, Word::Define)?;
+    let (names, mode, rest) = variables(alloc, rest)?;
+    Ok((LocalDefinition { line, names, mode }, rest))
+}
+
+/// The DEFINEs at the head of a section's body.
+fn definitions(alloc: Global, tokens: &[Token]) -> Result<(Vec<LocalDefinition>, &[Token]), Failure>
+    ensures { Gives (λ x. (map view_definition x.0.items, x.1.now)) result (definitions tokens.now) }
+{
+    let mut all = Vec::new(alloc);
+    let mut rest = tokens;
+    'more: while begins_word(rest, Word::Define) {
+        let (next, after) = definition(alloc, rest)?;
+        all.push(next)?;
+        rest = after;
+    }
+    Ok((all, rest))
+}
+
+/// A section behind its first word.
+#[tactic(auto, unfolding(crate::specs::ReadPrograms::section_at))]
+fn section_behind(
+    alloc: Global,
+    line: Line,
+    word: Word,
+    tokens: &[Token],
+    room: u8,
+) -> Result<(Section, &[Token]), Failure>
+    ensures { Gives (λ x. (view_section x.0, x.1.now)) result (section_at room line word tokens.now) }
+{
+    let (kind, rest) = section_kind(alloc, word, tokens)?;
+    let (definitions, rest) = definitions(alloc, rest)?;
     let (body, rest) = statements(alloc, rest, room)?;
     let rest = expect_word(rest, Word::End)?;
     let section = Section {
         line,
-        kind: SectionKind::Main,
-        definitions: Vec::new(alloc),
+        kind,
+        definitions,
         body,
     };
     Ok((section, rest))
+}
+
+/// A section.
+fn section(alloc: Global, tokens: &[Token], room: u8) -> Result<(Section, &[Token]), Failure>
+    ensures { Gives (λ x. (view_section x.0, x.1.now)) result (section_in room tokens.now) }
+{
+    match tokens {
+        [] => Err(syntax(tokens)),
+        [first, rest @ ..] => match &first.kind {
+            TokenKind::Word(word) => section_behind(alloc, first.line, *word, rest, room),
+            _ => Err(syntax(tokens)),
+        },
+    }
+}
+
+/// Whether a section begins so.
+fn begins_section(tokens: &[Token]) -> bool
+    ensures { result ≡ begins_section tokens.now }
+{
+    match tokens {
+        [] => false,
+        [first, ..] => match &first.kind {
+            TokenKind::Word(word) => matches!(word, Word::Main | Word::Routine | Word::Event),
+            _ => false,
+        },
+    }
 }
 
 /// The sections of a program.
@@ -149,7 +299,7 @@ fn sections(alloc: Global, tokens: &[Token], room: u8) -> Result<(Vec<Section>, 
 {
     let mut all = Vec::new(alloc);
     let mut rest = tokens;
-    'more: while begins_word(rest, Word::Main) {
+    'more: while begins_section(rest) {
         let (next, after) = section(alloc, rest, room)?;
         all.push(next)?;
         rest = after;

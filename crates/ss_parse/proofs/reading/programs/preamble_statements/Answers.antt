@@ -1,10 +1,7 @@
-use Rattle.std.proofs.Common.{sym, ap, subst, ◌∙◌}
+use Rattle.std.proofs.Common.{sym, ◌∙◌}
 use Rattle.std.proofs.lemmas.Result.{err_from_is_err_and}
 use Rattle.ss_tree.specs.View.{view_preamble}
-use Rattle.ss_parse.specs.Reading.{rows}
-use Rattle.ss_parse.specs.ReadPrograms.{begins_preamble, preamble_from, preambles}
-use Rattle.ss_parse.specs.Reading.{Fails}
-use Rattle.ss_parse.proofs.Rows.{grows, breaks, is_done}
+use Rattle.ss_grammar.proofs.Rows.{grows, breaks, is_done}
 use Rattle.ss_parse.proofs.ProgramLaws.{preambles_loop}
 use Rattle.ss_parse.proofs.reading.programs.preamble_statements.Goals as goal
 

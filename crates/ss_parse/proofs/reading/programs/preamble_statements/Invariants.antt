@@ -1,8 +1,8 @@
-use Rattle.std.proofs.Common.{◌≡◌, ℕ, ◌+◌, length, map}
+use Rattle.std.proofs.Common.{◌≡◌, length, map}
 use Rattle.ss_tree.specs.View.{view_preamble}
-use Rattle.ss_parse.specs.Reading.{rows}
+use Rattle.ss_grammar.specs.Reading.{rows}
 use Rattle.ss_parse.specs.ReadPrograms.{begins_preamble, preamble_from, preambles}
-use Rattle.ss_parse.proofs.Rows.{with_front}
+use Rattle.ss_grammar.proofs.Rows.{with_front}
 use Rattle.ss_parse.proofs.reading.programs.preamble_statements.Given as goal
 
 abbrev pub invariant-more : goal.invariant-more

@@ -1,23 +1,20 @@
-use Rattle.std.proofs.Common.{sym, ap, subst, ◌∙◌}
+use Rattle.std.proofs.Common.{sym, ◌∙◌}
 use Rattle.std.proofs.lemmas.Result.{err_from_is_err_and}
 use Rattle.ss_tree.specs.View.{view_section}
-use Rattle.ss_parse.specs.Reading.{rows}
-use Rattle.ss_parse.specs.ReadPrograms.{begins_section, section_in}
-use Rattle.ss_parse.specs.Reading.{Fails}
-use Rattle.ss_parse.proofs.Rows.{grows, breaks, is_done}
+use Rattle.ss_grammar.proofs.Rows.{grows, breaks, is_done}
 use Rattle.ss_parse.proofs.ProgramLaws.{sections_loop}
 use Rattle.ss_parse.proofs.reading.programs.sections.Goals as goal
 
 pub more-preserved : goal.more-preserved
-more-preserved c = grows view_section (sections_loop c.args.room) _ _ c.in_ok-next.next _ _ _ c.in_ok-push.ensures.items (sym c.begins_word.ensures ∙ c.more-test.true) c.in_ok-next.ensures c.more.invariant
+more-preserved c = grows view_section (sections_loop c.args.room) _ _ c.in_ok-next.next _ _ _ c.in_ok-push.ensures.items (sym c.begins_section.ensures ∙ c.more-test.true) c.in_ok-next.ensures c.more.invariant
 
 pub more-smaller : goal.more-smaller
-more-smaller c = ((sections_loop c.args.room)).shrinks _ _ _ (sym c.begins_word.ensures ∙ c.more-test.true) c.in_ok-next.ensures
+more-smaller c = ((sections_loop c.args.room)).shrinks _ _ _ (sym c.begins_section.ensures ∙ c.more-test.true) c.in_ok-next.ensures
 
 pub returns : goal.returns
-returns c = is_done view_section (sections_loop c.args.room) _ _ _ (sym c.begins_word.ensures ∙ c.more-test.false) c.more.invariant
+returns c = is_done view_section (sections_loop c.args.room) _ _ _ (sym c.begins_section.ensures ∙ c.more-test.false) c.more.invariant
 
 pub returns-in_err-next : goal.returns-in_err-next
 returns-in_err-next c =
     let p = err_from_is_err_and c.from_residual.result c.from_residual.ensures.1 in
-    rw (p.1, p.2) (breaks view_section (sections_loop c.args.room) _ _ _ _ (sym c.begins_word.ensures ∙ c.more-test.true) c.in_err-next.ensures c.more.invariant)
+    rw (p.1, p.2) (breaks view_section (sections_loop c.args.room) _ _ _ _ (sym c.begins_section.ensures ∙ c.more-test.true) c.in_err-next.ensures c.more.invariant)

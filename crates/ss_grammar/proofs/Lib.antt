@@ -1,0 +1,12 @@
+pub mod Tools
+pub mod Depth
+pub mod Marks
+pub mod ReaderLaws
+pub mod Rows
+pub mod Lists
+pub mod ExpressionLaws
+pub mod WordLaws
+pub mod PlaceLaws
+pub mod References
+pub mod ConditionLaws
+pub mod HeadLaws
