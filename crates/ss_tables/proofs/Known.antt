@@ -25,10 +25,11 @@ pub same_refusal : (p : ProgramTree) (f : Facts) (says : List Saying) → f ≡ 
 same_refusal p f says e is = λ i. refusal_by (e i) (is i) p
 
 -- what is made of them are the tables
-pub are_tables : (p : ProgramTree) (f : Facts) (says : List Saying) (t : TablesSeen) → f ≡ facts_of p → says ≡ sayings p → t.names ≡ f.names.names → t.globals ≡ kept_names kept.Variables f.marks says → t.routines ≡ kept_names kept.Routines f.marks says → t.usual ≡ f.usual → AreTablesOf p t
-are_tables p f says t e is n g r u = record {
+pub are_tables : (p : ProgramTree) (f : Facts) (says : List Saying) (t : TablesSeen) → f ≡ facts_of p → says ≡ sayings p → t.names ≡ f.names.names → t.globals ≡ kept_names kept.Variables f.marks says → t.routines ≡ kept_names kept.Routines f.marks says → t.usual ≡ f.usual → t.says ≡ says → AreTablesOf p t
+are_tables p f says t e is n g r u s = record {
   kinds = λ name. ap (λ es. kind_in es name) (n ∙ ap (λ (x : Facts). x.names.names) e);
   globals_are = g ∙ (λ i. kept_names kept.Variables (e i).marks (is i));
   routines_are = r ∙ (λ i. kept_names kept.Routines (e i).marks (is i));
   usual_is = u ∙ ap (λ (x : Facts). x.usual) e;
+  says_is = s ∙ is;
 }

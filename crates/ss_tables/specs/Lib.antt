@@ -7,6 +7,7 @@ pub mod Places
 pub mod Counts
 pub mod Ranks
 pub mod Declarations
+pub mod Layouts
 pub mod Repeated
 pub mod Mentions
 pub mod Modes

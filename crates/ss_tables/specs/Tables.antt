@@ -7,15 +7,18 @@ use Rattle.ss_tree.specs.Tree.{ProgramTree}
 use Rattle.ss_tables.specs.declared.kind.Kind.{Kind}
 use Rattle.ss_tables.specs.declared.spelling.TheConstants.{SPELLING_LIMIT}
 use Rattle.ss_tables.specs.Declarations.{NameBytes, same_name, kind_of, globals, routines}
+use Rattle.ss_tables.specs.declared.saying.Saying.{Saying}
 use Rattle.ss_tables.specs.Modes.{usual_mode}
+use Rattle.ss_tables.specs.Sayings.{sayings}
 
 -- tables, as a clause sees them: each global name with what it stands for, the global variables and the routines in
--- the order of their numbers, and the mode that NORMALLY gives
+-- the order of their numbers, and the mode that NORMALLY gives, and what the program says
 pub record TablesSeen : Type 0 where
   pub names : List (NameBytes × Kind)
   pub globals : List NameBytes
   pub routines : List NameBytes
   pub usual : Option Mode
+  pub says : List Saying
 
 -- what a name stands for by some entries
 abbrev pub kind_among : List (NameBytes × Kind) → NameBytes → Option Kind
@@ -31,3 +34,4 @@ pub record AreTablesOf (p : ProgramTree) (t : TablesSeen) : Type 0 where
   pub globals_are : t.globals ≡ globals p
   pub routines_are : t.routines ≡ routines p
   pub usual_is : t.usual ≡ usual_mode p.preamble
+  pub says_is : t.says ≡ sayings p

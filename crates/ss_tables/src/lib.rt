@@ -5,6 +5,7 @@ mod count;
 mod error;
 mod keep;
 mod kind;
+mod layout;
 mod mark;
 mod mentions;
 mod mode;

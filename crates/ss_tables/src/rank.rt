@@ -1,6 +1,6 @@
 //! The keys by which sets are ranked.
 
-ghost use Rattle.std.specs.Prelude.{◌≡◌, [], map, OnOk, IfOk};
+ghost use Rattle.std.specs.Prelude.{◌≡◌, [], map, true, IsTrue, OnOk, IfOk};
 ghost use Rattle.std.specs.List.{list_all};
 ghost use Rattle.ss_tree.specs.View.{view_order, view_preamble};
 ghost use Rattle.ss_tables.specs.Ranks.{member_class, with_member, with_member_said, with_membership, members_of, are_attributes, are_ranks_of, keys_of, are_ranked_well, rank_line, first_bad_rank};
@@ -114,14 +114,48 @@ fn are_ranks_of(names: &Names, keys: &[Key], class: &Option<Name>) -> bool
     }
 }
 
+/// Whether both are the same class. That they are not says nothing where both are none.
+fn is_same_class(a: &Option<Name>, b: &Option<Name>) -> bool
+    ensures { IsTrue result → a.now ≡ b.now }
+{
+    match a {
+        None => false,
+        Some(a) => match b {
+            None => false,
+            Some(b) => a.bytes() == b.bytes(),
+        },
+    }
+}
+
+/// Whether these are ranks of a class, where they are of the class that is known: a set is mostly of the same
+/// class as the one before it.
+fn are_also_ranks_of(
+    names: &Names,
+    keys: &[Key],
+    class: &Option<Name>,
+    known: &Option<Name>,
+) -> bool
+    requires { are_ranks_of names.now.names keys.now known.now ≡ true }
+    ensures { result ≡ are_ranks_of names.now.names keys.now class.now }
+{
+    if is_same_class(class, known) {
+        true
+    } else {
+        are_ranks_of(names, keys, class)
+    }
+}
+
 /// Whether these are ranks of each of the sets.
 fn rank_sets(names: &Names, members: &Members, sets: &[Name], keys: &[Key]) -> bool
     ensures { result ≡ list_all (λ set. are_ranks_of names.now.names keys.now (member_class members.now set)) sets.now }
 {
+    let mut known = None;
     for set in sets {
-        if !are_ranks_of(names, keys, &members.class(*set)) {
+        let class = members.class(*set);
+        if !are_also_ranks_of(names, keys, &class, &known) {
             return false;
         }
+        known = class;
     }
     true
 }

@@ -1,9 +1,10 @@
 //! The tables of a program.
 
-ghost use Rattle.std.specs.Prelude.{◌≡◌, ◌≢◌, ◌<◌, length, slice_get, option_map, None, Some, IfOk, IfErr};
+ghost use Rattle.std.specs.Prelude.{◌≡◌, ◌≢◌, ◌<◌, length, map, slice_get, option_map, None, Some, IfOk, IfErr};
 ghost use Rattle.std.specs.Map.{keys_of};
 ghost use Rattle.ss_tree.specs.View.{view_program};
 ghost use Rattle.ss_tables.specs.Declarations.{place_among, kept_names};
+ghost use Rattle.ss_tables.specs.Layouts.{shape_of, classes_laid, sets_laid};
 ghost use Rattle.ss_tables.specs.Marks.{marks_of};
 ghost use Rattle.ss_tables.specs.Names.{declared};
 ghost use Rattle.ss_tables.specs.Refusals.{refusal};
@@ -13,16 +14,19 @@ ghost use Rattle.ss_tables.specs.Tables.{kind_among, found_among, AreTablesOf};
 use crate::error::TableError;
 use crate::keep::{Kept, kept_names};
 use crate::kind::Kind;
+use crate::layout::{class_layouts, class_names, modes_of, set_layouts};
 use crate::mark::marks_of;
 use crate::mode::usual_mode;
 use crate::names::{Names, names_of};
 use crate::place::Facts;
+use crate::rank::members_of;
 use crate::refusal::refusal;
 use crate::saying::Saying;
 use crate::sayings::sayings;
 use crate::served::served;
 use crate::spelling::Spelling;
 use indexmap::IndexSet;
+use ss_base::Layout;
 use ss_lex::Name;
 use ss_tree::preamble::Mode;
 use ss_tree::program::Program;
@@ -36,6 +40,7 @@ pub struct Tables {
     globals: IndexSet<Spelling>,
     routines: IndexSet<Spelling>,
     usual: Option<Mode>,
+    sayings: Vec<Saying>,
 }
 
 impl Model for Tables {
@@ -43,7 +48,7 @@ impl Model for Tables {
 
     ghost Value = { TablesSeen };
 
-    ghost view = { λ t. record { names = t.names.names; globals = t.globals.keys; routines = t.routines.keys; usual = t.usual } };
+    ghost view = { λ t. record { names = t.names.names; globals = t.globals.keys; routines = t.routines.keys; usual = t.usual; says = t.sayings.items } };
 }
 
 // The place of a name among some, or how many there are where it is none of them.
@@ -76,19 +81,21 @@ fn facts_of(alloc: Global, sayings: &[Saying], usual: Option<Mode>) -> Result<Fa
 }
 
 /// The tables of a program that says this, of which this is known.
-fn made(alloc: Global, facts: Facts, sayings: &[Saying]) -> Result<Tables, AllocError>
+fn made(alloc: Global, facts: Facts, sayings: Vec<Saying>) -> Result<Tables, AllocError>
     ensures names { IfOk result (λ t. t.names ≡ facts.names.names) }
-    ensures globals { IfOk result (λ t. t.globals ≡ kept_names Kept.Variables facts.marks sayings.now) }
-    ensures routines { IfOk result (λ t. t.routines ≡ kept_names Kept.Routines facts.marks sayings.now) }
+    ensures globals { IfOk result (λ t. t.globals ≡ kept_names Kept.Variables facts.marks sayings.items) }
+    ensures routines { IfOk result (λ t. t.routines ≡ kept_names Kept.Routines facts.marks sayings.items) }
     ensures usual { IfOk result (λ t. t.usual ≡ facts.usual) }
+    ensures says { IfOk result (λ t. t.says ≡ sayings.items) }
 {
-    let globals = kept_names(alloc, Kept::Variables, &facts.marks, sayings)?;
-    let routines = kept_names(alloc, Kept::Routines, &facts.marks, sayings)?;
+    let globals = kept_names(alloc, Kept::Variables, &facts.marks, &sayings)?;
+    let routines = kept_names(alloc, Kept::Routines, &facts.marks, &sayings)?;
     Ok(Tables {
         names: facts.names,
         globals,
         routines,
         usual: facts.usual,
+        sayings,
     })
 }
 
@@ -109,7 +116,7 @@ impl Tables {
         if let Some(error) = refusal(alloc, &facts, &sayings, program)? {
             return Err(error);
         }
-        Ok(made(alloc, facts, &sayings)?)
+        Ok(made(alloc, facts, sayings)?)
     }
 
     /// Whether all forms of a program are served: a preamble of NORMALLY and DEFINE of variables, MAIN and
@@ -143,6 +150,23 @@ impl Tables {
         ensures { slice_get (keys_of self.now.names) id.0 ≡ Some result.now }
     {
         self.names.spelling(id.0)
+    }
+
+    /// The classes with their fields, which are their attributes, and the sets. The classes are numbered in the
+    /// order of the text, and the sets in the order in which their owners are told.
+    ///
+    /// # Errors
+    /// `AllocError` where memory is refused.
+    pub fn layout(&self, alloc: Global) -> Result<Layout, AllocError>
+        ensures classes { IfOk result (λ l. map shape_of l.classes.items ≡ classes_laid self.now.usual self.now.says) }
+        ensures sets { IfOk result (λ l. l.sets.items ≡ sets_laid self.now.says) }
+    {
+        let modes = modes_of(alloc, &self.sayings)?;
+        let names = class_names(alloc, &self.sayings)?;
+        let members = members_of(alloc, &self.sayings)?;
+        let classes = class_layouts(alloc, &modes, self.usual, &self.sayings)?;
+        let sets = set_layouts(alloc, &names, &members, &self.sayings)?;
+        Ok(Layout { classes, sets })
     }
 
     /// What a name stands for in the whole program.

@@ -22,8 +22,8 @@ returns-clause-found c =
     let says = c.deref.ensures.value ∙ c.in_ok-sayings.ensures in
     let usual = c.in_ok-facts.ensures.usual ∙ c.usual_mode.ensures ∙ ap (λ b. usual_mode (map view_preamble b)) c.deref-2.ensures.value in
     let facts : c.in_ok-facts.facts ≡ facts_of p = facts_are p c.in_ok-facts.facts c.deref.result.now says c.in_ok-facts.ensures.marks c.in_ok-facts.ensures.names usual in
-    are_tables p c.in_ok-facts.facts c.deref-4.result.now c.in_ok-made.field-0 facts (c.deref-4.ensures.value ∙ c.in_ok-sayings.ensures)
-    c.in_ok-made.ensures.names c.in_ok-made.ensures.globals c.in_ok-made.ensures.routines c.in_ok-made.ensures.usual
+    are_tables p c.in_ok-facts.facts c.in_ok-sayings.sayings.items c.in_ok-made.field-0 facts c.in_ok-sayings.ensures
+    c.in_ok-made.ensures.names c.in_ok-made.ensures.globals c.in_ok-made.ensures.routines c.in_ok-made.ensures.usual c.in_ok-made.ensures.says
 
 pub returns-clause-kept : goal.returns-clause-kept
 returns-clause-kept c =

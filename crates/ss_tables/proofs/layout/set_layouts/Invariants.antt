@@ -1,0 +1,7 @@
+use Rattle.std.proofs.Common.{◌≡◌, [], take, map}
+use Rattle.std.specs.List.{fold}
+use Rattle.ss_tables.specs.Layouts.{with_set_layout}
+use Rattle.ss_tables.proofs.layout.set_layouts.Given as goal
+
+abbrev pub invariant-loop-saying : goal.invariant-loop-saying
+invariant-loop-saying l = l.sets.items ≡ fold (with_set_layout l.names.keys l.members) [] (take l.saying-index l.sayings)

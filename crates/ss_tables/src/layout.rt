@@ -1,0 +1,296 @@
+//! The classes and the sets of a program, as numbers.
+
+ghost use Rattle.std.specs.Prelude.{◌≡◌, [], ◌∷◌, ◌++◌, map, OnOk, IfOk};
+ghost use Rattle.ss_tables.specs.Layouts.{layout_mode, layout_kind, mode_in, with_mode, with_mode_said, modes_of, mode_or, with_class_said, class_names, class_number, with_field_said, fields_of, shape_of, with_shape_said, class_shapes, number_of, member_number, with_set_said, set_layouts};
+
+use crate::rank::Members;
+use crate::saying::{Said, Saying};
+use indexmap::{IndexMap, IndexSet};
+use ss_base::{ClassKind, ClassLayout, Mode, Owner, SetLayout};
+use ss_lex::Name;
+use ss_tree::preamble::{ClassKind as KindSaid, Mode as ModeSaid};
+use std::alloc::{AllocError, Global};
+use std::marker::Model;
+
+fn layout_mode(mode: Option<ModeSaid>) -> Mode
+    ensures { result ≡ layout_mode mode }
+{
+    match mode {
+        Some(ModeSaid::Alpha) => Mode::Alpha,
+        Some(ModeSaid::Integer) => Mode::Integer,
+        Some(ModeSaid::Real) => Mode::Integer,
+        None => Mode::Integer,
+    }
+}
+
+fn layout_kind(kind: KindSaid) -> ClassKind
+    ensures { result ≡ layout_kind kind }
+{
+    match kind {
+        KindSaid::Permanent => ClassKind::Permanent,
+        KindSaid::Temporary => ClassKind::Temporary,
+        KindSaid::EventNotice => ClassKind::Notice,
+    }
+}
+
+fn mode_or(mode: Option<ModeSaid>, usual: Option<ModeSaid>) -> Option<ModeSaid>
+    ensures { result ≡ mode_or mode usual }
+{
+    match mode {
+        None => usual,
+        Some(mode) => Some(mode),
+    }
+}
+
+/// The mode of each name that a DEFINE gives one. A contract sees the list of the pairs.
+#[derive(Drop)]
+pub struct Modes {
+    map: IndexMap<Name, ModeSaid>,
+}
+
+impl Model for Modes {
+    ghost use Rattle.std.specs.Prelude.{List};
+    ghost use Rattle.ss_tables.specs.Layouts.{Moded};
+
+    ghost Value = { List Moded };
+
+    ghost view = { λ m. m.map.entries };
+}
+
+impl Modes {
+    fn new(alloc: Global) -> Modes
+        ensures { result ≡ [] }
+    {
+        Modes {
+            map: IndexMap::new(alloc),
+        }
+    }
+
+    fn mode(&self, name: Name) -> Option<ModeSaid>
+        ensures { result ≡ mode_in self.now name }
+    {
+        self.map.get(&name).copied()
+    }
+
+    fn note(&mut self, name: Name, mode: ModeSaid) -> Result<(), AllocError>
+        ensures { OnOk result (self.new ≡ with_mode self.old name mode) }
+    {
+        match self.mode(name) {
+            Some(_) => Ok(()),
+            None => {
+                self.map.insert(name, mode)?;
+                Ok(())
+            }
+        }
+    }
+
+    fn note_saying(&mut self, said: &Said, name: &Option<Name>) -> Result<(), AllocError>
+        ensures { OnOk result (self.new ≡ with_mode_said self.old said.now name.now) }
+    {
+        match said {
+            Said::Variable { mode } => match name {
+                Some(name) => self.note(*name, *mode),
+                None => Ok(()),
+            },
+            _ => Ok(()),
+        }
+    }
+}
+
+/// The mode of each name that a DEFINE gives one.
+pub fn modes_of(alloc: Global, sayings: &[Saying]) -> Result<Modes, AllocError>
+    ensures { IfOk result (λ modes. modes ≡ modes_of sayings.now) }
+{
+    let mut modes = Modes::new(alloc);
+    for saying in sayings {
+        modes.note_saying(&saying.said, &saying.name)?;
+    }
+    Ok(modes)
+}
+
+fn note_class(
+    names: &mut IndexSet<Name>,
+    said: &Said,
+    name: &Option<Name>,
+) -> Result<(), AllocError>
+    ensures { OnOk result (names.new.keys ≡ with_class_said names.old.keys said.now name.now) }
+{
+    match said {
+        Said::Class { .. } => match name {
+            Some(name) => {
+                names.insert_full(*name)?;
+                Ok(())
+            }
+            None => Ok(()),
+        },
+        _ => Ok(()),
+    }
+}
+
+/// The names of the classes, in the order of their numbers.
+pub fn class_names(alloc: Global, sayings: &[Saying]) -> Result<IndexSet<Name>, AllocError>
+    ensures { IfOk result (λ names. names.keys ≡ class_names sayings.now) }
+{
+    let mut names = IndexSet::new(alloc);
+    for saying in sayings {
+        note_class(&mut names, &saying.said, &saying.name)?;
+    }
+    Ok(names)
+}
+
+fn class_number(names: &IndexSet<Name>, name: Name) -> usize
+    ensures { result ≡ class_number names.now.keys name }
+{
+    match names.get_index_of(&name) {
+        Some(place) => place,
+        None => names.len(),
+    }
+}
+
+/// Adds the mode of an attribute, where it is one of the class.
+fn add_field(
+    fields: &mut Vec<Mode>,
+    modes: &Modes,
+    usual: Option<ModeSaid>,
+    class: &Name,
+    saying: &Saying,
+) -> Result<(), AllocError>
+    ensures { OnOk result (fields.new.items ≡ with_field_said modes.now usual class.now fields.old.items saying.now.said saying.now.name) }
+{
+    match &saying.said {
+        Said::Attribute { class: other } => match &saying.name {
+            Some(name) => {
+                if class.bytes() == other.bytes() {
+                    fields.push(layout_mode(mode_or(modes.mode(*name), usual)))?;
+                }
+                Ok(())
+            }
+            None => Ok(()),
+        },
+        _ => Ok(()),
+    }
+}
+
+/// The modes of the fields of a class.
+fn fields_of(
+    alloc: Global,
+    modes: &Modes,
+    usual: Option<ModeSaid>,
+    sayings: &[Saying],
+    class: &Name,
+) -> Result<Vec<Mode>, AllocError>
+    ensures { IfOk result (λ fields. fields.items ≡ fields_of modes.now usual sayings.now class.now) }
+{
+    let mut fields = Vec::new(alloc);
+    for saying in sayings {
+        add_field(&mut fields, modes, usual, class, saying)?;
+    }
+    Ok(fields)
+}
+
+fn add_class(
+    classes: &mut Vec<ClassLayout>,
+    kind: KindSaid,
+    fields: Vec<Mode>,
+) -> Result<(), AllocError>
+    ensures { OnOk result (map shape_of classes.new.items ≡ map shape_of classes.old.items ++ (layout_kind kind, fields.items) ∷ []) }
+{
+    let kind = layout_kind(kind);
+    classes.push(ClassLayout { kind, fields })?;
+    Ok(())
+}
+
+/// Adds a class, where a saying declares one.
+fn add_class_said(
+    alloc: Global,
+    classes: &mut Vec<ClassLayout>,
+    modes: &Modes,
+    usual: Option<ModeSaid>,
+    sayings: &[Saying],
+    saying: &Saying,
+) -> Result<(), AllocError>
+    ensures { OnOk result (map shape_of classes.new.items ≡ with_shape_said modes.now usual sayings.now (map shape_of classes.old.items) saying.now.said saying.now.name) }
+{
+    match &saying.said {
+        Said::Class { kind } => match &saying.name {
+            Some(name) => {
+                let fields = fields_of(alloc, modes, usual, sayings, name)?;
+                add_class(classes, *kind, fields)
+            }
+            None => Ok(()),
+        },
+        _ => Ok(()),
+    }
+}
+
+/// The classes, in the order of their numbers.
+pub fn class_layouts(
+    alloc: Global,
+    modes: &Modes,
+    usual: Option<ModeSaid>,
+    sayings: &[Saying],
+) -> Result<Vec<ClassLayout>, AllocError>
+    ensures { IfOk result (λ classes. map shape_of classes.items ≡ class_shapes modes.now usual sayings.now) }
+{
+    let mut classes = Vec::new(alloc);
+    for saying in sayings {
+        add_class_said(alloc, &mut classes, modes, usual, sayings, saying)?;
+    }
+    Ok(classes)
+}
+
+fn number_of(names: &IndexSet<Name>, class: &Option<Name>) -> usize
+    ensures { result ≡ number_of names.now.keys class.now }
+{
+    match class {
+        None => 0,
+        Some(class) => class_number(names, *class),
+    }
+}
+
+fn member_number(names: &IndexSet<Name>, members: &Members, set: Name) -> usize
+    ensures { result ≡ member_number names.now.keys members.now set }
+{
+    number_of(names, &members.class(set))
+}
+
+/// Adds a set, where a saying tells its owner.
+fn add_set(
+    sets: &mut Vec<SetLayout>,
+    names: &IndexSet<Name>,
+    members: &Members,
+    said: &Said,
+    set: &Option<Name>,
+) -> Result<(), AllocError>
+    ensures { OnOk result (sets.new.items ≡ with_set_said names.now.keys members.now sets.old.items said.now set.now) }
+{
+    match set {
+        None => Ok(()),
+        Some(set) => {
+            let owner = match said {
+                Said::SystemSet => Owner::System,
+                Said::OwnedSet { class } => Owner::Class(class_number(names, *class)),
+                _ => return Ok(()),
+            };
+            let member = member_number(names, members, *set);
+            sets.push(SetLayout { owner, member })?;
+            Ok(())
+        }
+    }
+}
+
+/// The sets, in the order of their numbers.
+pub fn set_layouts(
+    alloc: Global,
+    names: &IndexSet<Name>,
+    members: &Members,
+    sayings: &[Saying],
+) -> Result<Vec<SetLayout>, AllocError>
+    ensures { IfOk result (λ sets. sets.items ≡ set_layouts names.now.keys members.now sayings.now) }
+{
+    let mut sets = Vec::new(alloc);
+    for saying in sayings {
+        add_set(&mut sets, names, members, &saying.said, &saying.name)?;
+    }
+    Ok(sets)
+}
