@@ -1,0 +1,119 @@
+//! The instructions of the machine.
+
+use ss_base::{Alpha, Line};
+use ss_flow::resolved::{Relation, Variable};
+
+/// Where an instruction finds a value.
+#[derive(Clone, Copy, PartialEq, Eq, Debug)]
+pub enum Operand {
+    /// The topmost value of the stack, which is taken off it.
+    Popped,
+    /// A number.
+    Number { value: i64 },
+    /// The value of a global variable.
+    FromGlobal { number: u32 },
+    /// The value of a local variable.
+    FromLocal { number: u32 },
+}
+
+/// Where an instruction leaves a value.
+#[derive(Clone, Copy, PartialEq, Eq, Debug)]
+pub enum Destination {
+    /// On top of the stack.
+    Pushed,
+    /// In a global variable.
+    ToGlobal { number: u32 },
+    /// In a local variable.
+    ToLocal { number: u32 },
+}
+
+/// What is made of two values.
+#[derive(Clone, Copy, PartialEq, Eq, Debug)]
+pub enum Operator {
+    Plus,
+    Minus,
+    Times,
+    Quotient,
+    Remainder,
+    Least,
+    Greatest,
+    /// How far the two numbers are apart.
+    Distance,
+}
+
+/// One instruction. A jump counts the instructions that it skips, or that it goes back.
+#[derive(Clone, Copy, PartialEq, Eq, Debug)]
+pub enum Instruction {
+    /// A text goes to its destination.
+    Load {
+        text: Alpha,
+        into: Destination,
+    },
+    /// The value of an operand goes to its destination.
+    Move {
+        from: Operand,
+        into: Destination,
+    },
+    /// What an operator makes of two operands goes to its destination. The right operand is taken first.
+    Calculate {
+        operator: Operator,
+        left: Operand,
+        right: Operand,
+        into: Destination,
+        line: Line,
+    },
+    /// Goes on where two operands stand in the relation, and jumps where they don't.
+    Compare {
+        relation: Relation,
+        left: Operand,
+        right: Operand,
+        skip: usize,
+    },
+    /// Jumps.
+    Jump {
+        skip: usize,
+    },
+    /// Takes a tick: a turn of a loop that begins with WHILE or UNTIL.
+    Turn,
+    /// Jumps back to a turn.
+    Repeat {
+        back: usize,
+    },
+    /// Looks at the first number, the limit and the step of a FOR, which lie on the stack, and jumps
+    /// where there is no item.
+    Begin {
+        skip: usize,
+        line: Line,
+    },
+    /// Takes a tick, and assigns the item that lies on the stack.
+    Take {
+        variable: Variable,
+    },
+    /// Jumps back to the taking of the next item, if there is one.
+    Next {
+        back: usize,
+    },
+    /// Takes the item, the step and the limit of a FOR off the stack.
+    Forget,
+    /// Takes a tick, and calls a routine that takes so many values off the stack and yields so many.
+    Call {
+        routine: u32,
+        given: usize,
+        count: usize,
+    },
+    /// The routine, or MAIN, is left.
+    Leave,
+    /// The run ends.
+    Halt,
+    /// Empty lines are written.
+    Skip {
+        count: Operand,
+        line: Line,
+    },
+    /// Lines are filled with so many values off the stack, and written.
+    Print {
+        first: usize,
+        lines: usize,
+        items: usize,
+    },
+}

@@ -1,0 +1,17 @@
+//! The meaning of a program, its instructions, and that both agree.
+#![tactic(auto)]
+
+mod code;
+mod conditions;
+mod emit;
+mod entry;
+mod error;
+pub mod generate;
+pub mod instruction;
+pub mod laws;
+mod listing;
+mod statements;
+
+pub use code::Code;
+pub use entry::Entry;
+pub use error::CodeError;

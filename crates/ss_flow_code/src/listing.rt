@@ -1,0 +1,54 @@
+//! The text that shows a list of instructions.
+
+ghost use Rattle.std.specs.Prelude.{◌≡◌, ◌++◌, codes, decimal, IfOk, OnOk};
+ghost use Rattle.ss_flow_code.specs.Listing.{name_of, listed};
+
+use crate::instruction::Instruction;
+use itoa::Buffer;
+use std::alloc::{AllocError, Global};
+
+// What an instruction is called.
+fn name(instruction: &Instruction) -> &str
+    ensures { result.now ≡ name_of instruction.now }
+{
+    match instruction {
+        Instruction::Load { .. } => "load",
+        Instruction::Move { .. } => "move",
+        Instruction::Calculate { .. } => "calculate",
+        Instruction::Compare { .. } => "compare",
+        Instruction::Jump { .. } => "jump",
+        Instruction::Turn => "turn",
+        Instruction::Repeat { .. } => "repeat",
+        Instruction::Begin { .. } => "begin",
+        Instruction::Take { .. } => "take",
+        Instruction::Next { .. } => "next",
+        Instruction::Forget => "forget",
+        Instruction::Call { .. } => "call",
+        Instruction::Leave => "leave",
+        Instruction::Halt => "halt",
+        Instruction::Skip { .. } => "skip",
+        Instruction::Print { .. } => "print",
+    }
+}
+
+// One more line.
+fn add_line(text: &mut Vec<u8>, place: usize, instruction: &Instruction) -> Result<(), AllocError>
+    ensures { OnOk result (text.new.items ≡ text.old.items ++ (decimal place ++ codes " " ++ name_of instruction.now ++ codes "\n")) }
+{
+    let mut buffer = Buffer::new();
+    text.extend_from_slice(buffer.format(place).as_bytes())?;
+    text.extend_from_slice(b" ")?;
+    text.extend_from_slice(name(instruction).as_bytes())?;
+    text.extend_from_slice(b"\n")
+}
+
+/// A line for each instruction, with its number from 0, a blank, and what it is called.
+pub(crate) fn listing(alloc: Global, instructions: &[Instruction]) -> Result<Vec<u8>, AllocError>
+    ensures { IfOk result (λ text. text.items ≡ listed 0 instructions.now) }
+{
+    let mut text = Vec::new(alloc);
+    for (place, instruction) in instructions.iter().enumerate() {
+        add_line(&mut text, place, instruction)?;
+    }
+    Ok(text)
+}

@@ -1,0 +1,6 @@
+mod Stacked
+mod Alike
+mod Known
+mod Stepping
+mod Onwards
+mod Ending

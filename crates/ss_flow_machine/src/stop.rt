@@ -1,0 +1,20 @@
+use ss_base::{FaultKind, Line};
+
+/// Why a run stands still.
+#[derive(Clone, Copy, PartialEq, Eq, Debug)]
+pub enum Stop {
+    /// The program came to its end.
+    Ended,
+    /// A fault, and the line of its statement.
+    Fault(FaultKind, Line),
+    /// The ticks are used up; the next run goes on.
+    Paused,
+    /// Memory was refused.
+    Memory,
+    /// The writer failed.
+    Output,
+    /// The reader failed.
+    Input,
+    /// An earlier run stopped for want of memory, or because its reader or writer failed.
+    Failed,
+}

@@ -1,0 +1,23 @@
+-- Digits that are read one after another.
+use Rattle.std.proofs.Common.{◌≡◌, ℕ, ◌+◌, ◌-◌, ◌*◌, ◌<◌, length, take, min, true, List, [], ◌∷◌, ◌++◌, refl, sym, ap, ◌∙◌, slice_index_or, arith}
+use Rattle.std.specs.List.{list_all}
+use Rattle.std.proofs.lemmas.List.{take_more}
+use Rattle.std.proofs.lemmas.List.Folds.{list_all-append}
+use Rattle.ss_input.specs.Words.{is_digit, digits_from}
+use Rattle.ss_input.specs.Numbers.{cap}
+
+pub one_more : (xs : List ℕ) (i : ℕ) → i < length xs → list_all is_digit (take i xs) ≡ true → is_digit (slice_index_or xs i 0) ≡ true → list_all is_digit (take (i + 1) xs) ≡ true
+one_more xs i lt h d =
+    ap (list_all is_digit) (take_more xs i 0 lt) ∙ list_all-append is_digit (take i xs) (slice_index_or xs i 0 ∷ []) ∙ rw (h, d) refl
+
+digits_more : (xs : List ℕ) (n b : ℕ) → digits_from n (xs ++ b ∷ []) ≡ digits_from n xs * 10 + (b - 48)
+digits_more [] n b = refl
+digits_more (x ∷ xs) n b = digits_more xs (n * 10 + (x - 48)) b
+
+capped_step : (n d v : ℕ) → v ≡ min n cap → min (v * 10 + d) cap ≡ min (n * 10 + d) cap
+capped_step n d v e = omega (arith, e)
+
+pub capped_more : (xs : List ℕ) (i v : ℕ) → i < length xs → v ≡ min (digits_from 0 (take i xs)) cap → min (v * 10 + (slice_index_or xs i 0 - 48)) cap ≡ min (digits_from 0 (take (i + 1) xs)) cap
+capped_more xs i v lt e =
+    capped_step (digits_from 0 (take i xs)) (slice_index_or xs i 0 - 48) v e ∙
+    ap (λ n. min n cap) (sym (ap (digits_from 0) (take_more xs i 0 lt) ∙ digits_more (take i xs) 0 (slice_index_or xs i 0)))

@@ -1,0 +1,4 @@
+pub mod Passages
+pub mod Digits
+pub mod Gaps
+pub mod Reached

@@ -1,0 +1,84 @@
+-- Bytes that are passed one after another.
+use Rattle.std.proofs.Common.{◌≡◌, ℕ, ◌+◌, true, List, [], ◌∷◌, ◌++◌, length, take, drop, slice_set, ◌<◌, Option, Some, None, refl, sym, ap, subst, ◌∙◌, arith}
+use Rattle.std.proofs.lemmas.List.{append_assoc, append-nil, length-append, take_more_set}
+use Rattle.std.proofs.lemmas.List.Folds.{list_all-append}
+use Rattle.std.specs.Io.KnownBytes.{Consumes}
+use Rattle.ss_input.specs.Blocks.{BlockSeen, Looks, first_of}
+use Rattle.ss_input.specs.Sources.{Passes, Passed, GapPassed, WordPassed}
+use Rattle.ss_input.specs.Words.{is_separator, is_word_byte}
+
+some_first : (x : ℕ) (l : List ℕ) → Some x ≡ first_of l → l ≡ x ∷ drop 1 l
+some_first x [] e = absurd cc
+some_first x (y ∷ l) e = cc
+
+-- a byte that was looked at and passed
+pub passes_one : {R : Type 0} (remaining : R → Option (List ℕ)) (a b c : BlockSeen R) (x : ℕ) → Looks remaining a b (Some x) → c.left ≡ drop 1 b.left → c.reader ≡ b.reader → c.ended ≡ b.ended → Passes remaining a c (x ∷ [])
+passes_one remaining a b c x l left reader ended = record {
+  got = l.got;
+  consumed = subst (λ r. Consumes (remaining a.reader) (remaining r) l.got) (sym reader) l.consumed;
+  after_end = λ e. let h = l.after_end e in (h.0, ended ∙ h.1);
+  same = sym l.left ∙ some_first x b.left l.byte_is ∙ ap (λ t. x ∷ t) (sym left);
+}
+
+pub consumes_more : (p q r : Option (List ℕ)) (xs ys : List ℕ) → Consumes p q xs → Consumes q r ys → Consumes p r (xs ++ ys)
+consumes_more None q r xs ys h g = tt
+consumes_more (Some a) None r xs ys h g = absurd h
+consumes_more (Some a) (Some b) None xs ys h g = absurd g
+consumes_more (Some a) (Some b) (Some c) xs ys h g = h ∙ ap (λ t. xs ++ t) g ∙ sym (append_assoc xs ys c)
+
+-- one passage and then another
+pub passes_then : {R : Type 0} (remaining : R → Option (List ℕ)) (a b c : BlockSeen R) (xs ys : List ℕ) → Passes remaining a b xs → Passes remaining b c ys → Passes remaining a c (xs ++ ys)
+passes_then remaining a b c xs ys h g = record {
+  got = h.got ++ g.got;
+  consumed = consumes_more (remaining a.reader) (remaining b.reader) (remaining c.reader) h.got g.got h.consumed g.consumed;
+  after_end = λ e. let u = h.after_end e in let v = g.after_end u.1 in (ap (λ t. t ++ g.got) u.0 ∙ v.0, v.1);
+  same = sym (append_assoc a.left h.got g.got) ∙ ap (λ t. t ++ g.got) h.same ∙ append_assoc xs b.left g.got ∙ ap (λ t. xs ++ t) g.same ∙ sym (append_assoc xs ys c.left);
+}
+
+-- nothing was passed yet
+pub passes_nothing : {R : Type 0} (remaining : R → Option (List ℕ)) (a : BlockSeen R) → Passes remaining a a []
+passes_nothing remaining a = record {
+  got = [];
+  consumed = consumes_nothing (remaining a.reader);
+  after_end = λ e. (refl, e);
+  same = append-nil a.left;
+} where
+  consumes_nothing : (p : Option (List ℕ)) → Consumes p p []
+  consumes_nothing None = tt
+  consumes_nothing (Some a) = refl
+
+-- ---- separators
+
+module _ {R : Type 0} (remaining : R → Option (List ℕ)) where
+  pub gap_begins : (a : BlockSeen R) (before : ℕ) → GapPassed remaining a a before before
+  gap_begins a before = record { bytes = []; passes = passes_nothing remaining a; holds = (refl, omega arith) }
+
+  pub gap_more : (a b c : BlockSeen R) (before n : ℕ) → GapPassed remaining a b before n → Passed remaining b c (λ bytes. (x : ℕ) × (bytes ≡ x ∷ []) × (is_separator x ≡ true)) → GapPassed remaining a c before (n + 1)
+  gap_more a b c before n h g =
+      let one : g.bytes ≡ g.holds.0 ∷ [] = g.holds.1 in
+      let sep : is_separator g.holds.0 ≡ true = g.holds.2 in
+      record {
+        bytes = h.bytes ++ g.bytes;
+        passes = passes_then remaining a b c h.bytes g.bytes h.passes g.passes;
+        holds = (list_all-append is_separator h.bytes g.bytes ∙ rw (h.holds.0, one, sep) refl, rw (length-append h.bytes g.bytes, one) (omega (arith, h.holds.1)));
+      }
+
+  pub gap_stays : (a b c : BlockSeen R) (before n : ℕ) → GapPassed remaining a b before n → Passes remaining b c [] → GapPassed remaining a c before n
+  gap_stays a b c before n h g = record {
+    bytes = h.bytes;
+    passes = subst (Passes remaining a c) (append-nil h.bytes) (passes_then remaining a b c h.bytes [] h.passes g);
+    holds = h.holds;
+  }
+
+  -- ---- words
+
+  pub word_begins : (a : BlockSeen R) (word : List ℕ) → WordPassed remaining a a (take 0 word)
+  word_begins a word = (passes_nothing remaining a, refl)
+
+  pub word_more : (a b c : BlockSeen R) (word : List ℕ) (n x : ℕ) → n < length word → WordPassed remaining a b (take n word) → Passes remaining b c (x ∷ []) × (is_word_byte x ≡ true) → WordPassed remaining a c (take (n + 1) (slice_set word n x))
+  word_more a b c word n x lt h g =
+      subst (WordPassed remaining a c) (sym (take_more_set word n x lt))
+      (passes_then remaining a b c (take n word) (x ∷ []) h.0 g.0, list_all-append is_word_byte (take n word) (x ∷ []) ∙ rw (h.1, g.1) refl)
+
+  pub word_stays : (a b c : BlockSeen R) (bytes : List ℕ) → WordPassed remaining a b bytes → Passes remaining b c [] → WordPassed remaining a c bytes
+  word_stays a b c bytes h g = (subst (Passes remaining a c) (append-nil bytes) (passes_then remaining a b c bytes [] h.0 g), h.1)

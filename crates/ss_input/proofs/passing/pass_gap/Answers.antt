@@ -1,0 +1,19 @@
+use Rattle.std.proofs.Common.{rules, arith, ◌≡◌, ◌+◌, [], subst, ◌∙◌}
+use Rattle.ss_input.specs.Sources.{Passes, GapPassed, StandsBefore}
+use Rattle.ss_input.specs.Words.{is_word_byte}
+use Rattle.ss_input.proofs.Passages.{gap_more, gap_stays}
+use Rattle.ss_input.proofs.passing.pass_gap.Goals as goal
+
+pub returns-then-branch-clause-too_many : goal.returns-then-branch-clause-too_many
+returns-then-branch-clause-too_many g c e =
+    let at_end : c.loop-count.count ≡ 1048576 = omega (arith, c.loop-count.auto.count, c.loop-count.auto.count-end, c.loop-count-test.false, c.requires) in
+    let passed = gap_more g.R.FaultyRead.remaining c.args.block.now c.loop-count.block c.pass_separator-2.new.block c.args.before c.loop-count.count c.loop-count.invariant.passed (search rules) in
+    subst (λ n. GapPassed g.R.FaultyRead.remaining c.args.block.now c.pass_separator-2.new.block c.args.before (n + 1)) at_end passed
+
+pub returns-else-branch-clause-passed : goal.returns-else-branch-clause-passed
+returns-else-branch-clause-passed g c count e =
+    let at_end : c.loop-count.count ≡ 1048576 = omega (arith, c.loop-count.auto.count, c.loop-count.auto.count-end, c.loop-count-test.false, c.requires) in
+    let same : 1048576 ≡ count = cc in
+    let none : Passes g.R.FaultyRead.remaining c.loop-count.block c.pass_separator-2.new.block [] × StandsBefore is_word_byte c.pass_separator-2.new.block = search rules in
+    let passed = gap_stays g.R.FaultyRead.remaining c.args.block.now c.loop-count.block c.pass_separator-2.new.block c.args.before c.loop-count.count c.loop-count.invariant.passed none.0 in
+    (subst (λ n. GapPassed g.R.FaultyRead.remaining c.args.block.now c.pass_separator-2.new.block c.args.before n) (at_end ∙ same) passed, omega (arith, same), none.1)

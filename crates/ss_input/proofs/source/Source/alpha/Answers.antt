@@ -1,0 +1,14 @@
+use Rattle.std.proofs.Common.{◌≡◌, Ok, Err, ◌∙◌, sym}
+use Rattle.ss_base.specs.declared.layout.Mode.TheVariants.{Alpha}
+use Rattle.ss_base.specs.declared.value.Value.TheVariants.{Text}
+use Rattle.ss_input.specs.Words.{value_given}
+use Rattle.ss_input.proofs.Reached.{reads_moved, finds_moved}
+use Rattle.ss_input.proofs.source.Source.alpha.Goals as goal
+
+pub returns-clause-read : goal.returns-clause-read
+returns-clause-read g c x e =
+    reads_moved g.R.FaultyRead.remaining c.args.self.now c.read_alpha-answer.new.self c.remember.new.self (λ input rest. value_given Alpha input ≡ Ok (record { value = Text x; rest = rest })) (sym c.remember.ensures.block) (sym c.remember.ensures.gap) (c.read_alpha-answer.ensures.read x (sym c.remember.ensures.same ∙ e))
+
+pub returns-clause-fault : goal.returns-clause-fault
+returns-clause-fault g c none kind e =
+    finds_moved g.R.FaultyRead.remaining c.args.self.now c.read_alpha-answer.new.self c.remember.new.self (λ input. value_given Alpha input ≡ Err kind) (sym c.remember.ensures.block) (sym c.remember.ensures.gap) (c.read_alpha-answer.ensures.fault kind (sym c.remember.ensures.same ∙ e))

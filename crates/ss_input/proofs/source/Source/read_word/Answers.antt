@@ -1,0 +1,47 @@
+use Rattle.std.proofs.Common.{rules, ◌≡◌, ◌≤◌, take, length, Ok, Err, None, ap, sym, subst, refl}
+use Rattle.ss_base.specs.declared.fault.FaultKind.TheVariants.{EndOfData, BadData}
+use Rattle.ss_input.specs.declared.source.Missed.TheVariants.{Fault}
+use Rattle.ss_input.specs.declared.source.Source.{Source}
+use Rattle.ss_input.specs.Blocks.{first_of}
+use Rattle.ss_input.specs.Words.{next_word, word_at}
+use Rattle.ss_input.specs.Inputs.{Reaches, Reads, Finds, source_block}
+use Rattle.ss_input.proofs.Reached.{too_many_found, none_found, word_found, too_long_found, finds_so}
+use Rattle.ss_input.proofs.source.Source.read_word.Goals as goal
+
+pub returns-in_err-reach_word-clause-fault : goal.returns-in_err-reach_word-clause-fault
+returns-in_err-reach_word-clause-fault g c kind e =
+    let same : c.reach_word.result ≡ Err (Fault kind) = search rules in
+    let h = c.reach_word.ensures.fault kind same in
+    subst (λ k. Finds g.R.FaultyRead.remaining c.args.self.now c.reach_word.new.self (λ input. next_word input ≡ Err k)) (sym h.0)
+    (finds_so g.R.FaultyRead.remaining c.args.self.now c.reach_word.new.self _ _ (λ input q. ap word_at q) (too_many_found g.R.FaultyRead.remaining c.args.self.now c.reach_word.new.self h.1))
+
+pub returns-then-is_none-clause-fault : goal.returns-then-is_none-clause-fault
+returns-then-is_none-clause-fault g c kind e =
+    let same : EndOfData ≡ kind = cc in
+    let reached : Reaches g.R.FaultyRead.remaining c.args.self.now c.reach_word.new.self = search rules in
+    let none : first_of (source_block c.reach_word.new.self).left ≡ None = search rules in
+    subst (λ k. Finds g.R.FaultyRead.remaining c.args.self.now c.reach_word.new.self (λ input. next_word input ≡ Err k)) same
+    (finds_so g.R.FaultyRead.remaining c.args.self.now c.reach_word.new.self _ _ (λ input q. ap word_at q) (none_found g.R.FaultyRead.remaining c.args.self.now c.reach_word.new.self reached reached.small none))
+
+pub returns-in-Ok-Some-clause-ok : goal.returns-in-Ok-Some-clause-ok
+returns-in-Ok-Some-clause-ok g c = (c.in-Ok-Some.ensures.passed c.in-Ok-Some.count (ap Ok c.in-Ok-Some.field-0-is)).1
+
+pub returns-in-Ok-Some-clause-read : goal.returns-in-Ok-Some-clause-read
+returns-in-Ok-Some-clause-read g c count e =
+    let same : c.in-Ok-Some.count ≡ count = cc in
+    let reached : Reaches g.R.FaultyRead.remaining c.args.self.now c.reach_word.new.self = search rules in
+    let some : first_of (source_block c.reach_word.new.self).left ≡ None → ⊥ = search rules in
+    let p = c.in-Ok-Some.ensures.passed c.in-Ok-Some.count (ap Ok c.in-Ok-Some.field-0-is) in
+    let long : length (take c.in-Ok-Some.count c.pass_word.new.word) ≤ 64 = search rules in
+    let new : Source g.row.R.Denot = record { block = c.pass_word.new.block; gap = 0; missed = c.reach_word.new.self.missed } in
+    subst (λ n. Reads g.R.FaultyRead.remaining c.args.self.now new (λ input rest. next_word input ≡ Ok (record { value = take n c.pass_word.new.word; rest = rest }))) same
+    (word_found g.R.FaultyRead.remaining c.args.self.now c.reach_word.new.self new reached reached.small some (take c.in-Ok-Some.count c.pass_word.new.word) p.0 long p.2 refl)
+
+pub returns-in-Ok-None-clause-fault : goal.returns-in-Ok-None-clause-fault
+returns-in-Ok-None-clause-fault g c kind e =
+    let same : BadData ≡ kind = cc in
+    let reached : Reaches g.R.FaultyRead.remaining c.args.self.now c.reach_word.new.self = search rules in
+    let some : first_of (source_block c.reach_word.new.self).left ≡ None → ⊥ = search rules in
+    let new : Source g.row.R.Denot = record { block = c.pass_word.new.block; gap = c.reach_word.new.self.gap; missed = c.reach_word.new.self.missed } in
+    subst (λ k. Finds g.R.FaultyRead.remaining c.args.self.now new (λ input. next_word input ≡ Err k)) same
+    (too_long_found g.R.FaultyRead.remaining c.args.self.now c.reach_word.new.self new reached reached.small some (c.in-Ok-None.ensures.too_long (ap Ok c.in-Ok-None.field-0-is)))

@@ -1,0 +1,35 @@
+-- What is seen of a block of input.
+use Rattle.std.specs.Prelude.{◌≡◌, ℕ, Bool, true, false, List, [], ◌∷◌, ◌++◌, Option, Some, None, refl}
+use Rattle.std.specs.Coded.{Coded, code_by, coded×, coded_list, coded_ℕ, coded_bool}
+use Rattle.std.specs.Io.KnownBytes.{Consumes}
+
+-- a reader, the bytes that it gave and that are still to be looked at, and whether it gave an end
+pub record BlockSeen (R : Type 0) : Type 0 where
+  pub reader : R
+  pub left : List ℕ
+  pub ended : Bool
+
+-- it is stored as its fields
+abbrev pub block_code : {R : Type 0} → Coded R → Coded (BlockSeen R)
+block_code {R} reader_code =
+    code_by (R × (List ℕ × Bool)) (coded× reader_code (coded× (coded_list coded_ℕ) coded_bool)) (λ s. (s.reader, (s.left, s.ended))) (λ p. record { reader = p.0; left = p.1.0; ended = p.1.1 }) (λ _. refl)
+
+-- the first byte, if there is one
+abbrev pub first_of : List ℕ → Option ℕ
+first_of [] = None
+first_of (b ∷ bs) = Some b
+
+-- a block that was asked for where no byte was left: the reader gave these bytes, or its end
+pub record Fills {R : Type 0} (remaining : R → Option (List ℕ)) (old new : BlockSeen R) : Type 0 where
+  pub consumed : Consumes (remaining old.reader) (remaining new.reader) new.left
+  pub at_end : new.left ≡ [] → new.ended ≡ true
+  pub not_ended : (new.left ≡ [] → ⊥) → new.ended ≡ false
+
+-- a look at the next byte: the reader gave some bytes, none after its end
+pub record Looks {R : Type 0} (remaining : R → Option (List ℕ)) (old new : BlockSeen R) (byte : Option ℕ) : Type 0 where
+  pub got : List ℕ
+  pub consumed : Consumes (remaining old.reader) (remaining new.reader) got
+  pub left : new.left ≡ old.left ++ got
+  pub after_end : old.ended ≡ true → (got ≡ []) × (new.ended ≡ true)
+  pub byte_is : byte ≡ first_of new.left
+  pub at_end : byte ≡ None → new.ended ≡ true

@@ -1,0 +1,33 @@
+-- What is seen of a source of input data, and what a call of it reads.
+use Rattle.std.specs.Prelude.{◌≡◌, ℕ, ◌+◌, Bool, true, List, [], ◌∷◌, ◌++◌, length, Option}
+use Rattle.std.specs.List.{list_all}
+use Rattle.std.specs.Io.KnownBytes.{Consumes}
+use Rattle.ss_input.specs.Blocks.{BlockSeen}
+use Rattle.ss_input.specs.Words.{is_separator, is_word_byte}
+
+-- bytes that were passed: the reader gave some, none after its end, and behind those that were passed the same are left
+pub record Passes {R : Type 0} (remaining : R → Option (List ℕ)) (old new : BlockSeen R) (bytes : List ℕ) : Type 0 where
+  pub got : List ℕ
+  pub consumed : Consumes (remaining old.reader) (remaining new.reader) got
+  pub after_end : old.ended ≡ true → (got ≡ []) × (new.ended ≡ true)
+  pub same : old.left ++ got ≡ bytes ++ new.left
+
+-- some bytes of which this holds were passed
+pub record Passed {R : Type 0} (remaining : R → Option (List ℕ)) (old new : BlockSeen R) (Holds : List ℕ → Type 0) : Type 0 where
+  pub bytes : List ℕ
+  pub passes : Passes remaining old new bytes
+  pub holds : Holds bytes
+
+-- whether bytes begin with one that passes a test; where none is at hand, the reader has given its end
+pub record StandsBefore {R : Type 0} (is_wanted : ℕ → Bool) (block : BlockSeen R) : Type 0 where
+  pub at_end : block.left ≡ [] → block.ended ≡ true
+  pub before : (b : ℕ) (bs : List ℕ) → block.left ≡ b ∷ bs → is_wanted b ≡ true
+
+-- separators were passed, so many with those before them
+abbrev pub GapPassed : {R : Type 0} → (R → Option (List ℕ)) → BlockSeen R → BlockSeen R → (before count : ℕ) → Type 0
+GapPassed remaining old new before count =
+    Passed remaining old new (λ bytes. (list_all is_separator bytes ≡ true) × (before + length bytes ≡ count))
+
+-- the bytes of a word were passed
+abbrev pub WordPassed : {R : Type 0} → (R → Option (List ℕ)) → BlockSeen R → BlockSeen R → List ℕ → Type 0
+WordPassed remaining old new bytes = Passes remaining old new bytes × (list_all is_word_byte bytes ≡ true)

@@ -1,0 +1,126 @@
+//! Input, a block at a time.
+
+ghost use Rattle.std.specs.Prelude.{◌≡◌, ◌<◌, [], false, length, drop, IfOk, OnOk, OnErr};
+ghost use Rattle.std.specs.Io.KnownBytes.{Keeps};
+ghost use Rattle.ss_base.specs.Failures.{HasRisen, HasRisenBy};
+ghost use Rattle.ss_input.specs.Blocks.{Looks, Fills, first_of};
+
+use ss_base::FaultyRead;
+use std::marker::Model;
+
+/// The bytes that a reader is asked for at a time.
+pub const BLOCK: usize = 4096;
+
+/// The reader answered an error.
+#[derive(Clone, Copy, PartialEq, Eq, Debug)]
+pub struct ReadFailed;
+
+/// A reader, the bytes that it gave and that are still to be looked at, and whether it gave an end.
+///
+/// It is asked for a block only where no byte is left and one is wanted.
+#[derive(Drop)]
+pub struct Block<R> {
+    reader: R,
+    room: [u8; BLOCK],
+    next: usize,
+    end: usize,
+    ended: bool,
+}
+
+impl<R> Model for Block<R> {
+    ghost use Rattle.std.specs.Prelude.{◌≤◌, drop, take};
+    ghost use Rattle.ss_input.specs.Blocks.{BlockSeen, block_code};
+
+    ghost Value = { BlockSeen R };
+
+    ghost coded = { block_code R.code };
+
+    ghost view = { λ b. record { reader = b.reader; left = drop b.next (take b.end b.room); ended = b.ended } };
+
+    ghost invariant = { λ b. (b.next ≤ b.end) × (b.end ≤ 4096) };
+}
+
+impl<R> Block<R> {
+    /// A reader of which nothing was read.
+    pub fn new(reader: R) -> Block<R>
+        ensures reader { result.reader ≡ reader }
+        ensures left { result.left ≡ [] }
+        ensures ended { result.ended ≡ false }
+    {
+        Block {
+            reader,
+            room: [0; BLOCK],
+            next: 0,
+            end: 0,
+            ended: false,
+        }
+    }
+
+    /// The reader, as it stands.
+    pub fn into_inner(self) -> R
+        ensures { result ≡ self.reader }
+    {
+        self.reader
+    }
+
+    /// The first of the bytes that are at hand.
+    pub fn first(&self) -> Option<u8>
+        ensures { result ≡ first_of self.now.left }
+    {
+        match &self.room[self.next..self.end] {
+            [] => None,
+            [byte, ..] => Some(*byte),
+        }
+    }
+
+    /// Passes the first of the bytes that are left.
+    pub fn advance(&mut self)
+        requires { 0 < length self.old.left }
+        ensures left { self.new.left ≡ drop 1 self.old.left }
+        ensures reader { self.new.reader ≡ self.old.reader }
+        ensures ended { self.new.ended ≡ self.old.ended }
+    {
+        self.next += 1;
+    }
+}
+
+impl<R: FaultyRead> Block<R> {
+    /// The next byte, which stays; None at the end. The error comes where the reader answered one;
+    /// then nothing was read.
+    pub fn peek(&mut self) -> Result<Option<u8>, ReadFailed>
+        ensures ok { IfOk result (λ byte. Looks R.remaining self.old self.new byte) }
+        ensures err { OnErr result (HasRisen (R.faults self.old.reader) (R.faults self.new.reader)) }
+        ensures never_falls { HasRisenBy 0 (R.faults self.old.reader) (R.faults self.new.reader) }
+    {
+        if let Some(byte) = self.first() {
+            return Ok(Some(byte));
+        }
+        if self.ended {
+            return Ok(None);
+        }
+        self.fill()?;
+        Ok(self.first())
+    }
+
+    // Asks the reader for a block.
+    fn fill(&mut self) -> Result<(), ReadFailed>
+        requires empty { self.old.left ≡ [] }
+        requires not_ended { self.old.ended ≡ false }
+        ensures ok { OnOk result (Fills R.remaining self.old self.new) }
+        ensures failed { OnErr result (HasRisen (R.faults self.old.reader) (R.faults self.new.reader)) }
+        ensures never_falls { HasRisenBy 0 (R.faults self.old.reader) (R.faults self.new.reader) }
+    {
+        match self.reader.read_some(&mut self.room) {
+            Ok(0) => {
+                self.ended = true;
+                Ok(())
+            }
+            Ok(count) => {
+                self.next = 0;
+                self.end = count;
+                Ok(())
+            }
+            Err(_) => Err(ReadFailed),
+        }
+    }
+}

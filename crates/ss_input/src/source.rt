@@ -1,0 +1,235 @@
+//! The input data of a run.
+
+ghost use Rattle.std.specs.Prelude.{◌≡◌, ◌+◌, ◌≤◌, ℕ, ℤ, Bool, List, [], false, true, length, take, Ok, Err, Some, None, IfOk, OnOk};
+ghost use Rattle.ss_base.specs.declared.fault.FaultKind.{FaultKind as FaultSeen};
+ghost use Rattle.ss_base.specs.declared.value.Value.TheVariants.{Whole, Text};
+ghost use Rattle.ss_base.specs.declared.layout.Mode.TheVariants.{Integer, Alpha as AlphaMode};
+ghost use Rattle.ss_base.specs.Failures.{HasRisen, HasRisenBy};
+ghost use Rattle.ss_input.specs.declared.source.Missed.{Missed as MissedSeen};
+ghost use Rattle.ss_input.specs.Sources.{GapPassed, StandsBefore};
+ghost use Rattle.ss_input.specs.Inputs.{source_block, source_gap, source_missed, source_reader, IsFresh, Reads, Finds, Reaches, missed_of};
+ghost use Rattle.ss_input.specs.Words.{is_word_byte, is_ended, next_word, value_given};
+
+use crate::block::{Block, ReadFailed};
+use crate::number::number_read;
+use crate::passing::{WORD_LIMIT, pass_gap, pass_word};
+use ss_base::{Alpha, FaultKind, FaultyRead};
+use std::marker::Model;
+
+/// Why no word was read.
+#[derive(Clone, Copy, PartialEq, Eq, Debug)]
+pub enum Missed {
+    /// END OF DATA where no word is left; BAD DATA where the word is no value of the mode, or too
+    /// long, or stands behind too many separators.
+    Fault(FaultKind),
+    /// The reader answered an error.
+    Input,
+}
+
+/// The words that a reader gives.
+///
+/// It is asked for 4,096 bytes at a time, and only where none is at hand and one is needed. Its
+/// first end is remembered. After a `Missed` every call answers the same and reads nothing.
+#[derive(Drop)]
+pub struct Source<R> {
+    block: Block<R>,
+    gap: Gap,
+    missed: Option<Missed>,
+}
+
+/// How many separators were passed since the last word.
+#[derive(Drop)]
+struct Gap {
+    count: usize,
+}
+
+impl Model for Gap {
+    ghost use Rattle.std.specs.Prelude.{ℕ, ◌≤◌};
+
+    ghost Value = { ℕ };
+
+    ghost view = { λ g. g.count };
+
+    ghost invariant = { λ g. g.count ≤ 1048576 };
+}
+
+impl<R> Source<R> {
+    /// The words of this reader, of which nothing was read.
+    pub fn new(reader: R) -> Source<R>
+        ensures { IsFresh reader result }
+    {
+        Source {
+            block: Block::new(reader),
+            gap: Gap { count: 0 },
+            missed: None,
+        }
+    }
+
+    /// The reader, as it stands.
+    pub fn into_inner(self) -> R
+        ensures { result ≡ source_reader self }
+    {
+        self.block.into_inner()
+    }
+}
+
+impl<R: FaultyRead> Source<R> {
+    // Passes the separators before the next word, if there is one.
+    fn reach_word(&mut self) -> Result<(), Missed>
+        ensures ok { OnOk result (Reaches R.remaining self.old self.new) }
+        ensures fault { (kind : FaultSeen) → result ≡ Err (Missed.Fault kind) → (kind ≡ FaultKind.BadData) × GapPassed R.remaining (source_block self.old) (source_block self.new) (source_gap self.old) 1048577 }
+        ensures input { result ≡ Err Missed.Input → HasRisen (R.faults (source_reader self.old)) (R.faults (source_reader self.new)) }
+        ensures missed { source_missed self.new ≡ source_missed self.old }
+        ensures never_falls { HasRisenBy 0 (R.faults (source_reader self.old)) (R.faults (source_reader self.new)) }
+    {
+        match pass_gap(&mut self.block, self.gap.count) {
+            Ok(Some(count)) => {
+                self.gap = Gap { count };
+                Ok(())
+            }
+            Ok(None) => Err(Missed::Fault(FaultKind::BadData)),
+            Err(ReadFailed) => Err(Missed::Input),
+        }
+    }
+
+    // Reads the next word, and answers how many bytes it has.
+    fn read_word(&mut self, word: &mut [u8; WORD_LIMIT]) -> Result<usize, Missed>
+        ensures ok { IfOk result (λ count. count ≤ WORD_LIMIT) }
+        ensures read { (count : ℕ) → result ≡ Ok count → Reads R.remaining self.old self.new (λ input rest. next_word input ≡ Ok (record { value = take count word.new; rest = rest })) }
+        ensures fault { (kind : FaultSeen) → result ≡ Err (Missed.Fault kind) → Finds R.remaining self.old self.new (λ input. next_word input ≡ Err kind) }
+        ensures input { result ≡ Err Missed.Input → HasRisen (R.faults (source_reader self.old)) (R.faults (source_reader self.new)) }
+        ensures missed { source_missed self.new ≡ source_missed self.old }
+        ensures never_falls { HasRisenBy 0 (R.faults (source_reader self.old)) (R.faults (source_reader self.new)) }
+    {
+        self.reach_word()?;
+        if self.block.first().is_none() {
+            return Err(Missed::Fault(FaultKind::EndOfData));
+        }
+        match pass_word(&mut self.block, word) {
+            Ok(Some(count)) => {
+                self.gap = Gap { count: 0 };
+                Ok(count)
+            }
+            Ok(None) => Err(Missed::Fault(FaultKind::BadData)),
+            Err(ReadFailed) => Err(Missed::Input),
+        }
+    }
+
+    // Reads the next word as a whole number.
+    fn read_integer(&mut self) -> Result<i64, Missed>
+        ensures read { (number : ℤ) → result ≡ Ok number → Reads R.remaining self.old self.new (λ input rest. value_given Integer input ≡ Ok (record { value = Whole number; rest = rest })) }
+        ensures fault { (kind : FaultSeen) → result ≡ Err (Missed.Fault kind) → Finds R.remaining self.old self.new (λ input. value_given Integer input ≡ Err kind) }
+        ensures input { result ≡ Err Missed.Input → HasRisen (R.faults (source_reader self.old)) (R.faults (source_reader self.new)) }
+        ensures missed { source_missed self.new ≡ source_missed self.old }
+        ensures never_falls { HasRisenBy 0 (R.faults (source_reader self.old)) (R.faults (source_reader self.new)) }
+    {
+        let mut word = [0; WORD_LIMIT];
+        let count = self.read_word(&mut word)?;
+        match number_read(&word[..count]) {
+            Some(number) => Ok(number),
+            None => Err(Missed::Fault(FaultKind::BadData)),
+        }
+    }
+
+    // Reads the next word as a text.
+    fn read_alpha(&mut self) -> Result<Alpha, Missed>
+        ensures read { (text : List ℕ) → result ≡ Ok text → Reads R.remaining self.old self.new (λ input rest. value_given AlphaMode input ≡ Ok (record { value = Text text; rest = rest })) }
+        ensures fault { (kind : FaultSeen) → result ≡ Err (Missed.Fault kind) → Finds R.remaining self.old self.new (λ input. value_given AlphaMode input ≡ Err kind) }
+        ensures input { result ≡ Err Missed.Input → HasRisen (R.faults (source_reader self.old)) (R.faults (source_reader self.new)) }
+        ensures missed { source_missed self.new ≡ source_missed self.old }
+        ensures never_falls { HasRisenBy 0 (R.faults (source_reader self.old)) (R.faults (source_reader self.new)) }
+    {
+        let mut word = [0; WORD_LIMIT];
+        let count = self.read_word(&mut word)?;
+        match Alpha::of(&word[..count]) {
+            Some(text) => Ok(text),
+            None => Err(Missed::Fault(FaultKind::BadData)),
+        }
+    }
+
+    // What a call answers, which is remembered where it gave no value.
+    fn remember<T: Drop>(&mut self, answer: Result<T, Missed>) -> Result<T, Missed>
+        ensures same { result ≡ answer }
+        ensures block { source_block self.new ≡ source_block self.old }
+        ensures gap { source_gap self.new ≡ source_gap self.old }
+        ensures missed { source_missed self.old ≡ None → source_missed self.new ≡ missed_of answer }
+    {
+        if let Err(missed) = &answer {
+            self.missed = Some(*missed);
+        }
+        answer
+    }
+
+    /// The whole number that the next word is: an optional sign and digits, within 64 bits.
+    ///
+    /// `Missed::Fault` with END OF DATA where no word is left, and with BAD DATA for any other word, one
+    /// of more than 64 bytes, or more than 1,048,576 separators before it; `Missed::Input` where the
+    /// reader answered an error. After a `Missed` every call answers the same and reads nothing.
+    pub fn integer(&mut self) -> Result<i64, Missed>
+        ensures again { (missed : MissedSeen) → source_missed self.old ≡ Some missed → (result ≡ Err missed) × (self.new ≡ self.old) }
+        ensures read { (number : ℤ) → result ≡ Ok number → Reads R.remaining self.old self.new (λ input rest. value_given Integer input ≡ Ok (record { value = Whole number; rest = rest })) }
+        ensures fault { source_missed self.old ≡ None → (kind : FaultSeen) → result ≡ Err (Missed.Fault kind) → Finds R.remaining self.old self.new (λ input. value_given Integer input ≡ Err kind) }
+        ensures input { source_missed self.old ≡ None → result ≡ Err Missed.Input → HasRisen (R.faults (source_reader self.old)) (R.faults (source_reader self.new)) }
+        ensures missed { source_missed self.old ≡ None → source_missed self.new ≡ missed_of result }
+        ensures never_falls { HasRisenBy 0 (R.faults (source_reader self.old)) (R.faults (source_reader self.new)) }
+    {
+        if let Some(missed) = self.missed {
+            return Err(missed);
+        }
+        let answer = self.read_integer();
+        self.remember(answer)
+    }
+
+    /// The text that the next word is: 1 to 8 bytes from 33 to 126.
+    ///
+    /// `Missed::Fault` with END OF DATA where no word is left, and with BAD DATA for any other word, one
+    /// of more than 64 bytes, or more than 1,048,576 separators before it; `Missed::Input` where the
+    /// reader answered an error. After a `Missed` every call answers the same and reads nothing.
+    pub fn alpha(&mut self) -> Result<Alpha, Missed>
+        ensures again { (missed : MissedSeen) → source_missed self.old ≡ Some missed → (result ≡ Err missed) × (self.new ≡ self.old) }
+        ensures read { (text : List ℕ) → result ≡ Ok text → Reads R.remaining self.old self.new (λ input rest. value_given AlphaMode input ≡ Ok (record { value = Text text; rest = rest })) }
+        ensures fault { source_missed self.old ≡ None → (kind : FaultSeen) → result ≡ Err (Missed.Fault kind) → Finds R.remaining self.old self.new (λ input. value_given AlphaMode input ≡ Err kind) }
+        ensures input { source_missed self.old ≡ None → result ≡ Err Missed.Input → HasRisen (R.faults (source_reader self.old)) (R.faults (source_reader self.new)) }
+        ensures missed { source_missed self.old ≡ None → source_missed self.new ≡ missed_of result }
+        ensures never_falls { HasRisenBy 0 (R.faults (source_reader self.old)) (R.faults (source_reader self.new)) }
+    {
+        if let Some(missed) = self.missed {
+            return Err(missed);
+        }
+        let answer = self.read_alpha();
+        self.remember(answer)
+    }
+
+    // Whether no word is left.
+    fn find_end(&mut self) -> Result<bool, Missed>
+        ensures read { (ended : Bool) → result ≡ Ok ended → Reads R.remaining self.old self.new (λ input rest. (rest ≡ input) × (is_ended input ≡ Ok ended)) }
+        ensures fault { (kind : FaultSeen) → result ≡ Err (Missed.Fault kind) → Finds R.remaining self.old self.new (λ input. is_ended input ≡ Err kind) }
+        ensures input { result ≡ Err Missed.Input → HasRisen (R.faults (source_reader self.old)) (R.faults (source_reader self.new)) }
+        ensures missed { source_missed self.new ≡ source_missed self.old }
+        ensures never_falls { HasRisenBy 0 (R.faults (source_reader self.old)) (R.faults (source_reader self.new)) }
+    {
+        self.reach_word()?;
+        Ok(self.block.first().is_none())
+    }
+
+    /// Whether no word is left; a word of any length is one.
+    ///
+    /// Nothing is taken: the next call stands before the same word, behind the same separators.
+    /// `Missed::Fault` with BAD DATA where more than 1,048,576 separators come before it; `Missed::Input`
+    /// where the reader answered an error. After a `Missed` every call answers the same and reads
+    /// nothing.
+    pub fn ended(&mut self) -> Result<bool, Missed>
+        ensures again { (missed : MissedSeen) → source_missed self.old ≡ Some missed → (result ≡ Err missed) × (self.new ≡ self.old) }
+        ensures read { (ended : Bool) → result ≡ Ok ended → Reads R.remaining self.old self.new (λ input rest. (rest ≡ input) × (is_ended input ≡ Ok ended)) }
+        ensures fault { source_missed self.old ≡ None → (kind : FaultSeen) → result ≡ Err (Missed.Fault kind) → Finds R.remaining self.old self.new (λ input. is_ended input ≡ Err kind) }
+        ensures input { source_missed self.old ≡ None → result ≡ Err Missed.Input → HasRisen (R.faults (source_reader self.old)) (R.faults (source_reader self.new)) }
+        ensures missed { source_missed self.old ≡ None → source_missed self.new ≡ missed_of result }
+        ensures never_falls { HasRisenBy 0 (R.faults (source_reader self.old)) (R.faults (source_reader self.new)) }
+    {
+        if let Some(missed) = self.missed {
+            return Err(missed);
+        }
+        let answer = self.find_end();
+        self.remember(answer)
+    }
+}
