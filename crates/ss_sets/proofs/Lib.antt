@@ -1,0 +1,3 @@
+pub mod Filed
+pub mod Members
+pub mod Same
