@@ -22,109 +22,21 @@ use Rattle.ss_grammar.proofs.Depth.{upto_same, Bounded, bounded_more}
 use Rattle.ss_grammar.proofs.ReaderLaws.{Reads, Item, nowise, Made, made_reads, said_reads, seq_reads, marked_reads, closed_reads, before_mark_reads, optional_reads, apply_reads, fewer_reads, lined_reads, item_of, item_marked, maybe_list_reads, flag_reads, expect_reads}
 use Rattle.ss_grammar.proofs.Rows.{rows_reads, Loop, loop_of}
 use Rattle.ss_grammar.proofs.WordLaws.{word_in_reads, optional_class_reads, done_reads, fail_reads, name_reads, names_reads, perhaps_listed_reads, no_word}
-use Rattle.ss_parse.specs.SpelledPrograms.{mode_of, Preamble_from, section_word, Saving_words, Kind_behind, Variables_are, Definition_is, Section_is, Whole_preamble, Program_is}
+use Rattle.ss_parse.specs.SpelledPreambles.{mode_of, Variables_are, Whole_preamble}
+use Rattle.ss_parse.specs.SpelledPrograms.{section_word, Saving_words, Kind_behind, Definition_is, Section_is, Program_is}
 use Rattle.ss_parse.specs.ReadStatements.{form_word}
-use Rattle.ss_parse.specs.ReadPrograms.{normally_at, begins_preamble, preamble_at, preamble_of_kind, preamble_from, whole_preamble, section_words, begins_section, saving, routine_kind, event_kind, kind_at, variables, definition_tree, definition_at, definition, definitions, body_in, section_tree, section_at, section_in, program_tree, program_in}
+use Rattle.ss_parse.specs.ReadPreambles.{whole_preamble}
+use Rattle.ss_parse.proofs.PreambleLaws.{whole_preamble_reads}
+use Rattle.ss_parse.specs.ReadPrograms.{section_words, begins_section, saving, routine_kind, event_kind, kind_at, variables, definition_tree, definition_at, definition, definitions, body_in, section_tree, section_at, section_in, program_tree, program_in}
 use Rattle.ss_parse.proofs.FirstWords.{Form, plain_form, by_word_reads, first_less}
 use Rattle.ss_parse.proofs.StatementLaws.{blank_behind, In_statement, all_statements_reads}
-
--- ---- preambles
-
-module _ (k : ℕ) where
-  abbrev Normally_parts : Mode → Shape
-  Normally_parts mode = noise ▷ Word_is words.Mode ▷ Word_is words.Is ▷ Said mode_of mode
-
-  normally_reads : (line : Line) → Reads k (normally_at line) (normally_at line) (Made (normally line) Normally_parts) nowise
-  unfolding normally_at
-  normally_reads line = made_reads (optional_reads (marked_reads (word words.Mode) (marked_reads (word words.Is) (word_in_reads k mode_of))) comma (λ mode ts rest s. ap (begins comma) s.1.2)) (normally line)
-
-  preamble_at_sound : (w : Word) (span : Span) (line : Line) (ts : List Token) (x : PreambleTree) (rest : List Token) → preamble_at line w ts ≡ Ok (x, rest) → Preamble_from x (token (kinds.Word w) span line ∷ ts) rest
-  unfolding preamble_at
-  preamble_at_sound words.Normally span line ts x rest e =
-      let s = (normally_reads line).sound ts x rest e in
-      subst (λ (x : PreambleTree). Preamble_from x (token (kinds.Word words.Normally) span line ∷ ts) rest) s.1 (refl, (ts, (span, line, refl), s.2))
-  preamble_at_sound _ span line ts x rest e = absurd cc
-
-  preamble_kind_sound : (kind : TokenKind) (span : Span) (line : Line) (ts : List Token) (x : PreambleTree) (rest : List Token) → preamble_of_kind line kind ts ≡ Ok (x, rest) → Preamble_from x (token kind span line ∷ ts) rest
-  preamble_kind_sound (kinds.Word w) span line ts x rest e = preamble_at_sound w span line ts x rest e
-  preamble_kind_sound _ span line ts x rest e = absurd cc
-
-  preamble_sound : (ts : List Token) (x : PreambleTree) (rest : List Token) → preamble_from ts ≡ Ok (x, rest) → Preamble_from x ts rest
-  unfolding preamble_from
-  preamble_sound [] x rest e = absurd cc
-  preamble_sound (t ∷ ts) x rest e = preamble_kind_sound t.kind t.span t.line ts x rest e
-
-  preamble_complete : (ts : List Token) (x : PreambleTree) (rest : List Token) → Preamble_from x ts rest → nowise rest ≡ false → preamble_from ts ≡ Ok (x, rest)
-  unfolding preamble_from preamble_at
-  preamble_complete ts (normally line mode) rest (begins_at, (a, (span, l, e), s)) stop =
-      let read = (normally_reads l).complete a (normally l mode) rest (mode, refl, s) refl in
-      let same : l ≡ line = sym (ap first_line e) ∙ begins_at in
-      ap preamble_from e ∙ read ∙ ap (λ (l : Line). Ok (normally l mode, rest)) same
-  preamble_complete ts _ rest s stop = absurd s
-
-  preamble_less : (ts : List Token) (x : PreambleTree) (rest : List Token) → Preamble_from x ts rest → length rest < length ts
-  preamble_less ts (normally line mode) rest (begins_at, (a, w, s)) =
-      omega (arith, token_less (kinds.Word words.Normally) ts a w, (normally_reads line).shorter a (normally line mode) rest (mode, refl, s))
-  preamble_less ts _ rest s = absurd s
-
-  preamble_at_opening : (line : Line) (w : Word) (ts : List Token) → Bounded k (opens (kinds.Word w) + openers ts) (preamble_at line w ts)
-  unfolding preamble_at
-  preamble_at_opening line words.Normally ts = bounded_more k (openers ts) (0 + openers ts) _ (omega arith) ((normally_reads line).opening ts)
-  preamble_at_opening line _ ts = tt
-
-  preamble_kind_opening : (line : Line) (kind : TokenKind) (ts : List Token) → Bounded k (opens kind + openers ts) (preamble_of_kind line kind ts)
-  preamble_kind_opening line (kinds.Word w) ts = preamble_at_opening line w ts
-  preamble_kind_opening line _ ts = tt
-
-  preamble_opening : (ts : List Token) → Bounded k (openers ts) (preamble_from ts)
-  unfolding preamble_from
-  preamble_opening [] = tt
-  preamble_opening (t ∷ ts) = preamble_kind_opening t.line t.kind ts
-
-  preamble_reads : Reads k preamble_from preamble_from Preamble_from nowise
-  preamble_reads = record {
-    sound = preamble_sound;
-    complete = preamble_complete;
-    shorter = λ ts x rest s. omega (arith, preamble_less ts x rest s);
-    under = λ ts. upto_same _;
-    opening = preamble_opening;
-  }
-
-  preamble_begins : (ts : List Token) (x : PreambleTree) (rest : List Token) → Preamble_from x ts rest → begins_preamble ts ≡ true
-  preamble_begins ts (normally line mode) rest (begins_at, (a, (span, l, e), s)) = rw e refl
-  preamble_begins ts _ rest s = absurd s
-
-  pub preamble_item : Item k begins_preamble preamble_from preamble_from Preamble_from nowise
-  preamble_item = item_of begins_preamble preamble_reads preamble_begins preamble_less
-
-  -- the words and statements of a preamble
-  abbrev Preamble_words : List PreambleTree → Shape
-  Preamble_words xs = Word_is words.Preamble ▷ each Preamble_from xs ▷ Word_is words.End
-
-  whole_to : (xs : List PreambleTree) (ts rest : List Token) → Preamble_words xs ts rest → Whole_preamble xs ts rest
-  whole_to [] ts rest (a, w, (b, e, end)) = inr (a, w, subst (λ r. Word_is words.End r rest) (sym e) end)
-  whole_to (x ∷ xs) ts rest s = s
-
-  whole_from : (xs : List PreambleTree) (ts rest : List Token) → Whole_preamble xs ts rest → ((xs ≡ []) × (ts ≡ rest)) ⊎ Preamble_words xs ts rest
-  whole_from [] ts rest (inl e) = inl (refl, e)
-  whole_from [] ts rest (inr (a, w, end)) = inr (a, w, (a, refl, end))
-  whole_from (x ∷ xs) ts rest s = inr s
-
-  whole_preamble_reads : Reads k whole_preamble whole_preamble Whole_preamble (λ ts. begins (word words.Preamble) ts || nowise ts)
-  unfolding whole_preamble
-  whole_preamble_reads =
-      maybe_list_reads (item_marked (word words.Preamble) (before_mark_reads (word words.End) (rows_reads preamble_item (λ ts x rest s. refl)) (λ span line ts. refl)))
-      whole_to whole_from (λ ts. inl refl)
-
-pub preambles_loop : Loop begins_preamble preamble_from
-preambles_loop = loop_of (preamble_item 0) refl
 
 -- ---- the headers of sections
 
 section_known : (kind : SectionKindTree) → section_words (section_word kind) ≡ true
 section_known main = refl
 section_known (routine name given yielding) = refl
-section_known (event name given saving) = refl
+section_known (event name given saves) = refl
 
 -- words that go on with the header of a section
 abbrev kind_more : Word → Bool

@@ -13,46 +13,9 @@ use Rattle.ss_tree.specs.Tree.{PreambleTree, normally, DefinitionTree, SectionKi
 use Rattle.ss_grammar.specs.declared.classes.Class.TheVariants as classes
 use Rattle.ss_grammar.specs.ReadWords.{done, fail, skip_class, begins_among, names}
 use Rattle.ss_grammar.specs.Reading.{Reader, ◌>>=◌, word, begins, expect, in_table, taken, name_of, flag, seq, behind, closed, apply, lined, maybe_list, rows, skip_comma}
-use Rattle.ss_parse.specs.SpelledPrograms.{mode_of}
+use Rattle.ss_parse.specs.SpelledPreambles.{mode_of}
+use Rattle.ss_parse.specs.ReadPreambles.{whole_preamble}
 use Rattle.ss_parse.specs.ReadStatements.{by_word, behind_the, statements_in}
-
--- ---- preambles
-
--- behind NORMALLY
-unfoldable pub normally_at : Line → Reader PreambleTree
-normally_at line = apply (normally line) (λ ts. behind (expect (word words.Mode)) (behind (expect (word words.Is)) (taken (in_table mode_of))) (skip_comma ts))
-
-abbrev pub preamble_word : Word → Bool
-preamble_word words.Normally = true
-preamble_word _ = false
-
-abbrev pub begins_preamble_kind : TokenKind → Bool
-begins_preamble_kind (kinds.Word w) = preamble_word w
-begins_preamble_kind _ = false
-
-abbrev pub begins_preamble : List Token → Bool
-begins_preamble [] = false
-begins_preamble (t ∷ ts) = begins_preamble_kind t.kind
-
-unfoldable pub preamble_at : Line → Word → Reader PreambleTree
-preamble_at line words.Normally = normally_at line
-preamble_at line _ = λ ts. Err Syntax
-
-abbrev pub preamble_of_kind : Line → TokenKind → Reader PreambleTree
-preamble_of_kind line (kinds.Word w) ts = preamble_at line w ts
-preamble_of_kind line _ ts = Err Syntax
-
--- a statement of a preamble
-unfoldable pub preamble_from : Reader PreambleTree
-preamble_from [] = Err Syntax
-preamble_from (t ∷ ts) = preamble_of_kind t.line t.kind ts
-
-abbrev pub preambles : Reader (List PreambleTree)
-preambles = rows begins_preamble preamble_from
-
--- a preamble, if there is one
-unfoldable pub whole_preamble : Reader (List PreambleTree)
-whole_preamble = maybe_list (begins (word words.Preamble)) (behind (expect (word words.Preamble)) (closed preambles (expect (word words.End))))
 
 -- ---- sections
 

@@ -10,22 +10,7 @@ use Rattle.ss_grammar.specs.Shapes.{Shape, ◌▷◌, nothing, never, optional, 
 use Rattle.ss_grammar.specs.declared.classes.Class.TheVariants as alike
 use Rattle.ss_grammar.specs.Words.{One_of, the, perhaps_listed}
 use Rattle.ss_parse.specs.SpelledStatements.{Statement_is}
-
--- ---- parts of preambles
-
-abbrev pub mode_of : Word → Option Mode
-mode_of words.Integer = Some modes.Integer
-mode_of words.Alpha = Some modes.Alpha
-mode_of words.Real = Some modes.Real
-mode_of _ = None
-
--- ---- preambles
-
--- the statement, from its first word on
-abbrev pub Preamble_from : PreambleTree → Shape
-Preamble_from (normally line mode) = at line (Word_is words.Normally ▷ noise ▷ Word_is words.Mode ▷ Word_is words.Is ▷ Said mode_of mode)
--- the other forms aren't read yet
-Preamble_from _ = never
+use Rattle.ss_parse.specs.SpelledPreambles.{Variables_are, Whole_preamble}
 
 -- ---- programs
 
@@ -45,20 +30,11 @@ Kind_behind (routine name given yielding) =
     optional (One_of alike.Towards) ▷ Name_is name ▷ perhaps_listed (Word_is words.Given) Name_is given ▷ perhaps_listed (Word_is words.Yielding) Name_is yielding
 Kind_behind (event name given saving) = Name_is name ▷ perhaps_listed (Word_is words.Given) Name_is given ▷ flagged Saving_words saving
 
--- names and their mode, behind DEFINE
-abbrev pub Variables_are : List (List ℕ) × Mode → Shape
-Variables_are p = listed Name_is p.0 ▷ Word_is words.As ▷ optional (One_of alike.Article) ▷ Said mode_of p.1 ▷ Word_is words.Variable
-
 abbrev pub Definition_is : DefinitionTree → Shape
 Definition_is d = at d.line (Word_is words.Define ▷ Variables_are (d.names, d.mode))
 
 abbrev pub Section_is : ℕ → SectionTree → Shape
 Section_is levels s = at s.line (Word_is (section_word s.kind) ▷ Kind_behind s.kind ▷ each Definition_is s.definitions ▷ each (Statement_is levels) s.body ▷ Word_is words.End)
-
--- a preamble, which may be left out where it would be empty
-abbrev pub Whole_preamble : List PreambleTree → Shape
-Whole_preamble [] = optional (Word_is words.Preamble ▷ Word_is words.End)
-Whole_preamble (s ∷ ss) = Word_is words.Preamble ▷ each Preamble_from (s ∷ ss) ▷ Word_is words.End
 
 abbrev pub Program_is : ℕ → ProgramTree → Shape
 Program_is levels p = Whole_preamble p.preamble ▷ each (Section_is levels) p.sections

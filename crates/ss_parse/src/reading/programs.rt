@@ -2,20 +2,20 @@
 
 ghost use Rattle.std.specs.Prelude.{◌≡◌, map};
 ghost use Rattle.ss_grammar.specs.Shapes.{first_line};
-ghost use Rattle.ss_tree.specs.View.{view_preamble, view_definition, view_kind, view_section, view_program};
-ghost use Rattle.ss_parse.specs.SpelledPrograms.{mode_of};
-ghost use Rattle.ss_grammar.specs.Reading.{Gives, word, begins, expect, behind, maybe_list, taken, in_table, rows};
+ghost use Rattle.ss_tree.specs.View.{view_definition, view_kind, view_section, view_program};
+ghost use Rattle.ss_grammar.specs.Reading.{Gives, word, begins, expect, behind, maybe_list, rows};
 ghost use Rattle.ss_grammar.specs.ReadWords.{names};
-ghost use Rattle.ss_parse.specs.ReadPrograms.{normally_at, begins_preamble, preamble_from, preambles, whole_preamble, begins_section, saving, routine_kind, event_kind, kind_at, variables, definition, definitions, section_at, section_in, program_in, program_of};
+ghost use Rattle.ss_parse.specs.ReadPrograms.{begins_section, saving, routine_kind, event_kind, kind_at, variables, definition, definitions, section_at, section_in, program_in, program_of};
 
+use crate::reading::preambles::{mode, preamble};
 use crate::reading::statements::statements;
 use ss_base::Line;
 use ss_grammar::classes::{Class, skip_class};
 use ss_grammar::failure::Failure;
 use ss_grammar::names::{name, names};
-use ss_grammar::tokens::{begins_word, behind_first, expect_word, skip_symbol, skip_word, syntax};
-use ss_lex::{Name, Symbol, Token, TokenKind, Word};
-use ss_tree::preamble::{Mode, PreambleStatement};
+use ss_grammar::tokens::{begins_word, behind_first, expect_word, skip_word, syntax};
+use ss_lex::{Name, Token, TokenKind, Word};
+use ss_tree::preamble::Mode;
 use ss_tree::program::{LocalDefinition, Program, Section, SectionKind};
 use std::alloc::Global;
 
@@ -30,102 +30,6 @@ fn line_at(tokens: &[Token]) -> Line
         [] => Line(0),
         [first, ..] => first.line,
     }
-}
-
-fn mode_of(word: Word) -> Option<Mode>
-    ensures { result ≡ mode_of word }
-{
-    match word {
-        Word::Integer => Some(Mode::Integer),
-        Word::Alpha => Some(Mode::Alpha),
-        Word::Real => Some(Mode::Real),
-        _ => None,
-    }
-}
-
-/// A mode.
-fn mode(tokens: &[Token]) -> Result<(Mode, &[Token]), Failure>
-    ensures { Gives (λ x. (x.0, x.1.now)) result (taken (in_table mode_of) tokens.now) }
-{
-    match tokens {
-        [] => Err(syntax(tokens)),
-        [first, rest @ ..] => match &first.kind {
-            TokenKind::Word(word) => match mode_of(*word) {
-                Some(mode) => Ok((mode, rest)),
-                None => Err(syntax(tokens)),
-            },
-            _ => Err(syntax(tokens)),
-        },
-    }
-}
-
-/// What stands behind NORMALLY.
-#[tactic(auto, unfolding(crate::specs::ReadPrograms::normally_at))]
-fn normally(line: Line, tokens: &[Token]) -> Result<(PreambleStatement, &[Token]), Failure>
-    ensures { Gives (λ x. (view_preamble x.0, x.1.now)) result (normally_at line tokens.now) }
-{
-    let rest = skip_symbol(tokens, Symbol::Comma);
-    let rest = expect_word(rest, Word::Mode)?;
-    let rest = expect_word(rest, Word::Is)?;
-    let (mode, rest) = mode(rest)?;
-    Ok((PreambleStatement::Normally { line, mode }, rest))
-}
-
-fn begins_preamble(tokens: &[Token]) -> bool
-    ensures { result ≡ begins_preamble tokens.now }
-{
-    match tokens {
-        [] => false,
-        [first, ..] => match &first.kind {
-            TokenKind::Word(word) => matches!(word, Word::Normally),
-            _ => false,
-        },
-    }
-}
-
-/// A statement of a preamble.
-#[tactic(auto, unfolding(crate::specs::ReadPrograms::preamble_from, crate::specs::ReadPrograms::preamble_at))]
-fn preamble_statement(tokens: &[Token]) -> Result<(PreambleStatement, &[Token]), Failure>
-    ensures { Gives (λ x. (view_preamble x.0, x.1.now)) result (preamble_from tokens.now) }
-{
-    match tokens {
-        [] => Err(syntax(tokens)),
-        [first, rest @ ..] => match &first.kind {
-            TokenKind::Word(Word::Normally) => normally(first.line, rest),
-            _ => Err(syntax(tokens)),
-        },
-    }
-}
-
-/// The statements of a preamble.
-fn preamble_statements(
-    alloc: Global,
-    tokens: &[Token],
-) -> Result<(Vec<PreambleStatement>, &[Token]), Failure>
-    ensures { Gives (λ x. (map view_preamble x.0.items, x.1.now)) result (preambles tokens.now) }
-{
-    let mut all = Vec::new(alloc);
-    let mut rest = tokens;
-    'more: while begins_preamble(rest) {
-        let (next, after) = preamble_statement(rest)?;
-        all.push(next)?;
-        rest = after;
-    }
-    Ok((all, rest))
-}
-
-/// A preamble, if there is one.
-#[tactic(auto, unfolding(crate::specs::ReadPrograms::whole_preamble))]
-fn preamble(alloc: Global, tokens: &[Token]) -> Result<(Vec<PreambleStatement>, &[Token]), Failure>
-    ensures { Gives (λ x. (map view_preamble x.0.items, x.1.now)) result (whole_preamble tokens.now) }
-{
-    if !begins_word(tokens, Word::Preamble) {
-        return Ok((Vec::new(alloc), tokens));
-    }
-    let rest = expect_word(tokens, Word::Preamble)?;
-    let (statements, rest) = preamble_statements(alloc, rest)?;
-    let rest = expect_word(rest, Word::End)?;
-    Ok((statements, rest))
 }
 
 /// Names behind the word, if it is there.

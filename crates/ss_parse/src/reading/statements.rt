@@ -21,14 +21,14 @@ use ss_tree::statement::Statement;
 use std::alloc::Global;
 
 /// Whether the word, with a comma before it or not, is first.
-fn begins_noisy(tokens: &[Token], wanted: Word) -> bool
+pub fn begins_noisy(tokens: &[Token], wanted: Word) -> bool
     ensures { result ≡ begins_noisy (word wanted) tokens.now }
 {
     begins_word(skip_symbol(tokens, Symbol::Comma), wanted)
 }
 
 /// What follows this word, which has to be first but for a comma.
-fn expect_noisy(tokens: &[Token], wanted: Word) -> Result<&[Token], Failure>
+pub fn expect_noisy(tokens: &[Token], wanted: Word) -> Result<&[Token], Failure>
     ensures { Gives (λ rest. (tt, rest.now)) result (expect_noisy (word wanted) tokens.now) }
 {
     expect_word(skip_symbol(tokens, Symbol::Comma), wanted)

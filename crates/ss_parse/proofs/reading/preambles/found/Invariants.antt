@@ -1,0 +1,12 @@
+use Rattle.std.proofs.Common.{◌≡◌, ℕ, length}
+use Rattle.ss_grammar.specs.Reading.{rows, begins_more, skip_separator}
+use Rattle.ss_grammar.specs.ReadWords.{begins_name}
+use Rattle.ss_grammar.proofs.Rows.{with_front}
+use Rattle.ss_parse.specs.ReadPreambles.{statistic, found}
+use Rattle.ss_parse.proofs.reading.preambles.found.Given as goal
+
+abbrev pub invariant-more : goal.invariant-more
+invariant-more l = with_front l.all.items (rows (begins_more begins_name) (λ r. statistic (skip_separator r)) l.rest) ≡ found l.tokens
+
+abbrev pub decreases-more : goal.decreases-more
+decreases-more l = length l.rest

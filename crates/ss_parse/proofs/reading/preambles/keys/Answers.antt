@@ -1,0 +1,24 @@
+use Rattle.std.proofs.Common.{sym, ◌∙◌}
+use Rattle.std.proofs.lemmas.Result.{err_from_is_err_and}
+use Rattle.ss_grammar.proofs.Rows.{grows_plain, breaks_plain, is_done_plain}
+use Rattle.ss_parse.proofs.PreambleLaws.{keys_loop, then_key_read, then_key_no_rank, then_key_no_name}
+use Rattle.ss_parse.proofs.reading.preambles.keys.Goals as goal
+
+pub more-preserved : goal.more-preserved
+more-preserved c = grows_plain keys_loop _ _ _ _ _ _ c.in_ok-push-2.ensures.items (sym c.begins_noisy.ensures ∙ c.more-test.true) (then_key_read _ _ _ _ _ c.in_ok-higher.ensures c.in_ok-next.ensures c.behind_first-rest-in-more.ensures) c.more.invariant
+
+pub more-smaller : goal.more-smaller
+more-smaller c = keys_loop.shrinks _ _ _ (sym c.begins_noisy.ensures ∙ c.more-test.true) (then_key_read _ _ _ _ _ c.in_ok-higher.ensures c.in_ok-next.ensures c.behind_first-rest-in-more.ensures)
+
+pub returns : goal.returns
+returns c = is_done_plain keys_loop _ _ _ (sym c.begins_noisy.ensures ∙ c.more-test.false) c.more.invariant
+
+pub returns-in_err-higher : goal.returns-in_err-higher
+returns-in_err-higher c =
+    let p = err_from_is_err_and c.from_residual-in_err-higher.result c.from_residual-in_err-higher.ensures.1 in
+    rw (p.1, p.2) (breaks_plain keys_loop _ _ _ _ (sym c.begins_noisy.ensures ∙ c.more-test.true) (then_key_no_rank _ _ c.in_err-higher.ensures) c.more.invariant)
+
+pub returns-in_err-next : goal.returns-in_err-next
+returns-in_err-next c =
+    let p = err_from_is_err_and c.from_residual-in_err-next.result c.from_residual-in_err-next.ensures.1 in
+    rw (p.1, p.2) (breaks_plain keys_loop _ _ _ _ (sym c.begins_noisy.ensures ∙ c.more-test.true) (then_key_no_name _ _ _ _ c.in_ok-higher.ensures c.in_err-next.ensures) c.more.invariant)

@@ -1,0 +1,13 @@
+use Rattle.std.proofs.Common.{◌≡◌, ℕ, length}
+use Rattle.ss_lex.specs.declared.word.Word.TheVariants as words
+use Rattle.ss_grammar.specs.Reading.{rows, word}
+use Rattle.ss_grammar.specs.ReadWords.{begins_noisy}
+use Rattle.ss_grammar.proofs.Rows.{with_front}
+use Rattle.ss_parse.specs.ReadPreambles.{then_key, keys}
+use Rattle.ss_parse.proofs.reading.preambles.keys.Given as goal
+
+abbrev pub invariant-more : goal.invariant-more
+invariant-more l = with_front l.all.items (rows (begins_noisy (word words.Then)) then_key l.rest) ≡ keys l.tokens
+
+abbrev pub decreases-more : goal.decreases-more
+decreases-more l = length l.rest

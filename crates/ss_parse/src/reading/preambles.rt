@@ -1,0 +1,569 @@
+//! Preambles.
+
+ghost use Rattle.std.specs.Prelude.{◌≡◌, None, map};
+ghost use Rattle.ss_tree.specs.View.{view_clause, view_order, view_preamble};
+ghost use Rattle.ss_grammar.specs.Reading.{Gives, word, begins, expect, behind, maybe_list, begins_by, begins_more, taken, in_table};
+ghost use Rattle.ss_lex.specs.declared.word.Word.TheVariants.{Include};
+ghost use Rattle.ss_grammar.specs.ReadWords.{begins_name, names};
+ghost use Rattle.ss_parse.specs.SpelledPreambles.{mode_of, rank_of, statistic_of, group_behind};
+ghost use Rattle.ss_parse.specs.ReadPreambles.{then_rank, keys, statistic_kind, found, clause, begins_clause, clause_list, clauses, ranking, order, permanent_at, temporary_at, notices_at, every_at, normally_at, system_at, define_end, define_at, priority_at, break_at, statistics_at, preamble_at, begins_preamble, preamble_in, preambles, whole_preamble};
+
+use crate::reading::statements::{begins_noisy, expect_noisy};
+use ss_grammar::classes::{Class, skip_class};
+use ss_grammar::failure::Failure;
+use ss_grammar::names::{begins_name, items, name, names};
+use ss_grammar::tokens::{
+    begins_symbol, begins_word, behind_first, expect_word, skip_separator, skip_word, syntax,
+};
+use ss_tree::preamble::{
+    ClassKind, Clause, Key, Mode, PreambleStatement, SetOrder, Statistic, StatisticKind, Weighting,
+};
+use ss_base::Line;
+use ss_lex::{Name, Symbol, Token, TokenKind, Word};
+use std::alloc::Global;
+
+/// The mode that the word names.
+fn mode_of(word: Word) -> Option<Mode>
+    ensures { result ≡ mode_of word }
+{
+    match word {
+        Word::Integer => Some(Mode::Integer),
+        Word::Alpha => Some(Mode::Alpha),
+        Word::Real => Some(Mode::Real),
+        _ => None,
+    }
+}
+
+/// A mode.
+pub fn mode(tokens: &[Token]) -> Result<(Mode, &[Token]), Failure>
+    ensures { Gives (λ x. (x.0, x.1.now)) result (taken (in_table mode_of) tokens.now) }
+{
+    match tokens {
+        [] => Err(syntax(tokens)),
+        [first, rest @ ..] => match &first.kind {
+            TokenKind::Word(word) => match mode_of(*word) {
+                Some(mode) => Ok((mode, rest)),
+                None => Err(syntax(tokens)),
+            },
+            _ => Err(syntax(tokens)),
+        },
+    }
+}
+
+/// Whether a mode is first.
+fn begins_mode(tokens: &[Token]) -> bool
+    ensures { result ≡ begins_by (in_table mode_of) tokens.now }
+{
+    match tokens {
+        [] => false,
+        [first, ..] => match &first.kind {
+            TokenKind::Word(word) => mode_of(*word).is_some(),
+            _ => false,
+        },
+    }
+}
+
+/// Whether the word says that the highest value comes first.
+fn rank_of(word: Word) -> Option<bool>
+    ensures { result ≡ rank_of word }
+{
+    match word {
+        Word::High => Some(true),
+        Word::Low => Some(false),
+        _ => None,
+    }
+}
+
+/// HIGH or LOW.
+fn rank(tokens: &[Token]) -> Result<(bool, &[Token]), Failure>
+    ensures { Gives (λ x. (x.0, x.1.now)) result (taken (in_table rank_of) tokens.now) }
+{
+    match tokens {
+        [] => Err(syntax(tokens)),
+        [first, rest @ ..] => match &first.kind {
+            TokenKind::Word(word) => match rank_of(*word) {
+                Some(high) => Ok((high, rest)),
+                None => Err(syntax(tokens)),
+            },
+            _ => Err(syntax(tokens)),
+        },
+    }
+}
+
+/// A clause of an EVERY.
+#[tactic(auto, unfolding(crate::specs::ReadPreambles::clause))]
+fn clause(alloc: Global, tokens: &[Token]) -> Result<(Clause, &[Token]), Failure>
+    ensures { Gives (λ x. (view_clause x.0, x.1.now)) result (clause tokens.now) }
+{
+    if begins_word(tokens, Word::Has) {
+        let rest = expect_word(tokens, Word::Has)?;
+        let (names, rest) = items(alloc, rest)?;
+        Ok((Clause::Has(names), rest))
+    } else if begins_word(tokens, Word::Owns) {
+        let rest = expect_word(tokens, Word::Owns)?;
+        let (names, rest) = items(alloc, rest)?;
+        Ok((Clause::Owns(names), rest))
+    } else {
+        let rest = expect_word(tokens, Word::May)?;
+        let rest = expect_word(rest, Word::Belong)?;
+        let rest = expect_word(rest, Word::To)?;
+        let (names, rest) = items(alloc, rest)?;
+        Ok((Clause::BelongsTo(names), rest))
+    }
+}
+
+/// THEN BY, and HIGH or LOW.
+fn then_rank(tokens: &[Token]) -> Result<(bool, &[Token]), Failure>
+    ensures { Gives (λ x. (x.0, x.1.now)) result (then_rank tokens.now) }
+{
+    let rest = expect_noisy(tokens, Word::Then)?;
+    let rest = expect_word(rest, Word::By)?;
+    rank(rest)
+}
+
+/// Keys, the further ones behind THEN BY.
+#[tactic(auto, unfolding(crate::specs::ReadPreambles::key))]
+fn keys(alloc: Global, tokens: &[Token]) -> Result<(Vec<Key>, &[Token]), Failure>
+    ensures { Gives (λ x. (x.0.items, x.1.now)) result (keys tokens.now) }
+{
+    let mut all = Vec::new(alloc);
+    let (high, from) = rank(tokens)?;
+    let first = name(from)?;
+    all.push(Key { high, name: first })?;
+    let mut rest = behind_first(from);
+    'more: while begins_noisy(rest, Word::Then) {
+        let (higher, behind) = then_rank(rest)?;
+        let next = name(behind)?;
+        all.push(Key {
+            high: higher,
+            name: next,
+        })?;
+        rest = behind_first(behind);
+    }
+    Ok((all, rest))
+}
+
+/// What a statistic tells, by a word.
+fn statistic_of(word: Word) -> Option<StatisticKind>
+    ensures { result ≡ statistic_of word }
+{
+    match word {
+        Word::Number => Some(StatisticKind::Number),
+        Word::Sum => Some(StatisticKind::Sum),
+        Word::Maximum => Some(StatisticKind::Maximum),
+        Word::Minimum => Some(StatisticKind::Minimum),
+        _ => None,
+    }
+}
+
+/// What a statistic tells.
+fn told(tokens: &[Token]) -> Result<(StatisticKind, &[Token]), Failure>
+    ensures { Gives (λ x. (x.0, x.1.now)) result (taken (in_table statistic_of) tokens.now) }
+{
+    match tokens {
+        [] => Err(syntax(tokens)),
+        [first, rest @ ..] => match &first.kind {
+            TokenKind::Word(word) => match statistic_of(*word) {
+                Some(kind) => Ok((kind, rest)),
+                None => Err(syntax(tokens)),
+            },
+            _ => Err(syntax(tokens)),
+        },
+    }
+}
+
+/// AS, and what a statistic tells.
+fn statistic_kind(tokens: &[Token]) -> Result<(StatisticKind, &[Token]), Failure>
+    ensures { Gives (λ x. (x.0, x.1.now)) result (statistic_kind tokens.now) }
+{
+    let rest = expect_word(tokens, Word::As)?;
+    told(skip_word(rest, Word::The))
+}
+
+/// Whether a separator and then a name follow.
+fn begins_more_statistics(tokens: &[Token]) -> bool
+    ensures { result ≡ begins_more begins_name tokens.now }
+{
+    (begins_symbol(tokens, Symbol::Comma) || begins_word(tokens, Word::And))
+        && begins_name(skip_separator(tokens))
+}
+
+/// Statistics with separators between.
+#[tactic(auto, unfolding(crate::specs::ReadPreambles::statistic))]
+fn found(alloc: Global, tokens: &[Token]) -> Result<(Vec<Statistic>, &[Token]), Failure>
+    ensures { Gives (λ x. (x.0.items, x.1.now)) result (found tokens.now) }
+{
+    let mut all = Vec::new(alloc);
+    let first = name(tokens)?;
+    let (kind, mut rest) = statistic_kind(behind_first(tokens))?;
+    all.push(Statistic { name: first, kind })?;
+    'more: while begins_more_statistics(rest) {
+        let from = skip_separator(rest);
+        let next = name(from)?;
+        let (told, after) = statistic_kind(behind_first(from))?;
+        all.push(Statistic {
+            name: next,
+            kind: told,
+        })?;
+        rest = after;
+    }
+    Ok((all, rest))
+}
+
+/// Whether a clause of an EVERY is first.
+fn begins_clause(tokens: &[Token]) -> bool
+    ensures { result ≡ begins_clause tokens.now }
+{
+    match tokens {
+        [] => false,
+        [first, ..] => match &first.kind {
+            TokenKind::Word(word) => matches!(word, Word::Has | Word::Owns | Word::May),
+            _ => false,
+        },
+    }
+}
+
+/// Whether a separator and then a clause follow.
+fn begins_more_clauses(tokens: &[Token]) -> bool
+    ensures { result ≡ begins_more begins_clause tokens.now }
+{
+    (begins_symbol(tokens, Symbol::Comma) || begins_word(tokens, Word::And))
+        && begins_clause(skip_separator(tokens))
+}
+
+/// Clauses with separators between.
+fn clause_list(alloc: Global, tokens: &[Token]) -> Result<(Vec<Clause>, &[Token]), Failure>
+    ensures { Gives (λ x. (map view_clause x.0.items, x.1.now)) result (clause_list tokens.now) }
+{
+    let mut all = Vec::new(alloc);
+    let (first, mut rest) = clause(alloc, tokens)?;
+    all.push(first)?;
+    'more: while begins_more_clauses(rest) {
+        let (next, after) = clause(alloc, skip_separator(rest))?;
+        all.push(next)?;
+        rest = after;
+    }
+    Ok((all, rest))
+}
+
+/// The clauses of an EVERY, if there are any.
+fn clauses(alloc: Global, tokens: &[Token]) -> Result<(Vec<Clause>, &[Token]), Failure>
+    ensures { Gives (λ x. (map view_clause x.0.items, x.1.now)) result (clauses tokens.now) }
+{
+    if begins_clause(tokens) {
+        clause_list(alloc, tokens)
+    } else {
+        Ok((Vec::new(alloc), tokens))
+    }
+}
+
+/// How a set is ordered, behind SET.
+fn ranking(alloc: Global, tokens: &[Token]) -> Result<(SetOrder, &[Token]), Failure>
+    ensures { Gives (λ x. (view_order x.0, x.1.now)) result (ranking tokens.now) }
+{
+    if !begins_word(tokens, Word::Ranked) {
+        return Ok((SetOrder::Fifo, tokens));
+    }
+    let rest = expect_word(tokens, Word::Ranked)?;
+    let rest = expect_word(rest, Word::By)?;
+    let (keys, rest) = keys(alloc, rest)?;
+    Ok((SetOrder::Ranked(keys), rest))
+}
+
+/// How a set is ordered.
+#[tactic(auto, unfolding(crate::specs::ReadPreambles::order))]
+fn order(alloc: Global, tokens: &[Token]) -> Result<(SetOrder, &[Token]), Failure>
+    ensures { Gives (λ x. (view_order x.0, x.1.now)) result (order tokens.now) }
+{
+    if begins_word(tokens, Word::Fifo) {
+        let rest = expect_word(tokens, Word::Fifo)?;
+        let rest = expect_word(rest, Word::Set)?;
+        Ok((SetOrder::Fifo, rest))
+    } else if begins_word(tokens, Word::Lifo) {
+        let rest = expect_word(tokens, Word::Lifo)?;
+        let rest = expect_word(rest, Word::Set)?;
+        Ok((SetOrder::Lifo, rest))
+    } else {
+        let rest = expect_word(tokens, Word::Set)?;
+        ranking(alloc, rest)
+    }
+}
+
+/// PERMANENT ENTITIES behind its first word.
+#[tactic(auto, unfolding(crate::specs::ReadPreambles::permanent_at))]
+fn permanent(line: Line, tokens: &[Token]) -> Result<(PreambleStatement, &[Token]), Failure>
+    ensures { Gives (λ x. (view_preamble x.0, x.1.now)) result (permanent_at line tokens.now) }
+{
+    let rest = expect_word(tokens, Word::Entities)?;
+    Ok((PreambleStatement::PermanentEntities { line }, rest))
+}
+
+/// TEMPORARY ENTITIES behind its first word.
+#[tactic(auto, unfolding(crate::specs::ReadPreambles::temporary_at))]
+fn temporary(line: Line, tokens: &[Token]) -> Result<(PreambleStatement, &[Token]), Failure>
+    ensures { Gives (λ x. (view_preamble x.0, x.1.now)) result (temporary_at line tokens.now) }
+{
+    let rest = expect_word(tokens, Word::Entities)?;
+    Ok((PreambleStatement::TemporaryEntities { line }, rest))
+}
+
+/// The classes that EVENT NOTICES includes, if there are any.
+fn included(alloc: Global, tokens: &[Token]) -> Result<(Vec<Name>, &[Token]), Failure>
+    ensures { Gives (λ x. (x.0.items, x.1.now)) result (maybe_list (begins (word Include)) (behind (expect (word Include)) names) tokens.now) }
+{
+    if !begins_word(tokens, Word::Include) {
+        return Ok((Vec::new(alloc), tokens));
+    }
+    let rest = expect_word(tokens, Word::Include)?;
+    names(alloc, rest)
+}
+
+/// EVENT NOTICES behind its first word.
+#[tactic(auto, unfolding(crate::specs::ReadPreambles::notices_at))]
+fn notices(alloc: Global, line: Line, tokens: &[Token]) -> Result<(PreambleStatement, &[Token]), Failure>
+    ensures { Gives (λ x. (view_preamble x.0, x.1.now)) result (notices_at line tokens.now) }
+{
+    let rest = expect_word(tokens, Word::Notices)?;
+    let (included, rest) = included(alloc, rest)?;
+    Ok((PreambleStatement::EventNotices { line, included }, rest))
+}
+
+/// EVERY behind its first word, in a group of this kind.
+#[tactic(auto, unfolding(crate::specs::ReadPreambles::every_at))]
+fn every(
+    alloc: Global,
+    group: Option<ClassKind>,
+    line: Line,
+    tokens: &[Token],
+) -> Result<(PreambleStatement, &[Token]), Failure>
+    ensures { Gives (λ x. (view_preamble x.0, x.1.now)) result (every_at group line tokens.now) }
+{
+    match group {
+        None => Err(syntax(tokens)),
+        Some(kind) => {
+            let class = name(tokens)?;
+            let (clauses, rest) = clauses(alloc, behind_first(tokens))?;
+            let statement = PreambleStatement::Every {
+                line,
+                kind,
+                class,
+                clauses,
+            };
+            Ok((statement, rest))
+        }
+    }
+}
+
+/// NORMALLY behind its first word.
+#[tactic(auto, unfolding(crate::specs::ReadPreambles::normally_at))]
+fn normally(line: Line, tokens: &[Token]) -> Result<(PreambleStatement, &[Token]), Failure>
+    ensures { Gives (λ x. (view_preamble x.0, x.1.now)) result (normally_at line tokens.now) }
+{
+    let rest = expect_noisy(tokens, Word::Mode)?;
+    let rest = expect_word(rest, Word::Is)?;
+    let (mode, rest) = mode(rest)?;
+    Ok((PreambleStatement::Normally { line, mode }, rest))
+}
+
+/// THE SYSTEM OWNS behind its first word.
+#[tactic(auto, unfolding(crate::specs::ReadPreambles::system_at))]
+fn system(alloc: Global, line: Line, tokens: &[Token]) -> Result<(PreambleStatement, &[Token]), Failure>
+    ensures { Gives (λ x. (view_preamble x.0, x.1.now)) result (system_at line tokens.now) }
+{
+    let rest = expect_word(tokens, Word::System)?;
+    let rest = expect_word(rest, Word::Owns)?;
+    let (sets, rest) = items(alloc, rest)?;
+    Ok((PreambleStatement::SystemOwns { line, sets }, rest))
+}
+
+/// The end of a DEFINE: a mode, or how a set is ordered.
+fn define_end(
+    alloc: Global,
+    line: Line,
+    names: Vec<Name>,
+    tokens: &[Token],
+) -> Result<(PreambleStatement, &[Token]), Failure>
+    ensures { Gives (λ x. (view_preamble x.0, x.1.now)) result (define_end line names.items tokens.now) }
+{
+    if begins_mode(tokens) {
+        let (mode, rest) = mode(tokens)?;
+        let rest = expect_word(rest, Word::Variable)?;
+        Ok((PreambleStatement::DefineVariables { line, names, mode }, rest))
+    } else {
+        let (order, rest) = order(alloc, tokens)?;
+        Ok((PreambleStatement::DefineSets { line, names, order }, rest))
+    }
+}
+
+/// DEFINE behind its first word.
+#[tactic(auto, unfolding(crate::specs::ReadPreambles::define_at))]
+fn define(alloc: Global, line: Line, tokens: &[Token]) -> Result<(PreambleStatement, &[Token]), Failure>
+    ensures { Gives (λ x. (view_preamble x.0, x.1.now)) result (define_at line tokens.now) }
+{
+    let (names, rest) = names(alloc, tokens)?;
+    let rest = expect_word(rest, Word::As)?;
+    define_end(alloc, line, names, skip_class(rest, Class::Article))
+}
+
+/// PRIORITY ORDER behind its first word.
+#[tactic(auto, unfolding(crate::specs::ReadPreambles::priority_at))]
+fn priority(alloc: Global, line: Line, tokens: &[Token]) -> Result<(PreambleStatement, &[Token]), Failure>
+    ensures { Gives (λ x. (view_preamble x.0, x.1.now)) result (priority_at line tokens.now) }
+{
+    let rest = expect_word(tokens, Word::Order)?;
+    let rest = expect_word(rest, Word::Is)?;
+    let (classes, rest) = names(alloc, rest)?;
+    Ok((PreambleStatement::PriorityOrder { line, classes }, rest))
+}
+
+/// BREAK behind its first word.
+#[tactic(auto, unfolding(crate::specs::ReadPreambles::break_at))]
+fn break_form(alloc: Global, line: Line, tokens: &[Token]) -> Result<(PreambleStatement, &[Token]), Failure>
+    ensures { Gives (λ x. (view_preamble x.0, x.1.now)) result (break_at line tokens.now) }
+{
+    let class = name(tokens)?;
+    let rest = expect_word(behind_first(tokens), Word::Ties)?;
+    let rest = expect_word(rest, Word::By)?;
+    let (keys, rest) = keys(alloc, rest)?;
+    Ok((PreambleStatement::BreakTies { line, class, keys }, rest))
+}
+
+/// TALLY or ACCUMULATE behind its first word.
+#[tactic(auto, unfolding(crate::specs::ReadPreambles::statistics_at))]
+fn statistics(
+    alloc: Global,
+    line: Line,
+    weighting: Weighting,
+    tokens: &[Token],
+) -> Result<(PreambleStatement, &[Token]), Failure>
+    ensures { Gives (λ x. (view_preamble x.0, x.1.now)) result (statistics_at line weighting tokens.now) }
+{
+    let (statistics, rest) = found(alloc, tokens)?;
+    let rest = expect_word(rest, Word::Of)?;
+    let subject = name(rest)?;
+    let statement = PreambleStatement::Statistics {
+        line,
+        weighting,
+        statistics,
+        subject,
+    };
+    Ok((statement, behind_first(rest)))
+}
+
+/// A statement of a preamble behind its first word, in a group of this kind.
+#[tactic(auto, unfolding(crate::specs::ReadPreambles::preamble_at))]
+fn statement_behind(
+    alloc: Global,
+    group: Option<ClassKind>,
+    line: Line,
+    word: Word,
+    tokens: &[Token],
+) -> Result<(PreambleStatement, &[Token]), Failure>
+    ensures { Gives (λ x. (view_preamble x.0, x.1.now)) result (preamble_at group line word tokens.now) }
+{
+    match word {
+        Word::Permanent => permanent(line, tokens),
+        Word::Temporary => temporary(line, tokens),
+        Word::Event => notices(alloc, line, tokens),
+        Word::Every => every(alloc, group, line, tokens),
+        Word::Normally => normally(line, tokens),
+        Word::The => system(alloc, line, tokens),
+        Word::Define => define(alloc, line, tokens),
+        Word::Priority => priority(alloc, line, tokens),
+        Word::Break => break_form(alloc, line, tokens),
+        Word::Tally => statistics(alloc, line, Weighting::Tally, tokens),
+        Word::Accumulate => statistics(alloc, line, Weighting::Accumulate, tokens),
+        _ => Err(syntax(tokens)),
+    }
+}
+
+/// Whether a statement of a preamble begins so.
+fn begins_preamble(tokens: &[Token]) -> bool
+    ensures { result ≡ begins_preamble tokens.now }
+{
+    match tokens {
+        [] => false,
+        [first, ..] => match &first.kind {
+            TokenKind::Word(word) => matches!(
+                word,
+                Word::Permanent
+                    | Word::Temporary
+                    | Word::Event
+                    | Word::Every
+                    | Word::Normally
+                    | Word::The
+                    | Word::Define
+                    | Word::Priority
+                    | Word::Break
+                    | Word::Tally
+                    | Word::Accumulate
+            ),
+            _ => false,
+        },
+    }
+}
+
+/// A statement of a preamble, in a group of this kind.
+fn preamble_statement(
+    alloc: Global,
+    group: Option<ClassKind>,
+    tokens: &[Token],
+) -> Result<(PreambleStatement, &[Token]), Failure>
+    ensures { Gives (λ x. (view_preamble x.0, x.1.now)) result (preamble_in group tokens.now) }
+{
+    match tokens {
+        [] => Err(syntax(tokens)),
+        [first, rest @ ..] => match &first.kind {
+            TokenKind::Word(word) => statement_behind(alloc, group, first.line, *word, rest),
+            _ => Err(syntax(tokens)),
+        },
+    }
+}
+
+/// The kind of the group that goes on behind the statement.
+fn group_behind(group: Option<ClassKind>, statement: &PreambleStatement) -> Option<ClassKind>
+    ensures { result ≡ group_behind group (view_preamble statement.now) }
+{
+    match statement {
+        PreambleStatement::PermanentEntities { .. } => Some(ClassKind::Permanent),
+        PreambleStatement::TemporaryEntities { .. } => Some(ClassKind::Temporary),
+        PreambleStatement::EventNotices { .. } => Some(ClassKind::EventNotice),
+        _ => group,
+    }
+}
+
+/// The statements of a preamble.
+fn preamble_statements(
+    alloc: Global,
+    tokens: &[Token],
+) -> Result<(Vec<PreambleStatement>, &[Token]), Failure>
+    ensures { Gives (λ x. (map view_preamble x.0.items, x.1.now)) result (preambles None tokens.now) }
+{
+    let mut all = Vec::new(alloc);
+    let mut group: Option<ClassKind> = None;
+    let mut rest = tokens;
+    'more: while begins_preamble(rest) {
+        let (next, after) = preamble_statement(alloc, group, rest)?;
+        group = group_behind(group, &next);
+        all.push(next)?;
+        rest = after;
+    }
+    Ok((all, rest))
+}
+
+/// A preamble, if there is one.
+#[tactic(auto, unfolding(crate::specs::ReadPreambles::whole_preamble))]
+pub fn preamble(
+    alloc: Global,
+    tokens: &[Token],
+) -> Result<(Vec<PreambleStatement>, &[Token]), Failure>
+    ensures { Gives (λ x. (map view_preamble x.0.items, x.1.now)) result (whole_preamble tokens.now) }
+{
+    if !begins_word(tokens, Word::Preamble) {
+        return Ok((Vec::new(alloc), tokens));
+    }
+    let rest = expect_word(tokens, Word::Preamble)?;
+    let (statements, rest) = preamble_statements(alloc, rest)?;
+    let rest = expect_word(rest, Word::End)?;
+    Ok((statements, rest))
+}
