@@ -1,15 +1,13 @@
 -- What is known of a program, by what it says.
-use Rattle.std.proofs.Common.{◌≡◌, ℕ, List, Option, refl, ap, sym, ◌∙◌}
-use Rattle.ss_tree.specs.declared.preamble.Mode.{Mode}
+use Rattle.std.proofs.Common.{◌≡◌, List, ap, ◌∙◌}
 use Rattle.ss_tree.specs.Tree.{ProgramTree}
-use Rattle.ss_tables.specs.declared.error.TableError.{TableError}
 use Rattle.ss_tables.specs.declared.keep.Kept.TheVariants as kept
 use Rattle.ss_tables.specs.declared.place.Facts.{Facts}
 use Rattle.ss_tables.specs.declared.saying.Saying.{Saying}
 use Rattle.ss_tables.specs.Declarations.{kept_names}
 use Rattle.ss_tables.specs.Marks.{marks_of}
 use Rattle.ss_tables.specs.Modes.{usual_mode}
-use Rattle.ss_tables.specs.Names.{Declared, declared, kind_in}
+use Rattle.ss_tables.specs.Names.{declared, kind_in}
 use Rattle.ss_tables.specs.Refusals.{facts_of, refusal_by, refusal}
 use Rattle.ss_tables.specs.Sayings.{sayings}
 use Rattle.ss_tables.specs.Tables.{TablesSeen, AreTablesOf}

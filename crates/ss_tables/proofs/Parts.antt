@@ -19,7 +19,7 @@ use Rattle.ss_tree.specs.Tree.{ExpressionTree, StatementTree, expression_row, te
 use Rattle.ss_tree.specs.View.{view_expression, view_named, view_term, view_statement}
 use Rattle.ss_tree.specs.Views.{view_named_made, view_call_made, view_product_made, view_sum_made, view_if_made, view_loop_made, view_find_if_made}
 use Rattle.ss_tables.specs.Served.{served_name}
-use Rattle.ss_tables.specs.Serving.{served_expression, served_row, served_terms, served_term, served_target, served_itself, served_inner, served_statements, served_whole}
+use Rattle.ss_tables.specs.Serving.{served_expression, served_row, served_terms, served_term, served_target, served_inner, served_statements, served_whole}
 
 row_served : (es : List ExpressionTree) → served_row (expression_row es) ≡ list_all served_expression es
 row_served [] = refl

@@ -1,14 +1,12 @@
 -- The two ways to say which forms are served agree.
-use Rattle.std.proofs.Common.{◌≡◌, Bool, true, false, List, [], ◌∷◌, ◌++◌, map, Option, Some, None, refl, sym, ap, ◌∙◌}
+use Rattle.std.proofs.Common.{◌≡◌, Bool, true, false, List, [], ◌∷◌, ◌++◌, Option, Some, None, refl, sym, ap, ◌∙◌}
 use Rattle.std.specs.Prelude.{◌&&◌}
 use Rattle.std.specs.List.{list_all, flat_map}
-use Rattle.ss_tree.specs.declared.expression.Sign.{Sign}
-use Rattle.ss_tree.specs.Tree.{ExpressionTree, number, text, named, call, parenthesised, product, signed, sum, ExpressionRow, no_expression, and_expression, expression_row, TermRow, no_term, and_term, NamedTree, TestTree, compare, empty, member, data_ended, ConditionTree, PhraseTree, GuardTree, HeadTree, over_range, over_members, over_class, guarded, StatementTree, let_statement, add_statement, subtract_statement, call_statement, return_statement, stop_statement, read_statement, start_simulation, if_statement, loop_statement, find_statement, find_if_statement, create_statement, create_every, destroy_statement, file_statement, remove_end, remove_statement, schedule_new, schedule_statement, cancel_statement, reset_statement, print_statement, skip_statement, StatementRow, no_statement, and_statement, SectionTree, ProgramTree}
+use Rattle.ss_tree.specs.Tree.{ExpressionTree, number, text, named, call, parenthesised, product, signed, sum, ExpressionRow, no_expression, and_expression, TermRow, no_term, and_term, NamedTree, TestTree, compare, empty, member, data_ended, ConditionTree, PhraseTree, GuardTree, over_range, over_members, over_class, guarded, StatementTree, let_statement, add_statement, subtract_statement, call_statement, return_statement, stop_statement, read_statement, start_simulation, if_statement, loop_statement, find_statement, find_if_statement, create_statement, create_every, destroy_statement, file_statement, remove_end, remove_statement, schedule_new, schedule_statement, cancel_statement, reset_statement, print_statement, skip_statement, StatementRow, no_statement, and_statement, SectionTree, ProgramTree}
 use Rattle.ss_tables.specs.declared.mentions.Role.TheVariants.{Target}
-use Rattle.ss_tables.specs.declared.mentions.Mention.{Mention}
-use Rattle.ss_tables.specs.Mentions.{in_expression, in_expressions, in_terms, in_named, in_option, in_test, in_condition, in_phrases, in_guards, in_head, in_all, in_targets, in_statement, with_inner, with_inner_row, statements_of}
-use Rattle.ss_tables.specs.Served.{served_name, served_mention, served_form, served_statement, served_section, served_preamble, served_kind, served_program}
-use Rattle.ss_tables.specs.Serving.{served_expression, served_row, served_terms, served_target, served_test, served_conjunction, served_condition, served_phrase, served_guard, served_step, served_finding, served_loop, served_itself, served_inner, served_statements, served_whole, serves_section, serves_program}
+use Rattle.ss_tables.specs.Mentions.{in_expression, in_expressions, in_terms, in_named, in_option, in_test, in_condition, in_phrases, in_guards, in_head, in_all, in_targets, with_inner, with_inner_row}
+use Rattle.ss_tables.specs.Served.{served_name, served_mention, served_statement, served_section, served_preamble, served_kind, served_program}
+use Rattle.ss_tables.specs.Serving.{served_expression, served_row, served_terms, served_target, served_test, served_conjunction, served_condition, served_phrase, served_guard, served_step, served_finding, served_itself, served_statements, served_whole, serves_section, serves_program}
 
 -- ---- all of some lists
 

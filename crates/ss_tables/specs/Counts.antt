@@ -1,5 +1,5 @@
 -- How many classes, sets and attributes of a class there may be.
-use Rattle.std.specs.Prelude.{ℕ, zero, suc, ◌-◌, nat_eq, Bool, List, [], ◌∷◌, Option, Some, None, if◌then◌else◌}
+use Rattle.std.specs.Prelude.{ℕ, ◌-◌, nat_eq, Bool, List, [], Option, None, if◌then◌else◌}
 use Rattle.std.specs.List.{fold}
 use Rattle.ss_base.specs.declared.line.Line.{Line}
 use Rattle.ss_tables.specs.declared.count.TheConstants.{MOST}

@@ -1,5 +1,5 @@
 -- What a program declares: what its names stand for, its global variables and its routines.
-use Rattle.std.specs.Prelude.{ℕ, Bool, true, false, not, nat_eq, List, [], ◌∷◌, ◌++◌, Option, Some, None, if◌then◌else◌}
+use Rattle.std.specs.Prelude.{ℕ, Bool, true, false, not, nat_eq, List, [], ◌∷◌, ◌++◌, Option, if◌then◌else◌}
 use Rattle.std.specs.List.{list_any, position_or_len, fold}
 use Rattle.std.specs.Cmp.Lexicographic.{pointwise}
 use Rattle.ss_tree.specs.Tree.{ProgramTree}

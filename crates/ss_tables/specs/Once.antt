@@ -1,5 +1,5 @@
 -- What is said twice that may be said once.
-use Rattle.std.specs.Prelude.{ℕ, Bool, true, false, List, [], ◌∷◌, ◌++◌, Option, Some, None, if◌then◌else◌}
+use Rattle.std.specs.Prelude.{ℕ, Bool, true, false, List, [], Option, Some, None, if◌then◌else◌}
 use Rattle.std.specs.List.{fold}
 use Rattle.ss_base.specs.declared.line.Line.{Line}
 use Rattle.ss_tables.specs.declared.kind.Kind.{Kind}

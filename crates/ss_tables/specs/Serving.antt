@@ -2,7 +2,7 @@
 use Rattle.std.specs.Prelude.{Bool, true, false, ◌&&◌, List, Option, Some, None}
 use Rattle.std.specs.List.{list_all}
 use Rattle.ss_tree.specs.declared.expression.Sign.{Sign}
-use Rattle.ss_tree.specs.Tree.{ExpressionTree, number, text, named, call, parenthesised, product, signed, sum, ExpressionRow, no_expression, and_expression, expression_row, TermRow, no_term, and_term, NamedTree, TestTree, compare, empty, member, data_ended, ConditionTree, PhraseTree, GuardTree, HeadTree, over_range, over_members, over_class, guarded, StatementTree, let_statement, add_statement, subtract_statement, call_statement, return_statement, stop_statement, read_statement, if_statement, loop_statement, find_statement, find_if_statement, print_statement, skip_statement, StatementRow, no_statement, and_statement, SectionTree, ProgramTree}
+use Rattle.ss_tree.specs.Tree.{ExpressionTree, number, text, named, call, parenthesised, product, signed, sum, ExpressionRow, no_expression, and_expression, TermRow, no_term, and_term, NamedTree, TestTree, compare, empty, member, data_ended, ConditionTree, PhraseTree, GuardTree, HeadTree, over_range, guarded, StatementTree, let_statement, add_statement, subtract_statement, call_statement, return_statement, stop_statement, read_statement, if_statement, loop_statement, find_statement, find_if_statement, print_statement, skip_statement, StatementRow, no_statement, and_statement, SectionTree, ProgramTree}
 use Rattle.ss_tables.specs.Served.{served_name, served_preamble, served_kind}
 
 abbrev mutual

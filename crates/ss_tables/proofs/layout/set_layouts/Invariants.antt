@@ -1,4 +1,4 @@
-use Rattle.std.proofs.Common.{◌≡◌, [], take, map}
+use Rattle.std.proofs.Common.{◌≡◌, [], take}
 use Rattle.std.specs.List.{fold}
 use Rattle.ss_tables.specs.Layouts.{with_set_layout}
 use Rattle.ss_tables.proofs.layout.set_layouts.Given as goal

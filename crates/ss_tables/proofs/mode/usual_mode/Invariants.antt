@@ -1,4 +1,4 @@
-use Rattle.std.proofs.Common.{◌≡◌, map, take, drop}
+use Rattle.std.proofs.Common.{◌≡◌, map, drop}
 use Rattle.ss_tree.specs.View.{view_preamble}
 use Rattle.ss_tables.specs.Modes.{usual_mode}
 use Rattle.ss_tables.proofs.mode.usual_mode.Given as goal

@@ -1,9 +1,6 @@
 use Rattle.std.proofs.Common.{◌≡◌, ap, sym, map, ◌∙◌}
 use Rattle.ss_tree.specs.View.{view_preamble, view_program}
 use Rattle.ss_tables.specs.Modes.{usual_mode}
-use Rattle.ss_tables.specs.Marks.{marks_of}
-use Rattle.ss_tables.specs.Names.{declared}
-use Rattle.ss_tables.specs.Sayings.{sayings}
 use Rattle.ss_tables.specs.Refusals.{facts_of}
 use Rattle.ss_tables.proofs.Known.{facts_are, same_refusal, are_tables}
 use Rattle.ss_tables.proofs.tables.Tables.of.Goals as goal
