@@ -15,3 +15,4 @@ pub mod Refusals
 pub mod Served
 pub mod Serving
 pub mod Tables
+pub mod Inner

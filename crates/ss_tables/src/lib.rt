@@ -22,6 +22,6 @@ mod tables;
 
 pub use error::TableError;
 pub use kind::{Derived, Kind};
-pub use mentions::{Mention, Role, StatementMentions, mentioned};
+pub use mentions::{Mention, Role, StatementMentions, line_of_statement, mentioned, mentions_of};
 pub use spelling::SPELLING_LIMIT;
 pub use tables::{NameId, Tables};

@@ -410,9 +410,9 @@ fn note_statement(into: &mut Vec<Mention>, statement: &Statement) -> Result<(), 
     }
 }
 
-// The line of a statement.
+/// The line of a statement.
 #[tactic(auto, unfolding(ss_tree::specs::View::view_statement))]
-fn line_of_statement(statement: &Statement) -> Line
+pub fn line_of_statement(statement: &Statement) -> Line
     ensures { result ≡ line_of (view_statement statement.now) }
 {
     match statement {
@@ -526,6 +526,15 @@ fn walk_body(
         walk_inner(alloc, into, statement)?;
     }
     Ok(())
+}
+
+/// What a statement mentions, but for the statements in it.
+pub fn mentions_of(alloc: Global, statement: &Statement) -> Result<Vec<Mention>, AllocError>
+    ensures { IfOk result (λ mentions. mentions.items ≡ in_statement (view_statement statement.now)) }
+{
+    let mut mentions = Vec::new(alloc);
+    note_statement(&mut mentions, statement)?;
+    Ok(mentions)
 }
 
 /// What each statement of a body mentions, with its line, in the order of the text.

@@ -1,0 +1,4 @@
+pub mod Scopes
+pub mod Seen
+pub mod Rules
+pub mod Checking
