@@ -9,17 +9,17 @@ ghost use Rattle.ss_parse.specs.SpelledPreambles.{mode_of, rank_of, statistic_of
 ghost use Rattle.ss_parse.specs.ReadPreambles.{then_rank, keys, statistic_kind, found, clause, begins_clause, clause_list, clauses, ranking, order, permanent_at, temporary_at, notices_at, every_at, normally_at, system_at, define_end, define_at, priority_at, break_at, statistics_at, preamble_at, begins_preamble, preamble_in, preambles, whole_preamble};
 
 use crate::reading::statements::{begins_noisy, expect_noisy};
+use ss_base::Line;
 use ss_grammar::classes::{Class, skip_class};
 use ss_grammar::failure::Failure;
 use ss_grammar::names::{begins_name, items, name, names};
 use ss_grammar::tokens::{
     begins_symbol, begins_word, behind_first, expect_word, skip_separator, skip_word, syntax,
 };
+use ss_lex::{Name, Symbol, Token, TokenKind, Word};
 use ss_tree::preamble::{
     ClassKind, Clause, Key, Mode, PreambleStatement, SetOrder, Statistic, StatisticKind, Weighting,
 };
-use ss_base::Line;
-use ss_lex::{Name, Symbol, Token, TokenKind, Word};
 use std::alloc::Global;
 
 /// The mode that the word names.
@@ -320,7 +320,11 @@ fn included(alloc: Global, tokens: &[Token]) -> Result<(Vec<Name>, &[Token]), Fa
 
 /// EVENT NOTICES behind its first word.
 #[tactic(auto, unfolding(crate::specs::ReadPreambles::notices_at))]
-fn notices(alloc: Global, line: Line, tokens: &[Token]) -> Result<(PreambleStatement, &[Token]), Failure>
+fn notices(
+    alloc: Global,
+    line: Line,
+    tokens: &[Token],
+) -> Result<(PreambleStatement, &[Token]), Failure>
     ensures { Gives (λ x. (view_preamble x.0, x.1.now)) result (notices_at line tokens.now) }
 {
     let rest = expect_word(tokens, Word::Notices)?;
@@ -367,7 +371,11 @@ fn normally(line: Line, tokens: &[Token]) -> Result<(PreambleStatement, &[Token]
 
 /// THE SYSTEM OWNS behind its first word.
 #[tactic(auto, unfolding(crate::specs::ReadPreambles::system_at))]
-fn system(alloc: Global, line: Line, tokens: &[Token]) -> Result<(PreambleStatement, &[Token]), Failure>
+fn system(
+    alloc: Global,
+    line: Line,
+    tokens: &[Token],
+) -> Result<(PreambleStatement, &[Token]), Failure>
     ensures { Gives (λ x. (view_preamble x.0, x.1.now)) result (system_at line tokens.now) }
 {
     let rest = expect_word(tokens, Word::System)?;
@@ -388,7 +396,10 @@ fn define_end(
     if begins_mode(tokens) {
         let (mode, rest) = mode(tokens)?;
         let rest = expect_word(rest, Word::Variable)?;
-        Ok((PreambleStatement::DefineVariables { line, names, mode }, rest))
+        Ok((
+            PreambleStatement::DefineVariables { line, names, mode },
+            rest,
+        ))
     } else {
         let (order, rest) = order(alloc, tokens)?;
         Ok((PreambleStatement::DefineSets { line, names, order }, rest))
@@ -397,7 +408,11 @@ fn define_end(
 
 /// DEFINE behind its first word.
 #[tactic(auto, unfolding(crate::specs::ReadPreambles::define_at))]
-fn define(alloc: Global, line: Line, tokens: &[Token]) -> Result<(PreambleStatement, &[Token]), Failure>
+fn define(
+    alloc: Global,
+    line: Line,
+    tokens: &[Token],
+) -> Result<(PreambleStatement, &[Token]), Failure>
     ensures { Gives (λ x. (view_preamble x.0, x.1.now)) result (define_at line tokens.now) }
 {
     let (names, rest) = names(alloc, tokens)?;
@@ -407,7 +422,11 @@ fn define(alloc: Global, line: Line, tokens: &[Token]) -> Result<(PreambleStatem
 
 /// PRIORITY ORDER behind its first word.
 #[tactic(auto, unfolding(crate::specs::ReadPreambles::priority_at))]
-fn priority(alloc: Global, line: Line, tokens: &[Token]) -> Result<(PreambleStatement, &[Token]), Failure>
+fn priority(
+    alloc: Global,
+    line: Line,
+    tokens: &[Token],
+) -> Result<(PreambleStatement, &[Token]), Failure>
     ensures { Gives (λ x. (view_preamble x.0, x.1.now)) result (priority_at line tokens.now) }
 {
     let rest = expect_word(tokens, Word::Order)?;
@@ -418,7 +437,11 @@ fn priority(alloc: Global, line: Line, tokens: &[Token]) -> Result<(PreambleStat
 
 /// BREAK behind its first word.
 #[tactic(auto, unfolding(crate::specs::ReadPreambles::break_at))]
-fn break_form(alloc: Global, line: Line, tokens: &[Token]) -> Result<(PreambleStatement, &[Token]), Failure>
+fn break_form(
+    alloc: Global,
+    line: Line,
+    tokens: &[Token],
+) -> Result<(PreambleStatement, &[Token]), Failure>
     ensures { Gives (λ x. (view_preamble x.0, x.1.now)) result (break_at line tokens.now) }
 {
     let class = name(tokens)?;
