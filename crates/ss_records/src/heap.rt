@@ -266,8 +266,7 @@ impl Heap {
 
     /// The classes and sets that it was made for.
     pub fn layout(&self) -> &Layout
-        ensures is { result.now ≡ self.now.state.layout }
-        ensures sound { IsTrue (is_sound result.now) }
+        ensures { result.now ≡ self.now.state.layout }
     {
         &self.records.layout
     }
