@@ -1,3 +1,4 @@
+pub mod Words
 pub mod Store
 pub mod Meaning
 pub mod Machine

@@ -2,12 +2,16 @@
 #![tactic(auto)]
 
 mod code;
+mod conditions;
 mod emit;
+mod entry;
 mod error;
 pub mod generate;
 pub mod instruction;
 pub mod laws;
 mod listing;
+mod statements;
 
 pub use code::Code;
+pub use entry::Entry;
 pub use error::CodeError;
