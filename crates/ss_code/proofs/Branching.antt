@@ -1,5 +1,5 @@
 -- The code of conditions.
-use Rattle.std.proofs.Common.{◌≡◌, ℕ, zero, suc, ◌+◌, Bool, true, false, not, List, [], ◌∷◌, ◌++◌, length, Option, Some, None, Ok, Err, refl, sym, ap, ◌∙◌, subst, arith, length-append}
+use Rattle.std.proofs.Common.{◌≡◌, ℕ, ◌+◌, Bool, true, false, not, List, [], ◌∷◌, ◌++◌, length, Some, None, Ok, Err, refl, ap, ◌∙◌, subst, arith, length-append}
 use Rattle.std.specs.Prelude.{slice_get, Result as OkOr}
 use Rattle.ss_base.specs.declared.line.Line.{Line}
 use Rattle.ss_base.specs.declared.fault.FaultKind.{FaultKind}
@@ -13,14 +13,13 @@ use Rattle.ss_resolved.specs.declared.resolved.GuardKind.{GuardKind}
 use Rattle.ss_resolved.specs.declared.resolved.GuardKind.TheVariants.{While, Until}
 use Rattle.ss_resolved.specs.declared.resolved.Guard.{Guard}
 use Rattle.ss_code.specs.declared.instruction.Operand.{Operand}
-use Rattle.ss_code.specs.declared.instruction.Instruction.{Instruction}
 use Rattle.ss_code.specs.declared.instruction.Instruction.TheVariants.{Compare as CompareThem, TestData, Jump}
 use Rattle.ss_code.specs.Words.{is_ended}
-use Rattle.ss_code.specs.Store.{Store, World, related}
+use Rattle.ss_code.specs.Store.{World, related}
 use Rattle.ss_code.specs.Meaning.{Fault, if_ok, value, both, either, unless, test_holds, all_hold, some_hold, holds, passes, all_pass}
-use Rattle.ss_code.specs.Machine.{Frame, State, Code, Moved, To, Goes, with_operand, with_rest, branch, did}
+use Rattle.ss_code.specs.Machine.{Frame, State, Code, To, Goes, with_operand, with_rest, branch, did}
 use Rattle.ss_code.specs.Translation.{operand_of, expression_code, test_code, tests_code, alternatives_code, some_code, condition_code, negated_code, guard_code, guards_code}
-use Rattle.ss_code.specs.Running.{Result, Underway}
+use Rattle.ss_code.specs.Running.{Underway}
 use Rattle.ss_code.proofs.Steps.{HasAt, has_front, has_back, Reaches, here, reaches_on, core_of, at}
 use Rattle.ss_code.proofs.Parts.{told, told_join, told_moved, goes, rests}
 use Rattle.ss_code.proofs.Expressions.{Holds, shelved, holds as holds_value, expression_run}

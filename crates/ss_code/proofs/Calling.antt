@@ -5,12 +5,11 @@ use Rattle.ss_base.specs.declared.value.Value.{Value}
 use Rattle.ss_resolved.specs.declared.resolved.Section.{Section}
 use Rattle.ss_code.specs.declared.instruction.Instruction.TheVariants.{Call, Leave}
 use Rattle.ss_code.specs.Store.{Store, World, fresh, yielded}
-use Rattle.ss_code.specs.Meaning.{Exit, Returned, Stopped, Faulted, OutOfTicks, Paused, Outcome, WentOn, Left, Part, Calls, firsts, body, with_locals, come_back, routine_body, tick_from, calls}
-use Rattle.ss_code.specs.Machine.{Frame, State, Code, Entry, To, take_off, act, enter, with_taken, with_rest, when_due}
+use Rattle.ss_code.specs.Meaning.{Returned, Stopped, Faulted, OutOfTicks, Paused, Outcome, WentOn, Left, Calls, firsts, body, with_locals, come_back, routine_body, tick_from, calls}
+use Rattle.ss_code.specs.Machine.{Frame, State, Code, Entry, act, enter, with_taken, with_rest, when_due}
 use Rattle.ss_code.specs.Translation.{body_code, body_pictures, section_code}
-use Rattle.ss_code.specs.Running.{Underway}
 use Rattle.ss_code.proofs.Steps.{HasAt, has_front, has_back, Reaches, here, reaches_on, core_of, at, arrive}
-use Rattle.ss_code.proofs.Parts.{Runs, onto, take_them, goes, rests, IfWentOn}
+use Rattle.ss_code.proofs.Parts.{onto, take_them, goes, rests, IfWentOn}
 use Rattle.ss_code.proofs.Looping.{world, out_run}
 use Rattle.ss_code.proofs.Effects.{CallsRun, body_run}
 
@@ -31,7 +30,7 @@ pub record Linked (code : Code) (rs : List Section) : Type 0 where
   pub each : (r : ℕ) → LinkedAt code (slice_get rs r) (slice_get code.entries r)
 
 -- a routine yields as many values as are wanted
-yielded_length : (first count : ℕ) (vs : List Value) → length (yielded first count vs) ≡ count
+pub yielded_length : (first count : ℕ) (vs : List Value) → length (yielded first count vs) ≡ count
 yielded_length first zero vs = refl
 yielded_length first (suc count) vs = ap suc (yielded_length (first + 1) count vs)
 

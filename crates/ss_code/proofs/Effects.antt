@@ -1,5 +1,5 @@
 -- The code of statements.
-use Rattle.std.proofs.Common.{◌≡◌, ℕ, zero, suc, ◌+◌, ◌≤◌, Bool, true, false, List, [], ◌∷◌, ◌++◌, length, take, drop, map, Option, Some, None, Ok, Err, refl, sym, ap, ◌∙◌, subst, arith, length-append}
+use Rattle.std.proofs.Common.{◌≡◌, ℕ, zero, suc, ◌+◌, ◌≤◌, Bool, true, false, List, [], ◌∷◌, ◌++◌, length, take, drop, Some, None, Ok, Err, refl, sym, ap, ◌∙◌, subst, arith, length-append}
 use Rattle.std.specs.Prelude.{slice_get, Result as OkOr}
 use Rattle.std.specs.declared.vec.Vec.{Vec}
 use Rattle.std.specs.declared.alloc.Global.{Global as TheGlobal}
@@ -17,14 +17,14 @@ use Rattle.ss_resolved.specs.declared.resolved.Range.{Range}
 use Rattle.ss_resolved.specs.declared.resolved.Target.{Target}
 use Rattle.ss_resolved.specs.declared.resolved.Statement.{Statement, Let, Change, Print, If', While', For', Find', Call as CallRoutine, Return, Stop, Read, Skip as SkipLines, Row_of-Statement, end_of-Statement, more_of-Statement}
 use Rattle.ss_code.specs.declared.instruction.Instruction.{Instruction}
-use Rattle.ss_code.specs.declared.instruction.Instruction.TheVariants.{Calculate, Move, Jump, Begin, Take, Next, Forget, Call, Leave, Halt, Read as ReadWord, Skip as SkipThem, Print as PrintLines}
+use Rattle.ss_code.specs.declared.instruction.Instruction.TheVariants.{Calculate, Jump, Begin, Take, Next, Forget, Call, Leave, Halt, Read as ReadWord, Skip as SkipThem, Print as PrintLines}
 use Rattle.ss_code.specs.Words.{Given, value_given}
 use Rattle.ss_code.specs.Store.{Store, World, number_of, fetched, assigned, computed, printed, empty_lines, yielded}
-use Rattle.ss_code.specs.Meaning.{Turn, Exit, Returned, Stopped, Faulted, OutOfTicks, Fault, Ended, Outcome, WentOn, Left, Part, and_then, if_ok, look, looked, assign, send, operator_of, value, values, holds as condition_holds, choose, GoesOn, IsFound, phrases, over_range, then_nothing, given_by, take_word, reads, assign_each, Calls, with_locals, effect, effects, body}
+use Rattle.ss_code.specs.Meaning.{Turn, Returned, Stopped, Fault, Ended, Outcome, WentOn, Left, Part, and_then, if_ok, look, looked, assign, send, operator_of, value, values, holds as condition_holds, choose, GoesOn, IsFound, phrases, over_range, then_nothing, given_by, reads, assign_each, Calls, with_locals, effect, effects, body}
 use Rattle.ss_resolved.specs.Lines.{lines_of}
-use Rattle.ss_code.specs.Machine.{Frame, Core, State, Code, To, take_off, act, did, sent, delivered, Goes, with_taken, Sends, next, with_rest}
-use Rattle.ss_code.specs.Translation.{variable_operand, destination_of, operand_of, expression_code, values_code, condition_code, phrases_code, bounds_code, if_code, while_code, for_code, find_code, assigns_code, reads_code, statement_code, statement_pictures, row_code, row_pictures, body_code, body_pictures}
-use Rattle.ss_code.specs.Running.{Result, Underway}
+use Rattle.ss_code.specs.Machine.{Frame, State, Code, To, did, sent, delivered, Goes, with_taken, Sends, next, with_rest}
+use Rattle.ss_code.specs.Translation.{variable_operand, destination_of, operand_of, expression_code, values_code, condition_code, phrases_code, bounds_code, if_code, for_code, find_code, assigns_code, reads_code, statement_code, statement_pictures, row_code, row_pictures, body_code, body_pictures}
+use Rattle.ss_code.specs.Running.{Underway}
 use Rattle.ss_code.proofs.Steps.{HasAt, has_front, has_back, Reaches, here, reaches_on, core_of, at, left_to, arrive, join}
 use Rattle.ss_code.proofs.Parts.{Runs, same, done, onto, take_them, told, told_join, told_part, told_moved, goes, rests, moved, IfWentOn, seq, seq_such, none}
 use Rattle.std.proofs.lemmas.List.{length-map}
@@ -34,7 +34,7 @@ use Rattle.ss_code.specs.declared.instruction.Destination.TheVariants.{ToGlobal,
 use Rattle.ss_code.specs.declared.instruction.Operator.{Operator}
 use Rattle.ss_code.proofs.Branching.{aimed, condition_run}
 use Rattle.ss_code.proofs.Looping.{Turns, leads, phrases_run, range_run, behind, while_run}
-use Rattle.ss_code.proofs.Expressions.{Holds, same_ok, shelved, holds, holds_variable, at_destination, landed, calculates, moves, holds_popped, expression_run, values_run}
+use Rattle.ss_code.proofs.Expressions.{Holds, same_ok, shelved, holds, holds_variable, at_destination, calculates, moves, holds_popped, expression_run, values_run}
 
 drop_at : {A : Type 0} (all : List A) (place : ℕ) (i : A) → slice_get all place ≡ Some i → drop place all ≡ i ∷ drop (place + 1) all
 drop_at [] zero i h = absurd cc

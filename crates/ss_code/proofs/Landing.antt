@@ -1,6 +1,6 @@
 -- Each jump back leads to an instruction that takes a tick.
-use Rattle.std.proofs.Common.{◌≡◌, ℕ, zero, suc, ◌+◌, ◌-◌, Bool, true, false, List, [], ◌∷◌, ◌++◌, length, Option, Some, None, refl, sym, ap, ◌∙◌, subst, arith, length-append}
-use Rattle.std.specs.Prelude.{slice_get, pos}
+use Rattle.std.proofs.Common.{◌≡◌, ℕ, zero, suc, ◌+◌, ◌-◌, true, List, [], ◌∷◌, ◌++◌, length, Option, Some, None, refl, sym, subst, arith}
+use Rattle.std.specs.Prelude.{slice_get}
 use Rattle.ss_base.specs.declared.line.Line.{Line}
 use Rattle.ss_base.specs.declared.value.Value.{Value}
 use Rattle.ss_base.specs.declared.value.Value.TheVariants.{Whole, Text}
@@ -25,13 +25,13 @@ use Rattle.ss_code.specs.declared.instruction.Operand.{Operand}
 use Rattle.ss_code.specs.declared.instruction.Destination.{Destination}
 use Rattle.ss_code.specs.declared.instruction.Operator.{Operator}
 use Rattle.ss_code.specs.declared.instruction.Instruction.{Instruction}
-use Rattle.ss_code.specs.declared.instruction.Instruction.TheVariants.{Turn, Repeat, Next, Jump, Begin, Take, Forget, Leave}
+use Rattle.ss_code.specs.declared.instruction.Instruction.TheVariants.{Turn, Next, Jump, Begin, Take, Forget, Leave}
 use Rattle.ss_code.specs.Machine.{Code, is_due}
 use Rattle.ss_code.specs.Running.{TicksAt, goes_back, Sound}
 use Rattle.ss_code.specs.Translation.{operand_of, constant_code, fetch_code, expression_code, sum_code, terms_code, product_code, factors_code, values_code, test_code, tests_code, alternatives_code, some_code, condition_code, negated_code, guard_code, guards_code, phrase_code, phrases_code, if_code, while_code, step_code, bounds_code, for_code, find_code, assigns_code, reads_code, statement_code, statement_pictures, row_code, row_pictures, body_code, body_pictures, section_code, routines_code, code_of}
 use Rattle.ss_code.specs.Meaning.{operator_of}
 use Rattle.ss_code.proofs.Steps.{HasAt, has_front, has_back, has_all}
-use Rattle.ss_code.proofs.Whole.{behaves}
+use Rattle.ss_code.proofs.Secure.{never_stuck}
 
 -- no instruction of these jumps back
 abbrev Straight : List Instruction → Type 0
@@ -282,7 +282,7 @@ code_lands p place back i e q =
 
 sound : (p : Resolved) → Sound (code_of p)
 sound p = record {
-  never_stuck = λ input n. record { never = (behaves p).never_stuck input n };
+  never_stuck = λ s r e. never_stuck p s r e;
   lands = λ place back i e q. code_lands p place back i e q;
 }
 

@@ -9,4 +9,6 @@ pub mod Whole
 pub mod Pieces
 pub mod Rows
 pub mod Sizes
+pub mod Safety
+pub mod Secure
 pub mod Landing

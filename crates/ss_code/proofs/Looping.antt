@@ -15,13 +15,13 @@ use Rattle.ss_code.specs.declared.instruction.Destination.TheVariants.{Pushed}
 use Rattle.ss_code.specs.declared.instruction.Instruction.{Instruction}
 use Rattle.ss_code.specs.declared.instruction.Instruction.TheVariants.{Turn as TurnTick, Repeat, Begin, Take, Next, Forget}
 use Rattle.ss_code.specs.Store.{Store, World, assigned, step_of, is_within, item_after}
-use Rattle.ss_code.specs.Meaning.{Exit, OutOfTicks, Fault, Paused, Outcome, WentOn, Left, Part, and_then, if_ok, look, looked, assign, value, holds, all_pass, tick_from, take_tick, choose, turns, Turn, GoesOn, EndsLoop, IsFound, phrase, phrases, after_turn, items, step_value, Bounds, bounds, over_range}
+use Rattle.ss_code.specs.Meaning.{OutOfTicks, Fault, Paused, WentOn, Left, Part, and_then, if_ok, look, assign, value, holds, all_pass, tick_from, choose, turns, Turn, GoesOn, EndsLoop, IsFound, phrase, phrases, after_turn, items, step_value, Bounds, bounds, over_range}
 use Rattle.ss_code.specs.Machine.{Frame, State, Code, To, act, is_due, with_rest, when_due, branch, did, where_next}
 use Rattle.ss_code.specs.Translation.{expression_code, condition_code, negated_code, guards_code, phrase_code, phrases_code, while_code, step_code, bounds_code, for_code}
-use Rattle.ss_code.specs.Running.{Result, Underway, Ends}
-use Rattle.ss_code.proofs.Steps.{HasAt, has_front, has_back, Reaches, here, reaches_on, core_of, at, arrive, join}
-use Rattle.ss_code.proofs.Parts.{Runs, same, done, told, told_join, told_part, goes, rests, moved}
-use Rattle.ss_code.proofs.Expressions.{holds_number, moves, expression_run}
+use Rattle.ss_code.specs.Running.{Underway}
+use Rattle.ss_code.proofs.Steps.{HasAt, has_front, has_back, Reaches, here, core_of, at, arrive, join}
+use Rattle.ss_code.proofs.Parts.{Runs, same, done, told, told_join, told_part, goes, rests}
+use Rattle.ss_code.proofs.Expressions.{moves, expression_run}
 use Rattle.ss_code.proofs.Branching.{aim, aimed, condition_run, negated_run, guards_run}
 
 -- a world of these parts

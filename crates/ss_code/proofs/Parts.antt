@@ -1,15 +1,15 @@
 -- Code that does what a part of the program does: how such code is put together.
-use Rattle.std.proofs.Common.{◌≡◌, ℕ, zero, suc, ◌+◌, ◌<◌, ◌≤◌, Bool, true, false, List, [], ◌∷◌, ◌++◌, length, Option, Some, None, Ok, Err, refl, sym, ap, ◌∙◌, subst, arith, length-append, append-nil}
+use Rattle.std.proofs.Common.{◌≡◌, ℕ, suc, ◌+◌, ◌≤◌, List, [], ◌∷◌, ◌++◌, length, Some, Ok, Err, refl, ap, ◌∙◌, subst, arith, length-append, append-nil}
 use Rattle.std.specs.Prelude.{slice_get, Result as OkOr}
 use Rattle.ss_base.specs.declared.line.Line.{Line}
 use Rattle.ss_base.specs.declared.fault.FaultKind.{FaultKind}
 use Rattle.ss_base.specs.declared.value.Value.{Value}
 use Rattle.ss_code.specs.declared.instruction.Instruction.{Instruction}
-use Rattle.ss_code.specs.Store.{Store, World}
-use Rattle.ss_code.specs.Meaning.{Outcome, WentOn, Left, Part, and_then, if_ok, looked, Ending, Fault, Paused}
+use Rattle.ss_code.specs.Store.{World}
+use Rattle.ss_code.specs.Meaning.{Outcome, WentOn, Left, Part, and_then, if_ok, looked, Ending, Fault}
 use Rattle.ss_code.specs.Machine.{Frame, State, Code, take_off, act, is_due, Goes, Over, when_due, step_at}
 use Rattle.ss_code.specs.Running.{Result, Underway, Ends}
-use Rattle.ss_code.proofs.Steps.{HasAt, has_front, has_back, Reaches, here, over, more, reaches_on, fewer_ticks, core_of, at, run_at, arrive, join}
+use Rattle.ss_code.proofs.Steps.{HasAt, has_front, has_back, Reaches, here, over, more, reaches_on, fewer_ticks, at, run_at, arrive, join}
 
 -- Wherever the code c stands, and with at most n ticks, it does what m does.
 -- It finds what `before` puts on the stack, and leaves what `after` puts there.

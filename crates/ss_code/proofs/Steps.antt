@@ -1,12 +1,12 @@
 -- Steps of the machine, and where they lead.
-use Rattle.std.proofs.Common.{◌≡◌, ℕ, zero, suc, ◌+◌, ◌<◌, ◌≤◌, Bool, true, false, List, [], ◌∷◌, ◌++◌, length, take, drop, Option, Some, None, refl, sym, ap, ◌∙◌, subst, arith, append_assoc, length-append}
+use Rattle.std.proofs.Common.{◌≡◌, ℕ, zero, suc, ◌+◌, ◌<◌, ◌≤◌, Bool, true, false, List, [], ◌∷◌, ◌++◌, length, Option, Some, None, refl, sym, ap, ◌∙◌, subst, arith, append_assoc, length-append}
 use Rattle.std.specs.Prelude.{slice_get}
 use Rattle.std.proofs.Math.Seq.{get_or-append_seam}
 use Rattle.std.proofs.lemmas.Option.{slice_get-get_or}
 use Rattle.ss_base.specs.declared.value.Value.{Value}
 use Rattle.ss_code.specs.declared.instruction.Instruction.{Instruction}
 use Rattle.ss_code.specs.Store.{Store, World, yielded}
-use Rattle.ss_code.specs.Meaning.{with_locals, Exit, Returned, Stopped, Faulted, OutOfTicks, Outcome, WentOn, Left, Part, and_then, Ending, Ended, Fault, Paused, Run, ending_of}
+use Rattle.ss_code.specs.Meaning.{with_locals, Exit, Returned, Stopped, Faulted, OutOfTicks, Outcome, WentOn, Left, Part, and_then, Ending, Ended, Fault, Paused, Run}
 use Rattle.ss_code.specs.Machine.{Frame, Core, State, Code, Moved, To, Sends, Rest, Stuck, Done, Fails, act, is_due, Goes, Over, with_rest, when_due, step_at, step}
 use Rattle.ss_code.specs.Running.{Result, Underway, Ends, IsStuck, ended_at, go_on, steps}
 

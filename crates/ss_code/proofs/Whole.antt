@@ -1,14 +1,11 @@
 -- A whole program and its code.
-use Rattle.std.proofs.Common.{◌≡◌, ℕ, zero, suc, ◌+◌, List, [], ◌∷◌, ◌++◌, length, Some, refl, sym, ap, ◌∙◌, subst, arith, append_assoc, length-append}
+use Rattle.std.proofs.Common.{◌≡◌, ℕ, zero, suc, ◌+◌, List, [], ◌∷◌, ◌++◌, length, Some, refl, sym, subst, arith}
 use Rattle.std.specs.Prelude.{slice_get}
 use Rattle.ss_resolved.specs.declared.resolved.Section.{Section}
 use Rattle.ss_resolved.specs.declared.resolved.Resolved.{Resolved}
-use Rattle.ss_base.specs.declared.value.Value.{Value}
-use Rattle.ss_code.specs.declared.instruction.Instruction.{Instruction}
 use Rattle.ss_code.specs.declared.instruction.Instruction.TheVariants.{Leave}
-use Rattle.ss_code.specs.Store.{World}
 use Rattle.ss_code.specs.Meaning.{Outcome, WentOn, Left, Returned, Stopped, Faulted, OutOfTicks, Ended, run_of, meaning, body, calls, first_world}
-use Rattle.ss_code.specs.Machine.{Code, Entry, State}
+use Rattle.ss_code.specs.Machine.{Code, State}
 use Rattle.ss_code.specs.Translation.{body_code, body_pictures, section_code, routines_code, routines_pictures, entries_from, code_of}
 use Rattle.ss_code.specs.Running.{Ends, Behaves, start}
 use Rattle.ss_code.proofs.Steps.{HasAt, has_front, has_back, has_all, Reaches, at, arrive, reaches_on, in_steps, Agrees, agrees}
@@ -42,17 +39,17 @@ behind_first : {A : Type 0} (all a b : List A) → HasAt all 0 (a ++ b) → HasA
 behind_first all a b h = let e : 0 + length a ≡ length a = omega arith in subst (λ n. HasAt all n b) e (has_back all 0 a b h)
 
 module _ (p : Resolved) where
-  instructions_at : HasAt (code_of p).instructions 0 (section_code 0 p.main ++ routines_code (length (body_pictures p.main.body.items)) p.routines.items)
+  pub instructions_at : HasAt (code_of p).instructions 0 (section_code 0 p.main ++ routines_code (length (body_pictures p.main.body.items)) p.routines.items)
   instructions_at = has_all (section_code 0 p.main ++ routines_code (length (body_pictures p.main.body.items)) p.routines.items) []
 
   pictures_at : HasAt (code_of p).pictures 0 (body_pictures p.main.body.items ++ routines_pictures p.routines.items)
   pictures_at = has_all (body_pictures p.main.body.items ++ routines_pictures p.routines.items) []
 
-  linked : Linked (code_of p) p.routines.items
+  pub linked : Linked (code_of p) p.routines.items
   linked = record {
     each = linked_from (code_of p) p.routines.items (length (section_code 0 p.main)) (length (body_pictures p.main.body.items))
-    (behind_first (code_of p).instructions (section_code 0 p.main) (routines_code (length (body_pictures p.main.body.items)) p.routines.items) instructions_at)
-    (behind_first (code_of p).pictures (body_pictures p.main.body.items) (routines_pictures p.routines.items) pictures_at);
+        (behind_first (code_of p).instructions (section_code 0 p.main) (routines_code (length (body_pictures p.main.body.items)) p.routines.items) instructions_at)
+        (behind_first (code_of p).pictures (body_pictures p.main.body.items) (routines_pictures p.routines.items) pictures_at);
   }
 
   pub program_runs : (input : List ℕ) (n : ℕ) → Reaches (code_of p) (start (code_of p) input n) (Ends (meaning p input n))

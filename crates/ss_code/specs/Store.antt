@@ -1,5 +1,5 @@
 -- What a program works on, and what is done with it: the meaning and the machine share these.
-use Rattle.std.specs.Prelude.{ℕ, zero, suc, ◌+◌, Bool, true, false, not, List, [], ◌∷◌, ◌++◌, ℤ, pos, negsuc, int_le, int_lt, nat_lt, replicate, Option, Some, None, Result, Ok, Err, slice_index_or, slice_set, take, drop, if◌then◌else◌}
+use Rattle.std.specs.Prelude.{ℕ, zero, suc, ◌+◌, Bool, true, false, List, [], ◌∷◌, ◌++◌, ℤ, pos, negsuc, int_le, int_lt, nat_lt, replicate, Option, Some, None, Result, Ok, Err, slice_index_or, slice_set, take, drop, if◌then◌else◌}
 use Rattle.std.specs.declared.cmp.Ordering.{Ordering}
 use Rattle.std.specs.declared.cmp.Ordering.TheVariants.{Less as IsLess, Equal as IsEqual, Greater as IsGreater}
 use Rattle.ss_base.specs.declared.fault.FaultKind.{FaultKind}

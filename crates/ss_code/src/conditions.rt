@@ -6,9 +6,7 @@ ghost use Rattle.ss_code.specs.Translation.{test_code, tests_code, some_code, co
 use crate::emit::{emit_expression, operand, put};
 use crate::instruction::Instruction;
 use ss_base::Line;
-use ss_resolved::resolved::{
-    Condition, Conjunction, Guard, GuardKind, Phrase, PhraseKind, Test,
-};
+use ss_resolved::resolved::{Condition, Conjunction, Guard, GuardKind, Phrase, PhraseKind, Test};
 use std::alloc::{AllocError, Global};
 
 /// A number of instructions and some more. The error comes where no memory can hold so many.

@@ -6,8 +6,8 @@ ghost use Rattle.ss_code.specs.Translation.{variable_operand, destination_of, op
 ghost use Rattle.ss_code.specs.Rows.{sum_list, product_list};
 
 use crate::instruction::{Destination, Instruction, Operand, Operator};
-use ss_resolved::resolved::{Expression, Function, Sign, Variable};
 use ss_base::{Line, Value};
+use ss_resolved::resolved::{Expression, Function, Sign, Variable};
 use std::alloc::AllocError;
 
 // The number 0 as an operand.

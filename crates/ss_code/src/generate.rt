@@ -71,8 +71,8 @@ pub fn generate(alloc: Global, program: &Resolved) -> Result<Code, CodeError>
 #[cfg(test)]
 mod tests {
     use super::*;
-    use ss_resolved::resolved::{Expression, Section, Statement, Variable};
     use ss_base::{Line, Mode, Value};
+    use ss_resolved::resolved::{Expression, Section, Statement, Variable};
     use std::alloc::AllocError;
 
     fn number(value: i64) -> Expression {

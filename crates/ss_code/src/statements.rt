@@ -7,9 +7,7 @@ ghost use Rattle.ss_code.specs.declared.instruction.Instruction.TheVariants.{Jum
 ghost use Rattle.ss_code.specs.Translation.{step_code, bounds_code, for_code, while_code, find_code, if_code, assigns_code, reads_code, statement_code, statement_pictures, body_code, body_pictures};
 
 use crate::conditions::{emit_condition, emit_guards, emit_phrases, sum};
-use crate::emit::{
-    emit_expression, emit_values, from_variable, operand, put, signed, to_variable,
-};
+use crate::emit::{emit_expression, emit_values, from_variable, operand, put, signed, to_variable};
 use crate::instruction::{Destination, Instruction, Operand};
 use ss_base::{Line, Mode, Value};
 use ss_picture::Picture;
@@ -184,11 +182,7 @@ fn emit_assigns(code: &mut Vec<Instruction>, variables: &[Variable]) -> Result<(
 }
 
 // Each variable takes a word of input.
-fn emit_reads(
-    code: &mut Vec<Instruction>,
-    line: Line,
-    targets: &[Target],
-) -> Result<(), AllocError>
+fn emit_reads(code: &mut Vec<Instruction>, line: Line, targets: &[Target]) -> Result<(), AllocError>
     ensures { OnOk result (code.new.items ≡ code.old.items ++ reads_code line targets.now) }
 {
     for target in targets {
@@ -250,11 +244,7 @@ fn emit_call(
 }
 
 // SKIP.
-fn emit_skip(
-    code: &mut Vec<Instruction>,
-    line: Line,
-    count: &Expression,
-) -> Result<(), AllocError>
+fn emit_skip(code: &mut Vec<Instruction>, line: Line, count: &Expression) -> Result<(), AllocError>
     ensures { OnOk result (code.new.items ≡ code.old.items ++ statement_code 0 (Statement.Skip line count.now)) }
 {
     emit_expression(code, line, None, count)?;

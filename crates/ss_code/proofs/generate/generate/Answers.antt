@@ -1,4 +1,4 @@
-use Rattle.std.proofs.Common.{◌≡◌, List, ap, refl, arith, length, sym, subst, ◌∙◌}
+use Rattle.std.proofs.Common.{◌≡◌, ap, refl, arith, length, sym, subst}
 use Rattle.ss_code.specs.Machine.{Code}
 use Rattle.ss_code.specs.Running.{Behaves}
 use Rattle.ss_code.specs.Translation.{code_of}

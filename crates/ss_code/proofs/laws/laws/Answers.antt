@@ -1,6 +1,3 @@
-use Rattle.ss_code.proofs.Rows.{body_is, pictures_are}
-use Rattle.ss_code.proofs.Sizes.{code_size}
-use Rattle.ss_code.proofs.Landing.{code_lands}
 use Rattle.ss_code.proofs.Pieces.{pieces as in_pieces, prefixes as all_prefixes, endings_stay as all_stay}
 use Rattle.ss_code.proofs.laws.laws.Goals as goal
 

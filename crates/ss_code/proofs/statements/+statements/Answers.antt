@@ -1,4 +1,4 @@
-use Rattle.std.proofs.Common.{◌≡◌, ◌++◌, ◌+◌, length, ap, sym, ◌∙◌, append_assoc, length-append}
+use Rattle.std.proofs.Common.{◌≡◌, ◌++◌, length, ap, sym, ◌∙◌, append_assoc, length-append}
 use Rattle.std.proofs.lemmas.Result.{on_ok_weaker}
 use Rattle.ss_code.specs.Translation.{if_code, while_code, for_code, find_code, phrases_code, statement_code, statement_pictures, body_code, body_pictures}
 use Rattle.ss_code.proofs.Rows.{behind, pictures_are, if_is, while_is, for_is, find_is, if_pictures, find_pictures}
