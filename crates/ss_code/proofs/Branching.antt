@@ -6,22 +6,21 @@ use Rattle.ss_base.specs.declared.fault.FaultKind.{FaultKind}
 use Rattle.ss_base.specs.declared.value.Value.{Value}
 use Rattle.ss_resolved.specs.declared.resolved.Relation.{Relation}
 use Rattle.ss_resolved.specs.declared.resolved.Test.{Test}
-use Rattle.ss_resolved.specs.declared.resolved.Test.TheVariants.{Compare, DataEnded}
+use Rattle.ss_resolved.specs.declared.resolved.Test.TheVariants.{Compare}
 use Rattle.ss_resolved.specs.declared.resolved.Conjunction.{Conjunction}
 use Rattle.ss_resolved.specs.declared.resolved.Condition.{Condition}
 use Rattle.ss_resolved.specs.declared.resolved.GuardKind.{GuardKind}
 use Rattle.ss_resolved.specs.declared.resolved.GuardKind.TheVariants.{While, Until}
 use Rattle.ss_resolved.specs.declared.resolved.Guard.{Guard}
 use Rattle.ss_code.specs.declared.instruction.Operand.{Operand}
-use Rattle.ss_code.specs.declared.instruction.Instruction.TheVariants.{Compare as CompareThem, TestData, Jump}
-use Rattle.ss_code.specs.Words.{is_ended}
+use Rattle.ss_code.specs.declared.instruction.Instruction.TheVariants.{Compare as CompareThem, Jump}
 use Rattle.ss_code.specs.Store.{World, related}
-use Rattle.ss_code.specs.Meaning.{Fault, if_ok, value, both, either, unless, test_holds, all_hold, some_hold, holds, passes, all_pass}
-use Rattle.ss_code.specs.Machine.{Frame, State, Code, To, Goes, with_operand, with_rest, branch, did}
+use Rattle.ss_code.specs.Meaning.{if_ok, value, both, either, test_holds, all_hold, some_hold, holds, passes, all_pass}
+use Rattle.ss_code.specs.Machine.{Frame, State, Code, To, Goes, with_operand, with_rest, branch}
 use Rattle.ss_code.specs.Translation.{operand_of, expression_code, test_code, tests_code, alternatives_code, some_code, condition_code, negated_code, guard_code, guards_code}
 use Rattle.ss_code.specs.Running.{Underway}
 use Rattle.ss_code.proofs.Steps.{HasAt, has_front, has_back, Reaches, here, reaches_on, core_of, at}
-use Rattle.ss_code.proofs.Parts.{told, told_join, told_moved, goes, rests}
+use Rattle.ss_code.proofs.Parts.{told, told_join, told_moved, goes}
 use Rattle.ss_code.proofs.Expressions.{Holds, shelved, holds as holds_value, expression_run}
 
 -- the end of a test's code, or past so many instructions where it does not hold
@@ -56,16 +55,6 @@ module _ (code : Code) (l : Line) (frames : List Frame) (w : World) where
       ∙ branches (related relation x y) skip place stack above)
       here
 
-  looks_run : (negated : Bool) (skip place : ℕ) (stack : List Value) (r : OkOr Bool FaultKind) → is_ended w.store.input ≡ r → slice_get code.instructions place ≡ Some (TestData negated skip l) → Reaches code (at place stack frames w) (told l w (aimed (place + 1) skip stack) (if_ok r (λ b. Ok (unless negated b))))
-  looks_run negated skip place stack (Ok b) e has =
-      goes code (at place stack frames w) (aimed (place + 1) skip stack (unless negated b)) (TestData negated skip l) _ has
-      (ap (λ r. with_rest w.report w.ticks (did l r (λ b. branch (unless negated b) skip stack (core_of place stack frames w.store)))) e
-      ∙ branches (unless negated b) skip place stack stack)
-      here
-  looks_run negated skip place stack (Err kind) e has =
-      rests code (at place stack frames w) (TestData negated skip l) (Fault kind l) has
-      (ap (λ r. with_rest w.report w.ticks (did l r (λ b. branch (unless negated b) skip stack (core_of place stack frames w.store)))) e)
-
   pub test_run : (t : Test) (skip place end : ℕ) (stack : List Value) → HasAt code.instructions place (test_code l skip t) → place + length (test_code l skip t) ≡ end → Reaches code (at place stack frames w) (told l w (aimed end skip stack) (test_holds t w.store))
   test_run (Compare left relation right) skip place end stack has len =
       let ca = expression_code l None left in
@@ -79,8 +68,6 @@ module _ (code : Code) (l : Line) (frames : List Frame) (w : World) where
       (expression_run code l frames w right None (place + length ca) (shelved (operand_of left) x stack) (has_front code.instructions (place + length ca) cb tail has'))
       (λ y q'. subst (λ k. Reaches code (at (place + length ca + length cb) (shelved (operand_of right) y (shelved (operand_of left) x stack)) frames w) (Underway (aimed k skip stack (related relation x y)))) len'
       (compares relation (operand_of left) (operand_of right) skip x y (place + length ca + length cb) stack (holds_value left x w.store q) (holds_value right y w.store q') (has_back code.instructions (place + length ca) cb tail has').0)))
-  test_run (DataEnded negated) skip place end stack has len =
-      renamed (at place stack frames w) (place + 1) end skip stack (test_holds (DataEnded negated) w.store) len (looks_run negated skip place stack (is_ended w.store.input) refl has.0)
 
   -- a second condition, which the first leads to where it holds, and past which it leads where it does not
   second : (b : Bool) (mid end size skip : ℕ) (stack : List Value) (r : OkOr Bool FaultKind) → mid + size ≡ end → Reaches code (at mid stack frames w) (told l w (aimed end skip stack) r) → Reaches code (aimed mid (size + skip) stack b) (told l w (aimed end skip stack) (both b r))

@@ -5,7 +5,6 @@ use Rattle.std.specs.declared.vec.Vec.{Vec}
 use Rattle.std.specs.declared.alloc.Global.{Global as TheGlobal}
 use Rattle.ss_base.specs.declared.line.Line.{Line}
 use Rattle.ss_base.specs.declared.fault.FaultKind.{FaultKind}
-use Rattle.ss_base.specs.declared.layout.Mode.{Mode}
 use Rattle.ss_base.specs.declared.value.Value.{Value}
 use Rattle.ss_resolved.specs.declared.resolved.Variable.{Variable}
 use Rattle.ss_resolved.specs.declared.resolved.Variable.TheVariants.{Global, Local}
@@ -14,16 +13,14 @@ use Rattle.ss_resolved.specs.declared.resolved.Expression.{Expression}
 use Rattle.ss_resolved.specs.declared.resolved.Condition.{Condition}
 use Rattle.ss_resolved.specs.declared.resolved.Phrase.{Phrase}
 use Rattle.ss_resolved.specs.declared.resolved.Range.{Range}
-use Rattle.ss_resolved.specs.declared.resolved.Target.{Target}
-use Rattle.ss_resolved.specs.declared.resolved.Statement.{Statement, Let, Change, Print, If', While', For', Find', Call as CallRoutine, Return, Stop, Read, Skip as SkipLines, Row_of-Statement, end_of-Statement, more_of-Statement}
+use Rattle.ss_resolved.specs.declared.resolved.Statement.{Statement, Let, Change, Print, If', While', For', Find', Call as CallRoutine, Return, Stop, Skip as SkipLines, Row_of-Statement, end_of-Statement, more_of-Statement}
 use Rattle.ss_code.specs.declared.instruction.Instruction.{Instruction}
-use Rattle.ss_code.specs.declared.instruction.Instruction.TheVariants.{Calculate, Jump, Begin, Take, Next, Forget, Call, Leave, Halt, Read as ReadWord, Skip as SkipThem, Print as PrintLines}
-use Rattle.ss_code.specs.Words.{Given, value_given}
+use Rattle.ss_code.specs.declared.instruction.Instruction.TheVariants.{Calculate, Jump, Begin, Take, Next, Forget, Call, Leave, Halt, Skip as SkipThem, Print as PrintLines}
 use Rattle.ss_code.specs.Store.{Store, World, number_of, fetched, assigned, computed, printed, empty_lines, yielded}
-use Rattle.ss_code.specs.Meaning.{Turn, Returned, Stopped, Fault, Ended, Outcome, WentOn, Left, Part, and_then, if_ok, look, looked, assign, send, operator_of, value, values, holds as condition_holds, choose, GoesOn, IsFound, phrases, over_range, then_nothing, given_by, reads, assign_each, Calls, with_locals, effect, effects, body}
+use Rattle.ss_code.specs.Meaning.{Turn, Returned, Stopped, Fault, Ended, Outcome, WentOn, Left, Part, and_then, if_ok, look, looked, assign, send, operator_of, value, values, holds as condition_holds, choose, GoesOn, IsFound, phrases, over_range, then_nothing, assign_each, Calls, with_locals, effect, effects, body}
 use Rattle.ss_resolved.specs.Lines.{lines_of}
-use Rattle.ss_code.specs.Machine.{Frame, State, Code, To, did, sent, delivered, Goes, with_taken, Sends, next, with_rest}
-use Rattle.ss_code.specs.Translation.{variable_operand, destination_of, operand_of, expression_code, values_code, condition_code, phrases_code, bounds_code, if_code, for_code, find_code, assigns_code, reads_code, statement_code, statement_pictures, row_code, row_pictures, body_code, body_pictures}
+use Rattle.ss_code.specs.Machine.{Frame, State, Code, sent, with_taken, Sends, next, with_rest}
+use Rattle.ss_code.specs.Translation.{variable_operand, destination_of, operand_of, expression_code, values_code, condition_code, phrases_code, bounds_code, if_code, for_code, find_code, assigns_code, statement_code, statement_pictures, row_code, row_pictures, body_code, body_pictures}
 use Rattle.ss_code.specs.Running.{Underway}
 use Rattle.ss_code.proofs.Steps.{HasAt, has_front, has_back, Reaches, here, reaches_on, core_of, at, left_to, arrive, join}
 use Rattle.ss_code.proofs.Parts.{Runs, same, done, onto, take_them, told, told_join, told_part, told_moved, goes, rests, moved, IfWentOn, seq, seq_such, none}
@@ -133,30 +130,6 @@ module _ (code : Code) (n : ℕ) where
 
   assigns_run : (l : Line) (xs : List Variable) (us : List Value) → length us ≡ length xs → Runs code n (λ stack. us ++ stack) (assigns_code xs) done (assign_each xs us)
   assigns_run l xs us len = record { by = λ place stack frames w has le. assigns l xs us len place (place + length (assigns_code xs)) stack frames w has refl }
-
-  -- a word that is read goes to a variable
-  put_in : (x : Variable) (v : Value) (s : Store) (place : ℕ) (stack : List Value) (frames : List Frame) (r : List ℕ) (t : ℕ) → with_rest r t (To (delivered (destination_of x) v stack (core_of place stack frames s))) ≡ Goes (record { core = core_of (place + 1) stack frames (assigned x v s); report = r; ticks = t })
-  put_in (Global k) v s place stack frames r t = refl
-  put_in (Local k) v s place stack frames r t = refl
-
-  read_step : (l : Line) (mode : Mode) (x : Variable) (r : OkOr (Given Value) FaultKind) (place : ℕ) (stack : List Value) (frames : List Frame) (w : World) → value_given mode w.store.input ≡ r → slice_get code.instructions place ≡ Some (ReadWord mode (destination_of x) l) → Reaches code (at place stack frames w) (arrive (λ u w'. at (place + 1) stack frames w') frames (and_then (given_by l r w) (assign x)))
-  read_step l mode x (Ok g) place stack frames w q has =
-      let c = core_of place stack frames w.store in
-      let s : Store = record w.store { input = g.rest } in
-      goes code (at place stack frames w) (at (place + 1) stack frames (record w { store = assigned x g.value s })) (ReadWord mode (destination_of x) l) _ has
-      (ap (λ r. with_rest w.report w.ticks (did l r (λ g. delivered (destination_of x) g.value stack (record c { store = record c.store { input = g.rest } })))) q
-      ∙ put_in x g.value s place stack frames w.report w.ticks)
-      here
-  read_step l mode x (Err kind) place stack frames w q has =
-      let c = core_of place stack frames w.store in
-      rests code (at place stack frames w) (ReadWord mode (destination_of x) l) (Fault kind l) has
-      (ap (λ r. with_rest w.report w.ticks (did l r (λ g. delivered (destination_of x) g.value stack (record c { store = record c.store { input = g.rest } })))) q)
-
-  reads_run : (l : Line) (ts : List Target) → Runs code n same (reads_code l ts) done (reads l ts)
-  reads_run l [] = none code n tt
-  reads_run l (t ∷ ts) = seq code n {c1 = ReadWord t.mode (destination_of t.variable) l ∷ []} {mid = done} (record {
-    by = λ place stack frames w has le. read_step l t.mode t.variable (value_given t.mode w.store.input) place stack frames w refl has.0;
-  }) (λ u. reads_run l ts)
 
   -- empty lines
   skip_step : (l : Line) (o : Operand) (v : Value) (r : OkOr (List ℕ) FaultKind) (place end : ℕ) (stack : List Value) (frames : List Frame) (w : World) → empty_lines (number_of v) ≡ r → Holds o v w.store → slice_get code.instructions place ≡ Some (SkipThem o l) → place + 1 ≡ end → Reaches code (at place (shelved o v stack) frames w) (arrive (λ u w'. at end stack frames w') frames (and_then (looked l r w) send))
@@ -351,7 +324,6 @@ module _ (code : Code) (n : ℕ) (h : Calls) (ok : CallsRun code n h) where
         assigns_run code n l yielding.items us len'))
     statement_run first Return p = return_run code n
     statement_run first Stop p = stop_run code n
-    statement_run first (Read l targets) p = reads_run code n l targets.items
     statement_run first (SkipLines l e) p = skip_run code n l e
 
     row_run : {m : _} (first : ℕ) (r : Row_of-Statement m) → HasAt code.pictures first (row_pictures r) → Runs code n same (row_code first r) done (effects h n r)

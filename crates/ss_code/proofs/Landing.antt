@@ -7,7 +7,7 @@ use Rattle.ss_base.specs.declared.value.Value.TheVariants.{Whole, Text}
 use Rattle.ss_resolved.specs.declared.resolved.Variable.{Variable}
 use Rattle.ss_resolved.specs.declared.resolved.Expression.{Expression, Constant, Fetch, Signed', Sum', Product', Applied', Absolute', Row_of-Expression, end_of-Expression, more_of-Expression, Row_of-Expression-Sum-1-2, end_of-Expression-Sum-1-2, more_of-Expression-Sum-1-2}
 use Rattle.ss_resolved.specs.declared.resolved.Test.{Test}
-use Rattle.ss_resolved.specs.declared.resolved.Test.TheVariants.{Compare, DataEnded}
+use Rattle.ss_resolved.specs.declared.resolved.Test.TheVariants.{Compare}
 use Rattle.ss_resolved.specs.declared.resolved.Conjunction.{Conjunction}
 use Rattle.ss_resolved.specs.declared.resolved.Condition.{Condition}
 use Rattle.ss_resolved.specs.declared.resolved.GuardKind.{GuardKind}
@@ -17,9 +17,8 @@ use Rattle.ss_resolved.specs.declared.resolved.PhraseKind.{PhraseKind}
 use Rattle.ss_resolved.specs.declared.resolved.PhraseKind.TheVariants.{With as WithPhrase, Unless as UnlessPhrase, While as WhilePhrase, Until as UntilPhrase}
 use Rattle.ss_resolved.specs.declared.resolved.Phrase.{Phrase}
 use Rattle.ss_resolved.specs.declared.resolved.Range.{Range}
-use Rattle.ss_resolved.specs.declared.resolved.Target.{Target}
 use Rattle.ss_resolved.specs.declared.resolved.Section.{Section}
-use Rattle.ss_resolved.specs.declared.resolved.Statement.{Statement, Let, Change, Print, If', While', For', Find', Call as CallRoutine, Return, Stop, Read, Skip as SkipLines, Row_of-Statement, end_of-Statement, more_of-Statement}
+use Rattle.ss_resolved.specs.declared.resolved.Statement.{Statement, Let, Change, Print, If', While', For', Find', Call as CallRoutine, Return, Stop, Skip as SkipLines, Row_of-Statement, end_of-Statement, more_of-Statement}
 use Rattle.ss_resolved.specs.declared.resolved.Resolved.{Resolved}
 use Rattle.ss_code.specs.declared.instruction.Operand.{Operand}
 use Rattle.ss_code.specs.declared.instruction.Destination.{Destination}
@@ -28,7 +27,7 @@ use Rattle.ss_code.specs.declared.instruction.Instruction.{Instruction}
 use Rattle.ss_code.specs.declared.instruction.Instruction.TheVariants.{Turn, Next, Jump, Begin, Take, Forget, Leave}
 use Rattle.ss_code.specs.Machine.{Code, is_due}
 use Rattle.ss_code.specs.Running.{TicksAt, goes_back, Sound}
-use Rattle.ss_code.specs.Translation.{operand_of, constant_code, fetch_code, expression_code, sum_code, terms_code, product_code, factors_code, values_code, test_code, tests_code, alternatives_code, some_code, condition_code, negated_code, guard_code, guards_code, phrase_code, phrases_code, if_code, while_code, step_code, bounds_code, for_code, find_code, assigns_code, reads_code, statement_code, statement_pictures, row_code, row_pictures, body_code, body_pictures, section_code, routines_code, code_of}
+use Rattle.ss_code.specs.Translation.{operand_of, constant_code, fetch_code, expression_code, sum_code, terms_code, product_code, factors_code, values_code, test_code, tests_code, alternatives_code, some_code, condition_code, negated_code, guard_code, guards_code, phrase_code, phrases_code, if_code, while_code, step_code, bounds_code, for_code, find_code, assigns_code, statement_code, statement_pictures, row_code, row_pictures, body_code, body_pictures, section_code, routines_code, code_of}
 use Rattle.ss_code.specs.Meaning.{operator_of}
 use Rattle.ss_code.proofs.Steps.{HasAt, has_front, has_back, has_all}
 use Rattle.ss_code.proofs.Secure.{never_stuck}
@@ -89,7 +88,6 @@ module _ (l : Line) where
   test_straight : (skip : ℕ) (t : Test) → Straight (test_code l skip t)
   test_straight skip (Compare left relation right) =
       straight_both (expression_code l None left) _ (expression_straight None left) (straight_both (expression_code l None right) _ (expression_straight None right) (refl, tt))
-  test_straight skip (DataEnded negated) = (refl, tt)
 
   tests_straight : (skip : ℕ) (ts : List Test) → Straight (tests_code l skip ts)
   tests_straight skip [] = tt
@@ -129,10 +127,6 @@ module _ (l : Line) where
 
   bounds_straight : (r : Range) → Straight (bounds_code l r)
   bounds_straight r = straight_both (expression_code l _ r.first) _ (expression_straight _ r.first) (straight_both (expression_code l _ r.limit) _ (expression_straight _ r.limit) (step_straight r.step))
-
-  reads_straight : (ts : List Target) → Straight (reads_code l ts)
-  reads_straight [] = tt
-  reads_straight (t ∷ ts) = (refl, reads_straight ts)
 
 assigns_straight : (xs : List Variable) → Straight (assigns_code xs)
 assigns_straight [] = tt
@@ -233,7 +227,6 @@ module _ (all : List Instruction) where
     statement_lands first (CallRoutine l routine given yielding) place has = lands_straight place (statement_code first (CallRoutine l routine given yielding)) (straight_both (values_code l given.items) _ (values_straight l given.items) (refl, assigns_straight yielding.items))
     statement_lands first Return place has = lands_straight place (statement_code first Return) (refl, tt)
     statement_lands first Stop place has = lands_straight place (statement_code first Stop) (refl, tt)
-    statement_lands first (Read l targets) place has = lands_straight place (statement_code first (Read l targets)) (reads_straight l targets.items)
     statement_lands first (SkipLines l e) place has = lands_straight place (statement_code first (SkipLines l e)) (straight_both (expression_code l None e) _ (expression_straight l None e) (refl, tt))
 
     row_lands : {m : _} (first : ℕ) (r : Row_of-Statement m) (place : ℕ) → HasAt all place (row_code first r) → Lands all place (row_code first r)

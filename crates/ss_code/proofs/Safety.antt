@@ -9,7 +9,7 @@ use Rattle.ss_resolved.specs.declared.resolved.Variable.{Variable}
 use Rattle.ss_resolved.specs.declared.resolved.Variable.TheVariants.{Global, Local}
 use Rattle.ss_resolved.specs.declared.resolved.Expression.{Expression, Constant, Fetch, Signed', Sum', Product', Applied', Absolute', Row_of-Expression, end_of-Expression, more_of-Expression, Row_of-Expression-Sum-1-2, end_of-Expression-Sum-1-2, more_of-Expression-Sum-1-2}
 use Rattle.ss_resolved.specs.declared.resolved.Test.{Test}
-use Rattle.ss_resolved.specs.declared.resolved.Test.TheVariants.{Compare, DataEnded}
+use Rattle.ss_resolved.specs.declared.resolved.Test.TheVariants.{Compare}
 use Rattle.ss_resolved.specs.declared.resolved.Conjunction.{Conjunction}
 use Rattle.ss_resolved.specs.declared.resolved.Condition.{Condition}
 use Rattle.ss_resolved.specs.declared.resolved.GuardKind.{GuardKind}
@@ -22,10 +22,9 @@ use Rattle.ss_code.specs.declared.instruction.Destination.TheVariants.{Pushed, T
 use Rattle.ss_code.specs.declared.instruction.Operator.{Operator}
 use Rattle.ss_code.specs.declared.instruction.Operator.TheVariants.{Times, Distance}
 use Rattle.ss_code.specs.declared.instruction.Instruction.{Instruction}
-use Rattle.ss_code.specs.declared.instruction.Instruction.TheVariants.{Load, Move, Calculate, Compare as CompareThem, TestData, Jump}
-use Rattle.ss_code.specs.Words.{is_ended}
+use Rattle.ss_code.specs.declared.instruction.Instruction.TheVariants.{Load, Move, Calculate, Compare as CompareThem, Jump}
 use Rattle.ss_code.specs.Store.{Store, computed, related}
-use Rattle.ss_code.specs.Meaning.{operator_of, operator_for, unless}
+use Rattle.ss_code.specs.Meaning.{operator_of, operator_for}
 use Rattle.ss_code.specs.Machine.{Frame, Core, State, Code, Moved, To, Sends, Rest, Stuck, Taken, take_off, with_taken, with_top, with_three, with_operand, delivered, next, did, sent, branch, where_next, act, is_due, Stepped, Goes, Over, NoStep, with_rest, when_due, step_at, step}
 use Rattle.ss_code.specs.Translation.{variable_operand, destination_of, constant_operand, operand_of, placed, constant_code, fetch_code, expression_code, sum_code, terms_code, product_code, factors_code, values_code, test_code, tests_code, alternatives_code, some_code, condition_code, negated_code, guard_code, guards_code}
 use Rattle.ss_code.proofs.Steps.{HasAt, has_front, has_back, core_of}
@@ -269,10 +268,6 @@ module _ (code : Code) where
           expression_safe e (Some Pushed) place (place + length c) h (has_front code.instructions place c tail has) refl
           (values_safe es (place + length c) end (suc h) (has_back code.instructions place c tail has) e' (moved_now refl (omega arith) n))
 
-      data_safe : (negated : Bool) (skip place h : ℕ) → slice_get code.instructions place ≡ Some (TestData negated skip l) → Now k (place + 1) h frames → Now k (place + 1 + skip) h frames → Now k place h frames
-      data_safe negated skip place h has n q = one (TestData negated skip l) k place h frames has (λ j lt stack s len.
-          did_safe (Safe j) l (is_ended s.input) _ (λ b. branch_safe j (unless negated b) skip place h stack stack s len (n.upto j (omega (arith, lt))) (q.upto j (omega (arith, lt)))))
-
       test_safe : (t : Test) (skip place end h : ℕ) → HasAt code.instructions place (test_code l skip t) → place + length (test_code l skip t) ≡ end → Now k end h frames → Now k (end + skip) h frames → Now k place h frames
       test_safe (Compare left relation right) skip place end h has len n q =
           let ca = expression_code l None left in
@@ -283,7 +278,6 @@ module _ (code : Code) where
           expression_safe left None place (place + length ca) h (has_front code.instructions place ca (cb ++ tail) has) refl
           (expression_safe right None (place + length ca) (place + length ca + length cb) (up (operand_of left) h) (has_front code.instructions (place + length ca) cb tail has') refl
           (compare_safe relation (operand_of left) (operand_of right) skip (place + length ca + length cb) h (has_back code.instructions (place + length ca) cb tail has').0 (moved_now (sym e') refl n) (moved_now (ap (λ p. p + skip) (sym e')) refl q)))
-      test_safe (DataEnded negated) skip place end h has len n q = data_safe negated skip place h has.0 (moved_now (sym len) refl n) (moved_now (ap (λ p. p + skip) (sym len)) refl q)
 
       tests_safe : (ts : List Test) (skip place end h : ℕ) → HasAt code.instructions place (tests_code l skip ts) → place + length (tests_code l skip ts) ≡ end → Now k end h frames → Now k (end + skip) h frames → Now k place h frames
       tests_safe [] skip place end h has len n q = moved_now (omega (arith, len)) refl n

@@ -3,7 +3,6 @@ use Rattle.std.proofs.Common.{◌≡◌, ℕ, zero, suc, ◌+◌, ◌-◌, ◌<�
 use Rattle.std.specs.Prelude.{slice_get, Result as OkOr}
 use Rattle.ss_base.specs.declared.line.Line.{Line}
 use Rattle.ss_base.specs.declared.fault.FaultKind.{FaultKind}
-use Rattle.ss_base.specs.declared.layout.Mode.{Mode}
 use Rattle.ss_base.specs.declared.value.Value.{Value}
 use Rattle.ss_resolved.specs.declared.resolved.Variable.{Variable}
 use Rattle.ss_resolved.specs.declared.resolved.Expression.{Expression}
@@ -13,23 +12,21 @@ use Rattle.ss_resolved.specs.declared.resolved.PhraseKind.{PhraseKind}
 use Rattle.ss_resolved.specs.declared.resolved.PhraseKind.TheVariants.{With as WithPhrase, Unless as UnlessPhrase, While as WhilePhrase, Until as UntilPhrase}
 use Rattle.ss_resolved.specs.declared.resolved.Phrase.{Phrase}
 use Rattle.ss_resolved.specs.declared.resolved.Range.{Range}
-use Rattle.ss_resolved.specs.declared.resolved.Target.{Target}
 use Rattle.ss_resolved.specs.declared.resolved.Section.{Section}
 use Rattle.ss_resolved.specs.declared.resolved.Resolved.{Resolved}
-use Rattle.ss_resolved.specs.declared.resolved.Statement.{Statement, Let, Change, Print, If', While', For', Find', Call as CallRoutine, Return, Stop, Read, Skip as SkipLines, Row_of-Statement, end_of-Statement, more_of-Statement}
+use Rattle.ss_resolved.specs.declared.resolved.Statement.{Statement, Let, Change, Print, If', While', For', Find', Call as CallRoutine, Return, Stop, Skip as SkipLines, Row_of-Statement, end_of-Statement, more_of-Statement}
 use Rattle.ss_code.specs.declared.instruction.Operand.TheVariants.{Popped, Number}
 use Rattle.ss_code.specs.declared.instruction.Destination.TheVariants.{Pushed}
 use Rattle.ss_code.specs.declared.instruction.Instruction.{Instruction}
-use Rattle.ss_code.specs.declared.instruction.Instruction.TheVariants.{Calculate, Jump, Turn, Repeat, Begin, Take, Next, Forget, Call, Leave, Halt, Read as ReadWord, Skip as SkipThem, Print as PrintLines}
-use Rattle.ss_code.specs.Words.{value_given}
+use Rattle.ss_code.specs.declared.instruction.Instruction.TheVariants.{Calculate, Jump, Turn, Repeat, Begin, Take, Next, Forget, Call, Leave, Halt, Skip as SkipThem, Print as PrintLines}
 use Rattle.ss_code.specs.Store.{Store, number_of, step_of, is_within, item_after, empty_lines, yielded}
 use Rattle.ss_code.specs.Meaning.{operator_of}
 use Rattle.ss_code.specs.Machine.{Frame, Core, State, Code, Entry, To, enter, sent, next, Goes, NoStep, where_next, step}
-use Rattle.ss_code.specs.Translation.{variable_operand, destination_of, operand_of, expression_code, values_code, condition_code, negated_code, guards_code, phrase_code, phrases_code, if_code, while_code, step_code, bounds_code, for_code, find_code, assigns_code, reads_code, statement_code, statement_pictures, row_code, row_pictures, body_code, section_code, code_of}
+use Rattle.ss_code.specs.Translation.{variable_operand, destination_of, operand_of, expression_code, values_code, condition_code, negated_code, guards_code, phrase_code, phrases_code, if_code, while_code, step_code, bounds_code, for_code, find_code, assigns_code, statement_code, statement_pictures, row_code, row_pictures, body_code, section_code, code_of}
 use Rattle.ss_code.specs.Running.{Reachable, begins, onwards, changed}
 use Rattle.ss_code.proofs.Steps.{HasAt, has_front, has_back, core_of}
 use Rattle.ss_code.proofs.Calling.{yielded_length, LinkedAt, Linked}
-use Rattle.ss_code.proofs.Safety.{SafeStep, Safe, Now, now_less, ActSafe, one, up, variable_up, variable_down, moved_now, top_safe, operand_safe, three_safe, off_safe, deliver_safe, did_safe, calculate_safe, move_safe, jump_safe, branch_safe, expression_safe, values_safe, condition_safe, negated_safe, guards_safe}
+use Rattle.ss_code.proofs.Safety.{SafeStep, Safe, Now, now_less, ActSafe, one, up, variable_up, variable_down, moved_now, top_safe, operand_safe, three_safe, off_safe, did_safe, calculate_safe, move_safe, jump_safe, branch_safe, expression_safe, values_safe, condition_safe, negated_safe, guards_safe}
 use Rattle.ss_code.proofs.Whole.{linked, instructions_at}
 
 module _ (code : Code) where
@@ -268,18 +265,6 @@ module _ (code : Code) where
         (move_safe code k frames Popped (destination_of x) place (length xs + h) has.0
         (moved_now code refl (sym (variable_down code x (length xs + h))) (assigns_safe xs k (place + 1) end h frames has.1 (omega (arith, len)) n)))
 
-    read_safe : (l : Line) (mode : Mode) (x : Variable) (k place h : ℕ) (frames : List Frame) → slice_get code.instructions place ≡ Some (ReadWord mode (destination_of x) l) → Now code k (place + 1) h frames → Now code k place h frames
-    read_safe l mode x k place h frames has n = one code (ReadWord mode (destination_of x) l) k place h frames has (λ j lt stack s len.
-        did_safe code (Safe code j) l (value_given mode s.input) _ (λ g.
-        deliver_safe code (Safe code j) (destination_of x) g.value stack (record (core_of place stack frames s) { store = record s { input = g.rest } }) h len
-        (subst (λ m. Safe code j (place + 1) m frames) (sym (variable_down code x h)) (n.upto j (omega (arith, lt))))))
-
-    reads_safe : (l : Line) (ts : List Target) → Piece (reads_code l ts)
-    reads_safe l [] = record { by = λ k le place end h frames has len back n. moved_now code (omega (arith, len)) refl n }
-    reads_safe l (t ∷ ts) =
-        let rest = reads_safe l ts in
-        record { by = λ k le place end h frames has len back n. read_safe l t.mode t.variable k place h frames has.0 (rest.by k le (place + 1) end h frames has.1 (omega (arith, len)) back n) }
-
     sent_safe : (j : ℕ) (l : Line) (r : OkOr (List ℕ) FaultKind) (c : Core) → Safe code j c.place (length c.operands) c.frames → ActSafe code (Safe code j) (sent l r c)
     sent_safe j l (Ok bytes) c s = s
     sent_safe j l (Err kind) c s = tt
@@ -370,7 +355,6 @@ module _ (code : Code) where
         statement_safe first (CallRoutine l routine given yielding) = call_safe l routine given.items yielding.items
         statement_safe first Return = record { by = λ k le place end h frames has len back n. leave_safe k place h frames has.0 back }
         statement_safe first Stop = record { by = λ k le place end h frames has len back n. halt_safe k place h frames has.0 }
-        statement_safe first (Read l targets) = reads_safe l targets.items
         statement_safe first (SkipLines l e) = skip_safe l e
 
         row_safe : {m : _} (first : ℕ) (r : Row_of-Statement m) → Piece (row_code first r)

@@ -6,7 +6,7 @@ use Rattle.ss_base.specs.declared.value.Value.TheVariants.{Whole, Text}
 use Rattle.ss_resolved.specs.declared.resolved.Variable.{Variable}
 use Rattle.ss_resolved.specs.declared.resolved.Expression.{Expression, Constant, Fetch, Signed', Sum', Product', Applied', Absolute', Row_of-Expression, end_of-Expression, more_of-Expression, Row_of-Expression-Sum-1-2, end_of-Expression-Sum-1-2, more_of-Expression-Sum-1-2}
 use Rattle.ss_resolved.specs.declared.resolved.Test.{Test}
-use Rattle.ss_resolved.specs.declared.resolved.Test.TheVariants.{Compare, DataEnded}
+use Rattle.ss_resolved.specs.declared.resolved.Test.TheVariants.{Compare}
 use Rattle.ss_resolved.specs.declared.resolved.Conjunction.{Conjunction}
 use Rattle.ss_resolved.specs.declared.resolved.Condition.{Condition}
 use Rattle.ss_resolved.specs.declared.resolved.GuardKind.{GuardKind}
@@ -16,9 +16,8 @@ use Rattle.ss_resolved.specs.declared.resolved.PhraseKind.{PhraseKind}
 use Rattle.ss_resolved.specs.declared.resolved.PhraseKind.TheVariants.{With as WithPhrase, Unless as UnlessPhrase, While as WhilePhrase, Until as UntilPhrase}
 use Rattle.ss_resolved.specs.declared.resolved.Phrase.{Phrase}
 use Rattle.ss_resolved.specs.declared.resolved.Range.{Range}
-use Rattle.ss_resolved.specs.declared.resolved.Target.{Target}
 use Rattle.ss_resolved.specs.declared.resolved.Section.{Section}
-use Rattle.ss_resolved.specs.declared.resolved.Statement.{Statement, Let, Change, Print, If', While', For', Find', Call as CallRoutine, Return, Stop, Read, Skip as SkipLines, Row_of-Statement, end_of-Statement, more_of-Statement}
+use Rattle.ss_resolved.specs.declared.resolved.Statement.{Statement, Let, Change, Print, If', While', For', Find', Call as CallRoutine, Return, Stop, Skip as SkipLines, Row_of-Statement, end_of-Statement, more_of-Statement}
 use Rattle.ss_code.specs.declared.instruction.Instruction.{Instruction}
 use Rattle.ss_resolved.specs.declared.resolved.Resolved.{Resolved}
 use Rattle.ss_code.specs.declared.instruction.Operand.{Operand}
@@ -31,7 +30,7 @@ use Rattle.ss_code.specs.declared.instruction.Instruction.TheVariants.{Calculate
 use Rattle.std.specs.Prelude.{pos}
 use Rattle.ss_code.specs.Meaning.{operator_of, operator_for}
 use Rattle.ss_code.specs.Nodes.{expression_nodes, sum_nodes, terms_nodes, product_nodes, factors_nodes, expressions_nodes, test_nodes, tests_nodes, alternative_nodes, alternatives_nodes, some_nodes, condition_nodes, guards_nodes, phrases_nodes, step_nodes, range_nodes, statement_nodes, row_nodes, body_nodes, sections_nodes, nodes}
-use Rattle.ss_code.specs.Translation.{variable_operand, destination_of, operand_of, placed, constant_code, fetch_code, expression_code, sum_code, terms_code, product_code, factors_code, values_code, test_code, tests_code, alternatives_code, some_code, condition_code, negated_code, guard_code, guards_code, phrase_code, phrases_code, if_code, while_code, step_code, bounds_code, for_code, find_code, assigns_code, reads_code, statement_code, statement_pictures, row_code, row_pictures, body_code, body_pictures, section_code, routines_code, code_of}
+use Rattle.ss_code.specs.Translation.{variable_operand, destination_of, operand_of, placed, constant_code, fetch_code, expression_code, sum_code, terms_code, product_code, factors_code, values_code, test_code, tests_code, alternatives_code, some_code, condition_code, negated_code, guard_code, guards_code, phrase_code, phrases_code, if_code, while_code, step_code, bounds_code, for_code, find_code, assigns_code, statement_code, statement_pictures, row_code, row_pictures, body_code, body_pictures, section_code, routines_code, code_of}
 
 constant_size : (into : Option Destination) (v : Value) → length (constant_code into v) ≤ 1
 constant_size None (Whole z) = omega arith
@@ -80,7 +79,6 @@ module _ (l : Line) where
   test_size skip (Compare left relation right) =
       let tail = CompareThem relation (operand_of left) (operand_of right) skip ∷ [] in
       omega (arith, expression_size None left, expression_size None right, length-append (expression_code l None left) (expression_code l None right ++ tail), length-append (expression_code l None right) tail)
-  test_size skip (DataEnded negated) = omega arith
 
   tests_size : (skip : ℕ) (ts : List Test) → length (tests_code l skip ts) ≤ tests_nodes ts
   tests_size skip [] = omega arith
@@ -88,7 +86,6 @@ module _ (l : Line) where
 
   test_is_one : (t : Test) → 1 ≤ test_nodes t
   test_is_one (Compare left relation right) = omega arith
-  test_is_one (DataEnded negated) = omega arith
 
   alternative_size : (skip : ℕ) (ts : List Test) → length (tests_code l skip ts) + 1 ≤ 2 * alternative_nodes ts
   alternative_size skip [] = omega arith
@@ -147,10 +144,6 @@ module _ (l : Line) where
       let size = length a + length again in
       omega (arith, guards_size (size + 2) gs, guards_size 1 gs, length-append (guards_code l (size + 2) gs) (Turn ∷ (a ++ (again ++ Repeat (size + 1) ∷ []))), length-append a (again ++ Repeat (size + 1) ∷ []), length-append again (Repeat (size + 1) ∷ []))
 
-  reads_size : (ts : List Target) → length (reads_code l ts) ≤ length ts
-  reads_size [] = omega arith
-  reads_size (t ∷ ts) = omega (arith, reads_size ts)
-
 assigns_size : (xs : List Variable) → length (assigns_code xs) ≤ length xs
 assigns_size [] = omega arith
 assigns_size (x ∷ xs) = omega (arith, assigns_size xs)
@@ -167,7 +160,6 @@ mutual
   statement_size first (CallRoutine l routine given yielding) = omega (arith, values_size l given.items, assigns_size yielding.items, length-append (values_code l given.items) (Call routine (length given.items) (length yielding.items) ∷ assigns_code yielding.items))
   statement_size first Return = omega arith
   statement_size first Stop = omega arith
-  statement_size first (Read l targets) = omega (arith, reads_size l targets.items)
   statement_size first (SkipLines l e) = omega (arith, expression_size l None e, length-append (expression_code l None e) (SkipThem (operand_of e) l ∷ []))
 
   row_size : {m : _} (first : ℕ) (r : Row_of-Statement m) → length (row_code first r) ≤ 6 * row_nodes r

@@ -13,7 +13,7 @@ use Rattle.ss_resolved.specs.declared.resolved.Function.{Function}
 use Rattle.ss_resolved.specs.declared.resolved.Function.TheVariants.{Quotient as QuotientOf, Remainder as RemainderOf, Least as LeastOf, Greatest as GreatestOf}
 use Rattle.ss_resolved.specs.declared.resolved.Expression.{Expression, Constant, Fetch, Signed', Sum', Product', Applied', Absolute', Row_of-Expression, end_of-Expression, more_of-Expression, Row_of-Expression-Sum-1-2, end_of-Expression-Sum-1-2, more_of-Expression-Sum-1-2}
 use Rattle.ss_resolved.specs.declared.resolved.Test.{Test}
-use Rattle.ss_resolved.specs.declared.resolved.Test.TheVariants.{Compare, DataEnded}
+use Rattle.ss_resolved.specs.declared.resolved.Test.TheVariants.{Compare}
 use Rattle.ss_resolved.specs.declared.resolved.Conjunction.{Conjunction}
 use Rattle.ss_resolved.specs.declared.resolved.Condition.{Condition}
 use Rattle.ss_resolved.specs.declared.resolved.GuardKind.{GuardKind}
@@ -23,14 +23,12 @@ use Rattle.ss_resolved.specs.declared.resolved.PhraseKind.{PhraseKind}
 use Rattle.ss_resolved.specs.declared.resolved.PhraseKind.TheVariants.{With as WithPhrase, Unless as UnlessPhrase, While as WhilePhrase, Until as UntilPhrase}
 use Rattle.ss_resolved.specs.declared.resolved.Phrase.{Phrase}
 use Rattle.ss_resolved.specs.declared.resolved.Range.{Range}
-use Rattle.ss_resolved.specs.declared.resolved.Target.{Target}
-use Rattle.ss_resolved.specs.declared.resolved.Statement.{Statement, Let, Change, Print, If', While', For', Find', Call, Return, Stop, Read, Skip, Row_of-Statement, end_of-Statement, more_of-Statement}
+use Rattle.ss_resolved.specs.declared.resolved.Statement.{Statement, Let, Change, Print, If', While', For', Find', Call, Return, Stop, Skip, Row_of-Statement, end_of-Statement, more_of-Statement}
 use Rattle.ss_resolved.specs.declared.resolved.Section.{Section}
 use Rattle.ss_resolved.specs.declared.resolved.Resolved.{Resolved}
 use Rattle.ss_resolved.specs.Lines.{lines_of}
 use Rattle.ss_code.specs.declared.instruction.Operator.{Operator}
 use Rattle.ss_code.specs.declared.instruction.Operator.TheVariants.{Plus, Minus, Times, Quotient, Remainder, Least, Greatest, Distance}
-use Rattle.ss_code.specs.Words.{Given, is_ended, value_given}
 use Rattle.ss_code.specs.Store.{Store, World, zero_value, number_of, fetched, assigned, computed, printed, related, step_of, is_within, item_after, empty_lines, fresh, yielded}
 
 -- why a part of a program is left before its end
@@ -126,15 +124,10 @@ abbrev pub either : Bool → Result Bool FaultKind → Result Bool FaultKind
 either true second = Ok true
 either false second = second
 
-abbrev pub unless : Bool → Bool → Bool
-unless true b = not b
-unless false b = b
-
 -- whether a test holds
 abbrev pub test_holds : Test → Store → Result Bool FaultKind
 test_holds (Compare left relation right) s =
     if_ok (value left s) (λ x. if_ok (value right s) (λ y. Ok (related relation x y)))
-test_holds (DataEnded negated) s = if_ok (is_ended s.input) (λ b. Ok (unless negated b))
 
 -- whether all of them hold: up to the first that does not
 abbrev pub all_hold : List Test → Store → Result Bool FaultKind
@@ -236,18 +229,6 @@ abbrev pub over_range : ℕ → Line → Range → Part Turn → Part Bool
 over_range n l r turn w =
     and_then (look l (bounds r) w) (λ b. choose (is_within b.first b.limit) (items n r.variable b.limit b.step turn b.first) (WentOn false))
 
--- takes the next word of the input
-abbrev pub given_by : Line → Result (Given Value) FaultKind → Part Value
-given_by l (Ok g) w = WentOn g.value (record w { store = record w.store { input = g.rest } })
-given_by l (Err k) w = Left (Faulted k l) w
-
-abbrev pub take_word : Line → Mode → Part Value
-take_word l mode w = given_by l (value_given mode w.store.input) w
-
-abbrev pub reads : Line → List Target → Part (Unit {0})
-reads l [] w = WentOn tt w
-reads l (t ∷ ts) w = and_then (and_then (take_word l t.mode w) (assign t.variable)) (λ _. reads l ts)
-
 -- each variable takes a value in turn
 abbrev pub assign_each : List Variable → List Value → Part (Unit {0})
 assign_each [] vs w = WentOn tt w
@@ -278,7 +259,6 @@ abbrev mutual
       and_then (h routine vs (length yielding.items) w) (λ us. assign_each yielding.items us))
   effect h n Return w = Left Returned w
   effect h n Stop w = Left Stopped w
-  effect h n (Read l targets) w = reads l targets.items w
   effect h n (Skip l e) w =
       and_then (look l (λ s. if_ok (value e s) (λ v. empty_lines (number_of v))) w) send
 

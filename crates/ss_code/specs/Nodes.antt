@@ -2,14 +2,14 @@
 use Rattle.std.specs.Prelude.{ℕ, ◌+◌, List, [], ◌∷◌, length, Option, Some, None}
 use Rattle.ss_resolved.specs.declared.resolved.Expression.{Expression, Constant, Fetch, Signed', Sum', Product', Applied', Absolute', Row_of-Expression, end_of-Expression, more_of-Expression, Row_of-Expression-Sum-1-2, end_of-Expression-Sum-1-2, more_of-Expression-Sum-1-2}
 use Rattle.ss_resolved.specs.declared.resolved.Test.{Test}
-use Rattle.ss_resolved.specs.declared.resolved.Test.TheVariants.{Compare, DataEnded}
+use Rattle.ss_resolved.specs.declared.resolved.Test.TheVariants.{Compare}
 use Rattle.ss_resolved.specs.declared.resolved.Conjunction.{Conjunction}
 use Rattle.ss_resolved.specs.declared.resolved.Condition.{Condition}
 use Rattle.ss_resolved.specs.declared.resolved.Guard.{Guard}
 use Rattle.ss_resolved.specs.declared.resolved.Phrase.{Phrase}
 use Rattle.ss_resolved.specs.declared.resolved.Range.{Range}
 use Rattle.ss_resolved.specs.declared.resolved.Section.{Section}
-use Rattle.ss_resolved.specs.declared.resolved.Statement.{Statement, Let, Change, Print, If', While', For', Find', Call, Return, Stop, Read, Skip, Row_of-Statement, end_of-Statement, more_of-Statement}
+use Rattle.ss_resolved.specs.declared.resolved.Statement.{Statement, Let, Change, Print, If', While', For', Find', Call, Return, Stop, Skip, Row_of-Statement, end_of-Statement, more_of-Statement}
 use Rattle.ss_resolved.specs.declared.resolved.Resolved.{Resolved}
 
 abbrev mutual
@@ -47,7 +47,6 @@ expressions_nodes (e ∷ es) = expression_nodes e + expressions_nodes es
 -- a test is a node
 abbrev pub test_nodes : Test → ℕ
 test_nodes (Compare left relation right) = 1 + expression_nodes left + expression_nodes right
-test_nodes (DataEnded negated) = 1
 
 abbrev pub tests_nodes : List Test → ℕ
 tests_nodes [] = 0
@@ -98,7 +97,6 @@ abbrev mutual
   statement_nodes (Call l routine given yielding) = 2 + expressions_nodes given.items + length yielding.items
   statement_nodes Return = 1
   statement_nodes Stop = 1
-  statement_nodes (Read l targets) = 1 + length targets.items
   statement_nodes (Skip l e) = 1 + expression_nodes e
 
   pub row_nodes : {m : _} → Row_of-Statement m → ℕ

@@ -7,7 +7,7 @@ use Rattle.ss_resolved.specs.declared.resolved.Variable.{Variable}
 use Rattle.ss_resolved.specs.declared.resolved.Variable.TheVariants.{Global, Local}
 use Rattle.ss_resolved.specs.declared.resolved.Expression.{Expression, Constant, Fetch, Signed', Sum', Product', Applied', Absolute', Row_of-Expression, end_of-Expression, more_of-Expression, Row_of-Expression-Sum-1-2, end_of-Expression-Sum-1-2, more_of-Expression-Sum-1-2}
 use Rattle.ss_resolved.specs.declared.resolved.Test.{Test}
-use Rattle.ss_resolved.specs.declared.resolved.Test.TheVariants.{Compare, DataEnded}
+use Rattle.ss_resolved.specs.declared.resolved.Test.TheVariants.{Compare}
 use Rattle.ss_resolved.specs.declared.resolved.Conjunction.{Conjunction}
 use Rattle.ss_resolved.specs.declared.resolved.Condition.{Condition}
 use Rattle.ss_resolved.specs.declared.resolved.GuardKind.{GuardKind}
@@ -17,9 +17,8 @@ use Rattle.ss_resolved.specs.declared.resolved.PhraseKind.{PhraseKind}
 use Rattle.ss_resolved.specs.declared.resolved.PhraseKind.TheVariants.{With as WithPhrase, Unless as UnlessPhrase, While as WhilePhrase, Until as UntilPhrase}
 use Rattle.ss_resolved.specs.declared.resolved.Phrase.{Phrase}
 use Rattle.ss_resolved.specs.declared.resolved.Range.{Range}
-use Rattle.ss_resolved.specs.declared.resolved.Target.{Target}
 use Rattle.ss_resolved.specs.declared.resolved.Section.{Section}
-use Rattle.ss_resolved.specs.declared.resolved.Statement.{Statement, Let, Change, Print, If', While', For', Find', Call as CallRoutine, Return, Stop, Read, Skip as SkipLines, Row_of-Statement, end_of-Statement, more_of-Statement}
+use Rattle.ss_resolved.specs.declared.resolved.Statement.{Statement, Let, Change, Print, If', While', For', Find', Call as CallRoutine, Return, Stop, Skip as SkipLines, Row_of-Statement, end_of-Statement, more_of-Statement}
 use Rattle.ss_resolved.specs.declared.resolved.Resolved.{Resolved}
 use Rattle.ss_code.specs.declared.instruction.Operand.{Operand}
 use Rattle.ss_code.specs.declared.instruction.Operand.TheVariants.{Popped, Number, FromGlobal, FromLocal}
@@ -28,7 +27,7 @@ use Rattle.ss_code.specs.declared.instruction.Destination.TheVariants.{Pushed, T
 use Rattle.ss_code.specs.declared.instruction.Operator.{Operator}
 use Rattle.ss_code.specs.declared.instruction.Operator.TheVariants.{Times, Distance}
 use Rattle.ss_code.specs.declared.instruction.Instruction.{Instruction}
-use Rattle.ss_code.specs.declared.instruction.Instruction.TheVariants.{Load, Move, Calculate, Compare as CompareThem, TestData, Jump, Turn, Repeat, Begin, Take, Next, Forget, Call, Leave, Halt, Read as ReadWord, Skip as SkipThem, Print as PrintLines}
+use Rattle.ss_code.specs.declared.instruction.Instruction.TheVariants.{Load, Move, Calculate, Compare as CompareThem, Jump, Turn, Repeat, Begin, Take, Next, Forget, Call, Leave, Halt, Skip as SkipThem, Print as PrintLines}
 use Rattle.ss_code.specs.Meaning.{operator_of, operator_for, firsts}
 use Rattle.ss_resolved.specs.Lines.{lines_of}
 use Rattle.ss_code.specs.Machine.{Code, Entry}
@@ -115,7 +114,6 @@ values_code l (e ∷ es) = expression_code l (Some Pushed) e ++ values_code l es
 abbrev pub test_code : Line → ℕ → Test → List Instruction
 test_code l skip (Compare left relation right) =
     expression_code l None left ++ (expression_code l None right ++ CompareThem relation (operand_of left) (operand_of right) skip ∷ [])
-test_code l skip (DataEnded negated) = TestData negated skip l ∷ []
 
 -- tests that all must hold
 abbrev pub tests_code : Line → ℕ → List Test → List Instruction
@@ -193,10 +191,6 @@ abbrev pub assigns_code : List Variable → List Instruction
 assigns_code [] = []
 assigns_code (x ∷ xs) = Move Popped (destination_of x) ∷ assigns_code xs
 
-abbrev pub reads_code : Line → List Target → List Instruction
-reads_code l [] = []
-reads_code l (t ∷ ts) = ReadWord t.mode (destination_of t.variable) l ∷ reads_code l ts
-
 abbrev mutual
   -- the pictures of a statement
   pub statement_pictures : Statement → List (List ℕ)
@@ -210,7 +204,6 @@ abbrev mutual
   statement_pictures (CallRoutine l routine given yielding) = []
   statement_pictures Return = []
   statement_pictures Stop = []
-  statement_pictures (Read l targets) = []
   statement_pictures (SkipLines l e) = []
 
   pub row_pictures : {m : _} → Row_of-Statement m → List (List ℕ)
@@ -235,7 +228,6 @@ abbrev mutual
       ++ (Call routine (length given.items) (length yielding.items) ∷ assigns_code yielding.items)
   statement_code first Return = Leave ∷ []
   statement_code first Stop = Halt ∷ []
-  statement_code first (Read l targets) = reads_code l targets.items
   statement_code first (SkipLines l e) = expression_code l None e ++ SkipThem (operand_of e) l ∷ []
 
   pub row_code : {m : _} → ℕ → Row_of-Statement m → List Instruction

@@ -46,14 +46,6 @@ fn emit_test(
                 },
             )
         }
-        Test::DataEnded { negated } => put(
-            code,
-            Instruction::TestData {
-                negated: *negated,
-                skip,
-                line,
-            },
-        ),
     }
 }
 

@@ -1,6 +1,6 @@
 //! The instructions of the machine.
 
-use ss_base::{Alpha, Line, Mode};
+use ss_base::{Alpha, Line};
 use ss_resolved::resolved::{Relation, Variable};
 
 /// Where an instruction finds a value.
@@ -69,12 +69,6 @@ pub enum Instruction {
         right: Operand,
         skip: usize,
     },
-    /// Goes on where no word of input is left, or one is if negated, and jumps otherwise.
-    TestData {
-        negated: bool,
-        skip: usize,
-        line: Line,
-    },
     /// Jumps.
     Jump {
         skip: usize,
@@ -111,12 +105,6 @@ pub enum Instruction {
     Leave,
     /// The run ends.
     Halt,
-    /// The next word of input goes to its destination.
-    Read {
-        mode: Mode,
-        into: Destination,
-        line: Line,
-    },
     /// Empty lines are written.
     Skip {
         count: Operand,

@@ -16,7 +16,6 @@ fn name(instruction: &Instruction) -> &str
         Instruction::Move { .. } => "move",
         Instruction::Calculate { .. } => "calculate",
         Instruction::Compare { .. } => "compare",
-        Instruction::TestData { .. } => "test data",
         Instruction::Jump { .. } => "jump",
         Instruction::Turn => "turn",
         Instruction::Repeat { .. } => "repeat",
@@ -27,7 +26,6 @@ fn name(instruction: &Instruction) -> &str
         Instruction::Call { .. } => "call",
         Instruction::Leave => "leave",
         Instruction::Halt => "halt",
-        Instruction::Read { .. } => "read",
         Instruction::Skip { .. } => "skip",
         Instruction::Print { .. } => "print",
     }

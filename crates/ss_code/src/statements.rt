@@ -4,7 +4,7 @@ ghost use Rattle.std.specs.Prelude.{◌≡◌, ◌∷◌, ◌++◌, [], length, 
 ghost use Rattle.ss_code.specs.Meaning.{firsts};
 ghost use Rattle.ss_resolved.specs.Lines.{lines_of};
 ghost use Rattle.ss_code.specs.declared.instruction.Instruction.TheVariants.{Jump, Forget, Leave};
-ghost use Rattle.ss_code.specs.Translation.{step_code, bounds_code, for_code, while_code, find_code, if_code, assigns_code, reads_code, statement_code, statement_pictures, body_code, body_pictures};
+ghost use Rattle.ss_code.specs.Translation.{step_code, bounds_code, for_code, while_code, find_code, if_code, assigns_code, statement_code, statement_pictures, body_code, body_pictures};
 
 use crate::conditions::{emit_condition, emit_guards, emit_phrases, sum};
 use crate::emit::{emit_expression, emit_values, from_variable, operand, put, signed, to_variable};
@@ -12,7 +12,7 @@ use crate::instruction::{Destination, Instruction, Operand};
 use ss_base::{Line, Mode, Value};
 use ss_picture::Picture;
 use ss_resolved::resolved::{
-    Condition, Expression, Guard, Phrase, Range, Sign, Statement, Target, Variable,
+    Condition, Expression, Guard, Phrase, Range, Sign, Statement, Variable,
 };
 use std::alloc::{AllocError, Global};
 
@@ -181,23 +181,6 @@ fn emit_assigns(code: &mut Vec<Instruction>, variables: &[Variable]) -> Result<(
     Ok(())
 }
 
-// Each variable takes a word of input.
-fn emit_reads(code: &mut Vec<Instruction>, line: Line, targets: &[Target]) -> Result<(), AllocError>
-    ensures { OnOk result (code.new.items ≡ code.old.items ++ reads_code line targets.now) }
-{
-    for target in targets {
-        put(
-            code,
-            Instruction::Read {
-                mode: target.mode,
-                into: to_variable(target.variable),
-                line,
-            },
-        )?;
-    }
-    Ok(())
-}
-
 // ADD and SUBTRACT.
 fn emit_change(
     code: &mut Vec<Instruction>,
@@ -353,7 +336,6 @@ fn emit_statement(
         } => emit_call(code, *line, *routine, given, yielding),
         Statement::Return => put(code, Instruction::Leave),
         Statement::Stop => put(code, Instruction::Halt),
-        Statement::Read { line, targets } => emit_reads(code, *line, targets),
         Statement::Skip { line, count } => emit_skip(code, *line, count),
     }
 }

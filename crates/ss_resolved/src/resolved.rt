@@ -74,10 +74,6 @@ pub enum Test {
         relation: Relation,
         right: Expression,
     },
-    /// Whether no word of input is left or, if negated, whether one is.
-    DataEnded {
-        negated: bool,
-    },
 }
 
 /// Tests joined by AND.
@@ -136,13 +132,6 @@ pub struct Range {
     pub limit: Expression,
     /// What stands behind BY; 1 where nothing does.
     pub step: Option<Expression>,
-}
-
-/// A variable that takes a word of input, and its mode.
-#[derive(Clone, Copy, PartialEq, Eq, Debug)]
-pub struct Target {
-    pub variable: Variable,
-    pub mode: Mode,
 }
 
 /// A statement. Its line is that of its first word.
@@ -205,11 +194,6 @@ pub enum Statement {
     },
     Return,
     Stop,
-    /// READ: each variable takes the next word of input.
-    Read {
-        line: Line,
-        targets: Vec<Target>,
-    },
     /// SKIP: so many empty lines.
     Skip {
         line: Line,
