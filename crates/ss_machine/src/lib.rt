@@ -1,6 +1,8 @@
 //! The machine that runs the code of a program.
 #![tactic(auto)]
 
+mod frame;
+mod frames;
 mod machine;
 mod operands;
 mod printing;
@@ -10,6 +12,8 @@ mod stop;
 mod variables;
 pub mod working;
 
+pub use frame::{Frame, Parts};
+pub use frames::Frames;
 pub use machine::Machine;
 pub use operands::Operands;
 pub use printing::Unprinted;

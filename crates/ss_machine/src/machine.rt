@@ -1,8 +1,9 @@
-ghost use Rattle.std.specs.Prelude.{◌≡◌, IfOk, Some, None};
+ghost use Rattle.std.specs.Prelude.{◌≡◌, ◌+◌, ◌-◌, ◌^◌, ◌≤◌, min, IfOk, Some, None};
 ghost use Rattle.ss_base.specs.Failures.{HasRisen, HasRisenBy};
-ghost use Rattle.ss_machine.specs.Held.{IsFirst, answer_again};
+ghost use Rattle.ss_machine.specs.Held.{IsFirst, answer_again, kept_after};
 ghost use Rattle.ss_machine.specs.Runs.{Ran};
 
+use crate::frames::Frames;
 use crate::operands::Operands;
 use crate::running::Running;
 use crate::source::Source;
@@ -22,7 +23,6 @@ use std::marker::Model;
 #[derive(Drop)]
 pub struct Machine {
     running: Running,
-    used: u64,
     stopped: Option<Stop>,
 }
 
@@ -31,9 +31,9 @@ impl Model for Machine {
 
     ghost Value = { Held };
 
-    ghost view = { λ m. record { code = m.running.code; working = m.running.working; used = m.used; steps = m.running.steps; stopped = m.stopped } };
+    ghost view = { λ m. record { code = m.running.code; working = m.running.working; used = m.running.used; steps = m.running.steps; stopped = m.stopped } };
 
-    ghost invariant = { λ m. IsReady (record { code = m.running.code; working = m.running.working; used = m.used; steps = m.running.steps; stopped = m.stopped }) };
+    ghost invariant = { λ m. IsReady (record { code = m.running.code; working = m.running.working; used = m.running.used; steps = m.running.steps; stopped = m.stopped }) };
 }
 
 // The answer of a run after one that stood still.
@@ -46,6 +46,16 @@ fn again(stop: Stop) -> Stop
     }
 }
 
+// Why a machine stands still after a run that answered so; None where the next run goes on.
+fn kept(stop: Stop) -> Option<Stop>
+    ensures { result ≡ kept_after stop }
+{
+    match stop {
+        Stop::Paused => None,
+        other => Some(other),
+    }
+}
+
 impl Machine {
     /// A machine before the first instruction of this code. The error comes where memory was refused.
     pub fn new(alloc: Global, code: Code) -> Result<Machine, AllocError>
@@ -55,8 +65,10 @@ impl Machine {
         let locals = Variables::of(alloc, code.locals())?;
         let _sound = code.len();
         let working = Working {
+            alloc,
             place: 0,
             operands: Operands::new(alloc),
+            frames: Frames::new(alloc),
             globals,
             locals,
         };
@@ -65,15 +77,16 @@ impl Machine {
                 code,
                 working,
                 line: Vec::new(alloc),
+                used: 0,
                 steps: 0,
             },
-            used: 0,
             stopped: None,
         })
     }
 
     /// Runs with so many ticks, the input of this source and this way out, until the program ends,
-    /// a fault, a pause or a failure, and says which. Each line goes out as it is filled.
+    /// a fault, a pause or a failure, and says which. Each line goes out as it is filled. After `Paused`
+    /// all ticks were used, up to 2^64 - 1 since the start, and a further run goes on.
     ///
     /// After `Ended` and `Fault` a further run answers the same, after `Memory`, `Output` and
     /// `Input` it answers `Failed`; it reads nothing, writes nothing and changes nothing.
@@ -85,17 +98,19 @@ impl Machine {
         sink: &mut Sink<W>,
     ) -> Stop
         ensures again { (before : Stop) → self.old.stopped ≡ Some before → (result ≡ answer_again before) × (self.new ≡ self.old) × (sink.new ≡ sink.old) }
-        ensures ran { self.old.stopped ≡ None → Ran result self.old.code self.old.working (W.contents sink.old.writer) (W.contents sink.new.writer) }
-        ensures stopped { self.old.stopped ≡ None → self.new.stopped ≡ Some result }
+        ensures ran { self.old.stopped ≡ None → Ran result self.old.code self.old.working self.new.working (W.contents sink.old.writer) (W.contents sink.new.writer) (self.new.used - self.old.used) }
+        ensures code { self.new.code ≡ self.old.code }
+        ensures stopped { self.old.stopped ≡ None → self.new.stopped ≡ kept_after result }
         ensures reads { source.new ≡ source.old }
-        ensures used { self.new.used ≡ self.old.used }
+        ensures used { (self.old.used ≤ self.new.used) × (self.new.used ≤ self.old.used + ticks) }
+        ensures paused { self.old.stopped ≡ None → result ≡ Stop.Paused → self.new.used ≡ min (self.old.used + ticks) (2 ^ 64 - 1) }
         ensures output { self.old.stopped ≡ None → result ≡ Stop.Output → HasRisen (W.faults sink.old.writer) (W.faults sink.new.writer) }
     {
         match self.stopped {
             Some(stop) => again(stop),
             None => {
-                let stop = self.running.run(sink);
-                self.stopped = Some(stop);
+                let stop = self.running.run(ticks, sink);
+                self.stopped = kept(stop);
                 stop
             }
         }
@@ -105,7 +120,7 @@ impl Machine {
     pub fn used(&self) -> u64
         ensures { result ≡ self.now.used }
     {
-        self.used
+        self.running.used
     }
 
     /// The steps made since the start.
