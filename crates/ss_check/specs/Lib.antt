@@ -1,3 +1,4 @@
-pub mod Naming
+pub mod Scopes
+pub mod Rules
 pub mod Resolving
 pub mod Checking

@@ -1,11 +1,6 @@
-//! From the tree of a program to the tree in which each name is replaced by what it stands for.
+//! What a program declares.
 #![tactic(auto)]
 
-mod check;
-mod expressions;
-mod names;
-mod rules;
-mod statements;
-mod unready;
+mod error;
 
-pub use check::{CheckError, check_program};
+pub use error::CheckError;

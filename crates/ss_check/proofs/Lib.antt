@@ -1,5 +1,0 @@
-mod Trees
-mod Forms
-mod Bodies
-mod Served
-mod Accepted

@@ -1,0 +1,68 @@
+-- The forms of programs that are served.
+use Rattle.std.specs.Prelude.{Bool, true, false, ◌&&◌, List, [], ◌∷◌, Option, Some, None}
+use Rattle.std.specs.List.{list_all}
+use Rattle.ss_base.specs.declared.line.Line.{Line}
+use Rattle.ss_tree.specs.declared.expression.Designator.{Designator}
+use Rattle.ss_tree.specs.declared.expression.Designator.TheVariants.{Name, TimeV, TimeA}
+use Rattle.ss_tree.specs.Tree.{ExpressionTree, NamedTree, TestTree, compare, empty, member, data_ended, ConditionTree, HeadTree, over_range, over_members, over_class, guarded, StatementTree, let_statement, add_statement, subtract_statement, call_statement, return_statement, stop_statement, read_statement, start_simulation, if_statement, loop_statement, find_statement, find_if_statement, create_statement, create_every, destroy_statement, file_statement, remove_end, remove_statement, schedule_new, schedule_statement, cancel_statement, reset_statement, print_statement, skip_statement, PreambleTree, permanent_entities, temporary_entities, event_notices, every, normally, system_owns, define_variables, define_sets, priority_order, break_ties, statistics, SectionKindTree, main, routine, event, SectionTree, ProgramTree}
+use Rattle.ss_tables.specs.Mentions.{Mention, Role, value, target, reset, loop_variable, a_set, one_of_class, all_of_class, notice_class, a_routine, in_statement, statements_of}
+
+-- a preamble of NORMALLY and DEFINE of variables
+abbrev pub served_preamble : PreambleTree → Bool
+served_preamble (normally line mode) = true
+served_preamble (define_variables line names mode) = true
+served_preamble _ = false
+
+-- MAIN and routines
+abbrev pub served_kind : SectionKindTree → Bool
+served_kind main = true
+served_kind (routine name given yielding) = true
+served_kind (event name given saving) = false
+
+-- the statements that are served
+abbrev pub served_form : StatementTree → Bool
+served_form (let_statement line place e) = true
+served_form (add_statement line e place) = true
+served_form (subtract_statement line e place) = true
+served_form (call_statement line name given yielding) = true
+served_form (return_statement line) = true
+served_form (stop_statement line) = true
+served_form (read_statement line targets) = true
+served_form (if_statement line condition first second) = true
+served_form (loop_statement line (over_range variable from to step phrases) body) = true
+served_form (loop_statement line (guarded guards) body) = true
+served_form (find_statement line (over_range variable from to step phrases)) = true
+served_form (find_if_statement line (over_range variable from to step phrases) outcome first second) = true
+served_form (print_statement line items pictures) = true
+served_form (skip_statement line count) = true
+served_form _ = false
+
+-- TIME.V and TIME.A, and sets, are not served
+abbrev pub served_name : Designator → Bool
+served_name (Name name) = true
+served_name TimeV = false
+served_name TimeA = false
+
+abbrev pub served_role : Role → Bool
+served_role value = true
+served_role target = true
+served_role reset = false
+served_role loop_variable = true
+served_role a_set = false
+served_role one_of_class = false
+served_role all_of_class = false
+served_role notice_class = false
+served_role a_routine = true
+
+abbrev pub served_mention : Mention → Bool
+served_mention m = served_role m.role && served_name m.designator
+
+abbrev pub served_statement : StatementTree → Bool
+served_statement s = served_form s && list_all served_mention (in_statement s)
+
+abbrev pub served_section : SectionTree → Bool
+served_section s = served_kind s.kind && list_all served_statement (statements_of s.body)
+
+-- whether all its forms are served
+abbrev pub served_program : ProgramTree → Bool
+served_program p = list_all served_preamble p.preamble && list_all served_section p.sections
