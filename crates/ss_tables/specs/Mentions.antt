@@ -1,38 +1,17 @@
 -- The names that a program mentions, and as what.
-use Rattle.std.specs.Prelude.{ℕ, zero, suc, ◌+◌, Bool, true, false, List, [], ◌∷◌, ◌++◌, map, Option, Some, None}
+use Rattle.std.specs.Prelude.{ℕ, suc, List, [], ◌∷◌, ◌++◌, map, Option, Some, None}
 use Rattle.std.specs.List.{flat_map}
 use Rattle.ss_base.specs.declared.line.Line.{Line}
-use Rattle.ss_tree.specs.declared.expression.Designator.{Designator}
-use Rattle.ss_tree.specs.declared.expression.Designator.TheVariants.{Name, TimeV, TimeA}
+use Rattle.ss_tree.specs.declared.expression.Sign.{Sign}
+use Rattle.ss_tree.specs.declared.expression.Designator.TheVariants.{Name}
+use Rattle.ss_tables.specs.declared.mentions.Role.{Role}
+use Rattle.ss_tables.specs.declared.mentions.Role.TheVariants.{Value, Target, Reset, LoopVariable, Set, OneOfClass, AllOfClass, NoticeClass, Routine}
+use Rattle.ss_tables.specs.declared.mentions.Mention.{Mention}
+use Rattle.ss_tables.specs.declared.mentions.StatementMentions.{StatementMentions}
 use Rattle.ss_tree.specs.Tree.{ExpressionTree, number, text, named, call, parenthesised, product, signed, sum, ExpressionRow, no_expression, and_expression, TermRow, no_term, and_term, NamedTree, TestTree, compare, empty, member, data_ended, ConditionTree, PhraseTree, GuardTree, StartTree, from_end, from_member, after_member, HeadTree, over_range, over_members, over_class, guarded, PositionTree, by_discipline, at_first, at_last, before, after, WhenTree, at_time, in_units, now, StatementTree, let_statement, add_statement, subtract_statement, call_statement, return_statement, stop_statement, read_statement, start_simulation, if_statement, loop_statement, find_statement, find_if_statement, create_statement, create_every, destroy_statement, file_statement, remove_end, remove_statement, schedule_new, schedule_statement, cancel_statement, reset_statement, print_statement, skip_statement, StatementRow, no_statement, and_statement}
 
--- what a name is mentioned as
-pub data Role : Type 0 where
-  -- a value of an expression
-  value : Role
-  -- what a statement assigns to
-  target : Role
-  -- what RESET names
-  reset : Role
-  -- the variable of a loop
-  loop_variable : Role
-  a_set : Role
-  -- a class of which one entity is created or destroyed
-  one_of_class : Role
-  -- a permanent class, all of whose entities are created or gone over
-  all_of_class : Role
-  -- a class of notices
-  notice_class : Role
-  a_routine : Role
-
--- a mention: as what, of what, and how many subscripts it has
-pub record Mention : Type 0 where
-  pub role : Role
-  pub designator : Designator
-  pub subscripts : ℕ
-
-abbrev pub mentioned : Role → List ℕ → Mention
-mentioned role name = record { role = role; designator = Name name; subscripts = 0 }
+abbrev pub mention_of : Role → List ℕ → Mention
+mention_of role name = record { role = role; designator = Name name; subscripts = 0 }
 
 abbrev pub row_length : ExpressionRow → ℕ
 row_length no_expression = 0
@@ -44,7 +23,7 @@ abbrev mutual
   in_expression (number z) = []
   in_expression (text t) = []
   in_expression (named designator subscripts) =
-      record { role = value; designator = designator; subscripts = row_length subscripts } ∷ in_expressions subscripts
+      record { role = Value; designator = designator; subscripts = row_length subscripts } ∷ in_expressions subscripts
   in_expression (call function arguments) = in_expressions arguments
   in_expression (parenthesised e) = in_expression e
   in_expression (product e further) = in_expression e ++ in_expressions further
@@ -70,8 +49,8 @@ in_option of (Some x) = of x
 
 abbrev pub in_test : TestTree → List Mention
 in_test (compare left relation right) = in_expression left ++ in_expression right
-in_test (empty set negated) = in_named a_set set
-in_test (member x set negated) = in_expression x ++ in_named a_set set
+in_test (empty set negated) = in_named Set set
+in_test (member x set negated) = in_expression x ++ in_named Set set
 in_test (data_ended negated) = []
 
 abbrev pub in_condition : ConditionTree → List Mention
@@ -85,14 +64,17 @@ in_start (after_member e) = in_expression e
 abbrev pub in_phrases : List PhraseTree → List Mention
 in_phrases phrases = flat_map (λ phrase. in_condition phrase.condition) phrases
 
+abbrev pub in_guards : List GuardTree → List Mention
+in_guards guards = flat_map (λ guard. in_condition guard.condition) guards
+
 abbrev pub in_head : HeadTree → List Mention
 in_head (over_range variable from to step phrases) =
-    mentioned loop_variable variable ∷ in_expression from ++ in_expression to ++ in_option in_expression step ++ in_phrases phrases
+    mention_of LoopVariable variable ∷ in_expression from ++ in_expression to ++ in_option in_expression step ++ in_phrases phrases
 in_head (over_members variable set start reverse phrases) =
-    mentioned loop_variable variable ∷ in_named a_set set ++ in_start start ++ in_phrases phrases
+    mention_of LoopVariable variable ∷ in_named Set set ++ in_start start ++ in_phrases phrases
 in_head (over_class class called phrases) =
-    mentioned all_of_class class ∷ in_option (λ name. mentioned loop_variable name ∷ []) called ++ in_phrases phrases
-in_head (guarded guards) = flat_map (λ guard. in_condition guard.condition) guards
+    mention_of AllOfClass class ∷ in_option (λ name. mention_of LoopVariable name ∷ []) called ++ in_phrases phrases
+in_head (guarded guards) = in_guards guards
 
 abbrev pub in_position : PositionTree → List Mention
 in_position by_discipline = []
@@ -109,15 +91,34 @@ in_when now = []
 abbrev pub in_all : List ExpressionTree → List Mention
 in_all es = flat_map in_expression es
 
+-- the mentions of a term behind its sign
+abbrev pub in_term : Sign × ExpressionTree → List Mention
+in_term t = in_expression t.1
+
 abbrev pub in_targets : List NamedTree → List Mention
-in_targets ts = flat_map (in_named target) ts
+in_targets ts = flat_map (in_named Target) ts
+
+-- the mentions of a statement on entities, sets or notices
+abbrev pub in_entity_statement : StatementTree → List Mention
+in_entity_statement (create_statement line class called) = mention_of OneOfClass class ∷ in_option (in_named Target) called
+in_entity_statement (create_every line classes) = map (mention_of AllOfClass) classes
+in_entity_statement (destroy_statement line class called) = mention_of OneOfClass class ∷ in_option in_expression called
+in_entity_statement (file_statement line x position set) = in_expression x ++ in_position position ++ in_named Set set
+in_entity_statement (remove_end line end place set) = in_named Target place ++ in_named Set set
+in_entity_statement (remove_statement line x set) = in_expression x ++ in_named Set set
+in_entity_statement (schedule_new line class called given when) =
+    mention_of NoticeClass class ∷ in_option (in_named Target) called ++ in_all given ++ in_when when
+in_entity_statement (schedule_statement line class called given when) =
+    mention_of NoticeClass class ∷ in_option in_expression called ++ in_all given ++ in_when when
+in_entity_statement (cancel_statement line class called) = mention_of NoticeClass class ∷ in_option in_expression called
+in_entity_statement _ = []
 
 -- the mentions of a statement, but for those of the statements in it
 abbrev pub in_statement : StatementTree → List Mention
-in_statement (let_statement line place e) = in_named target place ++ in_expression e
-in_statement (add_statement line e place) = in_expression e ++ in_named target place
-in_statement (subtract_statement line e place) = in_expression e ++ in_named target place
-in_statement (call_statement line name given yielding) = mentioned a_routine name ∷ in_all given ++ in_targets yielding
+in_statement (let_statement line place e) = in_named Target place ++ in_expression e
+in_statement (add_statement line e place) = in_expression e ++ in_named Target place
+in_statement (subtract_statement line e place) = in_expression e ++ in_named Target place
+in_statement (call_statement line name given yielding) = mention_of Routine name ∷ in_all given ++ in_targets yielding
 in_statement (return_statement line) = []
 in_statement (stop_statement line) = []
 in_statement (read_statement line targets) = in_targets targets
@@ -126,20 +127,10 @@ in_statement (if_statement line condition first second) = in_condition condition
 in_statement (loop_statement line head body) = in_head head
 in_statement (find_statement line head) = in_head head
 in_statement (find_if_statement line head outcome first second) = in_head head
-in_statement (create_statement line class called) = mentioned one_of_class class ∷ in_option (in_named target) called
-in_statement (create_every line classes) = map (mentioned all_of_class) classes
-in_statement (destroy_statement line class called) = mentioned one_of_class class ∷ in_option in_expression called
-in_statement (file_statement line x position set) = in_expression x ++ in_position position ++ in_named a_set set
-in_statement (remove_end line end place set) = in_named target place ++ in_named a_set set
-in_statement (remove_statement line x set) = in_expression x ++ in_named a_set set
-in_statement (schedule_new line class called given when) =
-    mentioned notice_class class ∷ in_option (in_named target) called ++ in_all given ++ in_when when
-in_statement (schedule_statement line class called given when) =
-    mentioned notice_class class ∷ in_option in_expression called ++ in_all given ++ in_when when
-in_statement (cancel_statement line class called) = mentioned notice_class class ∷ in_option in_expression called
-in_statement (reset_statement line targets) = flat_map (in_named reset) targets
+in_statement (reset_statement line targets) = flat_map (in_named Reset) targets
 in_statement (print_statement line items pictures) = in_all items
 in_statement (skip_statement line count) = in_expression count
+in_statement s = in_entity_statement s
 
 -- the line of a statement
 abbrev pub line_of : StatementTree → Line
@@ -182,6 +173,22 @@ abbrev mutual
   with_inner_row no_statement = []
   with_inner_row (and_statement s ss) = with_inner s ++ with_inner_row ss
 
+-- the statements in a statement, in the order of the text
+abbrev pub inner_of : StatementTree → List StatementTree
+inner_of (if_statement line condition first second) = with_inner_row first ++ with_inner_row second
+inner_of (loop_statement line head body) = with_inner_row body
+inner_of (find_if_statement line head outcome first second) = with_inner_row first ++ with_inner_row second
+inner_of _ = []
+
 -- all statements of a body
 abbrev pub statements_of : List StatementTree → List StatementTree
 statements_of body = flat_map with_inner body
+
+-- ---- what a walk of a body answers
+
+-- the line of a statement and its mentions
+abbrev pub mentions_at : StatementTree → Line × List Mention
+mentions_at s = (line_of s, in_statement s)
+
+abbrev pub mentions_seen : StatementMentions → Line × List Mention
+mentions_seen m = (m.line, m.mentions.items)

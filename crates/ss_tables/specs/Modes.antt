@@ -1,16 +1,18 @@
 -- The modes of names, and names without one.
-use Rattle.std.specs.Prelude.{ℕ, zero, suc, is_some, Bool, true, false, not, ◌&&◌, ◌||◌, List, [], ◌∷◌, ◌++◌, map, Option, Some, None, if◌then◌else◌}
-use Rattle.std.specs.List.{list_any, find, flat_map}
+use Rattle.std.specs.Prelude.{ℕ, zero, suc, is_some, Bool, true, false, not, ◌&&◌, List, [], ◌∷◌, ◌++◌, map, Option, Some, None, if◌then◌else◌}
+use Rattle.std.specs.List.{list_any, flat_map}
 use Rattle.ss_base.specs.declared.line.Line.{Line}
 use Rattle.ss_tree.specs.declared.preamble.Mode.{Mode}
 use Rattle.ss_tree.specs.declared.preamble.Mode.TheVariants.{Integer, Alpha, Real}
 use Rattle.ss_tree.specs.declared.expression.Designator.{Designator}
 use Rattle.ss_tree.specs.declared.expression.Designator.TheVariants.{Name, TimeV, TimeA}
-use Rattle.ss_tree.specs.Tree.{StatementTree, PreambleTree, permanent_entities, temporary_entities, event_notices, every, normally, system_owns, define_variables, define_sets, priority_order, break_ties, statistics, DefinitionTree, SectionTree, ProgramTree}
-use Rattle.ss_tables.specs.declared.kind.Kind.{Kind}
-use Rattle.ss_tables.specs.Declarations.{NameBytes, same_name, is_one_of, kind_of, attributes}
+use Rattle.ss_tree.specs.Tree.{StatementTree, PreambleTree, normally, define_variables, DefinitionTree, SectionTree, ProgramTree}
+use Rattle.ss_tables.specs.Declarations.{NameBytes, same_name, kind_of, attributes}
 use Rattle.ss_tables.specs.Repeated.{earliest, parameters_of}
-use Rattle.ss_tables.specs.Mentions.{Role, value, target, reset, loop_variable, a_set, one_of_class, all_of_class, notice_class, a_routine, Mention, in_statement, line_of, statements_of}
+use Rattle.ss_tables.specs.declared.mentions.Role.{Role}
+use Rattle.ss_tables.specs.declared.mentions.Role.TheVariants.{Value, Target, Reset, LoopVariable, Set, OneOfClass, AllOfClass, NoticeClass, Routine}
+use Rattle.ss_tables.specs.declared.mentions.Mention.{Mention}
+use Rattle.ss_tables.specs.Mentions.{in_statement, line_of, statements_of}
 
 -- a name and the mode that a DEFINE gives it
 pub record Moded : Type 0 where
@@ -82,15 +84,15 @@ is_global p name = is_some (kind_of p name)
 
 -- the roles in which a name without subscript is a variable
 abbrev pub is_variable_role : Role → Bool
-is_variable_role value = true
-is_variable_role target = true
-is_variable_role reset = true
-is_variable_role loop_variable = true
-is_variable_role a_set = false
-is_variable_role one_of_class = false
-is_variable_role all_of_class = false
-is_variable_role notice_class = false
-is_variable_role a_routine = false
+is_variable_role Value = true
+is_variable_role Target = true
+is_variable_role Reset = true
+is_variable_role LoopVariable = true
+is_variable_role Set = false
+is_variable_role OneOfClass = false
+is_variable_role AllOfClass = false
+is_variable_role NoticeClass = false
+is_variable_role Routine = false
 
 abbrev pub is_none_left : ℕ → Bool
 is_none_left zero = true

@@ -1,11 +1,13 @@
 -- The forms of programs that are served.
-use Rattle.std.specs.Prelude.{Bool, true, false, ◌&&◌, List, [], ◌∷◌, Option, Some, None}
+use Rattle.std.specs.Prelude.{Bool, true, false, ◌&&◌}
 use Rattle.std.specs.List.{list_all}
-use Rattle.ss_base.specs.declared.line.Line.{Line}
 use Rattle.ss_tree.specs.declared.expression.Designator.{Designator}
 use Rattle.ss_tree.specs.declared.expression.Designator.TheVariants.{Name, TimeV, TimeA}
-use Rattle.ss_tree.specs.Tree.{ExpressionTree, NamedTree, TestTree, compare, empty, member, data_ended, ConditionTree, HeadTree, over_range, over_members, over_class, guarded, StatementTree, let_statement, add_statement, subtract_statement, call_statement, return_statement, stop_statement, read_statement, start_simulation, if_statement, loop_statement, find_statement, find_if_statement, create_statement, create_every, destroy_statement, file_statement, remove_end, remove_statement, schedule_new, schedule_statement, cancel_statement, reset_statement, print_statement, skip_statement, PreambleTree, permanent_entities, temporary_entities, event_notices, every, normally, system_owns, define_variables, define_sets, priority_order, break_ties, statistics, SectionKindTree, main, routine, event, SectionTree, ProgramTree}
-use Rattle.ss_tables.specs.Mentions.{Mention, Role, value, target, reset, loop_variable, a_set, one_of_class, all_of_class, notice_class, a_routine, in_statement, statements_of}
+use Rattle.ss_tree.specs.Tree.{over_range, guarded, StatementTree, let_statement, add_statement, subtract_statement, call_statement, return_statement, stop_statement, read_statement, if_statement, loop_statement, find_statement, find_if_statement, print_statement, skip_statement, PreambleTree, normally, define_variables, SectionKindTree, main, routine, event, SectionTree, ProgramTree}
+use Rattle.ss_tables.specs.declared.mentions.Role.{Role}
+use Rattle.ss_tables.specs.declared.mentions.Role.TheVariants.{Value, Target, Reset, LoopVariable, Set, OneOfClass, AllOfClass, NoticeClass, Routine}
+use Rattle.ss_tables.specs.declared.mentions.Mention.{Mention}
+use Rattle.ss_tables.specs.Mentions.{in_statement, statements_of}
 
 -- a preamble of NORMALLY and DEFINE of variables
 abbrev pub served_preamble : PreambleTree → Bool
@@ -44,15 +46,15 @@ served_name TimeV = false
 served_name TimeA = false
 
 abbrev pub served_role : Role → Bool
-served_role value = true
-served_role target = true
-served_role reset = false
-served_role loop_variable = true
-served_role a_set = false
-served_role one_of_class = false
-served_role all_of_class = false
-served_role notice_class = false
-served_role a_routine = true
+served_role Value = true
+served_role Target = true
+served_role Reset = false
+served_role LoopVariable = true
+served_role Set = false
+served_role OneOfClass = false
+served_role AllOfClass = false
+served_role NoticeClass = false
+served_role Routine = true
 
 abbrev pub served_mention : Mention → Bool
 served_mention m = served_role m.role && served_name m.designator

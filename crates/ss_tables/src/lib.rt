@@ -3,8 +3,10 @@
 
 mod error;
 mod kind;
+mod mentions;
 mod tables;
 
 pub use error::TableError;
 pub use kind::{Derived, Kind};
+pub use mentions::{Mention, Role, StatementMentions, mentioned};
 pub use tables::Tables;

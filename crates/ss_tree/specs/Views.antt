@@ -10,7 +10,15 @@ use Rattle.ss_tree.specs.declared.expression.Expression.TheVariants as variants
 use Rattle.ss_tree.specs.declared.expression.Expression.{Expression, Row_of-Expression, end_of-Expression, more_of-Expression, items-the_row-Expression, items_hidden-the_row-Expression-0, Row_of-Term, end_of-Term, more_of-Term, items-the_row-Term, items_hidden-the_row-Term-1}
 use Rattle.ss_tree.specs.declared.expression.Expression.TheBlock.{hidden-the_row-Expression-0, hidden-the_row-Term-1}
 use Rattle.ss_tree.specs.Tree.{ExpressionTree, number, text, named, call, parenthesised, product, signed, sum, expression_row, and_expression, and_term, term_row}
-use Rattle.ss_tree.specs.View.{view_expression, view_expressions, view_terms, view_term}
+use Rattle.ss_base.specs.declared.line.Line.{Line}
+use Rattle.ss_tree.specs.declared.condition.Condition.{Condition}
+use Rattle.ss_tree.specs.declared.head.Head.{Head}
+use Rattle.ss_tree.specs.declared.statement.FindOutcome.{FindOutcome}
+use Rattle.ss_tree.specs.declared.statement.Statement.TheVariants as statements
+use Rattle.ss_tree.specs.declared.statement.Statement.{Statement, Row_of-Statement, end_of-Statement, more_of-Statement, items-the_row-Statement, items_hidden-the_row-Statement-0}
+use Rattle.ss_tree.specs.declared.statement.Statement.TheBlock.{hidden-the_row-Statement-0}
+use Rattle.ss_tree.specs.Tree.{and_statement, statement_row, if_statement, loop_statement, find_if_statement}
+use Rattle.ss_tree.specs.View.{view_expression, view_expressions, view_terms, view_term, view_condition, view_head, view_statement, view_statements}
 
 pub view_expressions_listed : (n : _) (k : Row_of-Expression n) → view_expressions k ≡ expression_row (map view_expression (items-the_row-Expression n k))
 unfolding view_expression view_expressions view_terms
@@ -57,3 +65,25 @@ view_signed_made s b = refl
 pub view_sum_made : (b : Box Expression) (v : Vec Term) → view_expression (variants.Sum b v) ≡ sum (view_expression b.value) (term_row (map view_term v.items))
 unfolding view_expression
 view_sum_made b v = ap (sum (view_expression b.value)) (view_terms_listed _ (hidden-the_row-Term-1 v) ∙ ap (λ (l : List Term). term_row (map view_term l)) (items_hidden-the_row-Term-1 v))
+
+-- ---- statements that have statements in them
+
+pub view_statements_listed : (n : _) (k : Row_of-Statement n) → view_statements k ≡ statement_row (map view_statement (items-the_row-Statement n k))
+unfolding view_statement view_statements
+view_statements_listed n end_of-Statement = refl
+view_statements_listed n (more_of-Statement s ss) = ap (and_statement (view_statement s)) (view_statements_listed _ ss)
+
+statements_hidden : (v : Vec Statement) → view_statements (hidden-the_row-Statement-0 v) ≡ statement_row (map view_statement v.items)
+statements_hidden v = view_statements_listed _ (hidden-the_row-Statement-0 v) ∙ ap (λ (l : List Statement). statement_row (map view_statement l)) (items_hidden-the_row-Statement-0 v)
+
+pub view_if_made : (line : Line) (c : Condition) (t e : Vec Statement) → view_statement (statements.If line c t e) ≡ if_statement line (view_condition c) (statement_row (map view_statement t.items)) (statement_row (map view_statement e.items))
+unfolding view_statement
+view_if_made line c t e = ap (λ ss. if_statement line (view_condition c) ss (view_statements (hidden-the_row-Statement-0 e))) (statements_hidden t) ∙ ap (if_statement line (view_condition c) (statement_row (map view_statement t.items))) (statements_hidden e)
+
+pub view_loop_made : (line : Line) (h : Head) (body : Vec Statement) → view_statement (statements.Loop line h body) ≡ loop_statement line (view_head h) (statement_row (map view_statement body.items))
+unfolding view_statement
+view_loop_made line h body = ap (loop_statement line (view_head h)) (statements_hidden body)
+
+pub view_find_if_made : (line : Line) (h : Head) (outcome : FindOutcome) (t e : Vec Statement) → view_statement (statements.FindIf line h outcome t e) ≡ find_if_statement line (view_head h) outcome (statement_row (map view_statement t.items)) (statement_row (map view_statement e.items))
+unfolding view_statement
+view_find_if_made line h outcome t e = ap (λ ss. find_if_statement line (view_head h) outcome ss (view_statements (hidden-the_row-Statement-0 e))) (statements_hidden t) ∙ ap (find_if_statement line (view_head h) outcome (statement_row (map view_statement t.items))) (statements_hidden e)
