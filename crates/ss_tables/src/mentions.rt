@@ -528,6 +528,15 @@ fn walk_body(
     Ok(())
 }
 
+/// What a statement mentions, but for the statements in it.
+pub fn mentions_of(alloc: Global, statement: &Statement) -> Result<Vec<Mention>, AllocError>
+    ensures { IfOk result (λ mentions. mentions.items ≡ in_statement (view_statement statement.now)) }
+{
+    let mut mentions = Vec::new(alloc);
+    note_statement(&mut mentions, statement)?;
+    Ok(mentions)
+}
+
 /// What each statement of a body mentions, with its line, in the order of the text.
 pub fn mentioned(alloc: Global, body: &[Statement]) -> Result<Vec<StatementMentions>, AllocError>
     ensures { IfOk result (λ found. map mentions_seen found.items ≡ map mentions_at (statements_of (map view_statement body.now))) }
