@@ -11,19 +11,16 @@ use Rattle.ss_tree.specs.declared.expression.Term.{Term}
 use Rattle.ss_tree.specs.declared.expression.Expression.{Expression}
 use Rattle.ss_tree.specs.declared.expression.Expression.TheVariants as variants
 use Rattle.ss_base.specs.declared.line.Line.{Line}
-use Rattle.ss_tree.specs.declared.condition.Condition.{Condition}
-use Rattle.ss_tree.specs.declared.head.Head.{Head}
-use Rattle.ss_tree.specs.declared.statement.FindOutcome.{FindOutcome}
 use Rattle.ss_tree.specs.declared.statement.Statement.{Statement}
-use Rattle.ss_tree.specs.declared.statement.Statement.TheVariants as statements
-use Rattle.ss_tree.specs.Tree.{ExpressionTree, StatementTree, if_statement, loop_statement, find_if_statement, expression_row, term_row, statement_row}
+use Rattle.ss_tree.specs.Tree.{ExpressionTree, StatementTree, expression_row, term_row}
 use Rattle.ss_tree.specs.View.{view_expression, view_named, view_statement, view_term}
-use Rattle.ss_tree.specs.Views.{view_named_made, view_call_made, view_product_made, view_sum_made, view_if_made, view_loop_made, view_find_if_made}
+use Rattle.ss_tree.specs.Views.{view_named_made, view_call_made, view_product_made, view_sum_made}
 use Rattle.ss_tables.specs.declared.mentions.Role.{Role}
 use Rattle.ss_tables.specs.declared.mentions.Role.TheVariants.{Value}
 use Rattle.ss_tables.specs.declared.mentions.Mention.{Mention}
 use Rattle.ss_tables.specs.declared.mentions.StatementMentions.{StatementMentions}
-use Rattle.ss_tables.specs.Mentions.{row_length, in_expression, in_expressions, in_terms, in_term, in_all, in_named, in_statement, line_of, inner_of, with_inner, with_inner_row, statements_of, mentions_at, mentions_seen}
+use Rattle.ss_tables.specs.Inner.{inner_with}
+use Rattle.ss_tables.specs.Mentions.{row_length, in_expression, in_expressions, in_terms, in_term, in_all, in_named, in_statement, line_of, inner_of, with_inner, statements_of, mentions_at, mentions_seen}
 
 pub in_row : (es : List ExpressionTree) → in_expressions (expression_row es) ≡ in_all es
 in_row [] = refl
@@ -67,31 +64,6 @@ next_noted f v xs i x old now new lt is h e =
     e ∙ ap (λ ms. ms ++ f (v x)) h ∙ flat_map_more f old (map v (take i xs)) (v x) ∙ ap (λ l. old ++ flat_map f l) (sym (next_taken v xs i x lt is))
 
 -- ---- a walk of a body
-
-with_row : (ts : List StatementTree) → with_inner_row (statement_row ts) ≡ statements_of ts
-with_row [] = refl
-with_row (t ∷ ts) = ap (λ l. with_inner t ++ l) (with_row ts)
-
-pub inner_if : (l : Line) (c : Condition) (t e : Vec Statement) → inner_of (view_statement (statements.If l c t e)) ≡ statements_of (map view_statement t.items) ++ statements_of (map view_statement e.items)
-inner_if l c t e =
-    ap inner_of (view_if_made l c t e) ∙
-    ap (λ rows. rows ++ with_inner_row (statement_row (map view_statement e.items))) (with_row (map view_statement t.items)) ∙
-    ap (λ rows. statements_of (map view_statement t.items) ++ rows) (with_row (map view_statement e.items))
-
-pub inner_find_if : (l : Line) (h : Head) (o : FindOutcome) (t e : Vec Statement) → inner_of (view_statement (statements.FindIf l h o t e)) ≡ statements_of (map view_statement t.items) ++ statements_of (map view_statement e.items)
-inner_find_if l h o t e =
-    ap inner_of (view_find_if_made l h o t e) ∙
-    ap (λ rows. rows ++ with_inner_row (statement_row (map view_statement e.items))) (with_row (map view_statement t.items)) ∙
-    ap (λ rows. statements_of (map view_statement t.items) ++ rows) (with_row (map view_statement e.items))
-
-pub inner_loop : (l : Line) (h : Head) (b : Vec Statement) → inner_of (view_statement (statements.Loop l h b)) ≡ statements_of (map view_statement b.items)
-inner_loop l h b = ap inner_of (view_loop_made l h b) ∙ with_row (map view_statement b.items)
-
-pub inner_with : (s : StatementTree) → with_inner s ≡ s ∷ inner_of s
-inner_with (if_statement l c a b) = refl
-inner_with (loop_statement l h b) = refl
-inner_with (find_if_statement l h o a b) = refl
-inner_with _ = refl
 
 -- the statement itself is noted
 pub noted_itself : (s : StatementTree) (old new : List StatementMentions) (one : StatementMentions) → new ≡ old ++ one ∷ [] → one.line ≡ line_of s → one.mentions.items ≡ in_statement s → map mentions_seen new ≡ map mentions_seen old ++ mentions_at s ∷ []

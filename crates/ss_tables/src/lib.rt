@@ -8,5 +8,5 @@ mod tables;
 
 pub use error::TableError;
 pub use kind::{Derived, Kind};
-pub use mentions::{Mention, Role, StatementMentions, mentioned, mentions_of};
+pub use mentions::{Mention, Role, StatementMentions, line_of_statement, mentioned, mentions_of};
 pub use tables::Tables;

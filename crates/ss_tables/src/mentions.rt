@@ -410,9 +410,9 @@ fn note_statement(into: &mut Vec<Mention>, statement: &Statement) -> Result<(), 
     }
 }
 
-// The line of a statement.
+/// The line of a statement.
 #[tactic(auto, unfolding(ss_tree::specs::View::view_statement))]
-fn line_of_statement(statement: &Statement) -> Line
+pub fn line_of_statement(statement: &Statement) -> Line
     ensures { result ≡ line_of (view_statement statement.now) }
 {
     match statement {

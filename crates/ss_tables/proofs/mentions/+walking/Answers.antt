@@ -1,7 +1,8 @@
 use Rattle.std.proofs.Common.{map}
 use Rattle.ss_tree.specs.View.{view_statement}
 use Rattle.ss_tables.specs.Mentions.{mentions_seen, statements_of}
-use Rattle.ss_tables.proofs.Noting.{inner_if, inner_find_if, inner_loop, walked_two, next_walked}
+use Rattle.ss_tables.specs.Inner.{inner_if, inner_find_if, inner_loop}
+use Rattle.ss_tables.proofs.Noting.{walked_two, next_walked}
 use Rattle.ss_tables.proofs.mentions.+walking.Goals as goal
 
 pub walk_inner-returns-in_ok-walk_body-in-If : goal.walk_inner-returns-in_ok-walk_body-in-If
