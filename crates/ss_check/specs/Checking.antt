@@ -1,18 +1,49 @@
 -- What the checker answers.
-use Rattle.std.specs.Prelude.{◌≡◌, true, Option, Some, None}
+use Rattle.std.specs.Prelude.{◌≡◌, true, false, Option, Some, None}
 use Rattle.ss_base.specs.declared.line.Line.{Line}
 use Rattle.ss_tree.specs.Tree.{ProgramTree}
 use Rattle.ss_resolved.specs.declared.resolved.Resolved.{Resolved}
-use Rattle.ss_check.specs.Rules.{has_main, Rule, Breach, rules_in_order, first_breach}
+use Rattle.ss_check.specs.declared.rule.Rule.{Rule}
+use Rattle.ss_check.specs.declared.rule.Rule.TheVariants.{StartPlace, Unknown, Subscript, NotAssignable, Arguments, Mode, Fields}
+use Rattle.ss_check.specs.declared.error.CheckError.{CheckError}
+use Rattle.ss_check.specs.declared.error.CheckError.TheVariants as refused
+use Rattle.ss_check.specs.Rules.{has_main, first_breach}
 use Rattle.ss_check.specs.Resolving.{ResolvesProgram}
+
+-- the program has MAIN and breaks no rule
+pub record IsKept (p : ProgramTree) : Type 0 where
+  pub main : has_main p ≡ true
+  pub kept : first_breach p ≡ None
 
 -- the program has MAIN and breaks no rule, and this is its resolved tree
 pub record IsChecked (p : ProgramTree) (r : Resolved) : Type 0 where
   pub main : has_main p ≡ true
-  pub kept : first_breach p rules_in_order ≡ None
+  pub kept : first_breach p ≡ None
   pub resolved : ResolvesProgram p r
 
 -- the program has MAIN, and this is the first rule that it breaks, in the line of the first place
 pub record IsBroken (p : ProgramTree) (rule : Rule) (line : Line) : Type 0 where
   pub main : has_main p ≡ true
-  pub broken : first_breach p rules_in_order ≡ Some (record { rule = rule; line = line })
+  pub broken : first_breach p ≡ Some (rule, line)
+
+-- the refusal for a rule
+abbrev pub refusal : Rule → Line → CheckError
+refusal StartPlace line = refused.StartPlace line
+refusal Unknown line = refused.Unknown line
+refusal Subscript line = refused.Subscript line
+refusal NotAssignable line = refused.NotAssignable line
+refusal Arguments line = refused.Arguments line
+refusal Mode line = refused.Mode line
+refusal Fields line = refused.Fields line
+
+-- what a refusal says of a program; Memory says nothing
+abbrev pub IsRefused : ProgramTree → CheckError → Type 0
+IsRefused p (refused.NoMain line) = (line.0 ≡ 0) × (has_main p ≡ false)
+IsRefused p (refused.StartPlace line) = IsBroken p StartPlace line
+IsRefused p (refused.Unknown line) = IsBroken p Unknown line
+IsRefused p (refused.Subscript line) = IsBroken p Subscript line
+IsRefused p (refused.NotAssignable line) = IsBroken p NotAssignable line
+IsRefused p (refused.Arguments line) = IsBroken p Arguments line
+IsRefused p (refused.Mode line) = IsBroken p Mode line
+IsRefused p (refused.Fields line) = IsBroken p Fields line
+IsRefused p refused.Memory = Unit {0}

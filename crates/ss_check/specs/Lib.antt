@@ -1,4 +1,5 @@
 pub mod Scopes
+pub mod Seen
 pub mod Rules
 pub mod Resolving
 pub mod Checking

@@ -1,5 +1,6 @@
 -- What a tree is once each name in it is replaced by what it stands for.
 use Rattle.std.specs.Prelude.{◌≡◌, ℕ, zero, suc, pos, Bool, true, false, if◌then◌else◌, List, [], ◌∷◌, length, map, Option, Some, None}
+use Rattle.std.specs.List.{find}
 use Rattle.ss_base.specs.declared.line.Line.{Line}
 use Rattle.ss_base.specs.declared.value.Value.TheVariants.{Whole, Text}
 use Rattle.ss_tree.specs.declared.expression.Sign.{Sign as ParsedSign}
@@ -42,9 +43,9 @@ use Rattle.ss_resolved.specs.declared.resolved.Target.{Target}
 use Rattle.ss_resolved.specs.declared.resolved.Statement.{Statement, Let, Change, Print, If', While', For', Find', Call, Return, Stop, Read, Skip, Row_of-Statement, end_of-Statement, more_of-Statement}
 use Rattle.ss_resolved.specs.declared.resolved.Section.{Section}
 use Rattle.ss_resolved.specs.declared.resolved.Resolved.{Resolved}
-use Rattle.ss_tables.specs.Declarations.{NameBytes, place_among, kind_of, globals, routines}
-use Rattle.ss_check.specs.Scopes.{locals, variable_of, mode_of_name, mode_of_kind}
-use Rattle.ss_check.specs.Rules.{target_mode, is_main}
+use Rattle.ss_tables.specs.Declarations.{NameBytes, kind_of, globals}
+use Rattle.ss_check.specs.Scopes.{Scope, scope_of, is_routine_section, sections_of, variable_of, mode_of_kind}
+use Rattle.ss_check.specs.Rules.{target_mode, is_main_section}
 
 -- ---- words that stand for themselves
 
@@ -73,23 +74,29 @@ guard_kind_of guards.Until = guard_kinds.Until
 -- ---- expressions
 
 -- TIME.V and TIME.A are not served yet
-abbrev pub variable_at : ProgramTree → SectionTree → Designator → Variable
-variable_at p s (Name name) = variable_of p s name
-variable_at p s TimeV = Global 0
-variable_at p s TimeA = Global 0
+abbrev pub variable_at : Scope → Designator → Variable
+variable_at c (Name name) = variable_of c name
+variable_at c TimeV = Global 0
+variable_at c TimeA = Global 0
 
 -- what a function with its arguments is: no accepted program has one with another number of them
 abbrev pub IsNoCall : Expression → Type 0
 IsNoCall (Constant v) = v ≡ Whole (pos 0)
 IsNoCall _ = ⊥
 
-module _ (p : ProgramTree) (s : SectionTree) where
+-- two lists, each item of which stands for that of the other at its place
+abbrev pub Each : {A B : Type 0} → (A → B → Type 0) → List A → List B → Type 0
+Each Stands [] [] = Unit {0}
+Each Stands (x ∷ xs) (y ∷ ys) = Stands x y × Each Stands xs ys
+Each Stands _ _ = ⊥
+
+module _ (c : Scope) where
   abbrev mutual
     -- the resolved expression of a tree; parentheses are left out
     pub Resolves : ExpressionTree → Expression → Type 0
     Resolves (number z) (Constant v) = v ≡ Whole z
     Resolves (text t) (Constant v) = v ≡ Text t
-    Resolves (named designator subscripts) (Fetch x) = x ≡ variable_at p s designator
+    Resolves (named designator subscripts) (Fetch x) = x ≡ variable_at c designator
     Resolves (call Abs arguments) x = ResolveOne arguments x
     Resolves (call Div arguments) x = ResolveTwo Quotient arguments x
     Resolves (call Mod arguments) x = ResolveTwo Remainder arguments x
@@ -107,7 +114,7 @@ module _ (p : ProgramTree) (s : SectionTree) where
     ResolveOne _ x = IsNoCall x
 
     pub ResolveTwo : Function → ExpressionRow → Expression → Type 0
-    ResolveTwo function (and_expression e (and_expression f no_expression)) (Applied' g b x c y) =
+    ResolveTwo function (and_expression e (and_expression f no_expression)) (Applied' g b x b' y) =
         (g ≡ function) × Resolves e x × Resolves f y
     ResolveTwo function (and_expression e (and_expression f no_expression)) _ = ⊥
     ResolveTwo function _ x = IsNoCall x
@@ -121,12 +128,6 @@ module _ (p : ProgramTree) (s : SectionTree) where
     ResolveTerms no_term end_of-Expression-Sum-1-2 = Unit {0}
     ResolveTerms (and_term sign e es) (more_of-Expression-Sum-1-2 t x xs) = (t ≡ sign_of sign) × Resolves e x × ResolveTerms es xs
     ResolveTerms _ _ = ⊥
-
-  -- two lists, each item of which stands for that of the other at its place
-  abbrev pub Each : {A B : Type 0} → (A → B → Type 0) → List A → List B → Type 0
-  Each Stands [] [] = Unit {0}
-  Each Stands (x ∷ xs) (y ∷ ys) = Stands x y × Each Stands xs ys
-  Each Stands _ _ = ⊥
 
   abbrev pub ResolveAll : List ExpressionTree → List Expression → Type 0
   ResolveAll es xs = Each Resolves es xs
@@ -142,10 +143,10 @@ module _ (p : ProgramTree) (s : SectionTree) where
   ResolvesTest (data_ended negated) t = t ≡ DataEnded negated
 
   abbrev pub ResolvesConjunction : List TestTree → Conjunction → Type 0
-  ResolvesConjunction ts c = Each ResolvesTest ts c.tests.items
+  ResolvesConjunction ts x = Each ResolvesTest ts x.tests.items
 
   abbrev pub ResolvesCondition : ConditionTree → Condition → Type 0
-  ResolvesCondition ts c = Each ResolvesConjunction ts c.alternatives.items
+  ResolvesCondition ts x = Each ResolvesConjunction ts x.alternatives.items
 
   -- ---- heads of loops
 
@@ -161,7 +162,7 @@ module _ (p : ProgramTree) (s : SectionTree) where
   ResolvesOption _ _ = ⊥
 
   pub record ResolvesRange (variable : NameBytes) (from to : ExpressionTree) (step : Option ExpressionTree) (r : Range) : Type 0 where
-    pub variable_is : r.variable ≡ variable_of p s variable
+    pub variable_is : r.variable ≡ variable_of c variable
     pub first : Resolves from r.first
     pub limit : Resolves to r.limit
     pub step_is : ResolvesOption step r.step
@@ -169,27 +170,27 @@ module _ (p : ProgramTree) (s : SectionTree) where
   -- ---- statements
 
   abbrev pub IsTarget : NamedTree → Target → Type 0
-  IsTarget n t = (t.variable ≡ variable_at p s n.designator) × (t.mode ≡ target_mode p s n)
+  IsTarget n t = (t.variable ≡ variable_at c n.designator) × (t.mode ≡ target_mode c n)
 
   abbrev pub IsVariable : NamedTree → Variable → Type 0
-  IsVariable n x = x ≡ variable_at p s n.designator
+  IsVariable n x = x ≡ variable_at c n.designator
 
   abbrev mutual
     -- the resolved statement of a tree; no accepted program has the forms that stand for a RETURN here: they are not served yet
     pub ResolvesStatement : StatementTree → Statement → Type 0
     ResolvesStatement (let_statement line place e) (Let l x v) =
-        (l ≡ line) × (x ≡ variable_at p s place.designator) × Resolves e v
+        (l ≡ line) × (x ≡ variable_at c place.designator) × Resolves e v
     ResolvesStatement (add_statement line e place) (Change l sign x v) =
-        (l ≡ line) × (sign ≡ Plus) × (x ≡ variable_at p s place.designator) × Resolves e v
+        (l ≡ line) × (sign ≡ Plus) × (x ≡ variable_at c place.designator) × Resolves e v
     ResolvesStatement (subtract_statement line e place) (Change l sign x v) =
-        (l ≡ line) × (sign ≡ Minus) × (x ≡ variable_at p s place.designator) × Resolves e v
+        (l ≡ line) × (sign ≡ Minus) × (x ≡ variable_at c place.designator) × Resolves e v
     ResolvesStatement (call_statement line name given yielding) (Call l called vs xs) =
-        (l ≡ line) × (called ≡ place_among (routines p) name) × ResolveAll given vs.items × Each IsVariable yielding xs.items
+        (l ≡ line) × (called ≡ c.routine name) × ResolveAll given vs.items × Each IsVariable yielding xs.items
     ResolvesStatement (return_statement line) x = x ≡ Return
     ResolvesStatement (stop_statement line) x = x ≡ Stop
     ResolvesStatement (read_statement line targets) (Read l ts) = (l ≡ line) × Each IsTarget targets ts.items
-    ResolvesStatement (if_statement line condition first second) (If' l c h a k b) =
-        (l ≡ line) × ResolvesCondition condition c × ResolveRow first a × ResolveRow second b
+    ResolvesStatement (if_statement line condition first second) (If' l x h a k b) =
+        (l ≡ line) × ResolvesCondition condition x × ResolveRow first a × ResolveRow second b
     ResolvesStatement (loop_statement line (over_range variable from to step them) body) (For' l r ps h b) =
         (l ≡ line) × ResolvesRange variable from to step r × Each ResolvesPhrase them ps.items × ResolveRow body b
     ResolvesStatement (loop_statement line (guarded them) body) (While' l gs h b) =
@@ -235,29 +236,18 @@ module _ (p : ProgramTree) (s : SectionTree) where
 
 -- ---- sections and programs
 
-module _ (p : ProgramTree) where
-  -- a section: its local variables with their modes, and its statements
-  pub record ResolvesSection (s : SectionTree) (x : Section) : Type 0 where
-    pub locals_are : x.locals.items ≡ map (mode_of_name p s) (locals p s)
-    pub body_is : Each p s (ResolvesStatement p s) s.body x.body.items
+-- a section: the modes of its local variables, and its statements
+pub record ResolvesSection (p : ProgramTree) (s : SectionTree) (x : Section) : Type 0 where
+  pub locals_are : x.locals.items ≡ (scope_of p s).modes
+  pub body_is : Each (ResolvesStatement (scope_of p s)) s.body x.body.items
 
-  abbrev pub is_routine_kind : SectionKindTree → Bool
-  is_routine_kind main = false
-  is_routine_kind (routine name given yielding) = true
-  is_routine_kind (event name given saving) = false
+-- MAIN, where there is one
+abbrev pub ResolvesMain : ProgramTree → Option SectionTree → Section → Type 0
+ResolvesMain p None x = Unit {0}
+ResolvesMain p (Some s) x = ResolvesSection p s x
 
-  -- the sections of a kind
-  abbrev pub sections_of : (SectionKindTree → Bool) → List SectionTree → List SectionTree
-  sections_of is_wanted [] = []
-  sections_of is_wanted (s ∷ ss) = if is_wanted s.kind then s ∷ sections_of is_wanted ss else sections_of is_wanted ss
-
-  abbrev pub ResolveSections : List SectionTree → List Section → Type 0
-  ResolveSections [] [] = Unit {0}
-  ResolveSections (s ∷ ss) (x ∷ xs) = ResolvesSection s x × ResolveSections ss xs
-  ResolveSections _ _ = ⊥
-
-  -- the program with each name replaced by what it stands for
-  pub record ResolvesProgram (r : Resolved) : Type 0 where
-    pub globals_are : r.globals.items ≡ map (λ name. mode_of_kind (kind_of p name)) (globals p)
-    pub routines_are : ResolveSections (sections_of is_routine_kind p.sections) r.routines.items
-    pub main_is : ResolveSections (sections_of is_main p.sections) (r.main ∷ [])
+-- the program with each name replaced by what it stands for
+pub record ResolvesProgram (p : ProgramTree) (r : Resolved) : Type 0 where
+  pub globals_are : r.globals.items ≡ map (λ name. mode_of_kind (kind_of p name)) (globals p)
+  pub routines_are : Each (ResolvesSection p) (sections_of is_routine_section p.sections) r.routines.items
+  pub main_is : ResolvesMain p (find is_main_section p.sections) r.main

@@ -1,9 +1,10 @@
 -- The rules that a program keeps: for each, the line of the first place that breaks it.
 use Rattle.std.specs.Prelude.{ℕ, ◌+◌, zero, suc, Bool, true, false, not, ◌&&◌, ◌||◌, ◌==◌, List, [], ◌∷◌, ◌++◌, map, length, Option, Some, None, if◌then◌else◌}
-use Rattle.std.specs.List.{list_any, list_all, flat_map, find}
+use Rattle.std.specs.List.{list_any, list_all, flat_map}
 use Rattle.ss_base.specs.declared.line.Line.{Line}
 use Rattle.ss_base.specs.declared.layout.Mode.{Mode}
 use Rattle.ss_base.specs.declared.layout.Mode.TheVariants.{Integer, Alpha}
+use Rattle.ss_tree.specs.declared.expression.Sign.{Sign}
 use Rattle.ss_tree.specs.declared.expression.Designator.{Designator}
 use Rattle.ss_tree.specs.declared.expression.Designator.TheVariants.{Name, TimeV, TimeA}
 use Rattle.ss_tree.specs.declared.expression.Function.{Function}
@@ -12,29 +13,28 @@ use Rattle.ss_tree.specs.Tree.{ExpressionTree, number, text, named, call, parent
 use Rattle.ss_picture.specs.Pictures.{field_count}
 use Rattle.ss_tables.specs.declared.kind.Kind.{Kind}
 use Rattle.ss_tables.specs.declared.kind.Kind.TheVariants.{Variable, Class, Attribute, Set, DerivedName, Count, Statistic as StatisticName, Routine}
-use Rattle.ss_tables.specs.Declarations.{NameBytes, same_name, is_one_of, kind_of}
-use Rattle.ss_tables.specs.Repeated.{earliest, parameters_of, mains_in}
-use Rattle.ss_tables.specs.Mentions.{Role, value, target, reset, loop_variable, a_set, one_of_class, all_of_class, notice_class, a_routine, Mention, in_statement, line_of, statements_of, row_length}
-use Rattle.ss_tables.specs.Modes.{is_variable_role, is_none_left}
-use Rattle.ss_check.specs.Scopes.{locals, mode_of_name}
-
--- the line of a statement that breaks a rule
-abbrev pub where_broken : (StatementTree → Bool) → StatementTree → Option Line
-where_broken breaks s = if breaks s then Some (line_of s) else None
-
--- the line of the first statement of a program that breaks a rule
-abbrev pub first_broken : (SectionTree → StatementTree → Bool) → ProgramTree → Option Line
-first_broken breaks p = earliest (flat_map (λ s. map (where_broken (breaks s)) (statements_of s.body)) p.sections)
+use Rattle.ss_tables.specs.Declarations.{NameBytes}
+use Rattle.ss_tables.specs.Repeated.{earliest}
+use Rattle.ss_tables.specs.declared.mentions.Role.{Role}
+use Rattle.ss_tables.specs.declared.mentions.Role.TheVariants.{Value, Target, LoopVariable, Routine as RoutineRole}
+use Rattle.ss_tables.specs.declared.mentions.Mention.{Mention}
+use Rattle.ss_tables.specs.Mentions.{in_statement, line_of, statements_of, row_length}
+use Rattle.ss_check.specs.declared.rule.Rule.{Rule}
+use Rattle.ss_check.specs.declared.rule.Rule.TheVariants.{StartPlace, Unknown, Subscript, NotAssignable, Arguments, Mode as ModeRule, Fields}
+use Rattle.ss_check.specs.Scopes.{Scope, scope_of, is_main, is_local, mode_of_name}
 
 -- ---- a program without MAIN
 
+abbrev pub is_main_section : SectionTree → Bool
+is_main_section s = is_main s.kind
+
+abbrev pub has_main_in : List SectionTree → Bool
+has_main_in sections = list_any is_main_section sections
+
 abbrev pub has_main : ProgramTree → Bool
-has_main p = list_any (λ s. not (length (mains_in s.line s.kind) == 0)) p.sections
+has_main p = has_main_in p.sections
 
 -- ---- names that are not of the kind that their place needs
-
-abbrev pub is_local : ProgramTree → SectionTree → NameBytes → Bool
-is_local p s name = is_one_of (locals p s) name
 
 -- what may stand as a value or a target
 abbrev pub has_value : Option Kind → Bool
@@ -58,27 +58,24 @@ is_routine (Some (Routine given yielding)) = true
 is_routine _ = false
 
 -- whether a name is of the kind that a role needs; the roles of classes, sets and statistics are not served yet
-abbrev pub suits : ProgramTree → SectionTree → Role → NameBytes → Bool
-suits p s value name = is_local p s name || has_value (kind_of p name)
-suits p s target name = is_local p s name || has_value (kind_of p name)
-suits p s loop_variable name = is_local p s name || is_variable (kind_of p name)
-suits p s a_routine name = is_routine (kind_of p name)
-suits p s _ name = false
+abbrev pub suits : Scope → Role → NameBytes → Bool
+suits c Value name = is_local c name || has_value (c.kind name)
+suits c Target name = is_local c name || has_value (c.kind name)
+suits c LoopVariable name = is_local c name || is_variable (c.kind name)
+suits c RoutineRole name = is_routine (c.kind name)
+suits c _ name = false
 
-abbrev pub is_unknown : ProgramTree → SectionTree → Role → Designator → Bool
-is_unknown p s role (Name name) = not (suits p s role name)
-is_unknown p s role TimeV = false
-is_unknown p s role TimeA = false
-
-abbrev pub mentions_unknown : ProgramTree → SectionTree → StatementTree → Bool
-mentions_unknown p s statement = list_any (λ m. is_unknown p s m.role m.designator) (in_statement statement)
+abbrev pub is_unknown : Scope → Role → Designator → Bool
+is_unknown c role (Name name) = not (suits c role name)
+is_unknown c role TimeV = false
+is_unknown c role TimeA = false
 
 -- ---- subscripts where none may stand, or more than one
 
-abbrev pub takes_no_subscript : ProgramTree → SectionTree → Designator → Bool
-takes_no_subscript p s (Name name) = is_local p s name || is_variable (kind_of p name)
-takes_no_subscript p s TimeV = true
-takes_no_subscript p s TimeA = false
+abbrev pub takes_no_subscript : Scope → Designator → Bool
+takes_no_subscript c (Name name) = is_local c name || is_variable (c.kind name)
+takes_no_subscript c TimeV = true
+takes_no_subscript c TimeA = false
 
 -- TIME.A takes one always
 abbrev pub wants_subscript : Designator → Bool
@@ -86,28 +83,24 @@ wants_subscript (Name name) = false
 wants_subscript TimeV = false
 wants_subscript TimeA = true
 
-abbrev pub has_bad_subscripts : ProgramTree → SectionTree → Designator → ℕ → Bool
-has_bad_subscripts p s d zero = wants_subscript d
-has_bad_subscripts p s d (suc zero) = takes_no_subscript p s d
-has_bad_subscripts p s d (suc (suc n)) = true
-
-abbrev pub mentions_bad_subscripts : ProgramTree → SectionTree → StatementTree → Bool
-mentions_bad_subscripts p s statement = list_any (λ m. has_bad_subscripts p s m.designator m.subscripts) (in_statement statement)
+abbrev pub has_bad_subscripts : Scope → Designator → ℕ → Bool
+has_bad_subscripts c d zero = wants_subscript d
+has_bad_subscripts c d (suc zero) = takes_no_subscript c d
+has_bad_subscripts c d (suc (suc n)) = true
 
 -- ---- targets to which nothing can be assigned
 
-abbrev pub may_be_assigned : ProgramTree → SectionTree → Designator → Bool
-may_be_assigned p s (Name name) = is_local p s name || is_variable (kind_of p name)
-may_be_assigned p s TimeV = false
-may_be_assigned p s TimeA = false
+abbrev pub may_be_assigned : Scope → Designator → Bool
+may_be_assigned c (Name name) = is_local c name || is_variable (c.kind name)
+may_be_assigned c TimeV = false
+may_be_assigned c TimeA = false
 
 abbrev pub is_target : Role → Bool
-is_target target = true
+is_target Target = true
 is_target _ = false
 
-abbrev pub assigns_to_no_variable : ProgramTree → SectionTree → StatementTree → Bool
-assigns_to_no_variable p s statement =
-    list_any (λ m. is_target m.role && not (may_be_assigned p s m.designator)) (in_statement statement)
+abbrev pub assigns_to_none : Scope → Mention → Bool
+assigns_to_none c m = is_target m.role && not (may_be_assigned c m.designator)
 
 -- ---- calls with another number of arguments
 
@@ -137,6 +130,9 @@ abbrev mutual
   any_term_miscalls no_term = false
   any_term_miscalls (and_term sign e es) = miscalls e || any_term_miscalls es
 
+abbrev pub term_miscalls : Sign × ExpressionTree → Bool
+term_miscalls t = miscalls t.1
+
 abbrev pub named_miscalls : NamedTree → Bool
 named_miscalls n = any_miscalls n.subscripts
 
@@ -153,37 +149,43 @@ module _ (bad : ExpressionTree → Bool) where
   bad_in_test differ (data_ended negated) = false
 
   abbrev pub bad_in_condition : (ExpressionTree → ExpressionTree → Bool) → ConditionTree → Bool
-  bad_in_condition differ c = list_any (list_any (bad_in_test differ)) c
+  bad_in_condition differ condition = list_any (list_any (bad_in_test differ)) condition
 
 abbrev pub never_differ : ExpressionTree → ExpressionTree → Bool
 never_differ left right = false
 
+abbrev pub phrase_miscalls : PhraseTree → Bool
+phrase_miscalls phrase = bad_in_condition miscalls never_differ phrase.condition
+
+abbrev pub guard_miscalls : GuardTree → Bool
+guard_miscalls guard = bad_in_condition miscalls never_differ guard.condition
+
 abbrev pub head_miscalls : HeadTree → Bool
 head_miscalls (over_range variable from to step phrases) =
-    miscalls from || miscalls to || in_an_option miscalls step || list_any (λ phrase. bad_in_condition miscalls never_differ phrase.condition) phrases
+    miscalls from || miscalls to || in_an_option miscalls step || list_any phrase_miscalls phrases
 head_miscalls (over_members variable set start reverse phrases) = false
 head_miscalls (over_class class called phrases) = false
-head_miscalls (guarded guards) = list_any (λ guard. bad_in_condition miscalls never_differ guard.condition) guards
+head_miscalls (guarded guards) = list_any guard_miscalls guards
 
 -- whether a routine is given and yields other counts of values
 abbrev pub is_other_call : Option Kind → ℕ → ℕ → Bool
 is_other_call (Some (Routine given yielding)) n m = not (n == given) || not (m == yielding)
 is_other_call _ n m = false
 
-abbrev pub statement_miscalls : ProgramTree → SectionTree → StatementTree → Bool
-statement_miscalls p s (let_statement line place e) = named_miscalls place || miscalls e
-statement_miscalls p s (add_statement line e place) = miscalls e || named_miscalls place
-statement_miscalls p s (subtract_statement line e place) = miscalls e || named_miscalls place
-statement_miscalls p s (call_statement line name given yielding) =
-    is_other_call (kind_of p name) (length given) (length yielding) || list_any miscalls given || list_any named_miscalls yielding
-statement_miscalls p s (read_statement line targets) = list_any named_miscalls targets
-statement_miscalls p s (if_statement line condition first second) = bad_in_condition miscalls never_differ condition
-statement_miscalls p s (loop_statement line head body) = head_miscalls head
-statement_miscalls p s (find_statement line head) = head_miscalls head
-statement_miscalls p s (find_if_statement line head outcome first second) = head_miscalls head
-statement_miscalls p s (print_statement line items pictures) = list_any miscalls items
-statement_miscalls p s (skip_statement line count) = miscalls count
-statement_miscalls p s _ = false
+abbrev pub statement_miscalls : Scope → StatementTree → Bool
+statement_miscalls c (let_statement line place e) = named_miscalls place || miscalls e
+statement_miscalls c (add_statement line e place) = miscalls e || named_miscalls place
+statement_miscalls c (subtract_statement line e place) = miscalls e || named_miscalls place
+statement_miscalls c (call_statement line name given yielding) =
+    is_other_call (c.kind name) (length given) (length yielding) || list_any miscalls given || list_any named_miscalls yielding
+statement_miscalls c (read_statement line targets) = list_any named_miscalls targets
+statement_miscalls c (if_statement line condition first second) = bad_in_condition miscalls never_differ condition
+statement_miscalls c (loop_statement line head body) = head_miscalls head
+statement_miscalls c (find_statement line head) = head_miscalls head
+statement_miscalls c (find_if_statement line head outcome first second) = head_miscalls head
+statement_miscalls c (print_statement line items pictures) = list_any miscalls items
+statement_miscalls c (skip_statement line count) = miscalls count
+statement_miscalls c _ = false
 
 -- ---- values of two modes
 
@@ -192,108 +194,107 @@ same_mode Integer Integer = true
 same_mode Alpha Alpha = true
 same_mode _ _ = false
 
-abbrev pub mode_of_designator : ProgramTree → SectionTree → Designator → Mode
-mode_of_designator p s (Name name) = mode_of_name p s name
-mode_of_designator p s TimeV = Integer
-mode_of_designator p s TimeA = Integer
+abbrev pub mode_of_designator : Scope → Designator → Mode
+mode_of_designator c (Name name) = mode_of_name c name
+mode_of_designator c TimeV = Integer
+mode_of_designator c TimeA = Integer
 
 -- the mode of an expression; parentheses make no number of a text
-abbrev pub mode_of_expression : ProgramTree → SectionTree → ExpressionTree → Mode
-mode_of_expression p s (number z) = Integer
-mode_of_expression p s (text t) = Alpha
-mode_of_expression p s (named designator subscripts) = mode_of_designator p s designator
-mode_of_expression p s (call function arguments) = Integer
-mode_of_expression p s (parenthesised e) = mode_of_expression p s e
-mode_of_expression p s (product e further) = Integer
-mode_of_expression p s (signed sign e) = Integer
-mode_of_expression p s (sum e further) = Integer
+abbrev pub mode_of_expression : Scope → ExpressionTree → Mode
+mode_of_expression c (number z) = Integer
+mode_of_expression c (text t) = Alpha
+mode_of_expression c (named designator subscripts) = mode_of_designator c designator
+mode_of_expression c (call function arguments) = Integer
+mode_of_expression c (parenthesised e) = mode_of_expression c e
+mode_of_expression c (product e further) = Integer
+mode_of_expression c (signed sign e) = Integer
+mode_of_expression c (sum e further) = Integer
 
-abbrev pub is_text : ProgramTree → SectionTree → ExpressionTree → Bool
-is_text p s e = same_mode (mode_of_expression p s e) Alpha
+abbrev pub is_text : Scope → ExpressionTree → Bool
+is_text c e = same_mode (mode_of_expression c e) Alpha
 
 abbrev mutual
   -- whether a text stands where a number has to
-  pub mixes : ProgramTree → SectionTree → ExpressionTree → Bool
-  mixes p s (number z) = false
-  mixes p s (text t) = false
-  mixes p s (named designator subscripts) = any_mixes p s subscripts
-  mixes p s (call function arguments) = any_mixes p s arguments
-  mixes p s (parenthesised e) = mixes p s e
-  mixes p s (product e further) = is_text p s e || mixes p s e || any_mixes p s further
-  mixes p s (signed sign e) = is_text p s e || mixes p s e
-  mixes p s (sum e further) = is_text p s e || mixes p s e || any_term_mixes p s further
+  pub mixes : Scope → ExpressionTree → Bool
+  mixes c (number z) = false
+  mixes c (text t) = false
+  mixes c (named designator subscripts) = any_mixes c subscripts
+  mixes c (call function arguments) = any_mixes c arguments
+  mixes c (parenthesised e) = mixes c e
+  mixes c (product e further) = is_text c e || mixes c e || any_mixes c further
+  mixes c (signed sign e) = is_text c e || mixes c e
+  mixes c (sum e further) = is_text c e || mixes c e || any_term_mixes c further
 
   -- the same of expressions that have to be numbers
-  pub any_mixes : ProgramTree → SectionTree → ExpressionRow → Bool
-  any_mixes p s no_expression = false
-  any_mixes p s (and_expression e es) = is_text p s e || mixes p s e || any_mixes p s es
+  pub any_mixes : Scope → ExpressionRow → Bool
+  any_mixes c no_expression = false
+  any_mixes c (and_expression e es) = is_text c e || mixes c e || any_mixes c es
 
-  pub any_term_mixes : ProgramTree → SectionTree → TermRow → Bool
-  any_term_mixes p s no_term = false
-  any_term_mixes p s (and_term sign e es) = is_text p s e || mixes p s e || any_term_mixes p s es
+  pub any_term_mixes : Scope → TermRow → Bool
+  any_term_mixes c no_term = false
+  any_term_mixes c (and_term sign e es) = is_text c e || mixes c e || any_term_mixes c es
+
+-- the same of a term behind its sign
+abbrev pub term_mixes : Scope → Sign × ExpressionTree → Bool
+term_mixes c t = is_text c t.1 || mixes c t.1
 
 -- an expression that has to be a number
-abbrev pub is_no_number : ProgramTree → SectionTree → ExpressionTree → Bool
-is_no_number p s e = is_text p s e || mixes p s e
+abbrev pub is_no_number : Scope → ExpressionTree → Bool
+is_no_number c e = is_text c e || mixes c e
 
-abbrev pub target_mode : ProgramTree → SectionTree → NamedTree → Mode
-target_mode p s n = mode_of_designator p s n.designator
+abbrev pub target_mode : Scope → NamedTree → Mode
+target_mode c n = mode_of_designator c n.designator
 
-abbrev pub target_mixes : ProgramTree → SectionTree → NamedTree → Bool
-target_mixes p s n = any_mixes p s n.subscripts
+abbrev pub target_mixes : Scope → NamedTree → Bool
+target_mixes c n = any_mixes c n.subscripts
 
-abbrev pub modes_differ : ProgramTree → SectionTree → ExpressionTree → ExpressionTree → Bool
-modes_differ p s left right = not (same_mode (mode_of_expression p s left) (mode_of_expression p s right))
+abbrev pub modes_differ : Scope → ExpressionTree → ExpressionTree → Bool
+modes_differ c left right = not (same_mode (mode_of_expression c left) (mode_of_expression c right))
 
-abbrev pub condition_mixes : ProgramTree → SectionTree → ConditionTree → Bool
-condition_mixes p s c = bad_in_condition (mixes p s) (modes_differ p s) c
+abbrev pub condition_mixes : Scope → ConditionTree → Bool
+condition_mixes c condition = bad_in_condition (mixes c) (modes_differ c) condition
 
-abbrev pub head_mixes : ProgramTree → SectionTree → HeadTree → Bool
-head_mixes p s (over_range variable from to step phrases) =
-    same_mode (mode_of_name p s variable) Alpha || is_no_number p s from || is_no_number p s to || in_an_option (is_no_number p s) step ||
-    list_any (λ phrase. condition_mixes p s phrase.condition) phrases
-head_mixes p s (over_members variable set start reverse phrases) = false
-head_mixes p s (over_class class called phrases) = false
-head_mixes p s (guarded guards) = list_any (λ guard. condition_mixes p s guard.condition) guards
+abbrev pub phrase_mixes : Scope → PhraseTree → Bool
+phrase_mixes c phrase = condition_mixes c phrase.condition
 
--- the routine of a name
-abbrev pub is_routine_of : NameBytes → SectionKindTree → Bool
-is_routine_of called main = false
-is_routine_of called (routine name given yielding) = same_name called name
-is_routine_of called (event name given saving) = false
+abbrev pub guard_mixes : Scope → GuardTree → Bool
+guard_mixes c guard = condition_mixes c guard.condition
 
--- the modes of the parameters of a routine
-abbrev pub parameter_modes : ProgramTree → Option SectionTree → List Mode
-parameter_modes p None = []
-parameter_modes p (Some r) = map (mode_of_name p r) (parameters_of r.kind)
+abbrev pub head_mixes : Scope → HeadTree → Bool
+head_mixes c (over_range variable from to step phrases) =
+    same_mode (mode_of_name c variable) Alpha || is_no_number c from || is_no_number c to || in_an_option (is_no_number c) step ||
+    list_any (phrase_mixes c) phrases
+head_mixes c (over_members variable set start reverse phrases) = false
+head_mixes c (over_class class called phrases) = false
+head_mixes c (guarded guards) = list_any (guard_mixes c) guards
 
 abbrev pub lists_differ : List Mode → List Mode → Bool
 lists_differ [] _ = false
 lists_differ (m ∷ ms) [] = false
 lists_differ (m ∷ ms) (n ∷ ns) = not (same_mode m n) || lists_differ ms ns
 
-abbrev pub call_differs : ProgramTree → SectionTree → NameBytes → List ExpressionTree → List NamedTree → Bool
-call_differs p s name given yielding =
-    lists_differ (map (mode_of_expression p s) given ++ map (target_mode p s) yielding)
-    (parameter_modes p (find (λ r. is_routine_of name r.kind) p.sections))
+abbrev pub call_differs : Scope → NameBytes → List ExpressionTree → List NamedTree → Bool
+call_differs c name given yielding =
+    lists_differ (map (mode_of_expression c) given ++ map (target_mode c) yielding)
+    (c.parameters name)
 
-abbrev pub statement_mixes : ProgramTree → SectionTree → StatementTree → Bool
-statement_mixes p s (let_statement line place e) =
-    target_mixes p s place || mixes p s e || not (same_mode (target_mode p s place) (mode_of_expression p s e))
-statement_mixes p s (add_statement line e place) =
-    is_no_number p s e || target_mixes p s place || same_mode (target_mode p s place) Alpha
-statement_mixes p s (subtract_statement line e place) =
-    is_no_number p s e || target_mixes p s place || same_mode (target_mode p s place) Alpha
-statement_mixes p s (call_statement line name given yielding) =
-    list_any (mixes p s) given || list_any (target_mixes p s) yielding || call_differs p s name given yielding
-statement_mixes p s (read_statement line targets) = list_any (target_mixes p s) targets
-statement_mixes p s (if_statement line condition first second) = condition_mixes p s condition
-statement_mixes p s (loop_statement line head body) = head_mixes p s head
-statement_mixes p s (find_statement line head) = head_mixes p s head
-statement_mixes p s (find_if_statement line head outcome first second) = head_mixes p s head
-statement_mixes p s (print_statement line items pictures) = list_any (mixes p s) items
-statement_mixes p s (skip_statement line count) = is_no_number p s count
-statement_mixes p s _ = false
+abbrev pub statement_mixes : Scope → StatementTree → Bool
+statement_mixes c (let_statement line place e) =
+    target_mixes c place || mixes c e || not (same_mode (target_mode c place) (mode_of_expression c e))
+statement_mixes c (add_statement line e place) =
+    is_no_number c e || target_mixes c place || same_mode (target_mode c place) Alpha
+statement_mixes c (subtract_statement line e place) =
+    is_no_number c e || target_mixes c place || same_mode (target_mode c place) Alpha
+statement_mixes c (call_statement line name given yielding) =
+    list_any (mixes c) given || list_any (target_mixes c) yielding || call_differs c name given yielding
+statement_mixes c (read_statement line targets) = list_any (target_mixes c) targets
+statement_mixes c (if_statement line condition first second) = condition_mixes c condition
+statement_mixes c (loop_statement line head body) = head_mixes c head
+statement_mixes c (find_statement line head) = head_mixes c head
+statement_mixes c (find_if_statement line head outcome first second) = head_mixes c head
+statement_mixes c (print_statement line items pictures) = list_any (mixes c) items
+statement_mixes c (skip_statement line count) = is_no_number c count
+statement_mixes c _ = false
 
 -- ---- a PRINT with another number of items than its pictures have fields
 
@@ -311,44 +312,53 @@ abbrev pub is_start : StatementTree → Bool
 is_start (start_simulation line) = true
 is_start _ = false
 
-abbrev pub is_main : SectionKindTree → Bool
-is_main main = true
-is_main _ = false
-
 -- ---- the rules in their order
 
-pub data Rule : Type 0 where
-  start_place : Rule
-  unknown : Rule
-  subscript : Rule
-  not_assignable : Rule
-  arguments : Rule
-  mode : Rule
-  fields : Rule
+-- whether a mention breaks a rule on what names stand for
+abbrev pub mention_breaks : Scope → Rule → Mention → Bool
+mention_breaks c Unknown m = is_unknown c m.role m.designator
+mention_breaks c Subscript m = has_bad_subscripts c m.designator m.subscripts
+mention_breaks c NotAssignable m = assigns_to_none c m
+mention_breaks c _ m = false
 
--- whether a statement of a section breaks a rule
-abbrev pub breaks : ProgramTree → Rule → SectionTree → StatementTree → Bool
-breaks p start_place s statement = is_start statement && not (is_main s.kind)
-breaks p unknown s statement = mentions_unknown p s statement
-breaks p subscript s statement = mentions_bad_subscripts p s statement
-breaks p not_assignable s statement = assigns_to_no_variable p s statement
-breaks p arguments s statement = statement_miscalls p s statement
-breaks p mode s statement = statement_mixes p s statement
-breaks p fields s statement = misfits statement
+-- whether a statement breaks a rule
+abbrev pub breaks : Scope → Rule → StatementTree → Bool
+breaks c StartPlace statement = is_start statement && not c.in_main
+breaks c Unknown statement = list_any (mention_breaks c Unknown) (in_statement statement)
+breaks c Subscript statement = list_any (mention_breaks c Subscript) (in_statement statement)
+breaks c NotAssignable statement = list_any (mention_breaks c NotAssignable) (in_statement statement)
+breaks c Arguments statement = statement_miscalls c statement
+breaks c ModeRule statement = statement_mixes c statement
+breaks c Fields statement = misfits statement
+
+-- the line of a statement that breaks a rule
+abbrev pub where_broken : (StatementTree → Bool) → StatementTree → Option Line
+where_broken is_broken s = if is_broken s then Some (line_of s) else None
+
+-- the line of the first of some statements that breaks a rule
+abbrev pub first_in : Scope → Rule → List StatementTree → Option Line
+first_in c rule statements = earliest (map (where_broken (breaks c rule)) statements)
+
+-- the line of the first statement of some sections that breaks a rule
+abbrev pub first_among : (SectionTree → Scope) → List SectionTree → Rule → Option Line
+first_among scope sections rule = earliest (map (λ s. first_in (scope s) rule (statements_of s.body)) sections)
+
+-- the same of a program
+abbrev pub first_broken : ProgramTree → Rule → Option Line
+first_broken p rule = first_among (scope_of p) p.sections rule
 
 -- the rules in the order in which they are looked at
 abbrev pub rules_in_order : List Rule
-rules_in_order = start_place ∷ unknown ∷ subscript ∷ not_assignable ∷ arguments ∷ mode ∷ fields ∷ []
+rules_in_order = StartPlace ∷ Unknown ∷ Subscript ∷ NotAssignable ∷ Arguments ∷ ModeRule ∷ Fields ∷ []
 
--- the first of some rules that is broken, and the line of the first place that breaks it
-pub record Breach : Type 0 where
-  pub rule : Rule
-  pub line : Line
-
-abbrev pub or_next : Rule → Option Line → Option Breach → Option Breach
-or_next rule (Some line) rest = Some (record { rule = rule; line = line })
+-- the first of some rules that is broken, with the line of the first place that breaks it
+abbrev pub or_next : Rule → Option Line → Option (Rule × Line) → Option (Rule × Line)
+or_next rule (Some line) rest = Some (rule, line)
 or_next rule None rest = rest
 
-abbrev pub first_breach : ProgramTree → List Rule → Option Breach
-first_breach p [] = None
-first_breach p (rule ∷ rules) = or_next rule (first_broken (breaks p rule) p) (first_breach p rules)
+abbrev pub breach : (Rule → Option Line) → List Rule → Option (Rule × Line)
+breach first [] = None
+breach first (rule ∷ rules) = or_next rule (first rule) (breach first rules)
+
+abbrev pub first_breach : ProgramTree → Option (Rule × Line)
+first_breach p = breach (first_broken p) rules_in_order

@@ -1,0 +1,4 @@
+mod Rows
+mod Firsts
+mod Scoping
+mod Keeping

@@ -1,0 +1,12 @@
+use Rattle.std.proofs.Common.{rules, ◌≡◌, sym, ◌∙◌}
+use Rattle.ss_tree.specs.View.{view_test}
+use Rattle.ss_check.specs.Rules.{miscalls, never_differ, bad_in_test}
+use Rattle.ss_check.specs.Seen.{scope_seen}
+use Rattle.ss_check.proofs.Rows.{none_more, one_passes}
+use Rattle.ss_check.proofs.miscalls.conjunction_miscalls.Goals as goal
+
+pub returns-then-test_miscalls : goal.returns-then-test_miscalls
+returns-then-test_miscalls c = sym (one_passes (bad_in_test miscalls never_differ) view_test c.args.tests.now c.loop-test.test-index c.test-item.result c.loop-test-test.true c.test-item.is (sym c.test_miscalls.ensures ∙ c.if-test_miscalls.true))
+
+pub loop-test-preserved : goal.loop-test-preserved
+loop-test-preserved c = none_more (bad_in_test miscalls never_differ) view_test c.args.tests.now c.loop-test.test-index c.test-item.result c.loop-test-test.true c.test-item.is c.loop-test.invariant (sym c.test_miscalls.ensures ∙ c.if-test_miscalls.false)

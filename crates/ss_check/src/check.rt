@@ -1,0 +1,175 @@
+//! The rules on a whole program.
+
+ghost use Rattle.std.specs.Prelude.{◌≡◌, ◌++◌, ◌∷◌, [], map, true, if◌then◌else◌, IfOk, IfErr, OnOk};
+ghost use Rattle.ss_tables.specs.Served.{served_program};
+ghost use Rattle.ss_tree.specs.View.{view_kind, view_program, view_section};
+ghost use Rattle.ss_tables.specs.Mentions.{statements_of};
+ghost use Rattle.ss_tables.specs.Tables.{AreTablesOf};
+ghost use Rattle.ss_check.specs.Scopes.{is_routine_section, signature, signatures};
+ghost use Rattle.ss_check.specs.Rules.{breach, first_among, first_in, has_main_in};
+ghost use Rattle.ss_check.specs.Checking.{IsKept, IsRefused, refusal};
+ghost use Rattle.ss_check.specs.Seen.{modes_in, scope_in};
+
+use crate::error::CheckError;
+use crate::finding::{earlier, first_in_body};
+use crate::locals::{is_main, locals_in, signature};
+use crate::rule::Rule;
+use crate::scope::Names;
+use ss_base::{Line, Mode};
+use ss_tables::Tables;
+use ss_tree::preamble::Mode as Said;
+use ss_tree::program::{Program, Section, SectionKind};
+use std::alloc::{AllocError, Global};
+
+// The rules in the order in which they are looked at.
+const RULES: [Rule; 7] = [
+    Rule::StartPlace,
+    Rule::Unknown,
+    Rule::Subscript,
+    Rule::NotAssignable,
+    Rule::Arguments,
+    Rule::Mode,
+    Rule::Fields,
+];
+
+// Whether one of some sections is MAIN.
+fn has_main(sections: &[Section]) -> bool
+    ensures { result ≡ has_main_in (map view_section sections.now) }
+{
+    for section in sections {
+        if is_main(&section.kind) {
+            return true;
+        }
+    }
+    false
+}
+
+// Whether a section is a routine.
+fn is_routine(kind: &SectionKind) -> bool
+    ensures { result ≡ is_routine_section (view_kind kind.now) }
+{
+    matches!(kind, SectionKind::Routine { .. })
+}
+
+// Adds the modes of the parameters of a section, where it is a routine.
+fn add_signature(
+    alloc: Global,
+    all: &mut Vec<Vec<Mode>>,
+    usual: Option<Said>,
+    section: &Section,
+) -> Result<(), AllocError>
+    ensures { IfOk result (λ _. map modes_in all.new.items ≡ map modes_in all.old.items ++ (if is_routine_section (view_kind section.now.kind) then signature usual (view_section section.now) ∷ [] else [])) }
+{
+    if is_routine(&section.kind) {
+        all.push(signature(alloc, usual, section)?)?;
+    }
+    Ok(())
+}
+
+// The modes of the parameters of each routine.
+fn signatures(
+    alloc: Global,
+    usual: Option<Said>,
+    sections: &[Section],
+) -> Result<Vec<Vec<Mode>>, AllocError>
+    ensures { IfOk result (λ all. map modes_in all.items ≡ signatures usual (map view_section sections.now)) }
+{
+    let mut all = Vec::new(alloc);
+    for section in sections {
+        add_signature(alloc, &mut all, usual, section)?;
+    }
+    Ok(all)
+}
+
+// The line of the first statement of a section that breaks a rule.
+fn first_in_section(
+    alloc: Global,
+    names: &Names,
+    rule: Rule,
+    section: &Section,
+) -> Result<Option<Line>, AllocError>
+    ensures { IfOk result (λ line. line ≡ first_in (scope_in names.now (view_section section.now)) rule (statements_of (view_section section.now).body)) }
+{
+    let locals = locals_in(alloc, &names.tables, section)?;
+    first_in_body(alloc, names, &locals, rule, &section.body)
+}
+
+// The line of the first statement of some sections that breaks a rule.
+fn first_broken(
+    alloc: Global,
+    names: &Names,
+    rule: Rule,
+    sections: &[Section],
+) -> Result<Option<Line>, AllocError>
+    ensures { IfOk result (λ line. line ≡ first_among (scope_in names.now) (map view_section sections.now) rule) }
+{
+    let mut found = None;
+    for section in sections {
+        let one = first_in_section(alloc, names, rule, section)?;
+        found = earlier(found, one);
+    }
+    Ok(found)
+}
+
+// The first of some rules that is broken, with the line of the first place.
+fn first_breach(
+    alloc: Global,
+    names: &Names,
+    rules: &[Rule],
+    sections: &[Section],
+) -> Result<Option<(Rule, Line)>, AllocError>
+    ensures { IfOk result (λ found. found ≡ breach (first_among (scope_in names.now) (map view_section sections.now)) rules.now) }
+{
+    for rule in rules {
+        if let Some(line) = first_broken(alloc, names, *rule, sections)? {
+            return Ok(Some((*rule, line)));
+        }
+    }
+    Ok(None)
+}
+
+// The names of a program.
+fn names_of(alloc: Global, tables: Tables, sections: &[Section]) -> Result<Names, AllocError>
+    ensures tables { IfOk result (λ n. n.tables ≡ tables) }
+    ensures signatures { IfOk result (λ n. map modes_in n.signatures.items ≡ signatures tables.usual (map view_section sections.now)) }
+{
+    let signatures = signatures(alloc, tables.usual(), sections)?;
+    Ok(Names { tables, signatures })
+}
+
+// The refusal for a rule.
+fn refusal(rule: Rule, line: Line) -> CheckError
+    ensures { result ≡ refusal rule line }
+{
+    match rule {
+        Rule::StartPlace => CheckError::StartPlace(line),
+        Rule::Unknown => CheckError::Unknown(line),
+        Rule::Subscript => CheckError::Subscript(line),
+        Rule::NotAssignable => CheckError::NotAssignable(line),
+        Rule::Arguments => CheckError::Arguments(line),
+        Rule::Mode => CheckError::Mode(line),
+        Rule::Fields => CheckError::Fields(line),
+    }
+}
+
+/// Whether a program has MAIN and keeps every rule.
+///
+/// The errors come in this order: `NoMain`, with line 0, where there is no MAIN; then that of the
+/// first rule that a statement breaks, in the order `StartPlace`, `Unknown`, `Subscript`,
+/// `NotAssignable`, `Arguments`, `Mode`, `Fields`, with the line of the first such statement.
+/// `Memory` may come before any of them.
+pub fn keeps_rules(alloc: Global, program: &Program, tables: Tables) -> Result<(), CheckError>
+    requires served { served_program (view_program program.now) ≡ true }
+    requires tables { AreTablesOf (view_program program.now) tables }
+    ensures ok { OnOk result (IsKept (view_program program.now)) }
+    ensures err { IfErr result (IsRefused (view_program program.now)) }
+{
+    if !has_main(&program.sections) {
+        return Err(CheckError::NoMain(Line(0)));
+    }
+    let names = names_of(alloc, tables, &program.sections)?;
+    match first_breach(alloc, &names, &RULES, &program.sections)? {
+        Some((rule, line)) => Err(refusal(rule, line)),
+        None => Ok(()),
+    }
+}

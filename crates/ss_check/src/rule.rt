@@ -1,0 +1,20 @@
+//! The rules that a program keeps.
+
+/// A rule that a statement may break.
+#[derive(Clone, Copy, PartialEq, Eq, Debug)]
+pub enum Rule {
+    /// START SIMULATION stands in MAIN.
+    StartPlace,
+    /// A name is of the kind that its place needs.
+    Unknown,
+    /// A name has the subscripts that it takes.
+    Subscript,
+    /// Something can be assigned to a target.
+    NotAssignable,
+    /// A routine and a function have as many arguments as they take.
+    Arguments,
+    /// Two values that are joined are of one mode, and numbers stand where numbers have to.
+    Mode,
+    /// A PRINT has as many items as its pictures have fields.
+    Fields,
+}
