@@ -2,3 +2,4 @@ mod Rows
 mod Firsts
 mod Scoping
 mod Keeping
+mod Trees

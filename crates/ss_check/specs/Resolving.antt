@@ -132,6 +132,12 @@ module _ (c : Scope) where
   abbrev pub ResolveAll : List ExpressionTree → List Expression → Type 0
   ResolveAll es xs = Each Resolves es xs
 
+  abbrev pub ResolvesTerm : ParsedSign × ExpressionTree → Sign × Expression → Type 0
+  ResolvesTerm t x = (x.0 ≡ sign_of t.0) × Resolves t.1 x.1
+
+  abbrev pub ResolveSigned : List (ParsedSign × ExpressionTree) → List (Sign × Expression) → Type 0
+  ResolveSigned ts xs = Each ResolvesTerm ts xs
+
   -- ---- conditions
 
   -- tests on sets are not served yet

@@ -8,6 +8,7 @@ mod locals;
 mod miscalls;
 mod mixes;
 mod names;
+mod resolve;
 mod rule;
 mod scope;
 mod statements;

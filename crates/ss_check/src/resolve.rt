@@ -1,0 +1,200 @@
+//! Expressions in which each name is replaced by what it stands for.
+
+ghost use Rattle.std.specs.Prelude.{◌≡◌, map, IfOk};
+ghost use Rattle.ss_tree.specs.View.{view_expression, view_term};
+ghost use Rattle.ss_tree.specs.Tree.{expression_row};
+ghost use Rattle.ss_check.specs.Resolving.{IsNoCall, Resolves, ResolveAll, ResolveOne, ResolveSigned, ResolveTwo, relation_of, sign_of, variable_at};
+ghost use Rattle.ss_check.specs.Seen.{scope_seen};
+
+use crate::scope::{Locals, Names, variable_of};
+use ss_base::Value;
+use ss_resolved::resolved::{Expression as Resolved, Function as ResolvedFunction, Relation as ResolvedRelation, Sign as ResolvedSign, Variable};
+use ss_tree::condition::Relation;
+use ss_tree::expression::{Designator, Expression, Function, Sign, Term};
+use std::alloc::{AllocError, Global};
+
+// The sign that a sign stands for.
+fn sign_of(sign: Sign) -> ResolvedSign
+    ensures { result ≡ sign_of sign }
+{
+    match sign {
+        Sign::Plus => ResolvedSign::Plus,
+        Sign::Minus => ResolvedSign::Minus,
+    }
+}
+
+// The relation that a relation stands for.
+fn relation_of(relation: Relation) -> ResolvedRelation
+    ensures { result ≡ relation_of relation }
+{
+    match relation {
+        Relation::Equal => ResolvedRelation::Equal,
+        Relation::NotEqual => ResolvedRelation::NotEqual,
+        Relation::Less => ResolvedRelation::Less,
+        Relation::Greater => ResolvedRelation::Greater,
+        Relation::LessOrEqual => ResolvedRelation::LessOrEqual,
+        Relation::GreaterOrEqual => ResolvedRelation::GreaterOrEqual,
+    }
+}
+
+// The variable that is named. TIME.V and TIME.A are not served yet.
+pub(crate) fn variable_at(names: &Names, locals: &Locals, designator: Designator) -> Result<Variable, AllocError>
+    ensures { IfOk result (λ x. x ≡ variable_at (scope_seen names.now locals.now) designator) }
+{
+    match designator {
+        Designator::Name(name) => variable_of(names, locals, name),
+        Designator::TimeV | Designator::TimeA => Ok(Variable::Global { number: 0 }),
+    }
+}
+
+// The expression of a call with another number of arguments than its function takes, which no
+// accepted program has.
+fn no_call() -> Resolved
+    ensures { IsNoCall result }
+{
+    Resolved::Constant {
+        value: Value::Whole(0),
+    }
+}
+
+// The expression with each name replaced by its variable.
+#[cycle(resolving)]
+#[tactic(auto, unfolding(ss_tree::specs::View::view_expression), using(crate::proofs::Trees::resolves_product, crate::proofs::Trees::resolves_sum))]
+pub(crate) fn resolve_expression(
+    alloc: Global,
+    names: &Names,
+    locals: &Locals,
+    expression: &Expression,
+) -> Result<Resolved, AllocError>
+    ensures { IfOk result (λ x. Resolves (scope_seen names.now locals.now) (view_expression expression.now) x) }
+{
+    match expression {
+        Expression::Number(number) => Ok(Resolved::Constant {
+            value: Value::Whole(*number),
+        }),
+        Expression::Text(text) => Ok(Resolved::Constant {
+            value: Value::Text(*text),
+        }),
+        Expression::Named(named) => {
+            let variable = variable_at(names, locals, named.designator)?;
+            Ok(Resolved::Fetch { variable })
+        }
+        Expression::Call {
+            function,
+            arguments,
+        } => match function {
+            Function::Abs => resolve_one(alloc, names, locals, arguments),
+            Function::Div => resolve_two(alloc, names, locals, ResolvedFunction::Quotient, arguments),
+            Function::Mod => resolve_two(alloc, names, locals, ResolvedFunction::Remainder, arguments),
+            Function::Min => resolve_two(alloc, names, locals, ResolvedFunction::Least, arguments),
+            Function::Max => resolve_two(alloc, names, locals, ResolvedFunction::Greatest, arguments),
+        },
+        Expression::Parenthesised(inner) => resolve_expression(alloc, names, locals, inner),
+        Expression::Product { first, further } => {
+            let first = resolve_expression(alloc, names, locals, first)?;
+            let first = Box::new(alloc, first)?;
+            let rest = resolve_all(alloc, names, locals, further)?;
+            Ok(Resolved::Product { first, rest })
+        }
+        Expression::Signed { sign, term } => {
+            let term = resolve_expression(alloc, names, locals, term)?;
+            let term = Box::new(alloc, term)?;
+            Ok(Resolved::Signed {
+                sign: sign_of(*sign),
+                term,
+            })
+        }
+        Expression::Sum { first, further } => {
+            let first = resolve_expression(alloc, names, locals, first)?;
+            let first = Box::new(alloc, first)?;
+            let rest = resolve_terms(alloc, names, locals, further)?;
+            Ok(Resolved::Sum { first, rest })
+        }
+    }
+}
+
+// A function of one argument.
+#[cycle(resolving)]
+fn resolve_one(
+    alloc: Global,
+    names: &Names,
+    locals: &Locals,
+    arguments: &[Expression],
+) -> Result<Resolved, AllocError>
+    ensures { IfOk result (λ x. ResolveOne (scope_seen names.now locals.now) (expression_row (map view_expression arguments.now)) x) }
+{
+    match arguments {
+        [only] => {
+            let argument = resolve_expression(alloc, names, locals, only)?;
+            let argument = Box::new(alloc, argument)?;
+            Ok(Resolved::Absolute { argument })
+        }
+        [] => Ok(no_call()),
+        [_, _, ..] => Ok(no_call()),
+    }
+}
+
+// A function of two arguments.
+#[cycle(resolving)]
+fn resolve_two(
+    alloc: Global,
+    names: &Names,
+    locals: &Locals,
+    function: ResolvedFunction,
+    arguments: &[Expression],
+) -> Result<Resolved, AllocError>
+    ensures { IfOk result (λ x. ResolveTwo (scope_seen names.now locals.now) function (expression_row (map view_expression arguments.now)) x) }
+{
+    match arguments {
+        [left, right] => {
+            let left = resolve_expression(alloc, names, locals, left)?;
+            let left = Box::new(alloc, left)?;
+            let right = resolve_expression(alloc, names, locals, right)?;
+            let right = Box::new(alloc, right)?;
+            Ok(Resolved::Applied {
+                function,
+                left,
+                right,
+            })
+        }
+        [] => Ok(no_call()),
+        [_] => Ok(no_call()),
+        [_, _, _, ..] => Ok(no_call()),
+    }
+}
+
+// Several expressions.
+#[cycle(resolving)]
+pub(crate) fn resolve_all(
+    alloc: Global,
+    names: &Names,
+    locals: &Locals,
+    expressions: &[Expression],
+) -> Result<Vec<Resolved>, AllocError>
+    ensures { IfOk result (λ xs. ResolveAll (scope_seen names.now locals.now) (map view_expression expressions.now) xs.items) }
+{
+    let mut resolved = Vec::new(alloc);
+    for expression in expressions {
+        let one = resolve_expression(alloc, names, locals, expression)?;
+        resolved.push(one)?;
+    }
+    Ok(resolved)
+}
+
+// The further terms of a sum.
+#[cycle(resolving)]
+fn resolve_terms(
+    alloc: Global,
+    names: &Names,
+    locals: &Locals,
+    terms: &[Term],
+) -> Result<Vec<(ResolvedSign, Resolved)>, AllocError>
+    ensures { IfOk result (λ xs. ResolveSigned (scope_seen names.now locals.now) (map view_term terms.now) xs.items) }
+{
+    let mut resolved = Vec::new(alloc);
+    for term in terms {
+        let one = resolve_expression(alloc, names, locals, &term.value)?;
+        resolved.push((sign_of(term.sign), one))?;
+    }
+    Ok(resolved)
+}
