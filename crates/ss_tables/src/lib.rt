@@ -20,6 +20,9 @@ mod served;
 mod spelling;
 mod tables;
 
+#[cfg(test)]
+mod tests;
+
 pub use error::TableError;
 pub use kind::{Derived, Kind};
 pub use mentions::{Mention, Role, StatementMentions, mentioned};
