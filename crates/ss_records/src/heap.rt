@@ -266,7 +266,8 @@ impl Heap {
 
     /// The classes and sets that it was made for.
     pub fn layout(&self) -> &Layout
-        ensures { result.now ≡ self.now.state.layout }
+        ensures is { result.now ≡ self.now.state.layout }
+        ensures sound { IsTrue (is_sound result.now) }
     {
         &self.records.layout
     }

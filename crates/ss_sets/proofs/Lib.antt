@@ -1,3 +1,4 @@
 pub mod Filed
 pub mod Members
 pub mod Same
+pub mod Walking
