@@ -1,5 +1,5 @@
 -- A value or a time that is written.
-use Rattle.std.proofs.Common.{◌≡◌, ℕ, zero, suc, ◌+◌, ◌-◌, ◌<◌, ◌≤◌, true, cond, List, [], ◌∷◌, map, length, slice_get, slice_index_or, slice_set, Some, Ok, Err, refl, sym, ap, subst, ◌∙◌, arith}
+use Rattle.std.proofs.Common.{◌≡◌, ℕ, zero, suc, ◌+◌, ◌-◌, ◌<◌, ◌≤◌, true, cond, List, [], ◌∷◌, map, length, slice_get, slice_index_or, slice_set, Some, Ok, Err, inl, inr, refl, sym, ap, subst, ◌∙◌, arith}
 use Rattle.std.specs.Prelude.{Result, Bool, false, ℤ, pos}
 use Rattle.std.specs.Int.{cast_signed}
 use mir.Syntax.{w64}
@@ -15,16 +15,16 @@ use Rattle.ss_base.specs.declared.layout.ClassLayout.{ClassLayout}
 use Rattle.ss_base.specs.declared.layout.Layout.{Layout}
 use Rattle.ss_records.specs.declared.store.Place.{Place}
 use Rattle.ss_records.specs.Cells.{Word, blank, number, counter, link, Cells, IsNumber, MayBeNumber, words_at, word_of, word_at, with_word, put_word}
-use Rattle.ss_records.specs.State.{Record, State, Members, and_then, entity, numbered, of_notice, notice, value_in, time_in, number_in, kind_in, kind_of, modes_of, is_notice, with_value, with_time, with_entity, with_entity_of_kind, assigned, timed}
+use Rattle.ss_records.specs.State.{Record, State, Members, and_then, entity, numbered, of_notice, notice, value_in, time_in, number_in, kind_in, kind_of, modes_of, is_notice, with_value, with_time, with_indexed, with_entity, with_entity_of_kind, assigned, timed}
 use Rattle.ss_records.specs.Shape.{values_end, links_start}
-use Rattle.ss_records.specs.Reading.{plain, value_of, class_of, record_of, record_at}
+use Rattle.ss_records.specs.Reading.{plain, value_of, class_of, record_of, record_at, records_at}
 use Rattle.ss_records.specs.Kept.{Kept, Formed, IsPermanent, state_of}
-use Rattle.ss_records.specs.Places.{Directory, class_at}
+use Rattle.ss_records.specs.Places.{Made, Directory, Lists, class_at}
 use Rattle.ss_records.proofs.Numbers.{length-with_word}
 use Rattle.ss_records.proofs.Same.{by_same}
 use Rattle.ss_records.proofs.Puts.{put_other, word_other, word_here, words_written, written_put}
 use Rattle.ss_records.proofs.ReadWords.{read_as, value_at, record_value, record_time}
-use Rattle.ss_records.proofs.Keeps.{kept_written, records_written}
+use Rattle.ss_records.proofs.Keeps.{kept_written, records_written, permanents_same, records_same, permanents_written}
 
 pub number_may : (w : Word) → IsNumber w → MayBeNumber w
 number_may blank h = absurd h
@@ -41,6 +41,16 @@ with_numbered : (s : State) (k : ClassKind) (c n : ℕ) (r : Record) → (IsPerm
 with_numbered s Permanent c n r h = absurd (h tt)
 with_numbered s Temporary c n r h = refl
 with_numbered s Notice c n r h = refl
+
+with_permanent : (s : State) (k : ClassKind) (c n : ℕ) (r : Record) → IsPermanent k → with_entity_of_kind s k c n r ≡ record s { permanents = slice_set s.permanents c (with_indexed (slice_get s.permanents c) n r) }
+with_permanent s Permanent c n r h = refl
+with_permanent s Temporary c n r h = absurd h
+with_permanent s Notice c n r h = absurd h
+
+pub get_row : (l : Layout) (cs : Cells) (ms : Made) (c : ℕ) (ps : List Place) → slice_get ms c ≡ Some (Some ps) → slice_get (map (records_at l cs) ms) c ≡ Some (Some (map (λ (q : Place). record_of l (words_at cs q.at)) ps))
+get_row l cs [] c ps h = cc
+get_row l cs (m ∷ ms) zero ps h = let e : m ≡ Some ps = cc in ap (λ o. Some (records_at l cs o)) e
+get_row l cs (m ∷ ms) (suc c) ps h = get_row l cs ms c ps h
 
 -- a block has room for its head
 pub head_room : (l : Layout) (c n : ℕ) (ws : List Word) → Formed l c n ws → links_start l c ≤ length ws
@@ -63,7 +73,7 @@ notice_inside [] c h = cc
 notice_inside (k ∷ ks) zero h = omega arith
 notice_inside (k ∷ ks) (suc c) h = omega (arith, notice_inside ks c h)
 
-module _ (l : Layout) (cs : Cells) (sys : Ptr) (d : Directory) (ms : List Members) (K : Kept l cs sys d ms) (i : ℕ) (p : Place) (g : slice_get d i ≡ Some (Some p)) where
+module _ (l : Layout) (cs : Cells) (sys : Ptr) (d : Directory) (ms : List Members) (K : Kept l cs sys d ms) (i : ℕ) (p : Place) (g : Lists d i p) where
   -- the number k of the head of the block is written
   module _ (k w : ℕ) (low : 2 ≤ k) (high : k < links_start l (class_at cs p)) where
     abbrev ds : Cells
@@ -90,16 +100,28 @@ module _ (l : Layout) (cs : Cells) (sys : Ptr) (d : Directory) (ms : List Member
     pub length_of_put : length ds ≡ length cs
     length_of_put = (written_put cs p.at k (number w)).count
 
-    pub state_put : (r : Record) → read_as l (class_at cs p) (with_word (words_at cs p.at) k (number w)) ≡ r → state_of l ds d ms ≡ record (state_of l cs d ms) { records = slice_set (map (record_at l cs) d) i (Some r) }
-    state_put r e =
-        let is : record_of l (words_at ds p.at) ≡ r = (λ t. read_as l (class_put t) (is_put t)) ∙ e in
-        ap (λ rs. record (state_of l cs d ms) { records = rs }) (records_written l cs sys d ms K ds i p g (written_put cs p.at k (number w)) class_put form_put links_put (Some r) (ap Some is))
+    module _ (r : Record) (e : read_as l (class_at cs p) (with_word (words_at cs p.at) k (number w)) ≡ r) where
+      read_put : record_of l (words_at ds p.at) ≡ r
+      read_put = (λ t. read_as l (class_put t) (is_put t)) ∙ e
+
+      pub state_put : slice_get d.numbers i ≡ Some (Some p) → state_of l ds d ms ≡ record (state_of l cs d ms) { records = slice_set (map (record_at l cs) d.numbers) i (Some r) }
+      state_put m =
+          let one = records_written l cs sys d ms K ds i p g (written_put cs p.at k (number w)) class_put form_put links_put m (Some r) (ap Some read_put) in
+          let two = permanents_same l cs sys d ms K ds i p g (written_put cs p.at k (number w)) class_put form_put links_put m in
+          λ t. record (state_of l cs d ms) { records = one t; permanents = two t }
+
+      pub state_made : (c : ℕ) (ps : List Place) → slice_get d.classes c ≡ Some (Some ps) → slice_get ps i ≡ Some p
+          → state_of l ds d ms ≡ record (state_of l cs d ms) { permanents = slice_set (map (records_at l cs) d.classes) c (Some (slice_set (map (λ (q : Place). record_of l (words_at cs q.at)) ps) i r)) }
+      state_made c ps m h =
+          let one = records_same l cs sys d ms K ds i p g (written_put cs p.at k (number w)) class_put form_put links_put c ps m h in
+          let two = permanents_written l cs sys d ms K ds i p g (written_put cs p.at k (number w)) class_put form_put links_put c ps m h r read_put in
+          λ t. record (state_of l cs d ms) { records = one t; permanents = two t }
 
   module _ (c : ℕ) (is : class_at cs p ≡ c) (x : ℤ) (at : x ≡ pos (suc i)) where
-    not_permanent : IsPermanent (kind_of l c) → ⊥
-    not_permanent = subst (λ b. IsPermanent (kind_of l b) → ⊥) is (K.kinds i p g)
-
     module _ (found : entity (state_of l cs d ms) c x ≡ Ok (record_of l (words_at cs p.at))) (f w : ℕ) (m : Mode) (v : Value) (mode : slice_get (modes_of l c) f ≡ Some m) (val : value_of m w ≡ v) where
+      abbrev new : Record
+      new = with_value (record_of l (words_at cs p.at)) f v
+
       field_in : 2 + f < links_start l (class_at cs p)
       field_in = rw is (omega (arith, get_inside (modes_of l c) f m mode))
 
@@ -118,10 +140,19 @@ module _ (l : Layout) (cs : Cells) (sys : Ptr) (d : Directory) (ms : List Member
           let value : read_as l (class_at cs p) (with_word ws (2 + f) (number w)) ≡ with_value (record_of l ws) f v =
           record_value l (class_at cs p) ws f w m v (subst (λ b. slice_get (modes_of l b) f ≡ Some m) (sym is) mode) val may_assign.0 (subst (λ b. f < length (modes_of l b)) (sym is) (get_inside (modes_of l c) f m mode)) in
           let n : number_in x - 1 ≡ i = ap (λ y. number_in y - 1) at ∙ omega arith in
-          ap (λ r. and_then r (λ r. Ok (with_entity (state_of l cs d ms) c (number_in x) (with_value r f v)))) found
-          ∙ ap Ok (with_numbered (state_of l cs d ms) (kind_of l c) c (number_in x) (with_value (record_of l ws) f v) not_permanent
-          ∙ ap (λ j. record (state_of l cs d ms) { records = slice_set (map (record_at l cs) d) j (Some (with_value (record_of l ws) f v)) }) n
-          ∙ sym (state_put (2 + f) w (omega arith) field_in (with_value (record_of l ws) f v) value))
+          ap (λ r. and_then r (λ r. Ok (with_entity (state_of l cs d ms) c (number_in x) (with_value r f v)))) found ∙ ap Ok (by_entry value n g) where
+            by_entry : read_as l (class_at cs p) (with_word (words_at cs p.at) (2 + f) (number w)) ≡ new → number_in x - 1 ≡ i → Lists d i p → with_entity (state_of l cs d ms) c (number_in x) new ≡ state_of l (put_word cs p.at (2 + f) (number w)) d ms
+            by_entry value n (inl m) =
+                with_numbered (state_of l cs d ms) (kind_of l c) c (number_in x) new (subst (λ b. IsPermanent (kind_of l b) → ⊥) is (K.kinds i p m))
+                ∙ ap (λ j. record (state_of l cs d ms) { records = slice_set (map (record_at l cs) d.numbers) j (Some new) }) n
+                ∙ sym (state_put (2 + f) w (omega arith) field_in new value m)
+            by_entry value n (inr (b, ps, m, h)) =
+                let y = K.made b ps m in let same : b ≡ c = sym (y.class i p h) ∙ is in
+                let row = get_row l cs d.classes c ps (subst (λ a. slice_get d.classes a ≡ Some (Some ps)) same m) in
+                with_permanent (state_of l cs d ms) (kind_of l c) c (number_in x) new (subst (λ a. IsPermanent (kind_of l a)) same y.permanent)
+                ∙ ap (λ o. record (state_of l cs d ms) { permanents = slice_set (map (records_at l cs) d.classes) c (with_indexed o (number_in x) new) }) row
+                ∙ ap (λ j. record (state_of l cs d ms) { permanents = slice_set (map (records_at l cs) d.classes) c (Some (slice_set (map (λ (q : Place). record_of l (words_at cs q.at)) ps) j new)) }) n
+                ∙ sym (state_made (2 + f) w (omega arith) field_in new value c ps (subst (λ a. slice_get d.classes a ≡ Some (Some ps)) same m) h)
 
     module _ (found : entity (state_of l cs d ms) c x ≡ Ok (record_of l (words_at cs p.at))) (f : ℕ) (m : Mode) (mode : slice_get (modes_of l c) f ≡ Some m) where
       pub value_number : IsNumber (word_at cs p.at (2 + f))
@@ -164,11 +195,11 @@ module _ (l : Layout) (cs : Cells) (sys : Ptr) (d : Directory) (ms : List Member
       pub length_timed : length (put_word cs p.at (values_end l (class_at cs p)) (number w)) ≡ length cs
       length_timed = length_of_put (values_end l (class_at cs p)) w (omega arith) time_in_head
 
-      pub is_set : timed (state_of l cs d ms) x t ≡ Ok (state_of l (put_word cs p.at (values_end l (class_at cs p)) (number w)) d ms)
-      is_set =
+      pub is_set : slice_get d.numbers i ≡ Some (Some p) → timed (state_of l cs d ms) x t ≡ Ok (state_of l (put_word cs p.at (values_end l (class_at cs p)) (number w)) d ms)
+      is_set m =
           let ws = words_at cs p.at in
           let value : read_as l (class_at cs p) (with_word ws (values_end l (class_at cs p)) (number w)) ≡ with_time (record_of l ws) t = record_time l (class_at cs p) ws w t is_timed val may_time.0 in
           let n : number_in x - 1 ≡ i = ap (λ y. number_in y - 1) at ∙ omega arith in
-          ap (λ r. and_then r (λ r. Ok (record (state_of l cs d ms) { records = slice_set (map (record_at l cs) d) (number_in x - 1) (Some (with_time r t)) }))) found
-          ∙ ap (λ j. Ok (record (state_of l cs d ms) { records = slice_set (map (record_at l cs) d) j (Some (with_time (record_of l ws) t)) })) n
-          ∙ ap Ok (sym (state_put (values_end l (class_at cs p)) w (omega arith) time_in_head (with_time (record_of l ws) t) value))
+          ap (λ r. and_then r (λ r. Ok (record (state_of l cs d ms) { records = slice_set (map (record_at l cs) d.numbers) (number_in x - 1) (Some (with_time r t)) }))) found
+          ∙ ap (λ j. Ok (record (state_of l cs d ms) { records = slice_set (map (record_at l cs) d.numbers) j (Some (with_time (record_of l ws) t)) })) n
+          ∙ ap Ok (sym (state_put (values_end l (class_at cs p)) w (omega arith) time_in_head (with_time (record_of l ws) t) value m))

@@ -11,18 +11,18 @@ use Rattle.ss_records.specs.Cells.{number, link, word_at}
 use Rattle.ss_records.specs.State.{State, and_then, members_of, contains, is_filed}
 use Rattle.ss_records.specs.Sets.{joiner, owner, put_before, put_after, less, with_list_of, put_in, put_beside, taken_out}
 use Rattle.ss_records.specs.Lists.{head0, last_or, succ, pred_from, In, NotIn, Distinct}
-use Rattle.ss_records.specs.Places.{numbered_at}
+use Rattle.ss_records.specs.Places.{entity_at}
 use Rattle.ss_records.specs.Links.{Leads}
 use Rattle.ss_records.specs.Slotted.{member_base, owner_base}
-use Rattle.ss_records.specs.Parts.{IsKept, Owns, Joins, Between, Around}
+use Rattle.ss_records.specs.Parts.{IsKept, places, Lies, Owns, Joins, Between, Around}
 use Rattle.ss_records.proofs.Splice.{cut, succ_cut, pred_cut, distinct_less, last_splice}
 use Rattle.ss_records.proofs.Filed.{get_there, contains_in}
 use Rattle.ss_records.proofs.Listed.{put_before_cut, put_after_cut, less_cut, not_in_front}
-use Rattle.ss_records.proofs.Leading.{To, leads, at_target, its_number, positive, first_to, last_to, next_to, prev_to}
+use Rattle.ss_records.proofs.Leading.{To, leads, at_target, its_number, its_members, positive, first_to, last_to, next_to, prev_to}
 
 module _ (r : Records) (K : IsKept r) (s : ℕ) (inside : s < length r.layout.sets.items) where
   abbrev at : ℕ → Ptr
-  at = numbered_at r.system.at r.directory.places
+  at = entity_at r.system.at (places r) (get_there r.layout.sets.items s inside).0.member
 
   abbrev f : ℕ → List ℕ
   f = members_of r.notes.lists s
@@ -30,19 +30,19 @@ module _ (r : Records) (K : IsKept r) (s : ℕ) (inside : s < length r.layout.se
   abbrev end : Entry
   end = record { place = r.system; number = 0 }
 
-  lies_there : (p : Ptr) (k n : ℕ) → To r.blocks.cells at p k n → (q : Entry) → word_at r.blocks.cells p k ≡ link q.place.at → word_at r.blocks.cells q.place.at 1 ≡ number q.number → (q.place.at ≡ at q.number) × (q.number ≡ n)
-  lies_there p k n h q w v = let e = its_number r.blocks.cells at p k n h q.place.at w q.number v in (at_target r.blocks.cells at p k n h q.place.at w ∙ ap at (sym e), e)
+  lies_there : (p : Ptr) (k n : ℕ) → To r.blocks.cells at p k n → (q : Entry) → word_at r.blocks.cells p k ≡ link q.place.at → word_at r.blocks.cells q.place.at 1 ≡ number q.number → (Lies r s q) × (q.number ≡ n)
+  lies_there p k n h q w v = let e = its_number r.blocks.cells at p k n h q.place.at w q.number v in (at_target r.blocks.cells at p k n h q.place.at w ∙ ap at (sym e) ∙ ap (λ c. entity_at r.system.at (places r) c q.number) (sym (its_members r.layout r.blocks.cells r.system.at (places r) r.notes.lists K s inside)), e)
 
   -- at the ends of a set
   module _ (e : Entry) (h : Owns r s e) (b : ℕ) (base : (u : SetLayout) → slice_get r.layout.sets.items s ≡ Some u → b ≡ owner_base r.layout s u) (q : Entry) where
     pub at_first : word_at r.blocks.cells e.place.at b ≡ link q.place.at → word_at r.blocks.cells q.place.at 1 ≡ number q.number → Between r s e.number end q [] (f e.number)
     at_first w v =
-        let l = lies_there e.place.at b _ (first_to r.layout r.blocks.cells r.system.at r.directory.places r.notes.lists K s inside e.place.at e.number h.lies h.may b base) q w v in
+        let l = lies_there e.place.at b _ (first_to r.layout r.blocks.cells r.system.at (places r) r.notes.lists K s inside e.place.at e.number h.lies h.may b base) q w v in
         record { list = refl; before = refl; last = refl; after = l.0; first = l.1 }
 
     pub at_last : word_at r.blocks.cells e.place.at (b + 1) ≡ link q.place.at → word_at r.blocks.cells q.place.at 1 ≡ number q.number → Between r s e.number q end (f e.number) []
     at_last w v =
-        let l = lies_there e.place.at (b + 1) _ (last_to r.layout r.blocks.cells r.system.at r.directory.places r.notes.lists K s inside e.place.at e.number h.lies h.may b base) q w v in
+        let l = lies_there e.place.at (b + 1) _ (last_to r.layout r.blocks.cells r.system.at (places r) r.notes.lists K s inside e.place.at e.number h.lies h.may b base) q w v in
         record { list = sym (append-nil (f e.number)); before = l.0; last = l.1; after = refl; first = refl }
 
   -- beside a member y
@@ -60,7 +60,7 @@ module _ (r : Records) (K : IsKept r) (s : ℕ) (inside : s < length r.layout.se
     ys = parts.1
 
     some : 0 ≡ y.number → ⊥
-    some = positive r.layout r.blocks.cells r.system.at r.directory.places r.notes.lists K s inside y.place.at y.number j.lies j.is b base
+    some = positive r.layout r.blocks.cells r.system.at (places r) r.notes.lists K s inside y.place.at y.number j.lies j.is b base
 
     apart : Distinct (xs ++ y.number ∷ ys)
     apart = let k = get_there r.layout.sets.items s inside in subst Distinct parts.2 ((K.names s k.0 k.1).distinct o)
@@ -69,10 +69,10 @@ module _ (r : Records) (K : IsKept r) (s : ℕ) (inside : s < length r.layout.se
     not_before = not_in_front y.number xs ys (distinct_less xs y.number ys apart).1
 
     next_there : To r.blocks.cells at y.place.at b (succ y.number (f o))
-    next_there = next_to r.layout r.blocks.cells r.system.at r.directory.places r.notes.lists K s inside y.place.at y.number j.lies j.is b base o here
+    next_there = next_to r.layout r.blocks.cells r.system.at (places r) r.notes.lists K s inside y.place.at y.number j.lies j.is b base o here
 
     prev_there : To r.blocks.cells at y.place.at (b + 1) (pred_from 0 y.number (f o))
-    prev_there = prev_to r.layout r.blocks.cells r.system.at r.directory.places r.notes.lists K s inside y.place.at y.number j.lies j.is b base o here
+    prev_there = prev_to r.layout r.blocks.cells r.system.at (places r) r.notes.lists K s inside y.place.at y.number j.lies j.is b base o here
 
     pub next_found : Leads r.blocks.cells y.place.at b
     next_found = leads r.blocks.cells at y.place.at b _ next_there
@@ -81,14 +81,14 @@ module _ (r : Records) (K : IsKept r) (s : ℕ) (inside : s < length r.layout.se
     prev_found = leads r.blocks.cells at y.place.at (b + 1) _ prev_there
 
     module _ (q : Entry) (w : word_at r.blocks.cells y.place.at b ≡ link q.place.at) (v : word_at r.blocks.cells q.place.at 1 ≡ number q.number) where
-      next_is : (q.place.at ≡ at q.number) × (q.number ≡ head0 ys)
+      next_is : (Lies r s q) × (q.number ≡ head0 ys)
       next_is = let l = lies_there y.place.at b _ next_there q w v in (l.0, l.1 ∙ ap (succ y.number) parts.2 ∙ succ_cut xs y.number ys some apart)
 
       pub after_it : Between r s o y q (xs ++ y.number ∷ []) ys
       after_it = record { list = parts.2 ∙ sym (append_assoc xs (y.number ∷ []) ys); before = j.lies; last = sym (last_splice 0 xs y.number []); after = next_is.0; first = next_is.1 }
 
     module _ (q : Entry) (w : word_at r.blocks.cells y.place.at (b + 1) ≡ link q.place.at) (v : word_at r.blocks.cells q.place.at 1 ≡ number q.number) where
-      prev_is : (q.place.at ≡ at q.number) × (q.number ≡ last_or 0 xs)
+      prev_is : (Lies r s q) × (q.number ≡ last_or 0 xs)
       prev_is = let l = lies_there y.place.at (b + 1) _ prev_there q w v in (l.0, l.1 ∙ ap (pred_from 0 y.number) parts.2 ∙ pred_cut xs y.number ys some apart)
 
       pub before_it : Between r s o q y xs (y.number ∷ ys)

@@ -12,11 +12,13 @@ use Rattle.ss_records.specs.declared.store.Place.{Place}
 use Rattle.ss_records.specs.Cells.{Word, Cells, words_at, put_word}
 use Rattle.ss_records.specs.State.{Members}
 use Rattle.ss_records.specs.Shape.{links_start, owned_start, block_words, joins, owned_by, same_owner, count_before, count_sets}
-use Rattle.ss_records.specs.Places.{Directory, place_in, numbered_at, class_at}
+use Rattle.ss_records.specs.Places.{Directory, listing, Lists, place_in, entity_at, owner_at, class_at}
 use Rattle.ss_records.specs.Kept.{Kept}
 use Rattle.ss_records.specs.Links.{Grounds, OfMember, OfOwner}
 use Rattle.ss_records.specs.Slotted.{member_base, owner_base, slots_of, is_entry, IsOf, MayOwn, OfName, Spares}
+use Rattle.ss_records.specs.Reading.{class_of}
 use Rattle.ss_records.proofs.Same.{same}
+use Rattle.ss_records.proofs.Listing.{listed, stands}
 use Rattle.ss_records.proofs.Puts.{put_other, length_put}
 use Rattle.ss_records.proofs.Count.{blocks_put}
 
@@ -80,60 +82,61 @@ lower s r n a b = by_less (ltb s r) refl where
   by_less true e = a (ltb-true s r e)
   by_less false e = b (omega (arith, n, ltb-false s r e))
 
-pub entry_of : (cs : Cells) (d : Directory) (c n : ℕ) → IsOf cs d c n → (i : ℕ) × (p : Place) × (n ≡ suc i) × (slice_get d i ≡ Some (Some p)) × (class_at cs p ≡ c)
+pub entry_of : (cs : Cells) (d : Directory) (c n : ℕ) → IsOf cs d c n → (i : ℕ) × (p : Place) × (n ≡ suc i) × (slice_get (listing d c) i ≡ Some (Some p)) × (class_at cs p ≡ c)
 entry_of cs d c zero h = absurd h
-entry_of cs d c (suc i) h = cases (slice_get d i) refl h where
-  cases : (o : Option (Option Place)) → slice_get d i ≡ o → is_entry cs c o → (j : ℕ) × (p : Place) × (suc i ≡ suc j) × (slice_get d j ≡ Some (Some p)) × (class_at cs p ≡ c)
+entry_of cs d c (suc i) h = cases (slice_get (listing d c) i) refl h where
+  cases : (o : Option (Option Place)) → slice_get (listing d c) i ≡ o → is_entry cs c o → (j : ℕ) × (p : Place) × (suc i ≡ suc j) × (slice_get (listing d c) j ≡ Some (Some p)) × (class_at cs p ≡ c)
   cases None e h = absurd h
   cases (Some None) e h = absurd h
   cases (Some (Some p)) e h = (i, p, refl, e, h)
 
-pub is_of : (cs : Cells) (d : Directory) (c i : ℕ) (p : Place) → slice_get d i ≡ Some (Some p) → class_at cs p ≡ c → IsOf cs d c (suc i)
+pub is_of : (cs : Cells) (d : Directory) (c i : ℕ) (p : Place) → slice_get (listing d c) i ≡ Some (Some p) → class_at cs p ≡ c → IsOf cs d c (suc i)
 is_of cs d c i p g e = subst (is_entry cs c) (sym g) e
 
 module _ (l : Layout) (cs : Cells) (sys : Ptr) (d : Directory) (ms : List Members) (K : Kept l cs sys d ms) where
-  abbrev at : ℕ → Ptr
-  at = numbered_at sys d
+  abbrev at : ℕ → ℕ → Ptr
+  at = entity_at sys d
 
-  pub at_entry : (n i : ℕ) (p : Place) → n ≡ suc i → slice_get d i ≡ Some (Some p) → at n ≡ p.at
-  at_entry n i p e g = ap at e ∙ ap place_in g
+  abbrev home : Owner → ℕ → Ptr
+  home = owner_at sys d
 
-  pub apart_of : (c b x y : ℕ) → IsOf cs d c x → IsOf cs d b y → at x ≡ at y → (x ≡ y) × (c ≡ b)
+  pub at_entry : (c n i : ℕ) (p : Place) → n ≡ suc i → slice_get (listing d c) i ≡ Some (Some p) → at c n ≡ p.at
+  at_entry c n i p e g = ap (at c) e ∙ ap place_in g
+
+  pub apart_of : (c b x y : ℕ) → IsOf cs d c x → IsOf cs d b y → at c x ≡ at b y → (x ≡ y) × (c ≡ b)
   apart_of c b x y h k z =
       let a = entry_of cs d c x h in let e = entry_of cs d b y k in
-      let i : a.0 ≡ e.0 = K.apart a.0 e.0 a.1 e.1 a.3 e.3 (sym (at_entry x a.0 a.1 a.2 a.3) ∙ z ∙ at_entry y e.0 e.1 e.2 e.3) in
-      let p : a.1 ≡ e.1 = same_place (sym a.3 ∙ ap (slice_get d) i ∙ e.3) in
-      (a.2 ∙ ap suc i ∙ sym e.2, sym a.4 ∙ ap (class_at cs) p ∙ e.4) where
-        same_place : {p q : Place} → Some (Some p) ≡ Some (Some q) → p ≡ q
-        same_place e = cc
+      let q = sym (at_entry c x a.0 a.1 a.2 a.3) ∙ z ∙ at_entry b y e.0 e.1 e.2 e.3 in
+      let i : a.0 ≡ e.0 = K.apart a.0 e.0 a.1 e.1 (listed d c a.0 a.1 a.3) (listed d b e.0 e.1 e.3) q in
+      (a.2 ∙ ap suc i ∙ sym e.2, sym a.4 ∙ ap (λ (r : Ptr). class_of (words_at cs r)) q ∙ e.4)
 
-  pub off_end : (c x : ℕ) → IsOf cs d c x → at x ≡ sys → ⊥
-  off_end c x h z = let a = entry_of cs d c x h in K.off_system a.0 a.1 a.3 (sym (at_entry x a.0 a.1 a.2 a.3) ∙ z)
+  pub off_end : (c x : ℕ) → IsOf cs d c x → at c x ≡ sys → ⊥
+  off_end c x h z = let a = entry_of cs d c x h in K.off_system a.0 a.1 (listed d c a.0 a.1 a.3) (sym (at_entry c x a.0 a.1 a.2 a.3) ∙ z)
 
-  pub size_of : (c x : ℕ) → IsOf cs d c x → length (words_at cs (at x)) ≡ block_words l (Class c)
-  size_of c x h = let a = entry_of cs d c x h in ap (λ q. length (words_at cs q)) (at_entry x a.0 a.1 a.2 a.3) ∙ (K.formed a.0 a.1 a.3).size ∙ ap (λ b. block_words l (Class b)) a.4
+  pub size_of : (c x : ℕ) → IsOf cs d c x → length (words_at cs (at c x)) ≡ block_words l (Class c)
+  size_of c x h = let a = entry_of cs d c x h in ap (λ q. length (words_at cs q)) (at_entry c x a.0 a.1 a.2 a.3) ∙ (K.formed a.0 a.1 (listed d c a.0 a.1 a.3)).size ∙ ap (λ b. block_words l (Class b)) a.4
 
-  own_size : (o : Owner) (x : ℕ) → MayOwn cs d o x → length (words_at cs (at x)) ≡ block_words l o
-  own_size System x h = ap (λ n. length (words_at cs (at n))) h ∙ K.system
+  own_size : (o : Owner) (x : ℕ) → MayOwn cs d o x → length (words_at cs (home o x)) ≡ block_words l o
+  own_size System x h = K.system
   own_size (Class c) x h = size_of c x h
 
-  own_apart : (o : Owner) (x y : ℕ) → MayOwn cs d o x → MayOwn cs d o y → at x ≡ at y → x ≡ y
+  own_apart : (o : Owner) (x y : ℕ) → MayOwn cs d o x → MayOwn cs d o y → home o x ≡ home o y → x ≡ y
   own_apart System x y h k z = h ∙ sym k
   own_apart (Class c) x y h k z = (apart_of c c x y h k z).0
 
   -- a member's word is no owner's word
-  crossed_by : (c k j x y : ℕ) (o : Owner) → k < owned_start l (Class c) → owned_start l o ≤ j → IsOf cs d c x → MayOwn cs d o y → at x ≡ at y → k ≡ j → ⊥
-  crossed_by c k j x y System a b h m z e = off_end c x h (z ∙ ap at m)
+  crossed_by : (c k j x y : ℕ) (o : Owner) → k < owned_start l (Class c) → owned_start l o ≤ j → IsOf cs d c x → MayOwn cs d o y → at c x ≡ home o y → k ≡ j → ⊥
+  crossed_by c k j x y System a b h m z e = off_end c x h z
   crossed_by c k j x y (Class f) a b h m z e = let q = (apart_of c f x y h m z).1 in omega (arith, a, subst (λ n. owned_start l (Class n) ≤ j) (sym q) b, e)
 
-  owners_same : (o u : Owner) (x y : ℕ) → MayOwn cs d o x → MayOwn cs d u y → at x ≡ at y → o ≡ u
+  owners_same : (o u : Owner) (x y : ℕ) → MayOwn cs d o x → MayOwn cs d u y → home o x ≡ home u y → o ≡ u
   owners_same System System x y h k z = refl
-  owners_same System (Class c) x y h k z = absurd (off_end c y k (sym z ∙ ap at h))
-  owners_same (Class c) System x y h k z = absurd (off_end c x h (z ∙ ap at k))
+  owners_same System (Class c) x y h k z = absurd (off_end c y k (sym z))
+  owners_same (Class c) System x y h k z = absurd (off_end c x h z)
   owners_same (Class c) (Class e) x y h k z = ap Class (apart_of c e x y h k z).1
 
   module _ (s : ℕ) (t : SetLayout) (g : slice_get l.sets.items s ≡ Some t) where
-    pub grounds : Grounds (slots_of l s t) cs at at (IsOf cs d t.member) (MayOwn cs d t.owner)
+    pub grounds : Grounds (slots_of l s t) cs (at t.member) (home t.owner) (IsOf cs d t.member) (MayOwn cs d t.owner)
     grounds = record {
       members_apart = λ x y h k z. (apart_of t.member t.member x y h k z).0;
       owners_apart = λ x y h k z. own_apart t.owner x y h k z;
@@ -149,22 +152,22 @@ module _ (l : Layout) (cs : Cells) (sys : Ptr) (d : Directory) (ms : List Member
     }
 
     -- no word of the name is in a block's head
-    pub above_head : (i : ℕ) (p : Place) (k : ℕ) → slice_get d i ≡ Some (Some p) → k < links_start l (class_at cs p) → OfName l cs sys d s t p.at k → ⊥
+    pub above_head : (i : ℕ) (p : Place) (k : ℕ) → Lists d i p → k < links_start l (class_at cs p) → OfName l cs sys d s t p.at k → ⊥
     above_head i p k h small (inl m) =
-        let q = (apart_of (class_at cs p) t.member (suc i) m.0 (is_of cs d (class_at cs p) i p h refl) m.1 (ap place_in h ∙ m.2)).1 in
+        let q = (apart_of (class_at cs p) t.member (suc i) m.0 (is_of cs d (class_at cs p) i p (stands l cs sys d ms K i p h) refl) m.1 (ap place_in (stands l cs sys d ms K i p h) ∙ m.2)).1 in
         omega (arith, small, subst (λ c. links_start l c ≤ k) (sym q) (member_inside l s t k g m.3).0)
-    above_head i p k h small (inr m) = by_owner t.owner m.1 (owner_inside l s t k g m.3).0 where
-      by_owner : (o : Owner) → MayOwn cs d o m.0 → owned_start l o ≤ k → ⊥
-      by_owner System a b = K.off_system i p h (m.2 ∙ ap at a)
-      by_owner (Class c) a b = let q = (apart_of (class_at cs p) c (suc i) m.0 (is_of cs d (class_at cs p) i p h refl) a (ap place_in h ∙ m.2)).1 in
+    above_head i p k h small (inr m) = by_owner t.owner m.1 m.2 (owner_inside l s t k g m.3).0 where
+      by_owner : (o : Owner) → MayOwn cs d o m.0 → p.at ≡ home o m.0 → owned_start l o ≤ k → ⊥
+      by_owner System a z b = K.off_system i p h z
+      by_owner (Class c) a z b = let q = (apart_of (class_at cs p) c (suc i) m.0 (is_of cs d (class_at cs p) i p (stands l cs sys d ms K i p h) refl) a (ap place_in (stands l cs sys d ms K i p h) ∙ z)).1 in
           omega (arith, small, subst (λ n. owned_start l (Class n) ≤ k) (sym q) b)
 
     pub above_end : (k : ℕ) → k < 2 → OfName l cs sys d s t sys k → ⊥
     above_end k small (inl m) = off_end t.member m.0 m.1 (sym m.2)
-    above_end k small (inr m) = by_owner t.owner m.1 (owner_inside l s t k g m.3).0 where
-      by_owner : (o : Owner) → MayOwn cs d o m.0 → owned_start l o ≤ k → ⊥
-      by_owner System a b = omega (arith, small, b)
-      by_owner (Class c) a b = off_end c m.0 a (sym m.2)
+    above_end k small (inr m) = by_owner t.owner m.1 m.2 (owner_inside l s t k g m.3).0 where
+      by_owner : (o : Owner) → MayOwn cs d o m.0 → sys ≡ home o m.0 → owned_start l o ≤ k → ⊥
+      by_owner System a z b = omega (arith, small, b)
+      by_owner (Class c) a z b = off_end c m.0 a (sym z)
 
     pub names_apart : (r : ℕ) (u : SetLayout) (q : Ptr) (k : ℕ) → slice_get l.sets.items r ≡ Some u → (s ≡ r → ⊥) → OfName l cs sys d s t q k → OfName l cs sys d r u q k → ⊥
     names_apart r u q k h n (inl a) (inl b) =

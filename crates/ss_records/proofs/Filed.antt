@@ -8,12 +8,13 @@ use Rattle.ss_base.specs.declared.layout.SetLayout.{SetLayout}
 use Rattle.ss_base.specs.declared.layout.Layout.{Layout}
 use Rattle.ss_records.specs.Cells.{number, link, Cells, word_at}
 use Rattle.ss_records.specs.State.{Members, members_of, contains, owner_among, owner_of, is_filed, has_members, in_a_set, owns_members, is_owner_class}
-use Rattle.ss_records.specs.Places.{Directory, place_in, numbered_at}
+use Rattle.ss_records.specs.Places.{Directory, place_in, entity_at, owner_at}
 use Rattle.ss_records.specs.Kept.{Kept}
 use Rattle.ss_records.specs.Lists.{succ, In, NotIn}
-use Rattle.ss_records.specs.Slotted.{slots_of, IsOf}
+use Rattle.ss_records.specs.Slotted.{slots_of, IsOf, MayOwn}
 use Rattle.ss_records.proofs.Same.{same, differs, by_same}
 use Rattle.ss_records.proofs.Splice.{not_and_in, succ_is, succ_differs}
+use Rattle.ss_records.proofs.Listing.{listed}
 use Rattle.ss_records.proofs.Disjoint.{entry_of}
 
 pub contains_in : (l : List ℕ) (x : ℕ) → contains l x ≡ true → In x l
@@ -76,16 +77,21 @@ filed_or_not ms s x = by_case (owner_of ms s x) refl where
   by_case None e = inr (e, (λ o. elim (owner_none ms ms s x o e) as (λ _. NotIn x (members_of ms s o)) [ inl y ↦ subst (NotIn x) (sym y) tt | inr y ↦ contains_not (members_of ms s o) x y ]))
 
 module _ (l : Layout) (cs : Cells) (sys : Ptr) (d : Directory) (ms : List Members) (K : Kept l cs sys d ms) where
-  abbrev at : ℕ → Ptr
-  at = numbered_at sys d
-
   -- the number in the block of an entity, or of the end
-  pub number_at : (c n : ℕ) → (n ≡ 0) ⊎ IsOf cs d c n → word_at cs (at n) 1 ≡ number n
-  number_at c n (inl e) = (λ z. word_at cs (at (e z)) 1) ∙ K.end ∙ ap number (sym e)
-  number_at c n (inr h) = let a = entry_of cs d c n h in let q : at n ≡ a.1.at = ap at a.2 ∙ ap place_in a.3 in
-      (λ z. word_at cs (q z) 1) ∙ (K.formed a.0 a.1 a.3).number ∙ ap number (sym a.2)
+  pub number_at : (c n : ℕ) → (n ≡ 0) ⊎ IsOf cs d c n → word_at cs (entity_at sys d c n) 1 ≡ number n
+  number_at c n (inl e) = (λ z. word_at cs (entity_at sys d c (e z)) 1) ∙ K.end ∙ ap number (sym e)
+  number_at c n (inr h) = let a = entry_of cs d c n h in let q : entity_at sys d c n ≡ a.1.at = ap (entity_at sys d c) a.2 ∙ ap place_in a.3 in
+      (λ z. word_at cs (q z) 1) ∙ (K.formed a.0 a.1 (listed d c a.0 a.1 a.3)).number ∙ ap number (sym a.2)
+
+  -- the number in the block of an owner
+  pub owner_number_at : (o : Owner) (n : ℕ) → MayOwn cs d o n → word_at cs (owner_at sys d o n) 1 ≡ number n
+  owner_number_at System n h = K.end ∙ ap number (sym h)
+  owner_number_at (Class c) n h = number_at c n (inr h)
 
   module _ (s : ℕ) (t : SetLayout) (g : slice_get l.sets.items s ≡ Some t) (x : ℕ) (h : IsOf cs d t.member x) where
+    abbrev at : ℕ → Ptr
+    at = entity_at sys d t.member
+
     abbrev f : ℕ → List ℕ
     f = members_of ms s
 

@@ -9,11 +9,11 @@ use Rattle.ss_records.specs.Cells.{Cells, Memory, IsLink, IsCounter, word_at}
 use Rattle.ss_records.specs.State.{Members, members_of, contains, is_filed, with_members}
 use Rattle.ss_records.specs.Sets.{member_in, owner_in, put_before, less, with_list_of}
 use Rattle.ss_records.specs.Lists.{head0, last_or, In, NotIn, Distinct}
-use Rattle.ss_records.specs.Places.{numbered_at}
+use Rattle.ss_records.specs.Places.{entity_at, owner_at}
 use Rattle.ss_records.specs.Kept.{Kept, state_of}
 use Rattle.ss_records.specs.Links.{linked_in, unlinked_in, slots_at}
 use Rattle.ss_records.specs.Slotted.{slots_of, member_base, owner_base, IsOf, MayOwn}
-use Rattle.ss_records.specs.Parts.{IsKept, state, held, Owns, Joins, Between, Around}
+use Rattle.ss_records.specs.Parts.{IsKept, state, places, held, Lies, Owns, Joins, Between, Around}
 use Rattle.ss_records.proofs.Same.{by_same, false_is_not_true}
 use Rattle.ss_records.proofs.Splice.{not_in, not_and_in, before_in, after_in, in_left, in_mid, distinct_less}
 use Rattle.ss_records.proofs.Filed.{above_zero, get_there, not_filed_in, contains_in, in_contains}
@@ -65,7 +65,10 @@ module _ (r : Records) (K : IsKept r) (s : ℕ) (inside : s < length r.layout.se
   cs = r.blocks.cells
 
   abbrev at : ℕ → Ptr
-  at = numbered_at r.system.at r.directory.places
+  at = entity_at r.system.at (places r) (get_there r.layout.sets.items s inside).0.member
+
+  abbrev home : ℕ → Ptr
+  home = owner_at r.system.at (places r) (get_there r.layout.sets.items s inside).0.owner
 
   abbrev f : ℕ → List ℕ
   f = members_of r.notes.lists s
@@ -79,39 +82,45 @@ module _ (r : Records) (K : IsKept r) (s : ℕ) (inside : s < length r.layout.se
   g : slice_get r.layout.sets.items s ≡ Some t
   g = (get_there r.layout.sets.items s inside).1
 
-  lo : MayOwn cs r.directory.places t.owner o
-  lo = subst (λ u. MayOwn cs r.directory.places u o) (ap owner_in g) h.may
+  lo : MayOwn cs (places r) t.owner o
+  lo = subst (λ u. MayOwn cs (places r) u o) (ap owner_in g) h.may
+
+  its_home : e.place.at ≡ home o
+  its_home = h.lies ∙ ap (λ u. owner_at r.system.at (places r) u o) (ap owner_in g)
+
+  its_place : (z : Entry) → Lies r s z → z.place.at ≡ at z.number
+  its_place z lies = lies ∙ ap (λ c. entity_at r.system.at (places r) c z.number) (ap member_in g)
 
   pub owner_words : IsLink (word_at cs e.place.at b) × IsLink (word_at cs e.place.at (b + 1)) × IsCounter (word_at cs e.place.at (b + 2))
   owner_words = (
-    is_link cs at e.place.at b _ (first_to r.layout cs r.system.at r.directory.places r.notes.lists K s inside e.place.at o h.lies h.may b ob),
-    is_link cs at e.place.at (b + 1) _ (last_to r.layout cs r.system.at r.directory.places r.notes.lists K s inside e.place.at o h.lies h.may b ob),
-    is_counter r.layout cs r.system.at r.directory.places r.notes.lists K s inside e.place.at o h.lies h.may b ob,
+    is_link cs at e.place.at b _ (first_to r.layout cs r.system.at (places r) r.notes.lists K s inside e.place.at o h.lies h.may b ob),
+    is_link cs at e.place.at (b + 1) _ (last_to r.layout cs r.system.at (places r) r.notes.lists K s inside e.place.at o h.lies h.may b ob),
+    is_counter r.layout cs r.system.at (places r) r.notes.lists K s inside e.place.at o h.lies h.may b ob,
   )
 
   -- a member of the set has links
-  module _ (z : Entry) (lies : z.place.at ≡ at z.number) (inn : In z.number (f o)) where
-    of_it : IsOf cs r.directory.places t.member z.number
+  module _ (z : Entry) (lies : Lies r s z) (inn : In z.number (f o)) where
+    of_it : IsOf cs (places r) t.member z.number
     of_it = ((K.names s t g).members o z.number inn).0
 
-    its : IsOf cs r.directory.places (member_in (slice_get r.layout.sets.items s)) z.number
-    its = subst (λ c. IsOf cs r.directory.places c z.number) (sym (ap member_in g)) of_it
+    its : IsOf cs (places r) (member_in (slice_get r.layout.sets.items s)) z.number
+    its = subst (λ c. IsOf cs (places r) c z.number) (sym (ap member_in g)) of_it
 
     pub next_link : IsLink (word_at cs z.place.at m)
-    next_link = is_link cs at z.place.at m _ (next_to r.layout cs r.system.at r.directory.places r.notes.lists K s inside z.place.at z.number lies its m mb o inn)
+    next_link = is_link cs at z.place.at m _ (next_to r.layout cs r.system.at (places r) r.notes.lists K s inside z.place.at z.number lies its m mb o inn)
 
     pub prev_link : IsLink (word_at cs z.place.at (m + 1))
-    prev_link = is_link cs at z.place.at (m + 1) _ (prev_to r.layout cs r.system.at r.directory.places r.notes.lists K s inside z.place.at z.number lies its m mb o inn)
+    prev_link = is_link cs at z.place.at (m + 1) _ (prev_to r.layout cs r.system.at (places r) r.notes.lists K s inside z.place.at z.number lies its m mb o inn)
 
     pub owner_link : IsLink (word_at cs z.place.at (m + 2))
-    owner_link = is_link cs at z.place.at (m + 2) _ (owner_to r.layout cs r.system.at r.directory.places r.notes.lists K s inside z.place.at z.number lies its m mb o inn)
+    owner_link = is_link cs home z.place.at (m + 2) _ (owner_to r.layout cs r.system.at (places r) r.notes.lists K s inside z.place.at z.number lies its m mb o inn)
 
   module _ (j : Joins r s x) where
-    lx : IsOf cs r.directory.places t.member x.number
-    lx = subst (λ c. IsOf cs r.directory.places c x.number) (ap member_in g) j.is
+    lx : IsOf cs (places r) t.member x.number
+    lx = subst (λ c. IsOf cs (places r) c x.number) (ap member_in g) j.is
 
     some : 0 ≡ x.number → ⊥
-    some = above_zero r.layout cs r.system.at r.directory.places r.notes.lists K s t g x.number lx
+    some = above_zero r.layout cs r.system.at (places r) r.notes.lists K s t g x.number lx
 
     none0 : (l : List ℕ) → f o ≡ l → NotIn 0 l
     none0 l w = not_in 0 l (λ i. ((K.names s t g).members o 0 (subst (In 0) (sym w) i)).1 refl)
@@ -123,9 +132,9 @@ module _ (r : Records) (K : IsKept r) (s : ℕ) (inside : s < length r.layout.se
 
       pub member_words : IsLink (word_at cs x.place.at m) × IsLink (word_at cs x.place.at (m + 1)) × IsLink (word_at cs x.place.at (m + 2))
       member_words = (
-        is_link cs at x.place.at m _ (next_self r.layout cs r.system.at r.directory.places r.notes.lists K s inside x.place.at x.number j.lies j.is m mb out),
-        is_link cs at x.place.at (m + 1) _ (prev_self r.layout cs r.system.at r.directory.places r.notes.lists K s inside x.place.at x.number j.lies j.is m mb out),
-        is_link cs at x.place.at (m + 2) _ (owner_self r.layout cs r.system.at r.directory.places r.notes.lists K s inside x.place.at x.number j.lies j.is m mb out),
+        is_link cs at x.place.at m _ (next_self r.layout cs r.system.at (places r) r.notes.lists K s inside x.place.at x.number j.lies j.is m mb out),
+        is_link cs at x.place.at (m + 1) _ (prev_self r.layout cs r.system.at (places r) r.notes.lists K s inside x.place.at x.number j.lies j.is m mb out),
+        is_link cs at x.place.at (m + 2) _ (owner_self r.layout cs r.system.at (places r) r.notes.lists K s inside x.place.at x.number j.lies j.is m mb out),
       )
 
       module _ (a z : Entry) (xs ys : List ℕ) (w : Between r s o a z xs ys) where
@@ -145,14 +154,14 @@ module _ (r : Records) (K : IsKept r) (s : ℕ) (inside : s < length r.layout.se
           abbrev ds : Cells
           ds = linked_in (slots_at m b) cs e.place.at a.place.at (a.number == 0) x.place.at z.place.at (z.number == 0) n
 
-          cells_are : ds ≡ linked_in (slots_of r.layout s t) cs (at o) (at (last_or 0 xs)) (last_or 0 xs == 0) (at x.number) (at (head0 ys)) (head0 ys == 0) (length (f o))
-          cells_are = λ i. linked_in (slots_at (mb t g i) (ob t g i)) cs (h.lies i) ((w.before ∙ ap at w.last) i) (w.last i == 0) (j.lies i) ((w.after ∙ ap at w.first) i) (w.first i == 0) (count i)
+          cells_are : ds ≡ linked_in (slots_of r.layout s t) cs (home o) (at (last_or 0 xs)) (last_or 0 xs == 0) (at x.number) (at (head0 ys)) (head0 ys == 0) (length (f o))
+          cells_are = λ i. linked_in (slots_at (mb t g i) (ob t g i)) cs (its_home i) ((its_place a w.before ∙ ap at w.last) i) (w.last i == 0) (its_place x j.lies i) ((its_place z w.after ∙ ap at w.first) i) (w.first i == 0) (count i)
 
-          pub kept_in : Kept r.layout ds r.system.at r.directory.places (with_members r.notes.lists s o (put_before z.number x.number (f o)))
-          kept_in = rw (cells_are, list_is) (kept_linked r.layout cs r.system.at r.directory.places r.notes.lists K s t g o x.number xs ys lo lx some w.list out)
+          pub kept_in : Kept r.layout ds r.system.at (places r) (with_members r.notes.lists s o (put_before z.number x.number (f o)))
+          kept_in = rw (cells_are, list_is) (kept_linked r.layout cs r.system.at (places r) r.notes.lists K s t g o x.number xs ys lo lx some w.list out)
 
-          pub state_in : state_of r.layout ds r.directory.places (with_members r.notes.lists s o (put_before z.number x.number (f o))) ≡ with_list_of (state r) s o (xs ++ x.number ∷ ys)
-          state_in = rw (cells_are, list_is) (state_linked r.layout cs r.system.at r.directory.places r.notes.lists K s t g o x.number xs ys lo lx some w.list out)
+          pub state_in : state_of r.layout ds (places r) (with_members r.notes.lists s o (put_before z.number x.number (f o))) ≡ with_list_of (state r) s o (xs ++ x.number ∷ ys)
+          state_in = rw (cells_are, list_is) (state_linked r.layout cs r.system.at (places r) r.notes.lists K s t g o x.number xs ys lo lx some w.list out)
 
     -- out of the set
     module _ (a z : Entry) (xs ys : List ℕ) (w : Around r s o x.number a z xs ys) where
@@ -184,11 +193,11 @@ module _ (r : Records) (K : IsKept r) (s : ℕ) (inside : s < length r.layout.se
         abbrev es : Cells
         es = unlinked_in (slots_at m b) cs e.place.at a.place.at (a.number == 0) x.place.at z.place.at (z.number == 0) n
 
-        cells_are' : es ≡ unlinked_in (slots_of r.layout s t) cs (at o) (at (last_or 0 xs)) (last_or 0 xs == 0) (at x.number) (at (head0 ys)) (head0 ys == 0) (length (f o))
-        cells_are' = λ i. unlinked_in (slots_at (mb t g i) (ob t g i)) cs (h.lies i) ((w.before ∙ ap at w.last) i) (w.last i == 0) (j.lies i) ((w.after ∙ ap at w.first) i) (w.first i == 0) (count i)
+        cells_are' : es ≡ unlinked_in (slots_of r.layout s t) cs (home o) (at (last_or 0 xs)) (last_or 0 xs == 0) (at x.number) (at (head0 ys)) (head0 ys == 0) (length (f o))
+        cells_are' = λ i. unlinked_in (slots_at (mb t g i) (ob t g i)) cs (its_home i) ((its_place a w.before ∙ ap at w.last) i) (w.last i == 0) (its_place x j.lies i) ((its_place z w.after ∙ ap at w.first) i) (w.first i == 0) (count i)
 
-        pub kept_out : Kept r.layout es r.system.at r.directory.places (with_members r.notes.lists s o (less x.number (f o)))
-        kept_out = rw (cells_are', list_is') (kept_unlinked r.layout cs r.system.at r.directory.places r.notes.lists K s t g o x.number xs ys lo w.list)
+        pub kept_out : Kept r.layout es r.system.at (places r) (with_members r.notes.lists s o (less x.number (f o)))
+        kept_out = rw (cells_are', list_is') (kept_unlinked r.layout cs r.system.at (places r) r.notes.lists K s t g o x.number xs ys lo w.list)
 
-        pub state_out : state_of r.layout es r.directory.places (with_members r.notes.lists s o (less x.number (f o))) ≡ with_list_of (state r) s o (xs ++ ys)
-        state_out = rw (cells_are', list_is') (state_unlinked r.layout cs r.system.at r.directory.places r.notes.lists K s t g o x.number xs ys lo w.list)
+        pub state_out : state_of r.layout es (places r) (with_members r.notes.lists s o (less x.number (f o))) ≡ with_list_of (state r) s o (xs ++ ys)
+        state_out = rw (cells_are', list_is') (state_unlinked r.layout cs r.system.at (places r) r.notes.lists K s t g o x.number xs ys lo w.list)

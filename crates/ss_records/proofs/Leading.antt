@@ -10,16 +10,17 @@ use Rattle.ss_records.specs.Cells.{Word, number, counter, link, Cells, IsLink, I
 use Rattle.ss_records.specs.State.{Members, members_of, owner_of, is_filed}
 use Rattle.ss_records.specs.Sets.{member_in, owner_in, member_class, owner_kind, follower, precursor, members_by, companions}
 use Rattle.ss_records.specs.Reading.{plain}
-use Rattle.ss_records.specs.Places.{Directory, numbered_at}
+use Rattle.ss_records.specs.Places.{Directory, listing, entity_at, owner_at}
 use Rattle.ss_records.specs.Kept.{Kept}
 use Rattle.ss_records.specs.Lists.{head0, last_or, succ, pred_from, In, NotIn}
 use Rattle.ss_records.specs.Links.{Leads}
 use Rattle.ss_records.specs.Slotted.{member_base, owner_base, IsOf, MayOwn}
 use Rattle.ss_records.proofs.Same.{by_same}
 use Rattle.ss_records.proofs.Assigns.{get_inside}
+use Rattle.ss_records.proofs.Listing.{not_many}
 use Rattle.ss_records.proofs.Splice.{head_is, last_is, succ_is, pred_is, succ_differs}
 use Rattle.ss_records.proofs.Disjoint.{entry_of}
-use Rattle.ss_records.proofs.Filed.{number_at, above_zero, filed_or_not, get_there}
+use Rattle.ss_records.proofs.Filed.{number_at, owner_number_at, above_zero, filed_or_not, get_there}
 use Rattle.ss_records.proofs.Listed.{follower_is, precursor_is, pred_differs, few}
 
 pub link_same : {p q : Ptr} → link p ≡ link q → p ≡ q
@@ -55,9 +56,6 @@ module _ (cs : Cells) (at : ℕ → Ptr) (p : Ptr) (k n : ℕ) (h : To cs at p k
     its_number v e = ap plain (sym e ∙ (λ i. word_at cs (at_target i) 1) ∙ h.there)
 
 module _ (l : Layout) (cs : Cells) (sys : Ptr) (d : Directory) (ms : List Members) (K : Kept l cs sys d ms) (s : ℕ) (inside : s < length l.sets.items) where
-  abbrev at : ℕ → Ptr
-  at = numbered_at sys d
-
   abbrev f : ℕ → List ℕ
   f = members_of ms s
 
@@ -66,6 +64,12 @@ module _ (l : Layout) (cs : Cells) (sys : Ptr) (d : Directory) (ms : List Member
 
   pub g : slice_get l.sets.items s ≡ Some t
   g = (get_there l.sets.items s inside).1
+
+  abbrev at : ℕ → Ptr
+  at = entity_at sys d t.member
+
+  abbrev home : ℕ → Ptr
+  home = owner_at sys d t.owner
 
   pub its_members : member_class l s ≡ t.member
   its_members = ap member_in g
@@ -82,7 +86,7 @@ module _ (l : Layout) (cs : Cells) (sys : Ptr) (d : Directory) (ms : List Member
 
   pub small_of : (c n : ℕ) → (n ≡ 0) ⊎ IsOf cs d c n → n < 2 ^ 62
   small_of c n (inl e) = omega (arith, e)
-  small_of c n (inr h) = let a = entry_of cs d c n h in let i = get_inside d a.0 (Some a.1) a.3 in omega (arith, i, a.2, K.issued)
+  small_of c n (inr h) = let a = entry_of cs d c n h in let i = get_inside (listing d c) a.0 (Some a.1) a.3 in omega (arith, i, a.2, not_many l cs sys d ms K c)
 
   pub zero_or : (o n : ℕ) → (n ≡ 0) ⊎ In n (f o) → (n ≡ 0) ⊎ IsOf cs d t.member n
   zero_or o n h = elim h as (λ _. (n ≡ 0) ⊎ IsOf cs d t.member n) [ inl e ↦ inl e | inr i ↦ inr ((K.names s t g).members o n i).0 ]
@@ -90,23 +94,26 @@ module _ (l : Layout) (cs : Cells) (sys : Ptr) (d : Directory) (ms : List Member
   to_member : (p : Ptr) (k n : ℕ) → word_at cs p k ≡ link (at n) → (n ≡ 0) ⊎ IsOf cs d t.member n → To cs at p k n
   to_member p k n w h = record { word = w; there = number_at l cs sys d ms K t.member n h; small = small_of t.member n h }
 
-  own_or : (u : Owner) (n : ℕ) → MayOwn cs d u n → (c : ℕ) × ((n ≡ 0) ⊎ IsOf cs d c n)
-  own_or System n h = (0, inl h)
-  own_or (Class c) n h = (c, inr h)
+  small_owner : (u : Owner) (n : ℕ) → MayOwn cs d u n → n < 2 ^ 62
+  small_owner System n h = small_of 0 n (inl h)
+  small_owner (Class c) n h = small_of c n (inr h)
 
   -- the words of an owner
-  module _ (p : Ptr) (n : ℕ) (lies : p ≡ at n) (may : MayOwn cs d (owner_kind l s) n) (b : ℕ) (base : InOwner b) where
+  module _ (p : Ptr) (n : ℕ) (lies : p ≡ owner_at sys d (owner_kind l s) n) (may : MayOwn cs d (owner_kind l s) n) (b : ℕ) (base : InOwner b) where
+    there : p ≡ home n
+    there = lies ∙ ap (λ u. owner_at sys d u n) its_owner
+
     pub owns : MayOwn cs d t.owner n
     owns = subst (λ u. MayOwn cs d u n) its_owner may
 
     pub first_to : To cs at p b (head0 (f n))
-    first_to = to_member p b (head0 (f n)) ((λ i. word_at cs (lies i) (base t g i)) ∙ (K.names s t g).first n owns) (zero_or n (head0 (f n)) (head_is (f n)))
+    first_to = to_member p b (head0 (f n)) ((λ i. word_at cs (there i) (base t g i)) ∙ (K.names s t g).first n owns) (zero_or n (head0 (f n)) (head_is (f n)))
 
     pub last_to : To cs at p (b + 1) (last_or 0 (f n))
-    last_to = to_member p (b + 1) (last_or 0 (f n)) ((λ i. word_at cs (lies i) (base t g i + 1)) ∙ (K.names s t g).last n owns) (zero_or n (last_or 0 (f n)) (last_is 0 (f n)))
+    last_to = to_member p (b + 1) (last_or 0 (f n)) ((λ i. word_at cs (there i) (base t g i + 1)) ∙ (K.names s t g).last n owns) (zero_or n (last_or 0 (f n)) (last_is 0 (f n)))
 
     pub count_of : word_at cs p (b + 2) ≡ counter (length (f n))
-    count_of = (λ i. word_at cs (lies i) (base t g i + 2)) ∙ (K.names s t g).count n owns
+    count_of = (λ i. word_at cs (there i) (base t g i + 2)) ∙ (K.names s t g).count n owns
 
     pub is_counter : IsCounter (word_at cs p (b + 2))
     is_counter = subst IsCounter (sym count_of) tt
@@ -116,12 +123,15 @@ module _ (l : Layout) (cs : Cells) (sys : Ptr) (d : Directory) (ms : List Member
 
   -- different members have different numbers
   pub count_small : (n : ℕ) → length (f n) < 2 ^ 62
-  count_small n = let k = few (length d) (f n) ((K.names s t g).distinct n) (λ y h. let e = (K.names s t g).members n y h in (e.1, issued y e.0)) in omega (arith, k, K.issued) where
-    issued : (y : ℕ) → IsOf cs d t.member y → y ≤ length d
-    issued y h = let a = entry_of cs d t.member y h in let i = get_inside d a.0 (Some a.1) a.3 in omega (arith, i, a.2)
+  count_small n = let k = few (length (listing d t.member)) (f n) ((K.names s t g).distinct n) (λ y h. let e = (K.names s t g).members n y h in (e.1, issued y e.0)) in omega (arith, k, not_many l cs sys d ms K t.member) where
+    issued : (y : ℕ) → IsOf cs d t.member y → y ≤ length (listing d t.member)
+    issued y h = let a = entry_of cs d t.member y h in let i = get_inside (listing d t.member) a.0 (Some a.1) a.3 in omega (arith, i, a.2)
 
   -- the words of a member
-  module _ (p : Ptr) (x : ℕ) (lies : p ≡ at x) (may : IsOf cs d (member_class l s) x) (b : ℕ) (base : InMember b) where
+  module _ (p : Ptr) (x : ℕ) (lies : p ≡ entity_at sys d (member_class l s) x) (may : IsOf cs d (member_class l s) x) (b : ℕ) (base : InMember b) where
+    its_block : p ≡ at x
+    its_block = lies ∙ ap (λ c. entity_at sys d c x) its_members
+
     pub is : IsOf cs d t.member x
     is = subst (λ c. IsOf cs d c x) its_members may
 
@@ -129,19 +139,19 @@ module _ (l : Layout) (cs : Cells) (sys : Ptr) (d : Directory) (ms : List Member
     positive = above_zero l cs sys d ms K s t g x is
 
     pub number_is : word_at cs p 1 ≡ number x
-    number_is = (λ i. word_at cs (lies i) 1) ∙ number_at l cs sys d ms K t.member x (inr is)
+    number_is = (λ i. word_at cs (its_block i) 1) ∙ number_at l cs sys d ms K t.member x (inr is)
 
     -- where x is in the set of o
     module _ (o : ℕ) (h : In x (f o)) where
       pub next_to : To cs at p b (succ x (f o))
-      next_to = to_member p b (succ x (f o)) ((λ i. word_at cs (lies i) (base t g i)) ∙ (K.names s t g).next o x h) (zero_or o (succ x (f o)) (succ_is x (f o) h))
+      next_to = to_member p b (succ x (f o)) ((λ i. word_at cs (its_block i) (base t g i)) ∙ (K.names s t g).next o x h) (zero_or o (succ x (f o)) (succ_is x (f o) h))
 
       pub prev_to : To cs at p (b + 1) (pred_from 0 x (f o))
-      prev_to = to_member p (b + 1) (pred_from 0 x (f o)) ((λ i. word_at cs (lies i) (base t g i + 1)) ∙ (K.names s t g).prev o x h) (zero_or o (pred_from 0 x (f o)) (pred_is 0 x (f o) h))
+      prev_to = to_member p (b + 1) (pred_from 0 x (f o)) ((λ i. word_at cs (its_block i) (base t g i + 1)) ∙ (K.names s t g).prev o x h) (zero_or o (pred_from 0 x (f o)) (pred_is 0 x (f o) h))
 
-      pub owner_to : To cs at p (b + 2) o
-      owner_to = let c = own_or t.owner o ((K.names s t g).members o x h).2 in
-          record { word = (λ i. word_at cs (lies i) (base t g i + 2)) ∙ (K.names s t g).owner o x h; there = number_at l cs sys d ms K c.0 o c.1; small = small_of c.0 o c.1 }
+      pub owner_to : To cs home p (b + 2) o
+      owner_to = let m = ((K.names s t g).members o x h).2 in
+          record { word = (λ i. word_at cs (its_block i) (base t g i + 2)) ∙ (K.names s t g).owner o x h; there = owner_number_at l cs sys d ms K t.owner o m; small = small_owner t.owner o m }
 
       pub next_differs : succ x (f o) ≡ x → ⊥
       next_differs = succ_differs x (f o) h ((K.names s t g).distinct o) positive
@@ -152,13 +162,13 @@ module _ (l : Layout) (cs : Cells) (sys : Ptr) (d : Directory) (ms : List Member
     -- where x is in no set of the name
     module _ (out : (o : ℕ) → NotIn x (f o)) where
       pub next_self : To cs at p b x
-      next_self = to_member p b x ((λ i. word_at cs (lies i) (base t g i)) ∙ ((K.names s t g).unfiled x is positive out).0) (inr is)
+      next_self = to_member p b x ((λ i. word_at cs (its_block i) (base t g i)) ∙ ((K.names s t g).unfiled x is positive out).0) (inr is)
 
       pub prev_self : To cs at p (b + 1) x
-      prev_self = to_member p (b + 1) x ((λ i. word_at cs (lies i) (base t g i + 1)) ∙ ((K.names s t g).unfiled x is positive out).1) (inr is)
+      prev_self = to_member p (b + 1) x ((λ i. word_at cs (its_block i) (base t g i + 1)) ∙ ((K.names s t g).unfiled x is positive out).1) (inr is)
 
       pub owner_self : To cs at p (b + 2) x
-      owner_self = to_member p (b + 2) x ((λ i. word_at cs (lies i) (base t g i + 2)) ∙ ((K.names s t g).unfiled x is positive out).2) (inr is)
+      owner_self = to_member p (b + 2) x ((λ i. word_at cs (its_block i) (base t g i + 2)) ∙ ((K.names s t g).unfiled x is positive out).2) (inr is)
 
     -- the neighbour that a link names: x itself where x is in no set
     pub record Beside (k : ℕ) (of : List ℕ → ℕ) : Type 0 where

@@ -12,11 +12,12 @@ use Rattle.ss_records.specs.Cells.{number, counter, link, IsCounter, word_at}
 use Rattle.ss_records.specs.State.{and_then, members_of, owner_of, is_filed}
 use Rattle.ss_records.specs.Sets.{joiner, owner, as_number, companions, follower, precursor, first_in, last_in, count_in, next_in, previous_in, owner_of_member}
 use Rattle.ss_records.specs.Lists.{head0, last_or, succ, pred_from, In}
-use Rattle.ss_records.specs.Places.{numbered_at}
+use Rattle.ss_records.specs.Places.{entity_at, owner_at}
 use Rattle.ss_records.specs.Links.{Leads}
 use Rattle.ss_records.specs.Slotted.{member_base, owner_base}
-use Rattle.ss_records.specs.Parts.{IsKept, state, Owns, Joins}
+use Rattle.ss_records.specs.Parts.{IsKept, state, places, Owns, Joins}
 use Rattle.ss_records.proofs.Same.{differs, by_same}
+use Rattle.ss_records.proofs.Filed.{get_there}
 use Rattle.ss_records.proofs.Leading.{To, leads, its_number, first_to, last_to, is_counter, count_is, count_small, Beside, next_beside, prev_beside, owner_to, filed_is, next_value, prev_value, in_which}
 
 pub as_whole : (n m : ℕ) → n ≡ m → m < 2 ^ 62 → cast_signed w64 n ≡ pos m
@@ -24,15 +25,18 @@ as_whole n m e h = let k : n < 2 ^ 63 = omega (arith, e, h) in let z : cast_sign
 
 module _ (r : Records) (K : IsKept r) (s : ℕ) (inside : s < length r.layout.sets.items) where
   abbrev at : ℕ → Ptr
-  at = numbered_at r.system.at r.directory.places
+  at = entity_at r.system.at (places r) (get_there r.layout.sets.items s inside).0.member
+
+  abbrev home : ℕ → Ptr
+  home = owner_at r.system.at (places r) (get_there r.layout.sets.items s inside).0.owner
 
   -- the words of an owner
   module _ (e : Entry) (h : Owns r s e) (b : ℕ) (base : (u : SetLayout) → slice_get r.layout.sets.items s ≡ Some u → b ≡ owner_base r.layout s u) where
     first_there : To r.blocks.cells at e.place.at b (head0 (members_of r.notes.lists s e.number))
-    first_there = first_to r.layout r.blocks.cells r.system.at r.directory.places r.notes.lists K s inside e.place.at e.number h.lies h.may b base
+    first_there = first_to r.layout r.blocks.cells r.system.at (places r) r.notes.lists K s inside e.place.at e.number h.lies h.may b base
 
     last_there : To r.blocks.cells at e.place.at (b + 1) (last_or 0 (members_of r.notes.lists s e.number))
-    last_there = last_to r.layout r.blocks.cells r.system.at r.directory.places r.notes.lists K s inside e.place.at e.number h.lies h.may b base
+    last_there = last_to r.layout r.blocks.cells r.system.at (places r) r.notes.lists K s inside e.place.at e.number h.lies h.may b base
 
     pub first_leads : Leads r.blocks.cells e.place.at b
     first_leads = leads r.blocks.cells at e.place.at b _ first_there
@@ -41,7 +45,7 @@ module _ (r : Records) (K : IsKept r) (s : ℕ) (inside : s < length r.layout.se
     last_leads = leads r.blocks.cells at e.place.at (b + 1) _ last_there
 
     pub counts : IsCounter (word_at r.blocks.cells e.place.at (b + 2))
-    counts = is_counter r.layout r.blocks.cells r.system.at r.directory.places r.notes.lists K s inside e.place.at e.number h.lies h.may b base
+    counts = is_counter r.layout r.blocks.cells r.system.at (places r) r.notes.lists K s inside e.place.at e.number h.lies h.may b base
 
     module _ (q : Entry) (w : word_at r.blocks.cells e.place.at b ≡ link q.place.at) (v : word_at r.blocks.cells q.place.at 1 ≡ number q.number) where
       pub first_number : q.number ≡ head0 (members_of r.notes.lists s e.number)
@@ -65,10 +69,10 @@ module _ (r : Records) (K : IsKept r) (s : ℕ) (inside : s < length r.layout.se
 
     module _ (v : ℕ) (w : word_at r.blocks.cells e.place.at (b + 2) ≡ counter v) where
       pub how_many : v ≡ length (members_of r.notes.lists s e.number)
-      how_many = count_is r.layout r.blocks.cells r.system.at r.directory.places r.notes.lists K s inside e.place.at e.number h.lies h.may b base v w
+      how_many = count_is r.layout r.blocks.cells r.system.at (places r) r.notes.lists K s inside e.place.at e.number h.lies h.may b base v w
 
       few_enough : length (members_of r.notes.lists s e.number) < 2 ^ 62
-      few_enough = count_small r.layout r.blocks.cells r.system.at r.directory.places r.notes.lists K s inside e.number
+      few_enough = count_small r.layout r.blocks.cells r.system.at (places r) r.notes.lists K s inside e.number
 
       pub how_many_small : v < 2 ^ 62
       how_many_small = subst (λ n. n < 4611686018427387904) (sym how_many) few_enough
@@ -79,13 +83,13 @@ module _ (r : Records) (K : IsKept r) (s : ℕ) (inside : s < length r.layout.se
   -- the words of a member
   module _ (e : Entry) (h : Joins r s e) (b : ℕ) (base : (u : SetLayout) → slice_get r.layout.sets.items s ≡ Some u → b ≡ member_base r.layout s u) where
     abbrev Near : ℕ → (List ℕ → ℕ) → Type 0
-    Near k of = Beside r.layout r.blocks.cells r.system.at r.directory.places r.notes.lists K s inside e.place.at e.number h.lies h.is b base k of
+    Near k of = Beside r.layout r.blocks.cells r.system.at (places r) r.notes.lists K s inside e.place.at e.number h.lies h.is b base k of
 
     next_near : Near b (succ e.number)
-    next_near = next_beside r.layout r.blocks.cells r.system.at r.directory.places r.notes.lists K s inside e.place.at e.number h.lies h.is b base
+    next_near = next_beside r.layout r.blocks.cells r.system.at (places r) r.notes.lists K s inside e.place.at e.number h.lies h.is b base
 
     prev_near : Near (b + 1) (pred_from 0 e.number)
-    prev_near = prev_beside r.layout r.blocks.cells r.system.at r.directory.places r.notes.lists K s inside e.place.at e.number h.lies h.is b base
+    prev_near = prev_beside r.layout r.blocks.cells r.system.at (places r) r.notes.lists K s inside e.place.at e.number h.lies h.is b base
 
     pub next_leads : Leads r.blocks.cells e.place.at b
     next_leads = leads r.blocks.cells at e.place.at b _ next_near.leads_to
@@ -101,7 +105,7 @@ module _ (r : Records) (K : IsKept r) (s : ℕ) (inside : s < length r.layout.se
       next_small = subst (λ n. n < 4611686018427387904) (sym next_number) next_near.leads_to.small
 
       pub is_filed_value : not (nat_eq q.number e.number) ≡ is_filed r.notes.lists s e.number
-      is_filed_value = filed_is r.layout r.blocks.cells r.system.at r.directory.places r.notes.lists K s inside e.place.at e.number h.lies h.is b base b (succ e.number) next_near q.number next_number (not (nat_eq q.number e.number))
+      is_filed_value = filed_is r.layout r.blocks.cells r.system.at (places r) r.notes.lists K s inside e.place.at e.number h.lies h.is b base b (succ e.number) next_near q.number next_number (not (nat_eq q.number e.number))
           (λ i. by_same q.number e.number (λ z n. rw z refl) (λ z n. absurd (n i)))
           (λ i. rw (differs q.number e.number i) refl)
 
@@ -110,7 +114,7 @@ module _ (r : Records) (K : IsKept r) (s : ℕ) (inside : s < length r.layout.se
 
       pub next_is : (x : ℤ) (y : ℕ) → joiner (state r) s x ≡ Ok e.number → (q.number ≡ e.number → y ≡ 0) → ((q.number ≡ e.number → ⊥) → y ≡ q.number) → Ok (cast_signed w64 y) ≡ next_in (state r) s x
       next_is x y o same other =
-          let f = next_value r.layout r.blocks.cells r.system.at r.directory.places r.notes.lists K s inside e.place.at e.number h.lies h.is b base next_near q.number next_number in
+          let f = next_value r.layout r.blocks.cells r.system.at (places r) r.notes.lists K s inside e.place.at e.number h.lies h.is b base next_near q.number next_number in
           ap Ok (as_whole y y refl (next_fits y same other) ∙ ap pos (by_same q.number e.number (λ z i. same i ∙ sym (f.0 i)) (λ z i. other i ∙ sym (f.1 i)))) ∙ sym (ap (λ z. and_then z (λ n. Ok (pos (follower n (companions r.notes.lists s n))))) o)
 
     module _ (q : Entry) (w : word_at r.blocks.cells e.place.at (b + 1) ≡ link q.place.at) (v : word_at r.blocks.cells q.place.at 1 ≡ number q.number) where
@@ -125,7 +129,7 @@ module _ (r : Records) (K : IsKept r) (s : ℕ) (inside : s < length r.layout.se
 
       pub prev_is : (x : ℤ) (y : ℕ) → joiner (state r) s x ≡ Ok e.number → (q.number ≡ e.number → y ≡ 0) → ((q.number ≡ e.number → ⊥) → y ≡ q.number) → Ok (cast_signed w64 y) ≡ previous_in (state r) s x
       prev_is x y o same other =
-          let f = prev_value r.layout r.blocks.cells r.system.at r.directory.places r.notes.lists K s inside e.place.at e.number h.lies h.is b base prev_near q.number prev_number in
+          let f = prev_value r.layout r.blocks.cells r.system.at (places r) r.notes.lists K s inside e.place.at e.number h.lies h.is b base prev_near q.number prev_number in
           ap Ok (as_whole y y refl (prev_fits y same other) ∙ ap pos (by_same q.number e.number (λ z i. same i ∙ sym (f.0 i)) (λ z i. other i ∙ sym (f.1 i)))) ∙ sym (ap (λ z. and_then z (λ n. Ok (pos (precursor 0 n (companions r.notes.lists s n))))) o)
 
     pub none_is : (x : ℤ) → joiner (state r) s x ≡ Ok e.number → owner_of r.notes.lists s e.number ≡ None → Ok None ≡ owner_of_member (state r) s x
@@ -134,17 +138,17 @@ module _ (r : Records) (K : IsKept r) (s : ℕ) (inside : s < length r.layout.se
     -- where it is in a set
     module _ (filed : is_filed r.notes.lists s e.number ≡ true) where
       in_it : (o : ℕ) × (owner_of r.notes.lists s e.number ≡ Some o) × (In e.number (members_of r.notes.lists s o))
-      in_it = in_which r.layout r.blocks.cells r.system.at r.directory.places r.notes.lists K s inside e.place.at e.number h.lies h.is b base filed
+      in_it = in_which r.layout r.blocks.cells r.system.at (places r) r.notes.lists K s inside e.place.at e.number h.lies h.is b base filed
 
-      owner_there : To r.blocks.cells at e.place.at (b + 2) in_it.0
-      owner_there = owner_to r.layout r.blocks.cells r.system.at r.directory.places r.notes.lists K s inside e.place.at e.number h.lies h.is b base in_it.0 in_it.2
+      owner_there : To r.blocks.cells home e.place.at (b + 2) in_it.0
+      owner_there = owner_to r.layout r.blocks.cells r.system.at (places r) r.notes.lists K s inside e.place.at e.number h.lies h.is b base in_it.0 in_it.2
 
       pub owner_leads : Leads r.blocks.cells e.place.at (b + 2)
-      owner_leads = leads r.blocks.cells at e.place.at (b + 2) _ owner_there
+      owner_leads = leads r.blocks.cells home e.place.at (b + 2) _ owner_there
 
       module _ (q : Entry) (w : word_at r.blocks.cells e.place.at (b + 2) ≡ link q.place.at) (v : word_at r.blocks.cells q.place.at 1 ≡ number q.number) where
         owner_number : q.number ≡ in_it.0
-        owner_number = its_number r.blocks.cells at e.place.at (b + 2) _ owner_there q.place.at w q.number v
+        owner_number = its_number r.blocks.cells home e.place.at (b + 2) _ owner_there q.place.at w q.number v
 
         pub owner_small : q.number < 2 ^ 62
         owner_small = subst (λ n. n < 4611686018427387904) (sym owner_number) owner_there.small

@@ -11,9 +11,10 @@ use Rattle.ss_records.specs.Cells.{number, IsNumber, word_at}
 use Rattle.ss_records.specs.State.{State, and_then, entity, number_in}
 use Rattle.ss_records.specs.Sets.{member_class, owner_kind, joiner, owner_by, owner}
 use Rattle.ss_records.specs.Reading.{plain}
-use Rattle.ss_records.specs.Places.{place_in, numbered_at}
+use Rattle.ss_records.specs.Places.{listing, place_in, entity_at, owner_at}
 use Rattle.ss_records.specs.Slotted.{IsOf, MayOwn}
-use Rattle.ss_records.specs.Parts.{IsKept, state, Found, Owns, Joins}
+use Rattle.ss_records.specs.Parts.{IsKept, state, places, Found, Owns, Joins}
+use Rattle.ss_records.proofs.Listing.{stands}
 use Rattle.ss_records.proofs.Disjoint.{is_of}
 use Rattle.ss_records.proofs.Filed.{get_there}
 
@@ -25,11 +26,14 @@ module _ (r : Records) (K : IsKept r) (c : ℕ) (x : ℤ) (p : Place) (f : Found
     number_of : n ≡ suc f.index
     number_of = ap plain (sym w ∙ (K.formed f.index p f.entry).number)
 
-    lies_at : p.at ≡ numbered_at r.system.at r.directory.places n
-    lies_at = sym (ap (numbered_at r.system.at r.directory.places) number_of ∙ ap place_in f.entry)
+    its_place : slice_get (listing (places r) c) f.index ≡ Some (Some p)
+    its_place = subst (λ b. slice_get (listing (places r) b) f.index ≡ Some (Some p)) f.class (stands r.layout r.blocks.cells r.system.at (places r) r.notes.lists K f.index p f.entry)
 
-    is_it : IsOf r.blocks.cells r.directory.places c n
-    is_it = subst (IsOf r.blocks.cells r.directory.places c) (sym number_of) (is_of r.blocks.cells r.directory.places c f.index p f.entry f.class)
+    lies_at : p.at ≡ entity_at r.system.at (places r) c n
+    lies_at = sym (ap (entity_at r.system.at (places r) c) number_of ∙ ap place_in its_place)
+
+    is_it : IsOf r.blocks.cells (places r) c n
+    is_it = subst (IsOf r.blocks.cells (places r) c) (sym number_of) (is_of r.blocks.cells (places r) c f.index p its_place f.class)
 
     named : number_in x ≡ n
     named = ap number_in f.is ∙ sym number_of
@@ -37,18 +41,18 @@ module _ (r : Records) (K : IsKept r) (c : ℕ) (x : ℤ) (p : Place) (f : Found
     module _ (s : ℕ) where
       pub joins_found : member_class r.layout s ≡ c → Joins r s (record { place = p; number = n }) × (joiner (state r) s x ≡ Ok n)
       joins_found e = (
-        record { lies = lies_at; is = subst (λ b. IsOf r.blocks.cells r.directory.places b n) (sym e) is_it },
+        record { lies = subst (λ b. p.at ≡ entity_at r.system.at (places r) b n) (sym e) lies_at; is = subst (λ b. IsOf r.blocks.cells (places r) b n) (sym e) is_it },
         ap (λ b. and_then (entity (state r) b x) (λ q. Ok (number_in x))) e ∙ ap (λ z. and_then z (λ q. Ok (number_in x))) f.entity ∙ ap Ok named,
       )
 
       pub owns_found : owner_kind r.layout s ≡ Class c → Owns r s (record { place = p; number = n }) × (owner (state r) s x ≡ Ok n)
       owns_found e = (
-        record { lies = lies_at; may = subst (λ u. MayOwn r.blocks.cells r.directory.places u n) (sym e) is_it },
+        record { lies = subst (λ u. p.at ≡ owner_at r.system.at (places r) u n) (sym e) lies_at; may = subst (λ u. MayOwn r.blocks.cells (places r) u n) (sym e) is_it },
         ap (λ u. owner_by (state r) u x) e ∙ ap (λ z. and_then z (λ q. Ok (number_in x))) f.entity ∙ ap Ok named,
       )
 
 pub system_owns : (r : Records) (s : ℕ) (x : ℤ) → owner_kind r.layout s ≡ System → Owns r s (record { place = r.system; number = 0 }) × (owner (state r) s x ≡ Ok 0)
-system_owns r s x e = (record { lies = refl; may = subst (λ u. MayOwn r.blocks.cells r.directory.places u 0) (sym e) refl }, ap (λ u. owner_by (state r) u x) e)
+system_owns r s x e = (record { lies = subst (λ u. r.system.at ≡ owner_at r.system.at (places r) u 0) (sym e) refl; may = subst (λ u. MayOwn r.blocks.cells (places r) u 0) (sym e) refl }, ap (λ u. owner_by (state r) u x) e)
 
 pub not_joiner : (st : State) (s : ℕ) (c : ℕ) (x : ℤ) (e : FaultKind) → member_class st.layout s ≡ c → entity st c x ≡ Err e → joiner st s x ≡ Err e
 not_joiner st s c x e h k = ap (λ b. and_then (entity st b x) (λ q. Ok (number_in x))) h ∙ ap (λ z. and_then z (λ q. Ok (number_in x))) k

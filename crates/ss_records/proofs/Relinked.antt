@@ -1,12 +1,12 @@
 -- What holds once an entity is linked into a set, or out of it.
-use Rattle.std.proofs.Common.{◌≡◌, ℕ, ◌+◌, ◌-◌, ◌==◌, List, ◌∷◌, ◌++◌, length, slice_get, Some, ◌⊎◌, inl, inr, refl, sym, ap, subst}
+use Rattle.std.proofs.Common.{◌≡◌, ℕ, ◌+◌, ◌-◌, ◌==◌, List, ◌∷◌, ◌++◌, length, slice_get, Some, ◌⊎◌, inl, inr, refl, sym, subst}
 use denote.RawPtr.{Ptr}
 use Rattle.ss_base.specs.declared.layout.SetLayout.{SetLayout}
 use Rattle.ss_base.specs.declared.layout.Layout.{Layout}
 use Rattle.ss_records.specs.Cells.{counter, link, Cells, put_word}
 use Rattle.ss_records.specs.State.{Members, members_of, with_members}
 use Rattle.ss_records.specs.Sets.{with_list_of}
-use Rattle.ss_records.specs.Places.{Directory, numbered_at}
+use Rattle.ss_records.specs.Places.{Directory, entity_at, owner_at}
 use Rattle.ss_records.specs.Kept.{Kept, state_of}
 use Rattle.ss_records.specs.Lists.{head0, last_or, In, NotIn, with_list}
 use Rattle.ss_records.specs.Links.{Slots, Shows, words_of, hooked, linked_in, unlinked_in}
@@ -18,11 +18,14 @@ use Rattle.ss_records.proofs.Disjoint.{grounds, spares_none, spares_put}
 use Rattle.ss_records.proofs.Linking.{any_linked, any_unlinked}
 use Rattle.ss_records.proofs.LinkWrites.{any_linked_is}
 use Rattle.ss_records.proofs.UnlinkWrites.{any_unlinked_is}
-use Rattle.ss_records.proofs.Spared.{with_classes, kept_spared, records_spared}
+use Rattle.ss_records.proofs.Spared.{with_classes, kept_spared, records_spared, permanents_spared}
 
 module _ (l : Layout) (cs : Cells) (sys : Ptr) (d : Directory) (ms : List Members) (K : Kept l cs sys d ms) (s : ℕ) (t : SetLayout) (g : slice_get l.sets.items s ≡ Some t) (o x : ℕ) (xs ys : List ℕ) (lo : MayOwn cs d t.owner o) where
   abbrev at : ℕ → Ptr
-  at = numbered_at sys d
+  at = entity_at sys d t.member
+
+  abbrev home : ℕ → Ptr
+  home = owner_at sys d t.owner
 
   abbrev w : Slots
   w = slots_of l s t
@@ -43,28 +46,30 @@ module _ (l : Layout) (cs : Cells) (sys : Ptr) (d : Directory) (ms : List Member
   at_member : (y k : ℕ) → IsOf cs d t.member y → (k ≡ w.next) ⊎ ((k ≡ w.prev) ⊎ (k ≡ w.owner)) → Of (at y) k
   at_member y k h m = inl (y, h, refl, m)
 
-  at_owner : (k : ℕ) → (k ≡ w.first) ⊎ ((k ≡ w.last) ⊎ (k ≡ w.count)) → Of (at o) k
+  at_owner : (k : ℕ) → (k ≡ w.first) ⊎ ((k ≡ w.last) ⊎ (k ≡ w.count)) → Of (home o) k
   at_owner k m = inr (o, lo, refl, m)
 
-  hook : (ds : Cells) (e k : ℕ) (j : ℕ) (z : Ptr) → Spares Of cs ds → Of (at o) k → ((e ≡ 0 → ⊥) → Of (at e) j) → Spares Of cs (hooked (e == 0) ds (at o) k (at e) j z)
+  hook : (ds : Cells) (e k : ℕ) (j : ℕ) (z : Ptr) → Spares Of cs ds → Of (home o) k → ((e ≡ 0 → ⊥) → Of (at e) j) → Spares Of cs (hooked (e == 0) ds (home o) k (at e) j z)
   hook ds e k j z h own near = by_same e 0
-      (λ i q. rw i (spares_put Of cs ds (at o) k (link z) h own))
+      (λ i q. rw i (spares_put Of cs ds (home o) k (link z) h own))
       (λ i n. rw i (spares_put Of cs ds (at e) j (link z) h (near n)))
 
-  shown : (ds : Cells) (us : List ℕ) → Spares Of cs ds → Shows (words_of w ds at at) at at (IsOf cs d t.member) (MayOwn cs d t.owner) (with_list f o us) → Kept l ds sys d (with_members ms s o us)
+  shown : (ds : Cells) (us : List ℕ) → Spares Of cs ds → Shows (words_of w ds at home) at home (IsOf cs d t.member) (MayOwn cs d t.owner) (with_list f o us) → Kept l ds sys d (with_members ms s o us)
   shown ds us h n =
       let e : members_of (with_members ms s o us) s ≡ with_list f o us = λ i p. members_with ms s o us p i in
       kept_spared l cs sys d ms K s t g ds h (with_members ms s o us)
-      (subst (λ z. Shows (words_of w ds at at) at at (IsOf ds d t.member) (MayOwn ds d t.owner) z) (sym e) (with_classes l cs sys d ms K s t g ds h s t (words_of w ds at at) (with_list f o us) n))
+      (subst (λ z. Shows (words_of w ds at home) at home (IsOf ds d t.member) (MayOwn ds d t.owner) z) (sym e) (with_classes l cs sys d ms K s t g ds h s t (words_of w ds at home) (with_list f o us) n))
       (λ r p n. members_other ms s o us r p n)
 
   told : (ds : Cells) (us : List ℕ) → Spares Of cs ds → state_of l ds d (with_members ms s o us) ≡ with_list_of (state_of l cs d ms) s o us
-  told ds us h = ap (λ rs. record (state_of l cs d ms) { records = rs; lists = with_members ms s o us }) (records_spared l cs sys d ms K s t g ds h)
+  told ds us h =
+      let one = records_spared l cs sys d ms K s t g ds h in let two = permanents_spared l cs sys d ms K s t g ds h in
+      λ i. record (state_of l cs d ms) { records = one i; permanents = two i; lists = with_members ms s o us }
 
   -- linked in between xs and ys
   module _ (lx : IsOf cs d t.member x) (some : 0 ≡ x → ⊥) (was : f o ≡ xs ++ ys) (free : (p : ℕ) → NotIn x (f p)) where
     abbrev ds : Cells
-    ds = linked_in w cs (at o) (at a) (a == 0) (at x) (at b) (b == 0) (length (f o))
+    ds = linked_in w cs (home o) (at a) (a == 0) (at x) (at b) (b == 0) (length (f o))
 
     near : (y : ℕ) → (y ≡ 0 → ⊥) → In y (xs ++ ys) → IsOf cs d t.member y
     near y n h = ((K.names s t g).members o y (subst (In y) (sym was) h)).0
@@ -81,18 +86,18 @@ module _ (l : Layout) (cs : Cells) (sys : Ptr) (d : Directory) (ms : List Member
         let c1 = put_word cs (at x) w.next (link (at b)) in
         let s2 = spares_put Of cs c1 (at x) w.prev (link (at a)) s1 (at_member x w.prev lx (inr (inl refl))) in
         let c2 = put_word c1 (at x) w.prev (link (at a)) in
-        let s3 = spares_put Of cs c2 (at x) w.owner (link (at o)) s2 (at_member x w.owner lx (inr (inr refl))) in
-        let c3 = put_word c2 (at x) w.owner (link (at o)) in
+        let s3 = spares_put Of cs c2 (at x) w.owner (link (home o)) s2 (at_member x w.owner lx (inr (inr refl))) in
+        let c3 = put_word c2 (at x) w.owner (link (home o)) in
         let s4 = hook c3 a w.first w.next (at x) s3 (at_owner w.first (inl refl)) (λ n. at_member a w.next (la n) (inl refl)) in
-        let c4 = hooked (a == 0) c3 (at o) w.first (at a) w.next (at x) in
+        let c4 = hooked (a == 0) c3 (home o) w.first (at a) w.next (at x) in
         let s5 = hook c4 b w.last w.prev (at x) s4 (at_owner w.last (inr (inl refl))) (λ n. at_member b w.prev (lb n) (inr (inl refl))) in
-        let c5 = hooked (b == 0) c4 (at o) w.last (at b) w.prev (at x) in
-        spares_put Of cs c5 (at o) w.count (counter (length (f o) + 1)) s5 (at_owner w.count (inr (inr refl)))
+        let c5 = hooked (b == 0) c4 (home o) w.last (at b) w.prev (at x) in
+        spares_put Of cs c5 (home o) w.count (counter (length (f o) + 1)) s5 (at_owner w.count (inr (inr refl)))
 
     pub kept_linked : Kept l ds sys d (with_members ms s o (xs ++ x ∷ ys))
     kept_linked = shown ds (xs ++ x ∷ ys) spares
-        (any_linked (words_of w cs at at) (words_of w ds at at) at at (IsOf cs d t.member) (MayOwn cs d t.owner) f o x xs ys (K.names s t g) was lx some lo free
-        (any_linked_is w cs at at (IsOf cs d t.member) (MayOwn cs d t.owner) (grounds l cs sys d ms K s t g) o a x b (length (f o)) lo lx la lb))
+        (any_linked (words_of w cs at home) (words_of w ds at home) at home (IsOf cs d t.member) (MayOwn cs d t.owner) f o x xs ys (K.names s t g) was lx some lo free
+        (any_linked_is w cs at home (IsOf cs d t.member) (MayOwn cs d t.owner) (grounds l cs sys d ms K s t g) o a x b (length (f o)) lo lx la lb))
 
     pub state_linked : state_of l ds d (with_members ms s o (xs ++ x ∷ ys)) ≡ with_list_of (state_of l cs d ms) s o (xs ++ x ∷ ys)
     state_linked = told ds (xs ++ x ∷ ys) spares
@@ -103,7 +108,7 @@ module _ (l : Layout) (cs : Cells) (sys : Ptr) (d : Directory) (ms : List Member
   -- linked out from between xs and ys
   module _ (was : f o ≡ xs ++ x ∷ ys) where
     abbrev es : Cells
-    es = unlinked_in w cs (at o) (at a) (a == 0) (at x) (at b) (b == 0) (length (f o))
+    es = unlinked_in w cs (home o) (at a) (a == 0) (at x) (at b) (b == 0) (length (f o))
 
     its : (y : ℕ) → In y (xs ++ x ∷ ys) → IsOf cs d t.member y
     its y h = ((K.names s t g).members o y (subst (In y) (sym was) h)).0
@@ -120,21 +125,21 @@ module _ (l : Layout) (cs : Cells) (sys : Ptr) (d : Directory) (ms : List Member
     spares' : Spares Of cs es
     spares' =
         let s1 = hook cs a w.first w.next (at b) (spares_none Of cs) (at_owner w.first (inl refl)) (λ n. at_member a w.next (la' n) (inl refl)) in
-        let c1 = hooked (a == 0) cs (at o) w.first (at a) w.next (at b) in
+        let c1 = hooked (a == 0) cs (home o) w.first (at a) w.next (at b) in
         let s2 = hook c1 b w.last w.prev (at a) s1 (at_owner w.last (inr (inl refl))) (λ n. at_member b w.prev (lb' n) (inr (inl refl))) in
-        let c2 = hooked (b == 0) c1 (at o) w.last (at b) w.prev (at a) in
+        let c2 = hooked (b == 0) c1 (home o) w.last (at b) w.prev (at a) in
         let s3 = spares_put Of cs c2 (at x) w.next (link (at x)) s2 (at_member x w.next lx' (inl refl)) in
         let c3 = put_word c2 (at x) w.next (link (at x)) in
         let s4 = spares_put Of cs c3 (at x) w.prev (link (at x)) s3 (at_member x w.prev lx' (inr (inl refl))) in
         let c4 = put_word c3 (at x) w.prev (link (at x)) in
         let s5 = spares_put Of cs c4 (at x) w.owner (link (at x)) s4 (at_member x w.owner lx' (inr (inr refl))) in
         let c5 = put_word c4 (at x) w.owner (link (at x)) in
-        spares_put Of cs c5 (at o) w.count (counter (length (f o) - 1)) s5 (at_owner w.count (inr (inr refl)))
+        spares_put Of cs c5 (home o) w.count (counter (length (f o) - 1)) s5 (at_owner w.count (inr (inr refl)))
 
     pub kept_unlinked : Kept l es sys d (with_members ms s o (xs ++ ys))
     kept_unlinked = shown es (xs ++ ys) spares'
-        (any_unlinked (words_of w cs at at) (words_of w es at at) at at (IsOf cs d t.member) (MayOwn cs d t.owner) f o x xs ys (K.names s t g) was
-        (any_unlinked_is w cs at at (IsOf cs d t.member) (MayOwn cs d t.owner) (grounds l cs sys d ms K s t g) o a x b (length (f o)) lo lx' la' lb'))
+        (any_unlinked (words_of w cs at home) (words_of w es at home) at home (IsOf cs d t.member) (MayOwn cs d t.owner) f o x xs ys (K.names s t g) was
+        (any_unlinked_is w cs at home (IsOf cs d t.member) (MayOwn cs d t.owner) (grounds l cs sys d ms K s t g) o a x b (length (f o)) lo lx' la' lb'))
 
     pub state_unlinked : state_of l es d (with_members ms s o (xs ++ ys)) ≡ with_list_of (state_of l cs d ms) s o (xs ++ ys)
     state_unlinked = told es (xs ++ ys) spares'

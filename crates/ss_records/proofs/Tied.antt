@@ -10,10 +10,11 @@ use Rattle.ss_records.specs.Cells.{Word, number, counter, link, Cells, IsLink, I
 use Rattle.ss_records.specs.State.{Members, members_of, is_filed, has_members}
 use Rattle.ss_records.specs.Shape.{count_before, count_sets}
 use Rattle.ss_records.specs.Reading.{plain}
-use Rattle.ss_records.specs.Places.{Directory, place_in, numbered_at, class_at}
+use Rattle.ss_records.specs.Places.{Directory, Lists, listing, place_in, entity_at, owner_at, class_at}
 use Rattle.ss_records.specs.Kept.{Kept}
 use Rattle.ss_records.specs.Slotted.{member_base, owner_base, IsOf, MayOwn}
 use Rattle.ss_records.proofs.Same.{differs, by_same}
+use Rattle.ss_records.proofs.Listing.{stands}
 use Rattle.ss_records.proofs.Disjoint.{is_of}
 use Rattle.ss_records.proofs.Filed.{Next, next_of}
 
@@ -35,16 +36,19 @@ counter_is {m} {n} e = ap (λ w. counted w) e where
   counted (counter k) = k
   counted w = 0
 
-module _ (l : Layout) (cs : Cells) (sys : Ptr) (d : Directory) (ms : List Members) (K : Kept l cs sys d ms) (s : ℕ) (t : SetLayout) (g : slice_get l.sets.items s ≡ Some t) (i : ℕ) (p : Place) (e : slice_get d i ≡ Some (Some p)) where
+module _ (l : Layout) (cs : Cells) (sys : Ptr) (d : Directory) (ms : List Members) (K : Kept l cs sys d ms) (s : ℕ) (t : SetLayout) (g : slice_get l.sets.items s ≡ Some t) (i : ℕ) (p : Place) (e : Lists d i p) where
   abbrev at : ℕ → Ptr
-  at = numbered_at sys d
-
-  here : at (suc i) ≡ p.at
-  here = ap place_in e
+  at = entity_at sys d t.member
 
   module _ (class : class_at cs p ≡ t.member) where
+    its_place : slice_get (listing d t.member) i ≡ Some (Some p)
+    its_place = subst (λ c. slice_get (listing d c) i ≡ Some (Some p)) class (stands l cs sys d ms K i p e)
+
+    here : at (suc i) ≡ p.at
+    here = ap place_in its_place
+
     pub it : IsOf cs d t.member (suc i)
-    it = is_of cs d t.member i p e class
+    it = is_of cs d t.member i p its_place class
 
     abbrev pub its_next : Next l cs sys d ms K s t g (suc i) it
     its_next = next_of l cs sys d ms K s t g (suc i) it
@@ -67,10 +71,13 @@ module _ (l : Layout) (cs : Cells) (sys : Ptr) (d : Directory) (ms : List Member
 
   module _ (owns : t.owner ≡ Class (class_at cs p)) where
     owner : MayOwn cs d t.owner (suc i)
-    owner = subst (λ o. MayOwn cs d o (suc i)) (sym owns) (is_of cs d (class_at cs p) i p e refl)
+    owner = subst (λ o. MayOwn cs d o (suc i)) (sym owns) (is_of cs d (class_at cs p) i p (stands l cs sys d ms K i p e) refl)
+
+    home : owner_at sys d t.owner (suc i) ≡ p.at
+    home = ap (λ o. owner_at sys d o (suc i)) owns ∙ ap place_in (stands l cs sys d ms K i p e)
 
     pub count_word : word_at cs p.at (owner_base l s t + 2) ≡ counter (length (members_of ms s (suc i)))
-    count_word = (λ z. word_at cs (sym here z) (owner_base l s t + 2)) ∙ (K.names s t g).count (suc i) owner
+    count_word = (λ z. word_at cs (sym home z) (owner_base l s t + 2)) ∙ (K.names s t g).count (suc i) owner
 
     pub may_count : IsCounter (word_at cs p.at (owner_base l s t + 2))
     may_count = subst IsCounter (sym count_word) tt

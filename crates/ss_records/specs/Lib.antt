@@ -1,4 +1,5 @@
 pub mod Cells
+pub mod Commands
 pub mod Kept
 pub mod Laid
 pub mod Links

@@ -9,14 +9,18 @@ use Rattle.ss_records.specs.Lists.{head0, last_or}
 use Rattle.ss_records.specs.Cells.{words_at}
 use Rattle.ss_records.specs.Reading.{record_of}
 use Rattle.ss_records.specs.Kept.{Kept, state_of}
-use Rattle.ss_records.specs.Places.{class_at, numbered_at}
+use Rattle.ss_records.specs.Places.{Directory, lying, Lists, class_at, entity_at, owner_at}
 use Rattle.ss_records.specs.Slotted.{IsOf, MayOwn}
 
+-- where the entities lie
+abbrev pub places : Records → Directory
+places r = lying r.directory.places r.permanents.items
+
 abbrev pub IsKept : Records → Type 0
-IsKept r = Kept r.layout r.blocks.cells r.system.at r.directory.places r.notes.lists
+IsKept r = Kept r.layout r.blocks.cells r.system.at (places r) r.notes.lists
 
 abbrev pub state : Records → State
-state r = state_of r.layout r.blocks.cells r.directory.places r.notes.lists
+state r = state_of r.layout r.blocks.cells (places r) r.notes.lists
 
 abbrev pub heaped : Records → Heaped
 heaped r = record { state = state r; touches = r.blocks.touches; total = r.blocks.total; pages = r.directory.pages; blocks = length r.blocks.cells }
@@ -25,7 +29,7 @@ heaped r = record { state = state r; touches = r.blocks.touches; total = r.block
 pub record Found (r : Records) (c : ℕ) (x : ℤ) (p : Place) : Type 0 where
   pub index : ℕ
   pub is : x ≡ pos (suc index)
-  pub entry : slice_get r.directory.places index ≡ Some (Some p)
+  pub entry : Lists (places r) index p
   pub class : class_at r.blocks.cells p ≡ c
   pub entity : entity (state r) c x ≡ Ok (record_of r.layout (words_at r.blocks.cells p.at))
 
@@ -36,34 +40,34 @@ pub record FoundNotice (r : Records) (x : ℤ) (p : Place) : Type 0 where
   pub entry : slice_get r.directory.places index ≡ Some (Some p)
   pub notice : notice (state r) x ≡ Ok (record_of r.layout (words_at r.blocks.cells p.at))
 
--- e is where the block of its number lies
-abbrev pub Lies : Records → Entry → Type 0
-Lies r e = e.place.at ≡ numbered_at r.system.at r.directory.places e.number
+-- e is where the block of its number lies, as an entity of the class of the members of the set s; 0 is the end
+abbrev pub Lies : Records → ℕ → Entry → Type 0
+Lies r s e = e.place.at ≡ entity_at r.system.at (places r) (member_class r.layout s) e.number
 
 -- e is an owner of the set s
 pub record Owns (r : Records) (s : ℕ) (e : Entry) : Type 0 where
-  pub lies : Lies r e
-  pub may : MayOwn r.blocks.cells r.directory.places (owner_kind r.layout s) e.number
+  pub lies : e.place.at ≡ owner_at r.system.at (places r) (owner_kind r.layout s) e.number
+  pub may : MayOwn r.blocks.cells (places r) (owner_kind r.layout s) e.number
 
 -- e is of the class of the members of the set s
 pub record Joins (r : Records) (s : ℕ) (e : Entry) : Type 0 where
-  pub lies : Lies r e
-  pub is : IsOf r.blocks.cells r.directory.places (member_class r.layout s) e.number
+  pub lies : Lies r s e
+  pub is : IsOf r.blocks.cells (places r) (member_class r.layout s) e.number
 
 -- the set s of o has the members xs and then ys, of which a is the last and b the first
 pub record Between (r : Records) (s o : ℕ) (a b : Entry) (xs ys : List ℕ) : Type 0 where
   pub list : members_of r.notes.lists s o ≡ xs ++ ys
-  pub before : Lies r a
+  pub before : Lies r s a
   pub last : a.number ≡ last_or 0 xs
-  pub after : Lies r b
+  pub after : Lies r s b
   pub first : b.number ≡ head0 ys
 
 -- the set s of o has the members xs, then x, then ys
 pub record Around (r : Records) (s o x : ℕ) (a b : Entry) (xs ys : List ℕ) : Type 0 where
   pub list : members_of r.notes.lists s o ≡ xs ++ x ∷ ys
-  pub before : Lies r a
+  pub before : Lies r s a
   pub last : a.number ≡ last_or 0 xs
-  pub after : Lies r b
+  pub after : Lies r s b
   pub first : b.number ≡ head0 ys
 
 -- what a call that only looks leaves: all but the counts of touches

@@ -1,5 +1,5 @@
 -- What the words of a block mean.
-use Rattle.std.specs.Prelude.{ℕ, ◌+◌, cond, List, [], ◌∷◌, pos, Option, Some, None}
+use Rattle.std.specs.Prelude.{ℕ, ◌+◌, cond, List, [], ◌∷◌, map, pos, Option, Some, None}
 use Rattle.std.specs.Int.{to_be_bytes, cast_signed}
 use Rattle.std.specs.Option.{unwrap_or}
 use mir.Syntax.{w64}
@@ -46,3 +46,8 @@ record_of l ws = record {
 abbrev pub record_at : Layout → Cells → Option Place → Option Record
 record_at l cs None = None
 record_at l cs (Some p) = Some (record_of l (words_at cs p.at))
+
+-- the records at the entries of a permanent class
+abbrev pub records_at : Layout → Cells → Option (List Place) → Option (List Record)
+records_at l cs None = None
+records_at l cs (Some ps) = Some (map (λ p. record_of l (words_at cs p.at)) ps)

@@ -9,7 +9,7 @@ use Rattle.ss_records.specs.declared.store.Place.{Place}
 use Rattle.ss_records.specs.Cells.{Cells, words_at, word_at}
 use Rattle.ss_records.specs.State.{Members, members_of}
 use Rattle.ss_records.specs.Shape.{links_start, owned_start, joins, owned_by, count_before}
-use Rattle.ss_records.specs.Places.{Directory, numbered_at, class_at}
+use Rattle.ss_records.specs.Places.{Directory, listing, entity_at, owner_at, class_at}
 use Rattle.ss_records.specs.Links.{Slots, Shows, words_of, OfMember, OfOwner}
 
 abbrev pub member_base : Layout → ℕ → SetLayout → ℕ
@@ -37,7 +37,7 @@ is_entry cs c (Some (Some p)) = class_at cs p ≡ c
 -- n is an entity of the class c
 abbrev pub IsOf : Cells → Directory → ℕ → ℕ → Type 0
 IsOf cs d c zero = ⊥
-IsOf cs d c (suc i) = is_entry cs c (slice_get d i)
+IsOf cs d c (suc i) = is_entry cs c (slice_get (listing d c) i)
 
 -- n may own sets of this owner: 0 is the system
 abbrev pub MayOwn : Cells → Directory → Owner → ℕ → Type 0
@@ -46,11 +46,11 @@ MayOwn cs d (Class c) n = IsOf cs d c n
 
 -- the links of the name s show its lists
 abbrev pub NameKept : Layout → Cells → Ptr → Directory → List Members → ℕ → SetLayout → Type 0
-NameKept l cs sys d ms s t = Shows (words_of (slots_of l s t) cs (numbered_at sys d) (numbered_at sys d)) (numbered_at sys d) (numbered_at sys d) (IsOf cs d t.member) (MayOwn cs d t.owner) (members_of ms s)
+NameKept l cs sys d ms s t = Shows (words_of (slots_of l s t) cs (entity_at sys d t.member) (owner_at sys d t.owner)) (entity_at sys d t.member) (owner_at sys d t.owner) (IsOf cs d t.member) (MayOwn cs d t.owner) (members_of ms s)
 
 -- a word of the name s, in the block of a member or of an owner
 abbrev pub OfName : Layout → Cells → Ptr → Directory → ℕ → SetLayout → Ptr → ℕ → Type 0
-OfName l cs sys d s t p k = ((x : ℕ) × (IsOf cs d t.member x) × (p ≡ numbered_at sys d x) × (OfMember (slots_of l s t) k)) ⊎ ((o : ℕ) × (MayOwn cs d t.owner o) × (p ≡ numbered_at sys d o) × (OfOwner (slots_of l s t) k))
+OfName l cs sys d s t p k = ((x : ℕ) × (IsOf cs d t.member x) × (p ≡ entity_at sys d t.member x) × (OfMember (slots_of l s t) k)) ⊎ ((o : ℕ) × (MayOwn cs d t.owner o) × (p ≡ owner_at sys d t.owner o) × (OfOwner (slots_of l s t) k))
 
 -- the blocks but for words of one kind are as they were
 pub record Spares (Of : Ptr → ℕ → Type 0) (cs ds : Cells) : Type 0 where

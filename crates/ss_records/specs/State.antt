@@ -1,9 +1,9 @@
 -- What a heap holds: records by creation number, permanent entities by index, and the members of each set.
-use Rattle.std.specs.Prelude.{ℕ, zero, suc, ◌+◌, ◌-◌, nat_lt, Bool, true, false, ◌&&◌, ◌||◌, ◌==◌, cond, if◌then◌else◌, List, [], ◌∷◌, ◌++◌, length, map, ℤ, pos, negsuc, Option, Some, None, is_some, Result, Ok, Err, slice_get, slice_index_or, slice_set}
+use Rattle.std.specs.Prelude.{ℕ, zero, suc, ◌+◌, ◌-◌, nat_lt, nat_le, Bool, true, false, ◌&&◌, ◌||◌, ◌==◌, cond, if◌then◌else◌, List, [], ◌∷◌, ◌++◌, length, map, ℤ, pos, negsuc, Option, Some, None, is_some, Result, Ok, Err, slice_get, slice_index_or, slice_set, replicate}
 use Rattle.ss_base.specs.declared.value.Value.{Value}
 use Rattle.ss_base.specs.declared.value.Value.TheVariants.{Whole}
 use Rattle.ss_base.specs.declared.fault.FaultKind.{FaultKind}
-use Rattle.ss_base.specs.declared.fault.FaultKind.TheVariants.{NoEntity, NeverCreated, DestroyedEntity, WrongClass, Index, InASet, OwnsMembers, Overflow}
+use Rattle.ss_base.specs.declared.fault.FaultKind.TheVariants.{NoEntity, NeverCreated, DestroyedEntity, WrongClass, Index, InASet, OwnsMembers, Overflow, CreatedTwice, BadCount}
 use Rattle.ss_base.specs.declared.layout.ClassKind.{ClassKind}
 use Rattle.ss_base.specs.declared.layout.ClassKind.TheVariants.{Permanent, Temporary, Notice}
 use Rattle.ss_base.specs.declared.layout.Mode.{Mode}
@@ -174,6 +174,31 @@ with_created s c = record s { records = s.records ++ Some (first_record s.layout
 -- the number of the next record and the state with it
 abbrev pub created : State → ℕ → Result (ℤ × State) FaultKind
 created s c = if nat_lt (length s.records) LAST_NUMBER then Ok (pos (length s.records + 1), with_created s c) else Err Overflow
+
+-- how many entities a permanent class has at most
+abbrev pub MOST_ENTITIES : ℕ
+MOST_ENTITIES = 1048576
+
+abbrev pub is_made_in : Option (Option (List Record)) → Bool
+is_made_in None = false
+is_made_in (Some None) = false
+is_made_in (Some (Some rs)) = true
+
+-- whether the entities of a permanent class are made
+abbrev pub is_made : State → ℕ → Bool
+is_made s c = is_made_in (slice_get s.permanents c)
+
+-- the state with n entities of a permanent class
+abbrev pub with_made : State → ℕ → ℕ → State
+with_made s c n = record s { permanents = slice_set s.permanents c (Some (replicate n (first_record s.layout c))) }
+
+abbrev pub made_many : State → ℕ → ℤ → Result State FaultKind
+made_many s c (pos n) = if nat_le n MOST_ENTITIES then Ok (with_made s c n) else Err BadCount
+made_many s c (negsuc k) = Err BadCount
+
+-- the state once all entities of a permanent class are made, which happens once
+abbrev pub created_all : State → ℕ → ℤ → Result State FaultKind
+created_all s c n = if is_made s c then Err CreatedTwice else made_many s c n
 
 -- ## Sets
 

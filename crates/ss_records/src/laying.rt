@@ -1,5 +1,5 @@
 // The words of a new block: its head, links that lead to itself, and empty sets.
-ghost use Rattle.std.specs.Prelude.{◌≡◌, ℕ, ◌+◌, ◌-◌, ◌*◌, ◌^◌, ◌<◌, ◌≤◌, length};
+ghost use Rattle.std.specs.Prelude.{◌≡◌, ℕ, ◌+◌, ◌*◌, ◌^◌, ◌<◌, ◌≤◌, length};
 ghost use Rattle.ss_records.specs.Cells.{blank, word_at, words_at};
 ghost use Rattle.ss_records.specs.Laid.{Filled, Laid, LaidSystem, head_word, zeros, links_to, owned_from};
 ghost use Rattle.ss_records.specs.Shape.{links_start, block_words};
@@ -77,9 +77,10 @@ pub(crate) fn lay(
     requires class { class < length layout.now.classes.items }
     requires room { length (words_at blocks.old.cells place.at) ≡ block_words layout.now (Owner.Class class) }
     requires blank { (k : ℕ) → word_at blocks.old.cells place.at k ≡ blank }
-    requires touches { blocks.old.touches ≡ 0 }
+    requires touches { blocks.old.touches ≤ 2 ^ 60 }
     ensures laid { Laid layout.now blocks.old.cells blocks.new.cells end.at place.at class number }
-    ensures touches { blocks.new.total ≡ blocks.old.total + blocks.new.touches }
+    ensures touches { blocks.new.total + blocks.old.touches ≡ blocks.old.total + blocks.new.touches }
+    ensures few { blocks.new.touches ≤ blocks.old.touches + 8388608 }
 {
     let links = shape::links_start(layout, class);
     let owned = shape::owned_start(layout, Owner::Class(class));

@@ -1,6 +1,7 @@
 //! Records of a simulation as raw blocks, with links between them.
 #![tactic(auto)]
 
+mod commands;
 pub(crate) mod directory;
 pub(crate) mod filing;
 mod heap;
@@ -8,7 +9,9 @@ pub(crate) mod laying;
 pub(crate) mod links;
 pub(crate) mod notes;
 pub(crate) mod page;
+pub(crate) mod placing;
 pub(crate) mod records;
+pub(crate) mod row;
 pub(crate) mod sets;
 pub(crate) mod shape;
 pub(crate) mod store;
@@ -17,4 +20,8 @@ mod tests;
 pub(crate) mod ties;
 pub(crate) mod words;
 
+pub use commands::{
+    Answer, Command, commands_leave_other_sets, filing_leaves_other_sets,
+    other_calls_leave_the_sets,
+};
 pub use heap::Heap;

@@ -1,24 +1,28 @@
 // The records: where each lies, and what its block says.
-ghost use Rattle.std.specs.Prelude.{◌≡◌, ℕ, ◌+◌, ◌-◌, ◌*◌, ◌^◌, ◌<◌, ◌≤◌, ◌++◌, [], ◌∷◌, length, IsTrue, MatchResult, Ok, Err, Some, None, slice_get, slice_set, pos, true, ⊤, suc};
-ghost use Rattle.ss_records.specs.State.{Record, State, Members, entity, notice, numbered, and_then, of_class, kind_of, modes_of, is_notice, first_state, living_numbers, living_records, value_in, time_in, in_a_set, owns_members, destroyed, created, with_created, assigned, timed, with_entity};
-ghost use Rattle.ss_records.specs.Cells.{words_at, word_at, number};
-ghost use Rattle.ss_records.specs.Reading.{record_of, value_of};
+ghost use Rattle.std.specs.Prelude.{◌≡◌, ℕ, ◌+◌, ◌-◌, ◌*◌, ◌^◌, ◌<◌, ◌≤◌, length, IsTrue, MatchResult, Ok, Err, Some, None, slice_get, true, ⊤, suc};
+ghost use Rattle.ss_records.specs.State.{entity, notice, numbered, and_then, of_class, kind_of, modes_of, is_notice, first_state, living_numbers, living_records, value_in, time_in, in_a_set, owns_members, destroyed, created, created_all, with_made, assigned, timed};
+ghost use Rattle.ss_records.specs.Cells.{words_at, number};
+ghost use Rattle.ss_records.specs.Reading.{record_of};
 ghost use Rattle.ss_base.specs.Layout.{mode_of, is_sound};
 ghost use Rattle.ss_records.specs.Shape.{values_end};
-ghost use Rattle.ss_records.specs.Kept.{Kept, Small, state_of, numbered_place, IsPermanent};
-ghost use Rattle.ss_records.specs.Places.{class_at};
+ghost use Rattle.ss_records.specs.Kept.{Kept, Small, numbered_place, indexed_place, row_in, IsPermanent, RowsHeld};
+ghost use Rattle.ss_records.specs.Places.{class_at, lying};
 ghost use Rattle.ss_records.specs.Parts.{IsKept, state, Found, FoundNotice};
 
 use crate::directory::Directory;
 use crate::notes::Notes;
+use crate::row::{self, Row};
 use crate::shape::{self, CLASS, NUMBER, VALUES};
 use crate::store::{Blocks, Place};
-use crate::{laying, ties, words};
+use crate::{laying, placing, ties, words};
 use ss_base::{ClassKind, FaultKind, Layout, Owner, Refused, Value};
 use std::alloc::{AllocError, Global};
 
 /// The greatest creation number.
 const LAST_NUMBER: u64 = 4611686018427387903;
+
+/// The most entities of a permanent class.
+const MOST_ENTITIES: i64 = 1048576;
 
 pub(crate) struct Records {
     pub(crate) layout: Layout,
@@ -26,6 +30,7 @@ pub(crate) struct Records {
     pub(crate) notes: Notes,
     pub(crate) system: Place,
     pub(crate) directory: Directory,
+    pub(crate) permanents: Vec<Row>,
 }
 
 impl Records {
@@ -43,6 +48,10 @@ impl Records {
             blocks.close();
             return Err(AllocError);
         };
+        let Ok(permanents) = row::not_made(alloc, layout.classes.len()) else {
+            blocks.close();
+            return Err(AllocError);
+        };
         let Ok(system) = blocks.place(&alloc, words) else {
             blocks.close();
             return Err(AllocError);
@@ -54,6 +63,7 @@ impl Records {
             notes: Notes::new(),
             system,
             directory,
+            permanents,
         })
     }
 
@@ -98,8 +108,17 @@ impl Records {
             notes,
             system,
             directory,
+            permanents,
         } = self;
-        give_all_back(&mut blocks, alloc, &layout, &directory, &notes, system);
+        give_all_back(
+            &mut blocks,
+            alloc,
+            &layout,
+            &directory,
+            &permanents,
+            &notes,
+            system,
+        );
         let words = shape::block_words(&layout, Owner::System);
         blocks.give_back(alloc, system, words);
         blocks.close();
@@ -132,9 +151,24 @@ impl Records {
         ensures found { MatchResult result (λ p. Found self.now class r p) (λ e. entity (state self.now) class r ≡ Err e) }
     {
         match shape::kind(&self.layout, class) {
-            ClassKind::Permanent => Err(FaultKind::Index),
+            ClassKind::Permanent => self.indexed(class, r),
             ClassKind::Temporary => self.of_class(class, r),
             ClassKind::Notice => self.of_class(class, r),
+        }
+    }
+
+    // The block of an index of a permanent class.
+    fn indexed(&self, class: usize, r: i64) -> Result<Place, FaultKind>
+        requires class { class < length self.now.permanents.items }
+        ensures { result ≡ indexed_place (row_in (slice_get self.now.permanents.items class)) r }
+    {
+        if r < 1 {
+            return Err(FaultKind::Index);
+        }
+        let places = self.permanents[class].places();
+        match places.get(r as usize - 1) {
+            Some(place) => Ok(*place),
+            None => Err(FaultKind::Index),
         }
     }
 
@@ -305,6 +339,49 @@ impl Records {
         }
     }
 
+    /// The entities of a permanent class, n of them, with the numbers from 1 on.
+    pub(crate) fn create_all(&mut self, alloc: &Global, class: usize, n: i64) -> Result<(), Refused>
+        requires kept { IsKept self.old }
+        requires class { class < length self.old.layout.classes.items }
+        requires kind { IsPermanent (kind_of self.old.layout class) }
+        requires touches { self.old.blocks.touches ≡ 0 }
+        ensures kept { IsKept self.new }
+        ensures done { MatchResult result (λ _. created_all (state self.old) class n ≡ Ok (state self.new)) (λ e. (state self.new ≡ state self.old) × ((f : FaultKind) → e ≡ Refused.Fault f → created_all (state self.old) class n ≡ Err f)) }
+        ensures touches { self.new.blocks.total ≡ self.old.blocks.total + self.new.blocks.touches }
+    {
+        if self.permanents[class].is_made() {
+            return Err(Refused::Fault(FaultKind::CreatedTwice));
+        }
+        if n < 0 || n > MOST_ENTITIES {
+            return Err(Refused::Fault(FaultKind::BadCount));
+        }
+        match self.make(alloc, class, n as usize) {
+            Ok(()) => Ok(()),
+            Err(_) => Err(Refused::Memory),
+        }
+    }
+
+    // So many entities of a permanent class that is not made.
+    fn make(&mut self, alloc: &Global, class: usize, count: usize) -> Result<(), AllocError>
+        requires kept { IsKept self.old }
+        requires class { class < length self.old.layout.classes.items }
+        requires kind { IsPermanent (kind_of self.old.layout class) }
+        requires free { slice_get self.old.permanents.items class ≡ Some None }
+        requires few { count ≤ 2 ^ 20 }
+        requires touches { self.old.blocks.touches ≡ 0 }
+        ensures kept { IsKept self.new }
+        ensures done { MatchResult result (λ _. state self.new ≡ with_made (state self.old) class count) (λ _. state self.new ≡ state self.old) }
+        ensures touches { self.new.blocks.total ≡ self.old.blocks.total + self.new.blocks.touches }
+    {
+        let words = shape::block_words(&self.layout, Owner::Class(class));
+        let Ok(places) = placing::place_all(&mut self.blocks, alloc, words, count) else {
+            return Err(AllocError);
+        };
+        placing::lay_all(&mut self.blocks, &self.layout, &places, class, self.system);
+        self.permanents[class] = Row::of(places);
+        Ok(())
+    }
+
     // Whether an entity is in a set.
     fn in_a_set(&mut self, class: usize, place: Place, number: u64) -> bool
         requires kept { IsKept self.old }
@@ -320,6 +397,7 @@ impl Records {
             &mut self.blocks,
             &self.layout,
             &self.directory,
+            &self.permanents,
             &self.notes,
             self.system,
             class,
@@ -343,6 +421,7 @@ impl Records {
             &mut self.blocks,
             &self.layout,
             &self.directory,
+            &self.permanents,
             &self.notes,
             self.system,
             class,
@@ -355,6 +434,7 @@ impl Records {
     pub(crate) fn destroy(&mut self, alloc: &Global, class: usize, r: i64) -> Result<(), FaultKind>
         requires kept { IsKept self.old }
         requires class { class < length self.old.layout.classes.items }
+        requires kind { IsPermanent (kind_of self.old.layout class) → ⊥ }
         requires touches { self.old.blocks.touches ≡ 0 }
         ensures kept { IsKept self.new }
         ensures done { MatchResult result (λ _. destroyed (state self.old) class r ≡ Ok (state self.new)) (λ e. (destroyed (state self.old) class r ≡ Err e) × (state self.new ≡ state self.old)) }
@@ -385,10 +465,11 @@ fn give_all_back(
     alloc: &Global,
     layout: &Layout,
     directory: &Directory,
+    permanents: &[Row],
     notes: &Notes,
     system: Place,
 )
-    requires kept { Kept layout.now blocks.old.cells system.at directory.now.places notes.now.lists }
+    requires kept { Kept layout.now blocks.old.cells system.at (lying directory.now.places permanents.now) notes.now.lists }
     ensures system { words_at blocks.new.cells system.at ≡ words_at blocks.old.cells system.at }
     ensures count { length blocks.new.cells ≡ 1 }
 {
@@ -401,5 +482,26 @@ fn give_all_back(
             }
             None => {}
         }
+    }
+    give_rows_back(blocks, alloc, layout, permanents, system);
+}
+
+// Gives back the blocks of the permanent entities.
+fn give_rows_back(
+    blocks: &mut Blocks,
+    alloc: &Global,
+    layout: &Layout,
+    permanents: &[Row],
+    system: Place,
+)
+    requires small { Small layout.now }
+    requires held { RowsHeld layout.now blocks.old.cells system.at permanents.now }
+    ensures system { words_at blocks.new.cells system.at ≡ words_at blocks.old.cells system.at }
+    ensures count { length blocks.new.cells ≡ 1 }
+{
+    for class in 0..permanents.len() {
+        let words = shape::block_words(layout, Owner::Class(class));
+        let places = permanents[class].places();
+        placing::give_places_back(blocks, alloc, places, words);
     }
 }

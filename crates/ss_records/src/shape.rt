@@ -14,14 +14,14 @@ pub(crate) const NUMBER: usize = 1;
 
 pub(crate) const VALUES: usize = 2;
 
-/// The most sets, and the most attributes of a class, that a heap serves.
+/// The most classes, sets, and attributes of a class, that a heap serves.
 pub(crate) const MOST: usize = 1048576;
 
 /// Whether a heap can serve a layout.
 pub(crate) fn is_small(layout: &Layout) -> bool
     ensures { IsTrue result → Small layout.now }
 {
-    if !layout.is_sound() || layout.sets.len() > MOST {
+    if !layout.is_sound() || layout.classes.len() > MOST || layout.sets.len() > MOST {
         return false;
     }
     for class in &layout.classes {

@@ -1,5 +1,6 @@
 use crate::Heap;
-use ss_base::{ClassKind, ClassLayout, FaultKind, Layout, Mode, Owner, SetLayout, Value};
+use ss_base::{ClassKind, ClassLayout, FaultKind, Layout, Mode, Owner, Refused, SetLayout, Value};
+use std::alloc::{AllocError, Global};
 use std::rt::HostRuntime;
 use std::test::Fail;
 
@@ -9,16 +10,22 @@ const TOOL: usize = 1;
 
 const BELL: usize = 2;
 
+const MACHINE: usize = 3;
+
 const POOL: usize = 0;
 
 const RACK: usize = 1;
 
 const ROW: usize = 2;
 
-// Jobs with a rank, tools and bells. A job may be in the pool of the system, in a rack and in a row, of
-// which each tool owns one.
-fn yard(rt: &HostRuntime) -> Result<Heap, Fail> {
-    let alloc = rt.alloc();
+const QUEUE: usize = 3;
+
+const FLOOR: usize = 4;
+
+// Jobs with a rank, tools, bells, and machines with a load, which are permanent. A job may be in the pool of
+// the system, in a rack and in a row, of which each tool owns one, and in the queue of a machine; a machine
+// may be on the floor of the system.
+fn yard(alloc: Global) -> Result<Heap, AllocError> {
     let job = ClassLayout {
         kind: ClassKind::Temporary,
         fields: vec![in alloc; Mode::Integer]?,
@@ -31,10 +38,15 @@ fn yard(rt: &HostRuntime) -> Result<Heap, Fail> {
         kind: ClassKind::Notice,
         fields: Vec::new(alloc),
     };
+    let machine = ClassLayout {
+        kind: ClassKind::Permanent,
+        fields: vec![in alloc; Mode::Integer]?,
+    };
     let mut classes = Vec::new(alloc);
-    classes.push(job).map_err(|_| "memory")?;
-    classes.push(tool).map_err(|_| "memory")?;
-    classes.push(bell).map_err(|_| "memory")?;
+    classes.push(job).map_err(|_| AllocError)?;
+    classes.push(tool).map_err(|_| AllocError)?;
+    classes.push(bell).map_err(|_| AllocError)?;
+    classes.push(machine).map_err(|_| AllocError)?;
     let pool = SetLayout {
         owner: Owner::System,
         member: JOB,
@@ -43,8 +55,16 @@ fn yard(rt: &HostRuntime) -> Result<Heap, Fail> {
         owner: Owner::Class(TOOL),
         member: JOB,
     };
-    let sets = vec![in alloc; pool, rack, rack]?;
-    Ok(Heap::new(alloc, Layout { classes, sets })?)
+    let queue = SetLayout {
+        owner: Owner::Class(MACHINE),
+        member: JOB,
+    };
+    let floor = SetLayout {
+        owner: Owner::System,
+        member: MACHINE,
+    };
+    let sets = vec![in alloc; pool, rack, rack, queue, floor]?;
+    Heap::new(alloc, Layout { classes, sets })
 }
 
 // A new entity, where the class is there and its entities are created one by one.
@@ -53,6 +73,15 @@ fn create(heap: &mut Heap, class: usize) -> Option<i64> {
     match kind {
         ClassKind::Permanent => None,
         ClassKind::Temporary | ClassKind::Notice => heap.create(class).ok(),
+    }
+}
+
+// All machines, where they are a permanent class.
+fn make(heap: &mut Heap, n: i64) -> Option<Result<(), Refused>> {
+    let kind = heap.layout().classes.get(MACHINE)?.kind;
+    match kind {
+        ClassKind::Permanent => Some(heap.create_all(MACHINE, n)),
+        ClassKind::Temporary | ClassKind::Notice => None,
     }
 }
 
@@ -71,15 +100,15 @@ fn known(heap: &Heap, class: usize, r: i64) -> Option<Result<(), FaultKind>> {
     Some(heap.known(class, r))
 }
 
-fn rank(heap: &Heap, r: i64) -> Option<Result<Value, FaultKind>> {
-    let _mode = heap.layout().classes.get(JOB)?.fields.get(0)?;
-    Some(heap.value(JOB, 0, r))
+fn value(heap: &Heap, class: usize, r: i64) -> Option<Result<Value, FaultKind>> {
+    let _mode = heap.layout().classes.get(class)?.fields.get(0)?;
+    Some(heap.value(class, 0, r))
 }
 
-fn set_rank(heap: &mut Heap, r: i64, rank: i64) -> Option<Result<(), FaultKind>> {
-    let mode = *heap.layout().classes.get(JOB)?.fields.get(0)?;
+fn set_value(heap: &mut Heap, class: usize, r: i64, value: i64) -> Option<Result<(), FaultKind>> {
+    let mode = *heap.layout().classes.get(class)?.fields.get(0)?;
     match mode {
-        Mode::Integer => Some(heap.set_value(JOB, 0, r, Value::Whole(rank))),
+        Mode::Integer => Some(heap.set_value(class, 0, r, Value::Whole(value))),
         Mode::Alpha => None,
     }
 }
@@ -122,7 +151,7 @@ fn answer(heap: &mut Heap, set: usize, asked: Ask) -> Option<Result<i64, FaultKi
 
 #[test]
 fn numbers_are_never_used_again(rt: HostRuntime) -> Result<(), Fail> {
-    let mut heap = yard(&rt)?;
+    let mut heap = yard(rt.alloc())?;
     assert_eq!(rt; create(&mut heap, JOB), Some(1));
     assert_eq!(rt; destroy(&mut heap, JOB, 1), Some(Ok(())));
     assert_eq!(rt; create(&mut heap, JOB), Some(2));
@@ -136,23 +165,23 @@ fn numbers_are_never_used_again(rt: HostRuntime) -> Result<(), Fail> {
     ];
     for (r, fault) in faults {
         assert_eq!(rt; known(&heap, JOB, r), Some(Err(fault)));
-        assert!(rt; rank(&heap, r) == Some(Err(fault)));
-        assert_eq!(rt; set_rank(&mut heap, r, 5), Some(Err(fault)));
+        assert!(rt; value(&heap, JOB, r) == Some(Err(fault)));
+        assert_eq!(rt; set_value(&mut heap, JOB, r, 5), Some(Err(fault)));
         assert_eq!(rt; answer(&mut heap, POOL, Ask::Next(r)), Some(Err(fault)));
     }
     assert_eq!(rt; heap.known_notice(2), Err(FaultKind::WrongClass));
     assert_eq!(rt; heap.time_a(3), Ok(0));
     assert_eq!(rt; heap.set_time_a(3, -7), Ok(()));
     assert_eq!(rt; heap.time_a(3), Ok(-7));
-    assert_eq!(rt; set_rank(&mut heap, 2, -5), Some(Ok(())));
-    assert!(rt; rank(&heap, 2) == Some(Ok(Value::Whole(-5))));
+    assert_eq!(rt; set_value(&mut heap, JOB, 2, -5), Some(Ok(())));
+    assert!(rt; value(&heap, JOB, 2) == Some(Ok(Value::Whole(-5))));
     assert_eq!(rt; heap.blocks(), 3);
     Ok(())
 }
 
 #[test]
 fn an_entity_is_in_three_sets_at_once(rt: HostRuntime) -> Result<(), Fail> {
-    let mut heap = yard(&rt)?;
+    let mut heap = yard(rt.alloc())?;
     assert_eq!(rt; create(&mut heap, TOOL), Some(1));
     for x in 2..5 {
         assert_eq!(rt; create(&mut heap, JOB), Some(x));
@@ -200,7 +229,7 @@ fn an_entity_is_in_three_sets_at_once(rt: HostRuntime) -> Result<(), Fail> {
 
 #[test]
 fn a_member_in_the_middle_of_a_long_set_is_removed_at_once(rt: HostRuntime) -> Result<(), Fail> {
-    let mut heap = yard(&rt)?;
+    let mut heap = yard(rt.alloc())?;
     for x in 1..10001 {
         assert_eq!(rt; create(&mut heap, JOB), Some(x));
         assert_eq!(rt; answer(&mut heap, POOL, Ask::FileLast(0, x)), Some(Ok(0)));
@@ -215,13 +244,13 @@ fn a_member_in_the_middle_of_a_long_set_is_removed_at_once(rt: HostRuntime) -> R
 
 #[test]
 fn a_page_without_a_living_number_is_given_back(rt: HostRuntime) -> Result<(), Fail> {
-    let mut heap = yard(&rt)?;
+    let mut heap = yard(rt.alloc())?;
     for x in 1..1001 {
         assert_eq!(rt; create(&mut heap, JOB), Some(x));
         assert_eq!(rt; destroy(&mut heap, JOB, x), Some(Ok(())));
         assert!(rt; heap.pages() <= 1);
     }
-    assert!(rt; rank(&heap, 1) == Some(Err(FaultKind::DestroyedEntity)));
+    assert!(rt; value(&heap, JOB, 1) == Some(Err(FaultKind::DestroyedEntity)));
     assert_eq!(rt; heap.blocks(), 1);
     for x in 1001..1601 {
         assert_eq!(rt; create(&mut heap, JOB), Some(x));
@@ -233,7 +262,76 @@ fn a_page_without_a_living_number_is_given_back(rt: HostRuntime) -> Result<(), F
         }
     }
     assert!(rt; heap.pages() <= 2);
-    assert!(rt; rank(&heap, 1300) == Some(Ok(Value::Whole(0))));
-    assert!(rt; rank(&heap, 1299) == Some(Err(FaultKind::DestroyedEntity)));
+    assert!(rt; value(&heap, JOB, 1300) == Some(Ok(Value::Whole(0))));
+    assert!(rt; value(&heap, JOB, 1299) == Some(Err(FaultKind::DestroyedEntity)));
+    Ok(())
+}
+
+#[test]
+fn machines_are_made_once_and_own_and_join_sets(rt: HostRuntime) -> Result<(), Fail> {
+    let mut heap = yard(rt.alloc())?;
+    assert_eq!(rt; known(&heap, MACHINE, 1), Some(Err(FaultKind::Index)));
+    for n in [-1, 1048577] {
+        let refused = Refused::Fault(FaultKind::BadCount);
+        assert_eq!(rt; make(&mut heap, n), Some(Err(refused)));
+    }
+    assert_eq!(rt; make(&mut heap, 3), Some(Ok(())));
+    let twice = Refused::Fault(FaultKind::CreatedTwice);
+    assert_eq!(rt; make(&mut heap, -1), Some(Err(twice)));
+    assert_eq!(rt; create(&mut heap, JOB), Some(1));
+    assert_eq!(rt; heap.blocks(), 5);
+    for r in [0, 4, -1] {
+        assert_eq!(rt; known(&heap, MACHINE, r), Some(Err(FaultKind::Index)));
+    }
+    assert_eq!(rt; set_value(&mut heap, MACHINE, 3, 8), Some(Ok(())));
+    assert!(rt; value(&heap, MACHINE, 3) == Some(Ok(Value::Whole(8))));
+    assert!(rt; value(&heap, MACHINE, 1) == Some(Ok(Value::Whole(0))));
+    let asked = [
+        (QUEUE, Ask::FileLast(2, 1), Ok(0)),
+        (QUEUE, Ask::FileLast(3, 1), Err(FaultKind::FiledTwice)),
+        (QUEUE, Ask::FileLast(4, 1), Err(FaultKind::Index)),
+        (QUEUE, Ask::Remove(3, 1), Err(FaultKind::NotFiled)),
+        (QUEUE, Ask::Owner(1), Ok(2)),
+        (QUEUE, Ask::First(2), Ok(1)),
+        (QUEUE, Ask::Count(1), Ok(0)),
+        (FLOOR, Ask::FileFirst(0, 1), Ok(0)),
+        (FLOOR, Ask::FileFirst(0, 3), Ok(0)),
+        (FLOOR, Ask::Next(3), Ok(1)),
+        (FLOOR, Ask::Previous(1), Ok(3)),
+        (FLOOR, Ask::Remove(0, 3), Ok(0)),
+        (FLOOR, Ask::Last(0), Ok(1)),
+        (FLOOR, Ask::Next(4), Err(FaultKind::Index)),
+    ];
+    for (set, what, wanted) in asked {
+        assert_eq!(rt; answer(&mut heap, set, what), Some(wanted));
+    }
+    Ok(())
+}
+
+// Creates a job where memory may be refused: then nothing has changed, and the next try succeeds.
+fn is_created(heap: &mut Heap, x: i64) -> bool {
+    let (blocks, pages) = (heap.blocks(), heap.pages());
+    create(heap, JOB) == Some(x)
+        || known(heap, JOB, x) == Some(Err(FaultKind::NeverCreated))
+            && (heap.blocks(), heap.pages()) == (blocks, pages)
+            && create(heap, JOB) == Some(x)
+}
+
+#[test]
+fn refused_memory_leaves_the_heap(rt: HostRuntime) -> Result<(), Fail> {
+    let mut heap = match yard(rt.alloc()) {
+        Ok(heap) => heap,
+        Err(_) => yard(rt.alloc())?,
+    };
+    for x in 1..601 {
+        assert!(rt; is_created(&mut heap, x));
+    }
+    if make(&mut heap, 5) == Some(Err(Refused::Memory)) {
+        assert_eq!(rt; known(&heap, MACHINE, 1), Some(Err(FaultKind::Index)));
+        assert_eq!(rt; heap.blocks(), 601);
+        assert_eq!(rt; make(&mut heap, 5), Some(Ok(())));
+    }
+    assert_eq!(rt; known(&heap, MACHINE, 5), Some(Ok(())));
+    assert_eq!(rt; heap.blocks(), 606);
     Ok(())
 }

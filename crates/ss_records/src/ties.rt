@@ -1,12 +1,13 @@
 // Whether an entity is in a set, and whether it has members.
-ghost use Rattle.std.specs.Prelude.{◌≡◌, ℕ, suc, ◌+◌, ◌*◌, ◌^◌, ◌<◌, ◌≤◌, Some, slice_get, length};
+ghost use Rattle.std.specs.Prelude.{◌≡◌, ℕ, suc, ◌+◌, ◌^◌, ◌<◌, ◌≤◌, Some, slice_get, length};
 ghost use Rattle.ss_base.specs.declared.layout.SetLayout.{SetLayout};
 ghost use Rattle.ss_records.specs.State.{in_a_set, owns_members, is_filed, has_members, members_of};
 ghost use Rattle.ss_records.specs.Kept.{Kept};
-ghost use Rattle.ss_records.specs.Places.{class_at};
+ghost use Rattle.ss_records.specs.Places.{class_at, lying};
 
 use crate::directory::Directory;
 use crate::notes::Notes;
+use crate::row::Row;
 use crate::shape::{self, NUMBER};
 use crate::store::{Blocks, Place};
 use ss_base::{Layout, Owner};
@@ -16,13 +17,14 @@ pub(crate) fn filed_in(
     blocks: &mut Blocks,
     layout: &Layout,
     directory: &Directory,
+    permanents: &[Row],
     notes: &Notes,
     system: Place,
     s: usize,
     place: Place,
     number: u64,
 ) -> bool
-    requires kept { Kept layout.now blocks.old.cells system.at directory.now.places notes.now.lists }
+    requires kept { Kept layout.now blocks.old.cells system.at (lying directory.now.places permanents.now) notes.now.lists }
     requires set { s < length layout.now.sets.items }
     requires entry { (i : ℕ) × (slice_get directory.now.places i ≡ Some (Some place)) × (number ≡ suc i) }
     requires class { (t : SetLayout) → slice_get layout.now.sets.items s ≡ Some t → class_at blocks.old.cells place ≡ t.member }
@@ -41,13 +43,14 @@ pub(crate) fn owns_in(
     blocks: &mut Blocks,
     layout: &Layout,
     directory: &Directory,
+    permanents: &[Row],
     notes: &Notes,
     system: Place,
     s: usize,
     place: Place,
     number: u64,
 ) -> bool
-    requires kept { Kept layout.now blocks.old.cells system.at directory.now.places notes.now.lists }
+    requires kept { Kept layout.now blocks.old.cells system.at (lying directory.now.places permanents.now) notes.now.lists }
     requires set { s < length layout.now.sets.items }
     requires entry { (i : ℕ) × (slice_get directory.now.places i ≡ Some (Some place)) × (number ≡ suc i) }
     requires class { (t : SetLayout) → slice_get layout.now.sets.items s ≡ Some t → t.owner ≡ Owner.Class (class_at blocks.old.cells place) }
@@ -65,13 +68,14 @@ pub(crate) fn in_a_set(
     blocks: &mut Blocks,
     layout: &Layout,
     directory: &Directory,
+    permanents: &[Row],
     notes: &Notes,
     system: Place,
     class: usize,
     place: Place,
     number: u64,
 ) -> bool
-    requires kept { Kept layout.now blocks.old.cells system.at directory.now.places notes.now.lists }
+    requires kept { Kept layout.now blocks.old.cells system.at (lying directory.now.places permanents.now) notes.now.lists }
     requires entry { (i : ℕ) × (slice_get directory.now.places i ≡ Some (Some place)) × (number ≡ suc i) }
     requires class { class_at blocks.old.cells place ≡ class }
     requires touches { blocks.old.touches ≤ 2 ^ 32 }
@@ -81,7 +85,9 @@ pub(crate) fn in_a_set(
 {
     for s in 0..layout.sets.len() {
         if shape::member_class(layout, s) == class {
-            if filed_in(blocks, layout, directory, notes, system, s, place, number) {
+            if filed_in(
+                blocks, layout, directory, permanents, notes, system, s, place, number,
+            ) {
                 return true;
             }
         }
@@ -94,13 +100,14 @@ pub(crate) fn owns_members(
     blocks: &mut Blocks,
     layout: &Layout,
     directory: &Directory,
+    permanents: &[Row],
     notes: &Notes,
     system: Place,
     class: usize,
     place: Place,
     number: u64,
 ) -> bool
-    requires kept { Kept layout.now blocks.old.cells system.at directory.now.places notes.now.lists }
+    requires kept { Kept layout.now blocks.old.cells system.at (lying directory.now.places permanents.now) notes.now.lists }
     requires entry { (i : ℕ) × (slice_get directory.now.places i ≡ Some (Some place)) × (number ≡ suc i) }
     requires class { class_at blocks.old.cells place ≡ class }
     requires touches { blocks.old.touches ≤ 2 ^ 33 }
@@ -110,7 +117,9 @@ pub(crate) fn owns_members(
 {
     for s in 0..layout.sets.len() {
         if shape::is_owner(layout, s, class) {
-            if owns_in(blocks, layout, directory, notes, system, s, place, number) {
+            if owns_in(
+                blocks, layout, directory, permanents, notes, system, s, place, number,
+            ) {
                 return true;
             }
         }

@@ -1,3 +1,5 @@
 pub mod Filed
 pub mod Members
 pub mod Same
+pub mod Walking
+pub mod Ranked

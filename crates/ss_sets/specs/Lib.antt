@@ -1,1 +1,2 @@
 pub mod Disciplines
+pub mod Walks

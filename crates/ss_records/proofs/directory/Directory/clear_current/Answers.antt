@@ -1,5 +1,5 @@
-use Rattle.std.proofs.Common.{◌≡◌, ◌≤◌, slice_get, slice_set, Some, None, sym, ap, subst, ◌∙◌}
-use Rattle.ss_records.specs.Pages.{Listed, Paged, entry, upto, page_of, slot}
+use Rattle.std.proofs.Common.{◌≤◌, slice_get, slice_set, None, sym, ap, subst, ◌∙◌}
+use Rattle.ss_records.specs.Pages.{Listed}
 use Rattle.ss_records.proofs.Paging.{in_cur, paged_cleared, places_cleared}
 use Rattle.ss_records.proofs.directory.Directory.clear_current.Goals as goal
 

@@ -1,6 +1,6 @@
-use Rattle.std.proofs.Common.{◌≡◌, ◌-◌, ◌%◌, ◌/◌, ◌<◌, length, slice_get, Some, None, sym, ap, subst, ◌∙◌, arith}
-use Rattle.ss_records.specs.Pages.{Listed, Paged, entry, upto, page_of, slot}
-use Rattle.ss_records.proofs.Paging.{inside_of, room_current, read_current, read_earlier, read_none, rem}
+use Rattle.std.proofs.Common.{◌<◌, length, slice_get, sym, ap, subst, ◌∙◌}
+use Rattle.ss_records.specs.Pages.{Listed}
+use Rattle.ss_records.proofs.Paging.{room_current, read_current, read_earlier, read_none}
 use Rattle.ss_records.proofs.directory.Directory.get.Goals as goal
 
 pub get-requires : goal.get-requires

@@ -1,4 +1,4 @@
-use Rattle.std.proofs.Common.{◌≡◌, length, sym, ap, ◌∙◌}
+use Rattle.std.proofs.Common.{length, sym, ap, ◌∙◌}
 use Rattle.ss_records.specs.Pages.{Listed, entry}
 use Rattle.ss_records.proofs.Paging.{upto_length}
 use Rattle.ss_records.proofs.directory.Directory.len.Goals as goal

@@ -1,5 +1,3 @@
-use Rattle.std.proofs.Common.{◌≡◌, sym, subst}
-use Rattle.ss_records.specs.Pages.{Pages, Page, Paged}
 use Rattle.ss_records.proofs.Paging.{paged_first}
 use Rattle.ss_records.proofs.directory.Directory.new.Goals as goal
 

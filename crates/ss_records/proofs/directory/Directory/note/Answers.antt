@@ -1,4 +1,4 @@
-use Rattle.std.proofs.Common.{◌≡◌, ◌+◌, ◌<◌, ◌^◌, ◌++◌, [], ◌∷◌, length, Some, sym, ap, subst, ◌∙◌, arith}
+use Rattle.std.proofs.Common.{◌+◌, ◌<◌, ◌++◌, [], ◌∷◌, length, Some, sym, ap, subst, ◌∙◌, arith}
 use Rattle.ss_records.specs.Pages.{Listed, entry}
 use Rattle.ss_records.proofs.Paging.{upto_length, next_slot, paged_pushed, places_pushed}
 use Rattle.ss_records.proofs.directory.Directory.note.Goals as goal

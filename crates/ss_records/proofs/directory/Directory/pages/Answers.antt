@@ -1,4 +1,4 @@
-use Rattle.std.proofs.Common.{◌+◌, ◌≤◌, subst, ap, arith}
+use Rattle.std.proofs.Common.{◌+◌, ◌≤◌, subst, arith}
 use Rattle.ss_records.specs.Places.{living}
 use Rattle.ss_records.specs.Pages.{Listed}
 use Rattle.std.proofs.lemmas.Map.Entries.{btree_map_get_place}

@@ -1,5 +1,4 @@
-use Rattle.std.proofs.Common.{◌≡◌, ◌+◌, ◌<◌, length, sym, ap, ◌∙◌, arith}
-use Rattle.ss_records.specs.Pages.{Listed}
+use Rattle.std.proofs.Common.{sym, ◌∙◌}
 use Rattle.ss_records.proofs.Same.{equal}
 use Rattle.ss_records.proofs.directory.Directory.push.Goals as goal
 

@@ -1,4 +1,4 @@
-use Rattle.std.proofs.Common.{◌≡◌, ℕ, Some, ◌/◌, ◌+◌, ◌<◌, ◌≤◌, length, replicate, None, true, false, sym, ap, subst, ◌∙◌, arith}
+use Rattle.std.proofs.Common.{◌≡◌, ℕ, Some, ◌/◌, ◌+◌, length, sym, ap, subst, ◌∙◌, arith}
 use Rattle.ss_records.specs.Places.{living}
 use Rattle.std.specs.Prelude.{cond}
 use Rattle.std.specs.Ordering.{nat_cmp}

@@ -1,7 +1,8 @@
-use Rattle.std.proofs.Common.{◌≡◌, ap, ◌∙◌}
+use Rattle.std.proofs.Common.{inl, ◌≡◌, ap, ◌∙◌}
 use Rattle.std.specs.Int.{cast_signed}
 use Rattle.std.proofs.lemmas.Int.{to_z-of_z}
 use mir.Syntax.{w64}
+use Rattle.ss_records.specs.Parts.{places}
 use Rattle.ss_records.proofs.Assigns.{may_time, kept_timed, length_timed, is_set}
 use Rattle.ss_records.proofs.records.Records.set_time.Goals as goal
 
@@ -9,22 +10,22 @@ pub set_number-requires : goal.set_number-requires
 set_number-requires c =
     let r = c.args.self.now in let f = c.in-Ok.ensures.found in let fits = c.ranges.t in let e = simp to_z-of_z at c.cast_unsigned.ensures in
     let v : cast_signed w64 c.cast_unsigned.result ≡ c.args.t = ap (cast_signed w64) e ∙ to_z-of_z w64 c.args.t fits in
-    rw c.time_word-k.ensures (may_time r.layout r.blocks.cells r.system.at r.directory.places r.notes.lists c.requires.kept f.index c.in-Ok.place f.entry _ f.is f.notice c.cast_unsigned.result c.args.t v)
+    rw c.time_word-k.ensures (may_time r.layout r.blocks.cells r.system.at (places r) r.notes.lists c.requires.kept f.index c.in-Ok.place (inl f.entry) _ f.is f.notice c.cast_unsigned.result c.args.t v)
 
 pub returns-in-Ok-clause-kept : goal.returns-in-Ok-clause-kept
 returns-in-Ok-clause-kept c =
     let r = c.args.self.now in let f = c.in-Ok.ensures.found in let fits = c.ranges.t in let e = simp to_z-of_z at c.cast_unsigned.ensures in
     let v : cast_signed w64 c.cast_unsigned.result ≡ c.args.t = ap (cast_signed w64) e ∙ to_z-of_z w64 c.args.t fits in
-    rw (c.set_number.ensures.cells, c.time_word-k.ensures) (kept_timed r.layout r.blocks.cells r.system.at r.directory.places r.notes.lists c.requires.kept f.index c.in-Ok.place f.entry _ f.is f.notice c.cast_unsigned.result c.args.t v)
+    rw (c.set_number.ensures.cells, c.time_word-k.ensures) (kept_timed r.layout r.blocks.cells r.system.at (places r) r.notes.lists c.requires.kept f.index c.in-Ok.place (inl f.entry) _ f.is f.notice c.cast_unsigned.result c.args.t v)
 
 pub returns-in-Ok-clause-done : goal.returns-in-Ok-clause-done
 returns-in-Ok-clause-done c =
     let r = c.args.self.now in let fit = c.ranges.r in let f = simp to_z-of_z at c.in-Ok.ensures.found in let fits = c.ranges.t in let e = simp to_z-of_z at c.cast_unsigned.ensures in
     let v : cast_signed w64 c.cast_unsigned.result ≡ c.args.t = ap (cast_signed w64) e ∙ to_z-of_z w64 c.args.t fits in
-    rw (c.set_number.ensures.cells, c.time_word-k.ensures) (is_set r.layout r.blocks.cells r.system.at r.directory.places r.notes.lists c.requires.kept f.index c.in-Ok.place f.entry c.args.r f.is f.notice c.cast_unsigned.result c.args.t v)
+    rw (c.set_number.ensures.cells, c.time_word-k.ensures) (is_set r.layout r.blocks.cells r.system.at (places r) r.notes.lists c.requires.kept f.index c.in-Ok.place (inl f.entry) c.args.r f.is f.notice c.cast_unsigned.result c.args.t v f.entry)
 
 pub returns-in-Ok-clause-blocks : goal.returns-in-Ok-clause-blocks
 returns-in-Ok-clause-blocks c =
     let r = c.args.self.now in let f = c.in-Ok.ensures.found in let fits = c.ranges.t in let e = simp to_z-of_z at c.cast_unsigned.ensures in
     let v : cast_signed w64 c.cast_unsigned.result ≡ c.args.t = ap (cast_signed w64) e ∙ to_z-of_z w64 c.args.t fits in
-    rw (c.set_number.ensures.cells, c.time_word-k.ensures) (length_timed r.layout r.blocks.cells r.system.at r.directory.places r.notes.lists c.requires.kept f.index c.in-Ok.place f.entry _ f.is f.notice c.cast_unsigned.result c.args.t v)
+    rw (c.set_number.ensures.cells, c.time_word-k.ensures) (length_timed r.layout r.blocks.cells r.system.at (places r) r.notes.lists c.requires.kept f.index c.in-Ok.place (inl f.entry) _ f.is f.notice c.cast_unsigned.result c.args.t v)

@@ -1,11 +1,11 @@
-use Rattle.std.proofs.Common.{ap, subst, sym}
+use Rattle.std.proofs.Common.{inl, ap, subst, sym}
 use Rattle.ss_records.specs.Cells.{IsNumber}
 use Rattle.ss_records.specs.Reading.{plain}
 use Rattle.ss_records.proofs.Assigns.{notice_inside}
 use Rattle.ss_records.proofs.records.Records.time_word.Goals as goal
 
 pub number-class-requires : goal.number-class-requires
-number-class-requires c = subst IsNumber (sym (c.requires.kept.formed c.requires.entry.0 c.args.place c.requires.entry.1).class) tt
+number-class-requires c = subst IsNumber (sym (c.requires.kept.formed c.requires.entry.0 c.args.place (inl c.requires.entry.1)).class) tt
 
 pub values_end-requires-clause-class : goal.values_end-requires-clause-class
 values_end-requires-clause-class c = rw (sym (ap plain c.number-class.ensures)) (notice_inside c.args.self.now.layout.classes.items _ c.requires.notice)

@@ -1,0 +1,173 @@
+// Filing by discipline.
+ghost use Rattle.std.specs.Prelude.{◌≡◌, ◌+◌, ◌*◌, ◌<◌, ◌≤◌, length, IsOk, MatchResult, Ok, Err};
+ghost use Rattle.ss_records.specs.State.{and_then, modes_of};
+ghost use Rattle.ss_records.specs.Sets.{owner, member_class, first_in, next_in};
+ghost use Rattle.ss_sets.specs.Disciplines.{value_of, ranks_after, passed, passed_by, owned, filed_ranked, filed, AreFields, Fits};
+ghost use Rattle.ss_sets.specs.Walks.{first_after, as_member, filed_at};
+
+use ss_base::{Discipline, FaultKind, RankKey, Value};
+use ss_records::Heap;
+use std::cmp::Ordering;
+
+/// Files x in the set of an owner: last for FIFO, first for LIFO, and for RANKED directly before the first member
+/// that ranks strictly after it by the values that they have now, last where there is none. Values that change later
+/// move nothing. Faults: those of x (1 to 5), then those of the owner, then 6 where x is in some set of this name;
+/// after a fault the heap is as it was.
+pub fn file(
+    heap: &mut Heap,
+    discipline: &Discipline,
+    set: usize,
+    o: i64,
+    x: i64,
+) -> Result<(), FaultKind>
+    requires set { set < length heap.old.state.layout.sets.items }
+    requires keys { Fits heap.old.state.layout set discipline.now }
+    ensures done { MatchResult result (λ _. filed heap.old.state discipline.now set o x ≡ Ok heap.new.state) (λ e. (filed heap.old.state discipline.now set o x ≡ Err e) × (heap.new.state ≡ heap.old.state)) }
+    ensures touches { (heap.old.total ≤ heap.new.total) × (heap.new.total ≤ heap.old.total + 16 + 2 * passed_by heap.old.state discipline.now set o x) }
+    ensures least { IsOk result → heap.old.total + 4 ≤ heap.new.total }
+{
+    match discipline {
+        Discipline::Fifo => heap.file_last(set, o, x),
+        Discipline::Lifo => heap.file_first(set, o, x),
+        Discipline::Ranked(keys) => file_ranked(heap, keys, set, o, x),
+    }
+}
+
+// Files x by its ranks.
+fn file_ranked(
+    heap: &mut Heap,
+    keys: &[RankKey],
+    set: usize,
+    o: i64,
+    x: i64,
+) -> Result<(), FaultKind>
+    requires set { set < length heap.old.state.layout.sets.items }
+    requires keys { AreFields heap.old.state.layout (member_class heap.old.state.layout set) keys.now }
+    ensures done { MatchResult result (λ _. filed_ranked heap.old.state keys.now set o x ≡ Ok heap.new.state) (λ e. (filed_ranked heap.old.state keys.now set o x ≡ Err e) × (heap.new.state ≡ heap.old.state)) }
+    ensures touches { (heap.old.total ≤ heap.new.total) × (heap.new.total ≤ heap.old.total + 16 + 2 * passed heap.old.state (member_class heap.old.state.layout set) keys.now x (owned heap.old.state set o)) }
+    ensures least { IsOk result → heap.old.total + 4 ≤ heap.new.total }
+{
+    heap.sets_are_apart();
+    match heap.owner_in(set, x) {
+        Ok(_) => match first_after(heap, keys, set, o, x) {
+            Ok(place) => file_at(heap, set, o, x, place),
+            Err(fault) => Err(fault),
+        },
+        Err(fault) => Err(fault),
+    }
+}
+
+// Files x directly before a member, last where there is none.
+fn file_at(heap: &mut Heap, set: usize, o: i64, x: i64, place: Option<i64>) -> Result<(), FaultKind>
+    requires set { set < length heap.old.state.layout.sets.items }
+    ensures done { MatchResult result (λ _. filed_at heap.old.state set o x place ≡ Ok heap.new.state) (λ e. (filed_at heap.old.state set o x place ≡ Err e) × (heap.new.state ≡ heap.old.state)) }
+    ensures touches { (heap.old.total ≤ heap.new.total) × (heap.new.total ≤ heap.old.total + 12) }
+    ensures least { IsOk result → heap.old.total + 4 ≤ heap.new.total }
+{
+    match place {
+        Some(y) => heap.file_before(set, o, x, y),
+        None => heap.file_last(set, o, x),
+    }
+}
+
+// The first member that ranks strictly after x, if any: two touches for each member that x passes. Faults: those of
+// the owner.
+fn first_after(
+    heap: &mut Heap,
+    keys: &[RankKey],
+    set: usize,
+    o: i64,
+    x: i64,
+) -> Result<Option<i64>, FaultKind>
+    requires set { set < length heap.old.state.layout.sets.items }
+    requires keys { AreFields heap.old.state.layout (member_class heap.old.state.layout set) keys.now }
+    ensures found { MatchResult result (λ y. IsOk (owner heap.old.state set o) × (y ≡ first_after heap.old.state (member_class heap.old.state.layout set) keys.now x (owned heap.old.state set o))) (λ e. owner heap.old.state set o ≡ Err e) }
+    ensures same { heap.new.state ≡ heap.old.state }
+    ensures touches { (heap.old.total ≤ heap.new.total) × (heap.new.total ≤ heap.old.total + 2 + 2 * passed heap.old.state (member_class heap.old.state.layout set) keys.now x (owned heap.old.state set o)) }
+{
+    heap.sets_are_apart();
+    let class = class_of(heap, set);
+    let mut member = match first_member(heap, set, o) {
+        Ok(first) => first,
+        Err(fault) => return Err(fault),
+    };
+    while let Some(y) = member {
+        if ranks_after(heap, keys, class, y, x) {
+            return Ok(Some(y));
+        }
+        member = match next_member(heap, set, y) {
+            Ok(next) => next,
+            Err(fault) => return Err(fault),
+        };
+    }
+    Ok(None)
+}
+
+// The class of the members of a set.
+fn class_of(heap: &Heap, set: usize) -> usize
+    requires set { set < length heap.now.state.layout.sets.items }
+    ensures { result ≡ member_class heap.now.state.layout set }
+{
+    heap.layout().sets[set].member
+}
+
+// The first member of the set of an owner, if any.
+fn first_member(heap: &mut Heap, set: usize, o: i64) -> Result<Option<i64>, FaultKind>
+    requires set { set < length heap.old.state.layout.sets.items }
+    ensures first { result ≡ and_then (first_in heap.old.state set o) (λ y. Ok (as_member y)) }
+    ensures same { heap.new.state ≡ heap.old.state }
+    ensures touches { (heap.old.total ≤ heap.new.total) × (heap.new.total ≤ heap.old.total + 2) }
+{
+    match heap.first(set, o) {
+        Ok(first) => Ok(as_member(first)),
+        Err(fault) => Err(fault),
+    }
+}
+
+// The member that follows y, if any.
+fn next_member(heap: &mut Heap, set: usize, y: i64) -> Result<Option<i64>, FaultKind>
+    requires set { set < length heap.old.state.layout.sets.items }
+    ensures next { result ≡ and_then (next_in heap.old.state set y) (λ z. Ok (as_member z)) }
+    ensures same { heap.new.state ≡ heap.old.state }
+    ensures touches { (heap.old.total ≤ heap.new.total) × (heap.new.total ≤ heap.old.total + 2) }
+{
+    match heap.next(set, y) {
+        Ok(next) => Ok(as_member(next)),
+        Err(fault) => Err(fault),
+    }
+}
+
+// A member, or none, which calls answer as 0.
+fn as_member(number: i64) -> Option<i64>
+    ensures { result ≡ as_member number }
+{
+    if number == 0 { None } else { Some(number) }
+}
+
+// Whether y ranks strictly after x: by the first key in which they differ.
+fn ranks_after(heap: &Heap, keys: &[RankKey], class: usize, y: i64, x: i64) -> bool
+    requires keys { AreFields heap.now.state.layout class keys.now }
+    ensures { result ≡ ranks_after heap.now.state class keys.now y x }
+{
+    for key in keys {
+        let first = value(heap, class, key.field, y);
+        let second = value(heap, class, key.field, x);
+        match first.cmp(&second) {
+            Ordering::Less => return key.high,
+            Ordering::Greater => return !key.high,
+            Ordering::Equal => {}
+        }
+    }
+    false
+}
+
+// The value of an attribute of an entity, 0 where there is none.
+fn value(heap: &Heap, class: usize, field: usize, x: i64) -> Value
+    requires field { field < length (modes_of heap.now.state.layout class) }
+    ensures { result ≡ value_of heap.now.state class field x }
+{
+    match heap.value(class, field, x) {
+        Ok(value) => value,
+        Err(_) => Value::Whole(0),
+    }
+}
