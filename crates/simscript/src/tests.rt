@@ -41,6 +41,11 @@ impl FileStore for Folder {
             "cut" => b"MAIN\nPRINT 2 LINES THUS\nONE\n",
             "most" =>
                 b"PREAMBLE NORMALLY, MODE IS INTEGER END\nMAIN\nLET X = 9223372036854775807\nPRINT 1 LINE WITH X THUS\n*******************\nADD 1 TO X\nEND\n",
+            "count" =>
+                b"PREAMBLE NORMALLY, MODE IS INTEGER END\nMAIN\nFOR I = 1 TO 3\nPRINT 1 LINE WITH I THUS\n*\nEND\n",
+            "read" =>
+                b"PREAMBLE NORMALLY, MODE IS INTEGER END\nMAIN\nREAD X\nPRINT 1 LINE WITH X THUS\n**\nEND\n",
+            "seven" => b" 7\n",
             "endless" => return Ok(TestFile::Endless),
             "unreadable" => return Ok(TestFile::Unreadable),
             _ => return Err(io::Error::from(ErrorKind::NotFound)),
@@ -123,7 +128,7 @@ fn statuses_lines_and_reports(rt: HostRuntime) {
     let cut: &[u8] = b"refused 36 PictureCut at line 2\n";
     let no_source: &[u8] = b"cannot read source\n";
     let no_input: &[u8] = b"cannot read input\n";
-    let runs: [(&[&str], u8, &[u8], &[u8]); 15] = [
+    let runs: [(&[&str], u8, &[u8], &[u8]); 21] = [
         (&["simscript"], 0, b"ANSWER  42\n", b""),
         (&["simscript", "run", "answer"], 0, b"ANSWER  42\n", b""),
         (
@@ -141,6 +146,37 @@ fn statuses_lines_and_reports(rt: HostRuntime) {
             b"",
         ),
         (&["simscript", "run", "most"], 3, most, overflow),
+        (&["simscript", "run", "count"], 0, b"1\n2\n3\n", b""),
+        (
+            &["simscript", "run", "count", "--ticks", "2"],
+            4,
+            b"1\n2\n",
+            b"paused after 2 ticks\n",
+        ),
+        (
+            &["simscript", "run", "count", "--ticks", "0"],
+            4,
+            b"",
+            b"paused after 0 ticks\n",
+        ),
+        (
+            &["simscript", "run", "read", "--input", "seven"],
+            0,
+            b" 7\n",
+            b"",
+        ),
+        (
+            &["simscript", "run", "read"],
+            3,
+            b"",
+            b"fault 19 END OF DATA at line 3\n",
+        ),
+        (
+            &["simscript", "run", "read", "--input", "unreadable"],
+            6,
+            b"",
+            no_input,
+        ),
         (&["simscript", "run", "cut"], 1, b"", cut),
         (
             &["simscript", "run", "endless"],

@@ -19,21 +19,23 @@ pub const TEXT_LIMIT: usize = 8;
 #[derive(Clone, Copy)]
 pub struct Alpha {
     room: [u8; TEXT_LIMIT],
+    // Lays the bytes where those of a number lie, so that a value is copied in two words.
+    aligned: [u64; 0],
 }
 
 impl Model for Alpha {
-    ghost use Rattle.std.specs.Prelude.{ℕ, List};
+    ghost use Rattle.std.specs.Prelude.{ℕ, List, [], ◌≡◌};
     ghost use Rattle.ss_base.specs.Room.{before_zero, padded, IsRoom};
 
     ghost Value = { List ℕ };
 
     ghost view = { λ a. before_zero a.room };
 
-    ghost invariant = { λ a. IsRoom a.room };
+    ghost invariant = { λ a. IsRoom a.room × ([] ≡ a.aligned) };
 
-    ghost inverse = { λ bytes. record { room = padded bytes } };
+    ghost inverse = { λ bytes. record { room = padded bytes; aligned = [] } };
 
-    ghost inverse_ok = { λ a h i. record { room = h.zeros i } };
+    ghost inverse_ok = { λ a h i. record { room = h.0.zeros i; aligned = h.1 i } };
 }
 
 impl Alpha {
@@ -43,6 +45,7 @@ impl Alpha {
     {
         Alpha {
             room: [0; TEXT_LIMIT],
+            aligned: [],
         }
     }
 
@@ -60,7 +63,7 @@ impl Alpha {
         }
         let mut room = [0; TEXT_LIMIT];
         room[..text.len()].copy_from_slice(text);
-        Some(Alpha { room })
+        Some(Alpha { room, aligned: [] })
     }
 
     /// The bytes of the text.

@@ -1,5 +1,3 @@
 mod Trees
-mod Forms
-mod Bodies
-mod Served
-mod Accepted
+mod Rows
+mod Sections

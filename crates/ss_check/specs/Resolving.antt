@@ -1,95 +1,254 @@
--- What a tree is once each name in it is replaced by the variable that it stands for.
-use Rattle.std.specs.Prelude.{◌≡◌, ℕ, Bool, true, false, ◌&&◌, List, [], ◌∷◌, length, map}
-use Rattle.ss_base.specs.declared.line.Line.{Line}
-use Rattle.ss_base.specs.declared.value.Value.TheVariants.{Whole}
+-- What a tree is once each name in it is replaced by what it stands for.
+use Rattle.std.specs.Prelude.{◌≡◌, pos, false, List, [], ◌∷◌, map, Option, Some, None}
+use Rattle.std.specs.List.{find}
+use Rattle.ss_base.specs.declared.layout.Mode.{Mode}
+use Rattle.ss_base.specs.declared.value.Value.TheVariants.{Whole, Text}
 use Rattle.ss_tree.specs.declared.expression.Sign.{Sign as ParsedSign}
 use Rattle.ss_tree.specs.declared.expression.Sign.TheVariants.{Plus as ParsedPlus, Minus as ParsedMinus}
 use Rattle.ss_tree.specs.declared.expression.Designator.{Designator}
 use Rattle.ss_tree.specs.declared.expression.Designator.TheVariants.{Name, TimeV, TimeA}
-use Rattle.ss_tree.specs.Tree.{ExpressionTree, number, text, named, call, parenthesised, product, signed, sum, ExpressionRow, no_expression, and_expression, TermRow, no_term, and_term, NamedTree}
+use Rattle.ss_tree.specs.declared.expression.Function.TheVariants.{Div, Mod, Abs, Min, Max}
+use Rattle.ss_tree.specs.declared.condition.Relation.{Relation as ParsedRelation}
+use Rattle.ss_tree.specs.declared.condition.Relation.TheVariants as parsed
+use Rattle.ss_tree.specs.declared.head.PhraseKind.{PhraseKind as ParsedPhraseKind}
+use Rattle.ss_tree.specs.declared.head.PhraseKind.TheVariants as phrases
+use Rattle.ss_tree.specs.declared.head.GuardKind.{GuardKind as ParsedGuardKind}
+use Rattle.ss_tree.specs.declared.head.GuardKind.TheVariants as guards
+use Rattle.ss_tree.specs.declared.statement.FindOutcome.TheVariants as outcomes
+use Rattle.ss_tree.specs.Tree.{ExpressionTree, number, text, named, call, parenthesised, product, signed, sum, ExpressionRow, no_expression, and_expression, TermRow, no_term, and_term, NamedTree, TestTree, compare, empty, member, data_ended, ConditionTree, PhraseTree, GuardTree, over_range, guarded, StatementTree, let_statement, add_statement, subtract_statement, call_statement, return_statement, stop_statement, read_statement, if_statement, loop_statement, find_statement, find_if_statement, print_statement, skip_statement, StatementRow, no_statement, and_statement, SectionTree, ProgramTree}
+use Rattle.ss_resolved.specs.Lines.{lines_of}
 use Rattle.ss_resolved.specs.declared.resolved.Sign.{Sign}
 use Rattle.ss_resolved.specs.declared.resolved.Sign.TheVariants.{Plus, Minus}
+use Rattle.ss_resolved.specs.declared.resolved.Function.{Function}
+use Rattle.ss_resolved.specs.declared.resolved.Function.TheVariants.{Quotient, Remainder, Least, Greatest}
 use Rattle.ss_resolved.specs.declared.resolved.Variable.{Variable}
-use Rattle.ss_resolved.specs.declared.resolved.Variable.TheVariants.{Global, Local}
+use Rattle.ss_resolved.specs.declared.resolved.Variable.TheVariants.{Global}
 use Rattle.ss_resolved.specs.declared.resolved.Expression.{Expression, Constant, Fetch, Signed', Sum', Product', Applied', Absolute', Row_of-Expression, end_of-Expression, more_of-Expression, Row_of-Expression-Sum-1-2, end_of-Expression-Sum-1-2, more_of-Expression-Sum-1-2}
-use Rattle.ss_check.specs.Naming.{NameBytes, place_of, with_names}
+use Rattle.ss_resolved.specs.declared.resolved.Relation.{Relation}
+use Rattle.ss_resolved.specs.declared.resolved.Relation.TheVariants as relations
+use Rattle.ss_resolved.specs.declared.resolved.Test.{Test}
+use Rattle.ss_resolved.specs.declared.resolved.Test.TheVariants.{Compare, DataEnded}
+use Rattle.ss_resolved.specs.declared.resolved.Conjunction.{Conjunction}
+use Rattle.ss_resolved.specs.declared.resolved.Condition.{Condition}
+use Rattle.ss_resolved.specs.declared.resolved.GuardKind.{GuardKind}
+use Rattle.ss_resolved.specs.declared.resolved.GuardKind.TheVariants as guard_kinds
+use Rattle.ss_resolved.specs.declared.resolved.Guard.{Guard}
+use Rattle.ss_resolved.specs.declared.resolved.PhraseKind.{PhraseKind}
+use Rattle.ss_resolved.specs.declared.resolved.PhraseKind.TheVariants as phrase_kinds
+use Rattle.ss_resolved.specs.declared.resolved.Phrase.{Phrase}
+use Rattle.ss_resolved.specs.declared.resolved.Range.{Range}
+use Rattle.ss_resolved.specs.declared.resolved.Target.{Target}
+use Rattle.ss_resolved.specs.declared.resolved.Statement.{Statement, Let, Change, Print, If', While', For', Find', Call, Return, Stop, Read, Skip, Row_of-Statement, end_of-Statement, more_of-Statement}
+use Rattle.ss_resolved.specs.declared.resolved.Section.{Section}
+use Rattle.ss_resolved.specs.declared.resolved.Resolved.{Resolved}
+use Rattle.ss_tables.specs.declared.kind.Kind.{Kind}
+use Rattle.ss_tables.specs.Declarations.{NameBytes, kind_of, globals}
+use Rattle.ss_tables.specs.Served.{served_form}
+use Rattle.ss_rules.specs.Scopes.{Scope, scope_of, is_routine_section, sections_of, variable_of, mode_of_kind}
+use Rattle.ss_rules.specs.Rules.{target_mode, is_main_section}
 
--- a sign stands for itself
-abbrev pub SameSign : ParsedSign → Sign → Type 0
-SameSign ParsedPlus sign = sign ≡ Plus
-SameSign ParsedMinus sign = sign ≡ Minus
+-- ---- words that stand for themselves
 
--- a name without subscript is a variable of MAIN
-abbrev pub IsVariable : List NameBytes → Designator → ExpressionRow → Variable → Type 0
-IsVariable names (Name name) no_expression x = x ≡ Local (place_of names name)
-IsVariable names (Name name) (and_expression e es) x = ⊥
-IsVariable names TimeV subscripts x = ⊥
-IsVariable names TimeA subscripts x = ⊥
+abbrev pub sign_of : ParsedSign → Sign
+sign_of ParsedPlus = Plus
+sign_of ParsedMinus = Minus
 
-abbrev mutual
-  -- the resolved expression of a tree, where so many names stand before it; parentheses are left out
-  pub Resolves : List NameBytes → ExpressionTree → Expression → Type 0
-  Resolves names (number z) (Constant v) = v ≡ Whole z
-  Resolves names (named designator subscripts) (Fetch x) = IsVariable names designator subscripts x
-  Resolves names (parenthesised e) x = Resolves names e x
-  Resolves names (product e further) (Product' p x h xs) = Resolves names e x × ResolveFactors (with_names e names) further xs
-  Resolves names (signed sign e) (Signed' s p x) = SameSign sign s × Resolves names e x
-  Resolves names (sum e further) (Sum' p x h xs) = Resolves names e x × ResolveTerms (with_names e names) further xs
-  Resolves names _ _ = ⊥
+abbrev pub relation_of : ParsedRelation → Relation
+relation_of parsed.Equal = relations.Equal
+relation_of parsed.NotEqual = relations.NotEqual
+relation_of parsed.Less = relations.Less
+relation_of parsed.Greater = relations.Greater
+relation_of parsed.LessOrEqual = relations.LessOrEqual
+relation_of parsed.GreaterOrEqual = relations.GreaterOrEqual
 
-  pub ResolveFactors : {m : _} → List NameBytes → ExpressionRow → Row_of-Expression m → Type 0
-  ResolveFactors names no_expression end_of-Expression = Unit {0}
-  ResolveFactors names (and_expression e es) (more_of-Expression x xs) = Resolves names e x × ResolveFactors (with_names e names) es xs
-  ResolveFactors names _ _ = ⊥
+abbrev pub phrase_kind_of : ParsedPhraseKind → PhraseKind
+phrase_kind_of phrases.With = phrase_kinds.With
+phrase_kind_of phrases.Unless = phrase_kinds.Unless
+phrase_kind_of phrases.While = phrase_kinds.While
+phrase_kind_of phrases.Until = phrase_kinds.Until
 
-  pub ResolveTerms : {m : _} → List NameBytes → TermRow → Row_of-Expression-Sum-1-2 m → Type 0
-  ResolveTerms names no_term end_of-Expression-Sum-1-2 = Unit {0}
-  ResolveTerms names (and_term sign e es) (more_of-Expression-Sum-1-2 s x xs) = SameSign sign s × Resolves names e x × ResolveTerms (with_names e names) es xs
-  ResolveTerms names _ _ = ⊥
+abbrev pub guard_kind_of : ParsedGuardKind → GuardKind
+guard_kind_of guards.While = guard_kinds.While
+guard_kind_of guards.Until = guard_kinds.Until
 
--- the same of lists
-abbrev pub ResolveAll : List NameBytes → List ExpressionTree → List Expression → Type 0
-ResolveAll names [] [] = Unit {0}
-ResolveAll names (e ∷ es) (x ∷ xs) = Resolves names e x × ResolveAll (with_names e names) es xs
-ResolveAll names _ _ = ⊥
+-- ---- expressions
 
-abbrev pub ResolveSigned : List NameBytes → List (ParsedSign × ExpressionTree) → List (Sign × Expression) → Type 0
-ResolveSigned names [] [] = Unit {0}
-ResolveSigned names (t ∷ ts) (x ∷ xs) = SameSign t.0 x.0 × Resolves names t.1 x.1 × ResolveSigned (with_names t.1 names) ts xs
-ResolveSigned names _ _ = ⊥
+-- the variable that is named; TIME.V and TIME.A are not served
+abbrev pub variable_at : Scope → Designator → Variable
+variable_at c (Name name) = variable_of c name
+variable_at c TimeV = Global 0
+variable_at c TimeA = Global 0
 
--- a variable may be named, without subscript
-abbrev pub served_designated : Designator → ExpressionRow → Bool
-served_designated (Name name) no_expression = true
-served_designated (Name name) (and_expression e es) = false
-served_designated TimeV subscripts = false
-served_designated TimeA subscripts = false
+-- what a function with another number of arguments comes to: no accepted program has one
+abbrev pub IsNoCall : Expression → Type 0
+IsNoCall (Constant v) = v ≡ Whole (pos 0)
+IsNoCall _ = ⊥
 
-abbrev mutual
-  -- the forms of expressions that are served: numbers, names without subscript, signs, + - *, parentheses
-  pub served_expression : ExpressionTree → Bool
-  served_expression (number z) = true
-  served_expression (text t) = false
-  served_expression (named designator subscripts) = served_designated designator subscripts
-  served_expression (call function arguments) = false
-  served_expression (parenthesised e) = served_expression e
-  served_expression (product e further) = served_expression e && served_factors further
-  served_expression (signed sign e) = served_expression e
-  served_expression (sum e further) = served_expression e && served_terms further
+-- two lists, each item of which stands for that of the other at its place
+abbrev pub Each : {A B : Type 0} → (A → B → Type 0) → List A → List B → Type 0
+Each Stands [] [] = Unit {0}
+Each Stands (x ∷ xs) (y ∷ ys) = Stands x y × Each Stands xs ys
+Each Stands _ _ = ⊥
 
-  pub served_factors : ExpressionRow → Bool
-  served_factors no_expression = true
-  served_factors (and_expression e es) = served_expression e && served_factors es
+module _ (c : Scope) where
+  abbrev mutual
+    -- the resolved expression of a tree; parentheses are left out, and no accepted program has a subscript
+    pub Resolves : ExpressionTree → Expression → Type 0
+    Resolves (number z) (Constant v) = v ≡ Whole z
+    Resolves (text t) (Constant v) = v ≡ Text t
+    Resolves (named designator subscripts) (Fetch x) = x ≡ variable_at c designator
+    Resolves (call Abs arguments) x = ResolveOne arguments x
+    Resolves (call Div arguments) x = ResolveTwo Quotient arguments x
+    Resolves (call Mod arguments) x = ResolveTwo Remainder arguments x
+    Resolves (call Min arguments) x = ResolveTwo Least arguments x
+    Resolves (call Max arguments) x = ResolveTwo Greatest arguments x
+    Resolves (parenthesised e) x = Resolves e x
+    Resolves (product e further) (Product' b x h xs) = Resolves e x × ResolveFactors further xs
+    Resolves (signed sign e) (Signed' t b x) = (t ≡ sign_of sign) × Resolves e x
+    Resolves (sum e further) (Sum' b x h xs) = Resolves e x × ResolveTerms further xs
+    Resolves _ _ = ⊥
 
-  pub served_terms : TermRow → Bool
-  served_terms no_term = true
-  served_terms (and_term sign e es) = served_expression e && served_terms es
+    -- a function of one argument
+    pub ResolveOne : ExpressionRow → Expression → Type 0
+    ResolveOne (and_expression e no_expression) (Absolute' b x) = Resolves e x
+    ResolveOne (and_expression e no_expression) _ = ⊥
+    ResolveOne _ x = IsNoCall x
 
--- the same of lists
-abbrev pub all_served : List ExpressionTree → Bool
-all_served [] = true
-all_served (e ∷ es) = served_expression e && all_served es
+    -- a function of two arguments
+    pub ResolveTwo : Function → ExpressionRow → Expression → Type 0
+    ResolveTwo function (and_expression e (and_expression f no_expression)) (Applied' g b x b' y) =
+        (g ≡ function) × Resolves e x × Resolves f y
+    ResolveTwo function (and_expression e (and_expression f no_expression)) _ = ⊥
+    ResolveTwo function _ x = IsNoCall x
 
-abbrev pub all_terms_served : List (ParsedSign × ExpressionTree) → Bool
-all_terms_served [] = true
-all_terms_served (t ∷ ts) = served_expression t.1 && all_terms_served ts
+    -- the further factors of a product, and the further terms of a sum
+    pub ResolveFactors : {m : _} → ExpressionRow → Row_of-Expression m → Type 0
+    ResolveFactors no_expression end_of-Expression = Unit {0}
+    ResolveFactors (and_expression e es) (more_of-Expression x xs) = Resolves e x × ResolveFactors es xs
+    ResolveFactors _ _ = ⊥
+
+    pub ResolveTerms : {m : _} → TermRow → Row_of-Expression-Sum-1-2 m → Type 0
+    ResolveTerms no_term end_of-Expression-Sum-1-2 = Unit {0}
+    ResolveTerms (and_term sign e es) (more_of-Expression-Sum-1-2 t x xs) = (t ≡ sign_of sign) × Resolves e x × ResolveTerms es xs
+    ResolveTerms _ _ = ⊥
+
+  abbrev pub ResolveAll : List ExpressionTree → List Expression → Type 0
+  ResolveAll es xs = Each Resolves es xs
+
+  abbrev pub ResolvesTerm : ParsedSign × ExpressionTree → Sign × Expression → Type 0
+  ResolvesTerm t x = (x.0 ≡ sign_of t.0) × Resolves t.1 x.1
+
+  abbrev pub ResolveSigned : List (ParsedSign × ExpressionTree) → List (Sign × Expression) → Type 0
+  ResolveSigned ts xs = Each ResolvesTerm ts xs
+
+  -- ---- conditions
+
+  -- tests on sets are not served
+  abbrev pub ResolvesTest : TestTree → Test → Type 0
+  ResolvesTest (compare left relation right) (Compare x r y) = Resolves left x × (r ≡ relation_of relation) × Resolves right y
+  ResolvesTest (compare left relation right) (DataEnded n) = ⊥
+  ResolvesTest (empty set negated) t = t ≡ DataEnded negated
+  ResolvesTest (member e set negated) t = t ≡ DataEnded negated
+  ResolvesTest (data_ended negated) t = t ≡ DataEnded negated
+
+  abbrev pub ResolvesConjunction : List TestTree → Conjunction → Type 0
+  ResolvesConjunction ts x = Each ResolvesTest ts x.tests.items
+
+  abbrev pub ResolvesCondition : ConditionTree → Condition → Type 0
+  ResolvesCondition ts x = Each ResolvesConjunction ts x.alternatives.items
+
+  -- ---- heads of loops
+
+  abbrev pub ResolvesPhrase : PhraseTree → Phrase → Type 0
+  ResolvesPhrase t x = (x.kind ≡ phrase_kind_of t.kind) × ResolvesCondition t.condition x.condition
+
+  abbrev pub ResolvesGuard : GuardTree → Guard → Type 0
+  ResolvesGuard t x = (x.kind ≡ guard_kind_of t.kind) × ResolvesCondition t.condition x.condition
+
+  abbrev pub ResolvesOption : Option ExpressionTree → Option Expression → Type 0
+  ResolvesOption None None = Unit {0}
+  ResolvesOption (Some e) (Some x) = Resolves e x
+  ResolvesOption _ _ = ⊥
+
+  pub record ResolvesRange (variable : NameBytes) (from to : ExpressionTree) (step : Option ExpressionTree) (r : Range) : Type 0 where
+    pub variable_is : r.variable ≡ variable_of c variable
+    pub first : Resolves from r.first
+    pub limit : Resolves to r.limit
+    pub step_is : ResolvesOption step r.step
+
+  -- ---- statements
+
+  abbrev pub IsTarget : NamedTree → Target → Type 0
+  IsTarget n t = (t.variable ≡ variable_at c n.designator) × (t.mode ≡ target_mode c n)
+
+  abbrev pub IsVariable : NamedTree → Variable → Type 0
+  IsVariable n x = x ≡ variable_at c n.designator
+
+  abbrev mutual
+    -- the resolved statement of a tree, in its line. A form that is not served comes to RETURN: no accepted program has one
+    pub ResolvesStatement : StatementTree → Statement → Type 0
+    ResolvesStatement (let_statement line place e) (Let l x v) =
+        (l ≡ line) × (x ≡ variable_at c place.designator) × Resolves e v
+    ResolvesStatement (add_statement line e place) (Change l sign x v) =
+        (l ≡ line) × (sign ≡ Plus) × (x ≡ variable_at c place.designator) × Resolves e v
+    ResolvesStatement (subtract_statement line e place) (Change l sign x v) =
+        (l ≡ line) × (sign ≡ Minus) × (x ≡ variable_at c place.designator) × Resolves e v
+    ResolvesStatement (call_statement line name given yielding) (Call l called vs xs) =
+        (l ≡ line) × (called ≡ c.routine name) × ResolveAll given vs.items × Each IsVariable yielding xs.items
+    ResolvesStatement (return_statement line) x = x ≡ Return
+    ResolvesStatement (stop_statement line) x = x ≡ Stop
+    ResolvesStatement (read_statement line targets) (Read l ts) = (l ≡ line) × Each IsTarget targets ts.items
+    ResolvesStatement (if_statement line condition first second) (If' l x h a k b) =
+        (l ≡ line) × ResolvesCondition condition x × ResolveRow first a × ResolveRow second b
+    ResolvesStatement (loop_statement line (over_range variable from to step them) body) (For' l r ps h b) =
+        (l ≡ line) × ResolvesRange variable from to step r × Each ResolvesPhrase them ps.items × ResolveRow body b
+    ResolvesStatement (loop_statement line (guarded them) body) (While' l gs h b) =
+        (l ≡ line) × Each ResolvesGuard them gs.items × ResolveRow body b
+    ResolvesStatement (find_statement line (over_range variable from to step them)) (Find' l r ps h a k b) =
+        (l ≡ line) × ResolvesRange variable from to step r × Each ResolvesPhrase them ps.items ×
+        ResolveRow no_statement a × ResolveRow no_statement b
+    ResolvesStatement (find_if_statement line (over_range variable from to step them) outcomes.Found first second) (Find' l r ps h a k b) =
+        (l ≡ line) × ResolvesRange variable from to step r × Each ResolvesPhrase them ps.items ×
+        ResolveRow first a × ResolveRow second b
+    ResolvesStatement (find_if_statement line (over_range variable from to step them) outcomes.None first second) (Find' l r ps h a k b) =
+        (l ≡ line) × ResolvesRange variable from to step r × Each ResolvesPhrase them ps.items ×
+        ResolveRow second a × ResolveRow first b
+    ResolvesStatement (print_statement line items pictures) (Print l es ps) =
+        (l ≡ line) × ResolveAll items es.items × (lines_of ps.items ≡ pictures)
+    ResolvesStatement (skip_statement line count) (Skip l x) = (l ≡ line) × Resolves count x
+    ResolvesStatement t x = (served_form t ≡ false) × (x ≡ Return)
+
+    -- the same of the statements of an IF or a loop
+    pub ResolveRow : {m : _} → StatementRow → Row_of-Statement m → Type 0
+    ResolveRow no_statement end_of-Statement = Unit {0}
+    ResolveRow (and_statement t ts) (more_of-Statement x xs) = ResolvesStatement t x × ResolveRow ts xs
+    ResolveRow _ _ = ⊥
+
+-- ---- sections and programs
+
+-- a section in its scope: the modes of its local variables in the order of their numbers, and its statements
+pub record ResolvesSection (c : Scope) (s : SectionTree) (x : Section) : Type 0 where
+  pub locals_are : x.locals.items ≡ c.modes
+  pub body_is : Each (ResolvesStatement c) s.body x.body.items
+
+-- sections, each in its scope
+abbrev pub ResolveRoutines : (SectionTree → Scope) → List SectionTree → List Section → Type 0
+ResolveRoutines scope sections xs = Each (λ s. ResolvesSection (scope s) s) (sections_of is_routine_section sections) xs
+
+-- MAIN, which every accepted program has
+abbrev pub ResolvesFound : (SectionTree → Scope) → Option SectionTree → Section → Type 0
+ResolvesFound scope None x = Unit {0}
+ResolvesFound scope (Some s) x = ResolvesSection (scope s) s x
+
+abbrev pub ResolvesMain : (SectionTree → Scope) → List SectionTree → Section → Type 0
+ResolvesMain scope sections x = ResolvesFound scope (find is_main_section sections) x
+
+abbrev pub mode_of_global : (NameBytes → Option Kind) → NameBytes → Mode
+mode_of_global kind name = mode_of_kind (kind name)
+
+-- the program with each name replaced by what it stands for: the modes of its global variables and its routines, both in
+-- the order of their numbers, and MAIN
+pub record ResolvesProgram (p : ProgramTree) (r : Resolved) : Type 0 where
+  pub globals_are : r.globals.items ≡ map (mode_of_global (kind_of p)) (globals p)
+  pub routines_are : ResolveRoutines (scope_of p) p.sections r.routines.items
+  pub main_is : ResolvesMain (scope_of p) p.sections r.main

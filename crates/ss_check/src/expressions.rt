@@ -1,124 +1,184 @@
-ghost use Rattle.std.specs.Prelude.{◌≡◌, false, map, IfOk, Err};
-ghost use Rattle.ss_tree.specs.View.{view_expression, view_named, view_term};
-ghost use Rattle.ss_tree.specs.Tree.{expression_row};
-ghost use Rattle.ss_check.specs.Naming.{with_designated, with_names, with_names_of_all, with_names_of_signed};
-ghost use Rattle.ss_check.specs.Resolving.{IsVariable, Resolves, ResolveAll, ResolveSigned, SameSign, served_designated, served_expression, all_served, all_terms_served};
+//! Expressions in which each name is replaced by what it stands for.
 
-use crate::names::Names;
-use crate::unready::Unready;
+ghost use Rattle.std.specs.Prelude.{◌≡◌, map, IfOk};
+ghost use Rattle.ss_tree.specs.View.{view_expression, view_term};
+ghost use Rattle.ss_tree.specs.Tree.{call, expression_row};
+ghost use Rattle.ss_rules.specs.Seen.{scope_seen};
+ghost use Rattle.ss_check.specs.Resolving.{IsNoCall, Resolves, ResolveAll, ResolveOne, ResolveSigned, ResolveTwo};
+
+use crate::words::{sign_of, variable_at};
 use ss_base::Value;
-use ss_resolved::resolved::{Expression as Resolved, Sign as ResolvedSign, Variable};
-use ss_tree::expression::{Designator, Expression, Named, Sign, Term};
-use std::alloc::Global;
+use ss_resolved::resolved::{
+    Expression as Resolved, Function as ResolvedFunction, Sign as ResolvedSign,
+};
+use ss_rules::scope::{Locals, Names};
+use ss_tree::expression::{Expression, Function, Term};
+use std::alloc::{AllocError, Global};
 
-// The sign that a sign stands for.
-fn resolved_sign(sign: Sign) -> ResolvedSign
-    ensures { SameSign sign result }
+// What a function with another number of arguments comes to: no accepted program has one.
+fn no_call() -> Resolved
+    ensures { IsNoCall result }
 {
-    match sign {
-        Sign::Plus => ResolvedSign::Plus,
-        Sign::Minus => ResolvedSign::Minus,
-    }
-}
-
-// The variable that a name without subscript stands for.
-pub(crate) fn resolve_variable(names: &mut Names, named: &Named) -> Result<Variable, Unready>
-    ensures ok { IfOk result (λ x. IsVariable names.old (view_named named.now).designator (view_named named.now).subscripts x) }
-    ensures noted { IfOk result (λ _. names.new ≡ with_designated named.now.designator names.old) }
-    ensures not_yet { result ≡ Err Unready.NotYet → served_designated (view_named named.now).designator (view_named named.now).subscripts ≡ false }
-{
-    let Designator::Name(name) = named.designator else {
-        return Err(Unready::NotYet);
-    };
-    if !named.subscripts.is_empty() {
-        return Err(Unready::NotYet);
-    }
-    let place = names.place(name)?;
-    match u32::try_from(place) {
-        Ok(number) => Ok(Variable::Local { number }),
-        Err(_) => Err(Unready::Memory),
+    Resolved::Constant {
+        value: Value::Whole(0),
     }
 }
 
 // The expression with each name replaced by its variable.
 #[cycle(resolving)]
-#[tactic(auto, unfolding(ss_tree::specs::View::view_expression), using(crate::proofs::Trees::resolves_product, crate::proofs::Trees::resolves_sum, crate::proofs::Trees::names_of_product, crate::proofs::Trees::names_of_sum, crate::proofs::Trees::product_first_unserved, crate::proofs::Trees::product_further_unserved, crate::proofs::Trees::sum_first_unserved, crate::proofs::Trees::sum_further_unserved))]
+#[tactic(auto, unfolding(ss_tree::specs::View::view_expression))]
 pub(crate) fn resolve_expression(
     alloc: Global,
-    names: &mut Names,
+    names: &Names,
+    locals: &Locals,
     expression: &Expression,
-) -> Result<Resolved, Unready>
-    ensures ok { IfOk result (λ x. Resolves names.old (view_expression expression.now) x) }
-    ensures noted { IfOk result (λ _. names.new ≡ with_names (view_expression expression.now) names.old) }
-    ensures not_yet { result ≡ Err Unready.NotYet → served_expression (view_expression expression.now) ≡ false }
+) -> Result<Resolved, AllocError>
+    ensures { IfOk result (λ x. Resolves (scope_seen names.now locals.now) (view_expression expression.now) x) }
 {
     match expression {
         Expression::Number(number) => Ok(Resolved::Constant {
             value: Value::Whole(*number),
         }),
+        Expression::Text(text) => Ok(Resolved::Constant {
+            value: Value::Text(*text),
+        }),
         Expression::Named(named) => {
-            let variable = resolve_variable(names, named)?;
+            let variable = variable_at(names, locals, named.designator)?;
             Ok(Resolved::Fetch { variable })
         }
-        Expression::Parenthesised(inner) => resolve_expression(alloc, names, inner),
+        Expression::Call {
+            function,
+            arguments,
+        } => {
+            let called = resolve_call(alloc, names, locals, *function, arguments)?;
+            Ok(called)
+        }
+        Expression::Parenthesised(inner) => resolve_expression(alloc, names, locals, inner),
         Expression::Product { first, further } => {
-            let first = resolve_expression(alloc, names, first)?;
+            let first = resolve_expression(alloc, names, locals, first)?;
             let first = Box::new(alloc, first)?;
-            let rest = resolve_factors(alloc, names, further)?;
+            let rest = resolve_all(alloc, names, locals, further)?;
             Ok(Resolved::Product { first, rest })
         }
         Expression::Signed { sign, term } => {
-            let term = resolve_expression(alloc, names, term)?;
+            let term = resolve_expression(alloc, names, locals, term)?;
             let term = Box::new(alloc, term)?;
             Ok(Resolved::Signed {
-                sign: resolved_sign(*sign),
+                sign: sign_of(*sign),
                 term,
             })
         }
         Expression::Sum { first, further } => {
-            let first = resolve_expression(alloc, names, first)?;
+            let first = resolve_expression(alloc, names, locals, first)?;
             let first = Box::new(alloc, first)?;
-            let rest = resolve_terms(alloc, names, further)?;
+            let rest = resolve_terms(alloc, names, locals, further)?;
             Ok(Resolved::Sum { first, rest })
         }
-        Expression::Text(_) | Expression::Call { .. } => Err(Unready::NotYet),
     }
 }
 
-// Several expressions, from left to right.
+// A function with its arguments.
 #[cycle(resolving)]
-pub(crate) fn resolve_factors(
+fn resolve_call(
     alloc: Global,
-    names: &mut Names,
-    factors: &[Expression],
-) -> Result<Vec<Resolved>, Unready>
-    ensures ok { IfOk result (λ xs. ResolveAll names.old (map view_expression factors.now) xs.items) }
-    ensures noted { IfOk result (λ _. names.new ≡ with_names_of_all (map view_expression factors.now) names.old) }
-    ensures not_yet { result ≡ Err Unready.NotYet → all_served (map view_expression factors.now) ≡ false }
+    names: &Names,
+    locals: &Locals,
+    function: Function,
+    arguments: &[Expression],
+) -> Result<Resolved, AllocError>
+    ensures { IfOk result (λ x. Resolves (scope_seen names.now locals.now) (call function (expression_row (map view_expression arguments.now))) x) }
+{
+    match function {
+        Function::Abs => resolve_one(alloc, names, locals, arguments),
+        Function::Div => resolve_two(alloc, names, locals, ResolvedFunction::Quotient, arguments),
+        Function::Mod => resolve_two(alloc, names, locals, ResolvedFunction::Remainder, arguments),
+        Function::Min => resolve_two(alloc, names, locals, ResolvedFunction::Least, arguments),
+        Function::Max => resolve_two(alloc, names, locals, ResolvedFunction::Greatest, arguments),
+    }
+}
+
+// A function of one argument.
+#[cycle(resolving)]
+fn resolve_one(
+    alloc: Global,
+    names: &Names,
+    locals: &Locals,
+    arguments: &[Expression],
+) -> Result<Resolved, AllocError>
+    ensures { IfOk result (λ x. ResolveOne (scope_seen names.now locals.now) (expression_row (map view_expression arguments.now)) x) }
+{
+    match arguments {
+        [only] => {
+            let argument = resolve_expression(alloc, names, locals, only)?;
+            let argument = Box::new(alloc, argument)?;
+            Ok(Resolved::Absolute { argument })
+        }
+        [] => Ok(no_call()),
+        [_, _, ..] => Ok(no_call()),
+    }
+}
+
+// A function of two arguments.
+#[cycle(resolving)]
+fn resolve_two(
+    alloc: Global,
+    names: &Names,
+    locals: &Locals,
+    function: ResolvedFunction,
+    arguments: &[Expression],
+) -> Result<Resolved, AllocError>
+    ensures { IfOk result (λ x. ResolveTwo (scope_seen names.now locals.now) function (expression_row (map view_expression arguments.now)) x) }
+{
+    match arguments {
+        [left, right] => {
+            let left = resolve_expression(alloc, names, locals, left)?;
+            let left = Box::new(alloc, left)?;
+            let right = resolve_expression(alloc, names, locals, right)?;
+            let right = Box::new(alloc, right)?;
+            Ok(Resolved::Applied {
+                function,
+                left,
+                right,
+            })
+        }
+        [] => Ok(no_call()),
+        [_] => Ok(no_call()),
+        [_, _, _, ..] => Ok(no_call()),
+    }
+}
+
+// Several expressions.
+#[cycle(resolving)]
+pub(crate) fn resolve_all(
+    alloc: Global,
+    names: &Names,
+    locals: &Locals,
+    expressions: &[Expression],
+) -> Result<Vec<Resolved>, AllocError>
+    ensures { IfOk result (λ xs. ResolveAll (scope_seen names.now locals.now) (map view_expression expressions.now) xs.items) }
 {
     let mut resolved = Vec::new(alloc);
-    for factor in factors {
-        let one = resolve_expression(alloc, names, factor)?;
+    for expression in expressions {
+        let one = resolve_expression(alloc, names, locals, expression)?;
         resolved.push(one)?;
     }
     Ok(resolved)
 }
 
-// The further terms of a sum, from left to right.
+// The further terms of a sum.
 #[cycle(resolving)]
 fn resolve_terms(
     alloc: Global,
-    names: &mut Names,
+    names: &Names,
+    locals: &Locals,
     terms: &[Term],
-) -> Result<Vec<(ResolvedSign, Resolved)>, Unready>
-    ensures ok { IfOk result (λ xs. ResolveSigned names.old (map view_term terms.now) xs.items) }
-    ensures noted { IfOk result (λ _. names.new ≡ with_names_of_signed (map view_term terms.now) names.old) }
-    ensures not_yet { result ≡ Err Unready.NotYet → all_terms_served (map view_term terms.now) ≡ false }
+) -> Result<Vec<(ResolvedSign, Resolved)>, AllocError>
+    ensures { IfOk result (λ xs. ResolveSigned (scope_seen names.now locals.now) (map view_term terms.now) xs.items) }
 {
     let mut resolved = Vec::new(alloc);
     for term in terms {
-        let one = resolve_expression(alloc, names, &term.value)?;
-        resolved.push((resolved_sign(term.sign), one))?;
+        let one = resolve_expression(alloc, names, locals, &term.value)?;
+        resolved.push((sign_of(term.sign), one))?;
     }
     Ok(resolved)
 }

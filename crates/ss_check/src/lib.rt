@@ -1,11 +1,13 @@
-//! From the tree of a program to the tree in which each name is replaced by what it stands for.
+//! The check of a whole program, which replaces each name by what it stands for.
 #![tactic(auto)]
 
-mod check;
+mod bodies;
+mod conditions;
 mod expressions;
-mod names;
-mod rules;
+mod nested;
+mod program;
 mod statements;
-mod unready;
+mod words;
 
-pub use check::{CheckError, check_program};
+pub use program::check;
+pub use ss_resolved::resolved::Resolved as Checked;

@@ -1,16 +1,96 @@
-ghost use Rattle.std.specs.Prelude.{◌≡◌, false, map, IfOk, Err};
-ghost use Rattle.ss_tree.specs.View.{view_statement};
-ghost use Rattle.ss_resolved.specs.Lines.{lines_of};
-ghost use Rattle.ss_check.specs.Naming.{with_names_of_statement};
-ghost use Rattle.ss_check.specs.Checking.{ResolvesStatement, served_statement};
+//! Statements without statements in them, in which each name is replaced by what it stands for.
 
-use crate::expressions::{resolve_expression, resolve_factors, resolve_variable};
-use crate::names::Names;
-use crate::unready::Unready;
-use ss_lex::PictureLine;
-use ss_resolved::resolved::{Sign, Statement as Resolved};
-use ss_tree::statement::Statement;
+ghost use Rattle.std.specs.Prelude.{◌≡◌, map, IfOk};
+ghost use Rattle.ss_tree.specs.View.{view_expression, view_head, view_named};
+ghost use Rattle.ss_tree.specs.Tree.{add_statement, call_statement, find_statement, let_statement, print_statement, read_statement, skip_statement, subtract_statement};
+ghost use Rattle.ss_resolved.specs.Lines.{lines_of};
+ghost use Rattle.ss_tables.specs.Declarations.{place_among};
+ghost use Rattle.ss_rules.specs.Seen.{scope_seen};
+ghost use Rattle.ss_check.specs.Resolving.{Each, IsTarget, IsVariable, ResolvesStatement};
+ghost use Rattle.ss_rules.specs.Rules.{mode_of_designator};
+
+use crate::conditions::{resolve_phrases, resolve_range};
+use crate::expressions::{resolve_all, resolve_expression};
+use crate::words::variable_at;
+use ss_base::{Line, Mode};
+use ss_lex::{Name, PictureLine};
+use ss_resolved::resolved::{Sign, Statement as Resolved, Target, Variable};
+use ss_rules::scope::{Locals, Names, mode_of_name};
+use ss_tree::expression::{Designator, Expression, Named};
+use ss_tree::head::Head;
 use std::alloc::{AllocError, Global};
+
+// The mode of what is named.
+fn mode_at(names: &Names, locals: &Locals, designator: Designator) -> Mode
+    ensures { result ≡ mode_of_designator (scope_seen names.now locals.now) designator }
+{
+    match designator {
+        Designator::Name(name) => mode_of_name(names, locals, name),
+        Designator::TimeV | Designator::TimeA => Mode::Integer,
+    }
+}
+
+// A target of READ.
+fn resolve_target(names: &Names, locals: &Locals, target: &Named) -> Result<Target, AllocError>
+    ensures { IfOk result (λ x. IsTarget (scope_seen names.now locals.now) (view_named target.now) x) }
+{
+    let variable = variable_at(names, locals, target.designator)?;
+    Ok(Target {
+        variable,
+        mode: mode_at(names, locals, target.designator),
+    })
+}
+
+// The targets of READ.
+fn resolve_targets(
+    alloc: Global,
+    names: &Names,
+    locals: &Locals,
+    targets: &[Named],
+) -> Result<Vec<Target>, AllocError>
+    ensures { IfOk result (λ xs. Each (IsTarget (scope_seen names.now locals.now)) (map view_named targets.now) xs.items) }
+{
+    let mut resolved = Vec::new(alloc);
+    for target in targets {
+        let one = resolve_target(names, locals, target)?;
+        resolved.push(one)?;
+    }
+    Ok(resolved)
+}
+
+// The variable that is a target.
+fn resolve_variable(names: &Names, locals: &Locals, target: &Named) -> Result<Variable, AllocError>
+    ensures { IfOk result (λ x. IsVariable (scope_seen names.now locals.now) (view_named target.now) x) }
+{
+    variable_at(names, locals, target.designator)
+}
+
+// The variables that take what a routine yields.
+fn resolve_variables(
+    alloc: Global,
+    names: &Names,
+    locals: &Locals,
+    targets: &[Named],
+) -> Result<Vec<Variable>, AllocError>
+    ensures { IfOk result (λ xs. Each (IsVariable (scope_seen names.now locals.now)) (map view_named targets.now) xs.items) }
+{
+    let mut resolved = Vec::new(alloc);
+    for target in targets {
+        let one = resolve_variable(names, locals, target)?;
+        resolved.push(one)?;
+    }
+    Ok(resolved)
+}
+
+// The number of a routine.
+fn routine_of(names: &Names, routine: Name) -> Result<u32, AllocError>
+    ensures { IfOk result (λ n. n ≡ place_among names.now.tables.routines routine) }
+{
+    match u32::try_from(names.tables.routine(routine)) {
+        Ok(number) => Ok(number),
+        Err(_) => Err(AllocError),
+    }
+}
 
 // The bytes of some pictures.
 fn picture_lines(alloc: Global, pictures: &[PictureLine]) -> Result<Vec<Vec<u8>>, AllocError>
@@ -23,72 +103,169 @@ fn picture_lines(alloc: Global, pictures: &[PictureLine]) -> Result<Vec<Vec<u8>>
     Ok(lines)
 }
 
-// The statement with each name replaced by its variable.
-#[tactic(auto, unfolding(ss_tree::specs::View::view_statement))]
-pub(crate) fn resolve_statement(
+// LET.
+pub(crate) fn resolve_let(
     alloc: Global,
-    names: &mut Names,
-    statement: &Statement,
-) -> Result<Resolved, Unready>
-    ensures ok { IfOk result (λ x. ResolvesStatement names.old (view_statement statement.now) x) }
-    ensures noted { IfOk result (λ _. names.new ≡ with_names_of_statement (view_statement statement.now) names.old) }
-    ensures not_yet { result ≡ Err Unready.NotYet → served_statement (view_statement statement.now) ≡ false }
+    names: &Names,
+    locals: &Locals,
+    line: Line,
+    target: &Named,
+    value: &Expression,
+) -> Result<Resolved, AllocError>
+    ensures { IfOk result (λ x. ResolvesStatement (scope_seen names.now locals.now) (let_statement line (view_named target.now) (view_expression value.now)) x) }
 {
-    match statement {
-        Statement::Let {
-            line,
-            target,
-            value,
+    let target = resolve_variable(names, locals, target)?;
+    let value = resolve_expression(alloc, names, locals, value)?;
+    Ok(Resolved::Let {
+        line,
+        target,
+        value,
+    })
+}
+
+// ADD.
+pub(crate) fn resolve_add(
+    alloc: Global,
+    names: &Names,
+    locals: &Locals,
+    line: Line,
+    amount: &Expression,
+    target: &Named,
+) -> Result<Resolved, AllocError>
+    ensures { IfOk result (λ x. ResolvesStatement (scope_seen names.now locals.now) (add_statement line (view_expression amount.now) (view_named target.now)) x) }
+{
+    let value = resolve_expression(alloc, names, locals, amount)?;
+    let target = resolve_variable(names, locals, target)?;
+    Ok(Resolved::Change {
+        line,
+        sign: Sign::Plus,
+        target,
+        value,
+    })
+}
+
+// SUBTRACT.
+pub(crate) fn resolve_subtract(
+    alloc: Global,
+    names: &Names,
+    locals: &Locals,
+    line: Line,
+    amount: &Expression,
+    target: &Named,
+) -> Result<Resolved, AllocError>
+    ensures { IfOk result (λ x. ResolvesStatement (scope_seen names.now locals.now) (subtract_statement line (view_expression amount.now) (view_named target.now)) x) }
+{
+    let value = resolve_expression(alloc, names, locals, amount)?;
+    let target = resolve_variable(names, locals, target)?;
+    Ok(Resolved::Change {
+        line,
+        sign: Sign::Minus,
+        target,
+        value,
+    })
+}
+
+// CALL.
+pub(crate) fn resolve_routine_call(
+    alloc: Global,
+    names: &Names,
+    locals: &Locals,
+    line: Line,
+    routine: Name,
+    given: &[Expression],
+    yielding: &[Named],
+) -> Result<Resolved, AllocError>
+    ensures { IfOk result (λ x. ResolvesStatement (scope_seen names.now locals.now) (call_statement line routine (map view_expression given.now) (map view_named yielding.now)) x) }
+{
+    let routine = routine_of(names, routine)?;
+    let given = resolve_all(alloc, names, locals, given)?;
+    let yielding = resolve_variables(alloc, names, locals, yielding)?;
+    Ok(Resolved::Call {
+        line,
+        routine,
+        given,
+        yielding,
+    })
+}
+
+// READ.
+pub(crate) fn resolve_read(
+    alloc: Global,
+    names: &Names,
+    locals: &Locals,
+    line: Line,
+    targets: &[Named],
+) -> Result<Resolved, AllocError>
+    ensures { IfOk result (λ x. ResolvesStatement (scope_seen names.now locals.now) (read_statement line (map view_named targets.now)) x) }
+{
+    let targets = resolve_targets(alloc, names, locals, targets)?;
+    Ok(Resolved::Read { line, targets })
+}
+
+// PRINT.
+pub(crate) fn resolve_print(
+    alloc: Global,
+    names: &Names,
+    locals: &Locals,
+    line: Line,
+    items: &[Expression],
+    pictures: &[PictureLine],
+) -> Result<Resolved, AllocError>
+    ensures { IfOk result (λ x. ResolvesStatement (scope_seen names.now locals.now) (print_statement line (map view_expression items.now) pictures.now) x) }
+{
+    let items = resolve_all(alloc, names, locals, items)?;
+    let pictures = picture_lines(alloc, pictures)?;
+    Ok(Resolved::Print {
+        line,
+        items,
+        pictures,
+    })
+}
+
+// SKIP.
+pub(crate) fn resolve_skip(
+    alloc: Global,
+    names: &Names,
+    locals: &Locals,
+    line: Line,
+    count: &Expression,
+) -> Result<Resolved, AllocError>
+    ensures { IfOk result (λ x. ResolvesStatement (scope_seen names.now locals.now) (skip_statement line (view_expression count.now)) x) }
+{
+    let count = resolve_expression(alloc, names, locals, count)?;
+    Ok(Resolved::Skip { line, count })
+}
+
+// FIND THE FIRST CASE without an IF. Only one of a FOR over numbers is served.
+pub(crate) fn resolve_find(
+    alloc: Global,
+    names: &Names,
+    locals: &Locals,
+    line: Line,
+    head: &Head,
+) -> Result<Resolved, AllocError>
+    ensures { IfOk result (λ x. ResolvesStatement (scope_seen names.now locals.now) (find_statement line (view_head head.now)) x) }
+{
+    match head {
+        Head::Range {
+            variable,
+            from,
+            to,
+            step,
+            phrases,
         } => {
-            let target = resolve_variable(names, target)?;
-            let value = resolve_expression(alloc, names, value)?;
-            Ok(Resolved::Let {
-                line: *line,
-                target,
-                value,
+            let range = resolve_range(alloc, names, locals, *variable, from, to, step)?;
+            let phrases = resolve_phrases(alloc, names, locals, phrases)?;
+            Ok(Resolved::Find {
+                line,
+                range,
+                phrases,
+                found: Vec::new(alloc),
+                none: Vec::new(alloc),
             })
         }
-        Statement::Add {
-            line,
-            amount,
-            target,
-        } => {
-            let value = resolve_expression(alloc, names, amount)?;
-            let target = resolve_variable(names, target)?;
-            Ok(Resolved::Change {
-                line: *line,
-                sign: Sign::Plus,
-                target,
-                value,
-            })
-        }
-        Statement::Subtract {
-            line,
-            amount,
-            target,
-        } => {
-            let value = resolve_expression(alloc, names, amount)?;
-            let target = resolve_variable(names, target)?;
-            Ok(Resolved::Change {
-                line: *line,
-                sign: Sign::Minus,
-                target,
-                value,
-            })
-        }
-        Statement::Print {
-            line,
-            items,
-            pictures,
-        } => {
-            let items = resolve_factors(alloc, names, items)?;
-            let pictures = picture_lines(alloc, pictures)?;
-            Ok(Resolved::Print {
-                line: *line,
-                items,
-                pictures,
-            })
-        }
-        _ => Err(Unready::NotYet),
+        Head::Members { .. } => Ok(Resolved::Return),
+        Head::Class { .. } => Ok(Resolved::Return),
+        Head::Guards { .. } => Ok(Resolved::Return),
     }
 }

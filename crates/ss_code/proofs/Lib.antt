@@ -1,8 +1,14 @@
 pub mod Steps
 pub mod Parts
 pub mod Expressions
-pub mod Statements
+pub mod Branching
+pub mod Looping
+pub mod Effects
+pub mod Calling
 pub mod Whole
 pub mod Pieces
 pub mod Rows
 pub mod Sizes
+pub mod Safety
+pub mod Secure
+pub mod Landing

@@ -1,12 +1,25 @@
 -- How long the code of a program is.
-use Rattle.std.proofs.Common.{◌≡◌, ℕ, ◌+◌, ◌*◌, ◌≤◌, List, [], ◌∷◌, ◌++◌, length, Option, Some, None, refl, arith, length-append}
+use Rattle.std.proofs.Common.{ℕ, ◌+◌, ◌*◌, ◌≤◌, List, [], ◌∷◌, ◌++◌, length, Option, Some, None, arith, length-append}
 use Rattle.ss_base.specs.declared.line.Line.{Line}
 use Rattle.ss_base.specs.declared.value.Value.{Value}
 use Rattle.ss_base.specs.declared.value.Value.TheVariants.{Whole, Text}
 use Rattle.ss_resolved.specs.declared.resolved.Variable.{Variable}
 use Rattle.ss_resolved.specs.declared.resolved.Expression.{Expression, Constant, Fetch, Signed', Sum', Product', Applied', Absolute', Row_of-Expression, end_of-Expression, more_of-Expression, Row_of-Expression-Sum-1-2, end_of-Expression-Sum-1-2, more_of-Expression-Sum-1-2}
-use Rattle.ss_resolved.specs.declared.resolved.Statement.{Statement}
-use Rattle.ss_resolved.specs.declared.resolved.Statement.TheVariants.{Let, Change, Print}
+use Rattle.ss_resolved.specs.declared.resolved.Test.{Test}
+use Rattle.ss_resolved.specs.declared.resolved.Test.TheVariants.{Compare, DataEnded}
+use Rattle.ss_resolved.specs.declared.resolved.Conjunction.{Conjunction}
+use Rattle.ss_resolved.specs.declared.resolved.Condition.{Condition}
+use Rattle.ss_resolved.specs.declared.resolved.GuardKind.{GuardKind}
+use Rattle.ss_resolved.specs.declared.resolved.GuardKind.TheVariants.{While, Until}
+use Rattle.ss_resolved.specs.declared.resolved.Guard.{Guard}
+use Rattle.ss_resolved.specs.declared.resolved.PhraseKind.{PhraseKind}
+use Rattle.ss_resolved.specs.declared.resolved.PhraseKind.TheVariants.{With as WithPhrase, Unless as UnlessPhrase, While as WhilePhrase, Until as UntilPhrase}
+use Rattle.ss_resolved.specs.declared.resolved.Phrase.{Phrase}
+use Rattle.ss_resolved.specs.declared.resolved.Range.{Range}
+use Rattle.ss_resolved.specs.declared.resolved.Target.{Target}
+use Rattle.ss_resolved.specs.declared.resolved.Section.{Section}
+use Rattle.ss_resolved.specs.declared.resolved.Statement.{Statement, Let, Change, Print, If', While', For', Find', Call as CallRoutine, Return, Stop, Read, Skip as SkipLines, Row_of-Statement, end_of-Statement, more_of-Statement}
+use Rattle.ss_code.specs.declared.instruction.Instruction.{Instruction}
 use Rattle.ss_resolved.specs.declared.resolved.Resolved.{Resolved}
 use Rattle.ss_code.specs.declared.instruction.Operand.{Operand}
 use Rattle.ss_code.specs.declared.instruction.Operand.TheVariants.{Popped, Number}
@@ -14,11 +27,11 @@ use Rattle.ss_code.specs.declared.instruction.Destination.{Destination}
 use Rattle.ss_code.specs.declared.instruction.Operator.{Operator}
 use Rattle.ss_code.specs.declared.instruction.Operator.TheVariants.{Distance}
 use Rattle.ss_code.specs.declared.instruction.Destination.TheVariants.{Pushed}
-use Rattle.ss_code.specs.declared.instruction.Instruction.TheVariants.{Calculate, Print as PrintLines, Leave}
+use Rattle.ss_code.specs.declared.instruction.Instruction.TheVariants.{Calculate, Compare as CompareThem, Jump, Turn, Repeat, Begin, Take, Next, Forget, Call, Leave, Skip as SkipThem, Print as PrintLines}
 use Rattle.std.specs.Prelude.{pos}
 use Rattle.ss_code.specs.Meaning.{operator_of, operator_for}
-use Rattle.ss_code.specs.Nodes.{expression_nodes, sum_nodes, terms_nodes, product_nodes, factors_nodes, expressions_nodes, statement_nodes, body_nodes, nodes}
-use Rattle.ss_code.specs.Translation.{variable_operand, destination_of, operand_of, placed, constant_code, fetch_code, expression_code, sum_code, terms_code, product_code, factors_code, values_code, statement_code, statement_pictures, body_code, code_of}
+use Rattle.ss_resolved.specs.Nodes.{expression_nodes, sum_nodes, terms_nodes, product_nodes, factors_nodes, expressions_nodes, test_nodes, tests_nodes, alternative_nodes, alternatives_nodes, some_nodes, condition_nodes, guards_nodes, phrases_nodes, step_nodes, range_nodes, statement_nodes, row_nodes, body_nodes, sections_nodes, nodes}
+use Rattle.ss_code.specs.Translation.{variable_operand, destination_of, operand_of, placed, constant_code, fetch_code, expression_code, sum_code, terms_code, product_code, factors_code, values_code, test_code, tests_code, alternatives_code, some_code, condition_code, negated_code, guard_code, guards_code, phrase_code, phrases_code, if_code, while_code, step_code, bounds_code, for_code, find_code, assigns_code, reads_code, statement_code, statement_pictures, row_code, row_pictures, body_code, body_pictures, section_code, routines_code, code_of}
 
 constant_size : (into : Option Destination) (v : Value) → length (constant_code into v) ≤ 1
 constant_size None (Whole z) = omega arith
@@ -63,15 +76,115 @@ module _ (l : Line) where
   values_size [] = omega arith
   values_size (e ∷ es) = omega (arith, expression_size (Some Pushed) e, values_size es, length-append (expression_code l (Some Pushed) e) (values_code l es))
 
-statement_size : (first : ℕ) (s : Statement) → length (statement_code first s) ≤ statement_nodes s
-statement_size first (Let l x e) = omega (arith, expression_size l (Some (destination_of x)) e)
-statement_size first (Change l sign x e) = omega (arith, expression_size l None e, length-append (expression_code l None e) (Calculate (operator_of sign) (variable_operand x) (operand_of e) (destination_of x) l ∷ []))
-statement_size first (Print l items pictures) = omega (arith, values_size l items.items, length-append (values_code l items.items) (PrintLines first (length pictures.items) (length items.items) ∷ []))
+  test_size : (skip : ℕ) (t : Test) → length (test_code l skip t) ≤ test_nodes t
+  test_size skip (Compare left relation right) =
+      let tail = CompareThem relation (operand_of left) (operand_of right) skip ∷ [] in
+      omega (arith, expression_size None left, expression_size None right, length-append (expression_code l None left) (expression_code l None right ++ tail), length-append (expression_code l None right) tail)
+  test_size skip (DataEnded negated) = omega arith
 
-body_size : (first : ℕ) (ss : List Statement) → length (body_code first ss) ≤ body_nodes ss
+  tests_size : (skip : ℕ) (ts : List Test) → length (tests_code l skip ts) ≤ tests_nodes ts
+  tests_size skip [] = omega arith
+  tests_size skip (t ∷ ts) = omega (arith, test_size (length (tests_code l skip ts) + skip) t, tests_size skip ts, length-append (test_code l (length (tests_code l skip ts) + skip) t) (tests_code l skip ts))
+
+  test_is_one : (t : Test) → 1 ≤ test_nodes t
+  test_is_one (Compare left relation right) = omega arith
+  test_is_one (DataEnded negated) = omega arith
+
+  alternative_size : (skip : ℕ) (ts : List Test) → length (tests_code l skip ts) + 1 ≤ 2 * alternative_nodes ts
+  alternative_size skip [] = omega arith
+  alternative_size skip (t ∷ ts) = omega (arith, test_size (length (tests_code l skip ts) + skip) t, test_is_one t, tests_size skip ts, length-append (test_code l (length (tests_code l skip ts) + skip) t) (tests_code l skip ts))
+
+  alternatives_size : (skip : ℕ) (c : Conjunction) (cs : List Conjunction) → length (alternatives_code l skip c cs) + 1 ≤ 2 * (alternative_nodes c.tests.items + alternatives_nodes cs)
+  alternatives_size skip c [] = omega (arith, alternative_size skip c.tests.items)
+  alternatives_size skip c (d ∷ ds) = omega (arith, alternative_size 1 c.tests.items, alternatives_size skip d ds, length-append (tests_code l 1 c.tests.items) (Jump (length (alternatives_code l skip d ds)) ∷ alternatives_code l skip d ds))
+
+  some_size : (skip : ℕ) (cs : List Conjunction) → length (some_code l skip cs) + 1 ≤ 2 * some_nodes cs
+  some_size skip [] = omega arith
+  some_size skip (c ∷ cs) = alternatives_size skip c cs
+
+  condition_size : (skip : ℕ) (c : Condition) → length (condition_code l skip c) + 1 ≤ 2 * condition_nodes c
+  condition_size skip c = some_size skip c.alternatives.items
+
+  negated_size : (skip : ℕ) (c : Condition) → length (negated_code l skip c) ≤ 2 * condition_nodes c
+  negated_size skip c = omega (arith, condition_size 1 c, length-append (condition_code l 1 c) (Jump skip ∷ []))
+
+  guard_size : (skip : ℕ) (kind : GuardKind) (c : Condition) → length (guard_code l skip kind c) ≤ 2 * condition_nodes c
+  guard_size skip While c = omega (arith, condition_size skip c)
+  guard_size skip Until c = negated_size skip c
+
+  guards_size : (skip : ℕ) (gs : List Guard) → length (guards_code l skip gs) ≤ 2 * guards_nodes gs
+  guards_size skip [] = omega arith
+  guards_size skip (g ∷ gs) = omega (arith, guard_size (length (guards_code l skip gs) + skip) g.kind g.condition, guards_size skip gs, length-append (guard_code l (length (guards_code l skip gs) + skip) g.kind g.condition) (guards_code l skip gs))
+
+  phrase_size : (rest : ℕ) (kind : PhraseKind) (c : Condition) → length (phrase_code l rest kind c) ≤ 2 * condition_nodes c
+  phrase_size rest WithPhrase c = omega (arith, condition_size rest c)
+  phrase_size rest UnlessPhrase c = negated_size rest c
+  phrase_size rest WhilePhrase c = omega (arith, condition_size (rest + 1) c)
+  phrase_size rest UntilPhrase c = negated_size (rest + 1) c
+
+  phrases_size : (ps : List Phrase) (turn : List Instruction) → length (phrases_code l ps turn) ≤ 2 * phrases_nodes ps + length turn
+  phrases_size [] turn = omega arith
+  phrases_size (p ∷ ps) turn = omega (arith, phrase_size (length (phrases_code l ps turn)) p.kind p.condition, phrases_size ps turn, length-append (phrase_code l (length (phrases_code l ps turn)) p.kind p.condition) (phrases_code l ps turn))
+
+  step_size : (e : Option Expression) → length (step_code l e) ≤ 1 + step_nodes e
+  step_size None = omega arith
+  step_size (Some e) = omega (arith, expression_size (Some Pushed) e)
+
+  for_size : (r : Range) (turn : List Instruction) → length (for_code l r turn) ≤ 5 * range_nodes r + length turn
+  for_size r turn = omega (arith, expression_size (Some Pushed) r.first, expression_size (Some Pushed) r.limit, step_size r.step, length-append (bounds_code l r) (Begin (length turn + 2) l ∷ (Take r.variable ∷ (turn ++ (Next (length turn + 1) ∷ Forget ∷ [])))), length-append turn (Next (length turn + 1) ∷ Forget ∷ []), length-append (expression_code l (Some Pushed) r.first) (expression_code l (Some Pushed) r.limit ++ step_code l r.step), length-append (expression_code l (Some Pushed) r.limit) (step_code l r.step))
+
+  find_size : (r : Range) (ps : List Phrase) (a b : List Instruction) → length (find_code l r ps a b) ≤ 5 * range_nodes r + 2 * phrases_nodes ps + length a + length b + 3
+  find_size r ps a b =
+      let case = Jump (length b + 3) ∷ [] in
+      omega (arith, for_size r (phrases_code l ps case), phrases_size ps case, length-append (for_code l r (phrases_code l ps case)) (b ++ Jump (length a + 1) ∷ (Forget ∷ a)), length-append b (Jump (length a + 1) ∷ (Forget ∷ a)))
+
+  if_size : (c : Condition) (a b : List Instruction) → length (if_code l c a b) ≤ 2 * condition_nodes c + length a + length b
+  if_size c a b = omega (arith, condition_size (length a + 1) c, length-append (condition_code l (length a + 1) c) (a ++ Jump (length b) ∷ b), length-append a (Jump (length b) ∷ b))
+
+  while_size : (gs : List Guard) (a : List Instruction) → length (while_code l gs a) ≤ 4 * guards_nodes gs + length a + 2
+  while_size gs a =
+      let again = guards_code l 1 gs in
+      let size = length a + length again in
+      omega (arith, guards_size (size + 2) gs, guards_size 1 gs, length-append (guards_code l (size + 2) gs) (Turn ∷ (a ++ (again ++ Repeat (size + 1) ∷ []))), length-append a (again ++ Repeat (size + 1) ∷ []), length-append again (Repeat (size + 1) ∷ []))
+
+  reads_size : (ts : List Target) → length (reads_code l ts) ≤ length ts
+  reads_size [] = omega arith
+  reads_size (t ∷ ts) = omega (arith, reads_size ts)
+
+assigns_size : (xs : List Variable) → length (assigns_code xs) ≤ length xs
+assigns_size [] = omega arith
+assigns_size (x ∷ xs) = omega (arith, assigns_size xs)
+
+mutual
+  statement_size : (first : ℕ) (s : Statement) → length (statement_code first s) ≤ 6 * statement_nodes s
+  statement_size first (Let l x e) = omega (arith, expression_size l (Some (destination_of x)) e)
+  statement_size first (Change l sign x e) = omega (arith, expression_size l None e, length-append (expression_code l None e) (Calculate (operator_of sign) (variable_operand x) (operand_of e) (destination_of x) l ∷ []))
+  statement_size first (Print l items pictures) = omega (arith, values_size l items.items, length-append (values_code l items.items) (PrintLines first (length pictures.items) (length items.items) ∷ []))
+  statement_size first (If' l c p a q b) = omega (arith, if_size l c (row_code first a) (row_code (first + length (row_pictures a)) b), row_size first a, row_size (first + length (row_pictures a)) b)
+  statement_size first (While' l guards p a) = omega (arith, while_size l guards.items (row_code first a), row_size first a)
+  statement_size first (For' l r ps p a) = omega (arith, for_size l r (phrases_code l ps.items (row_code first a)), phrases_size l ps.items (row_code first a), row_size first a)
+  statement_size first (Find' l r ps p a q b) = omega (arith, find_size l r ps.items (row_code first a) (row_code (first + length (row_pictures a)) b), row_size first a, row_size (first + length (row_pictures a)) b)
+  statement_size first (CallRoutine l routine given yielding) = omega (arith, values_size l given.items, assigns_size yielding.items, length-append (values_code l given.items) (Call routine (length given.items) (length yielding.items) ∷ assigns_code yielding.items))
+  statement_size first Return = omega arith
+  statement_size first Stop = omega arith
+  statement_size first (Read l targets) = omega (arith, reads_size l targets.items)
+  statement_size first (SkipLines l e) = omega (arith, expression_size l None e, length-append (expression_code l None e) (SkipThem (operand_of e) l ∷ []))
+
+  row_size : {m : _} (first : ℕ) (r : Row_of-Statement m) → length (row_code first r) ≤ 6 * row_nodes r
+  row_size first end_of-Statement = omega arith
+  row_size first (more_of-Statement s rest) = omega (arith, statement_size first s, row_size (first + length (statement_pictures s)) rest, length-append (statement_code first s) (row_code (first + length (statement_pictures s)) rest))
+
+body_size : (first : ℕ) (ss : List Statement) → length (body_code first ss) ≤ 6 * body_nodes ss
 body_size first [] = omega arith
 body_size first (s ∷ ss) = omega (arith, statement_size first s, body_size (first + length (statement_pictures s)) ss, length-append (statement_code first s) (body_code (first + length (statement_pictures s)) ss))
 
--- no more instructions than nodes
-pub code_size : (p : Resolved) → length (code_of p).instructions ≤ nodes p
-code_size p = omega (arith, body_size 0 p.main.body.items, length-append (body_code 0 p.main.body.items) (Leave ∷ []))
+section_size : (first : ℕ) (s : Section) → length (section_code first s) ≤ 6 * body_nodes s.body.items + 1
+section_size first s = omega (arith, body_size first s.body.items, length-append (body_code first s.body.items) (Leave ∷ []))
+
+routines_size : (first : ℕ) (rs : List Section) → length (routines_code first rs) ≤ 6 * sections_nodes rs
+routines_size first [] = omega arith
+routines_size first (r ∷ rs) = omega (arith, section_size first r, routines_size (first + length (body_pictures r.body.items)) rs, length-append (section_code first r) (routines_code (first + length (body_pictures r.body.items)) rs))
+
+-- few instructions for each node
+pub code_size : (p : Resolved) → length (code_of p).instructions ≤ 6 * nodes p
+code_size p = omega (arith, section_size 0 p.main, routines_size (length (body_pictures p.main.body.items)) p.routines.items, length-append (section_code 0 p.main) (routines_code (length (body_pictures p.main.body.items)) p.routines.items))

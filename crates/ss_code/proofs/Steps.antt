@@ -1,12 +1,12 @@
 -- Steps of the machine, and where they lead.
-use Rattle.std.proofs.Common.{◌≡◌, ℕ, zero, suc, ◌+◌, ◌<◌, ◌≤◌, Bool, true, false, List, [], ◌∷◌, ◌++◌, length, take, drop, Option, Some, None, refl, sym, ap, ◌∙◌, subst, arith, append_assoc, length-append}
+use Rattle.std.proofs.Common.{◌≡◌, ℕ, zero, suc, ◌+◌, ◌<◌, ◌≤◌, Bool, true, false, List, [], ◌∷◌, ◌++◌, length, Option, Some, None, refl, sym, ap, ◌∙◌, subst, arith, append_assoc, length-append}
 use Rattle.std.specs.Prelude.{slice_get}
 use Rattle.std.proofs.Math.Seq.{get_or-append_seam}
 use Rattle.std.proofs.lemmas.Option.{slice_get-get_or}
 use Rattle.ss_base.specs.declared.value.Value.{Value}
 use Rattle.ss_code.specs.declared.instruction.Instruction.{Instruction}
-use Rattle.ss_code.specs.Store.{Store, World}
-use Rattle.ss_code.specs.Meaning.{Exit, Returned, Stopped, Faulted, OutOfTicks, Outcome, WentOn, Left, Part, and_then, Ending, Ended, Fault, Paused, Run, ending_of}
+use Rattle.ss_code.specs.Store.{Store, World, yielded}
+use Rattle.ss_code.specs.Meaning.{with_locals, Exit, Returned, Stopped, Faulted, OutOfTicks, Outcome, WentOn, Left, Part, and_then, Ending, Ended, Fault, Paused, Run}
 use Rattle.ss_code.specs.Machine.{Frame, Core, State, Code, Moved, To, Sends, Rest, Stuck, Done, Fails, act, is_due, Goes, Over, with_rest, when_due, step_at, step}
 use Rattle.ss_code.specs.Running.{Result, Underway, Ends, IsStuck, ended_at, go_on, steps}
 
@@ -91,17 +91,13 @@ core_of place stack frames s = record { place = place; operands = stack; frames 
 abbrev pub at : ℕ → List Value → List Frame → World → State
 at place stack frames w = record { core = core_of place stack frames w.store; report = w.report; ticks = w.ticks }
 
--- a world with other local variables
-abbrev pub with_locals : List Value → World → World
-with_locals ls w = record w { store = record w.store { locals = ls } }
-
 abbrev pub run_at : Ending → World → Run
 run_at e w = record { report = w.report; ending = e; ticks = w.ticks }
 
 -- where the machine goes when a part of the program is left
 abbrev pub left_to : Exit → List Frame → World → Result
 left_to Returned [] w = Ends (run_at Ended w)
-left_to Returned (f ∷ fs) w = Underway (at f.back f.operands fs (with_locals f.locals w))
+left_to Returned (f ∷ fs) w = Underway (at f.back (yielded f.first f.count w.store.locals ++ f.operands) fs (with_locals f.locals w))
 left_to Stopped frames w = Ends (run_at Ended w)
 left_to (Faulted kind line) frames w = Ends (run_at (Fault kind line) w)
 left_to OutOfTicks frames w = Ends (run_at Paused w)

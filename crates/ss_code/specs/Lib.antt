@@ -4,6 +4,6 @@ pub mod Machine
 pub mod Running
 pub mod Translation
 pub mod Rows
-pub mod Nodes
+pub mod Pieces
 pub mod Laws
 pub mod Listing

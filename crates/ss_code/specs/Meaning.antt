@@ -1,8 +1,9 @@
 -- What a program does, without the machine.
-use Rattle.std.specs.Prelude.{ℕ, List, [], ◌∷◌, ◌++◌, map, Result, Ok, Err}
+use Rattle.std.specs.Prelude.{ℕ, zero, suc, Bool, true, false, not, List, [], ◌∷◌, ◌++◌, length, map, pos, Option, Some, None, Result, Ok, Err, slice_get}
 use Rattle.ss_base.specs.declared.line.Line.{Line}
 use Rattle.ss_base.specs.declared.fault.FaultKind.{FaultKind}
 use Rattle.ss_base.specs.declared.value.Value.{Value}
+use Rattle.ss_base.specs.declared.value.Value.TheVariants.{Whole}
 use Rattle.ss_base.specs.declared.layout.Mode.{Mode}
 use Rattle.ss_base.specs.Layout.{first_value}
 use Rattle.ss_resolved.specs.declared.resolved.Variable.{Variable}
@@ -11,14 +12,26 @@ use Rattle.ss_resolved.specs.declared.resolved.Sign.TheVariants.{Plus as PlusSig
 use Rattle.ss_resolved.specs.declared.resolved.Function.{Function}
 use Rattle.ss_resolved.specs.declared.resolved.Function.TheVariants.{Quotient as QuotientOf, Remainder as RemainderOf, Least as LeastOf, Greatest as GreatestOf}
 use Rattle.ss_resolved.specs.declared.resolved.Expression.{Expression, Constant, Fetch, Signed', Sum', Product', Applied', Absolute', Row_of-Expression, end_of-Expression, more_of-Expression, Row_of-Expression-Sum-1-2, end_of-Expression-Sum-1-2, more_of-Expression-Sum-1-2}
-use Rattle.ss_resolved.specs.declared.resolved.Statement.{Statement}
-use Rattle.ss_resolved.specs.declared.resolved.Statement.TheVariants.{Let, Change, Print}
+use Rattle.ss_resolved.specs.declared.resolved.Test.{Test}
+use Rattle.ss_resolved.specs.declared.resolved.Test.TheVariants.{Compare, DataEnded}
+use Rattle.ss_resolved.specs.declared.resolved.Conjunction.{Conjunction}
+use Rattle.ss_resolved.specs.declared.resolved.Condition.{Condition}
+use Rattle.ss_resolved.specs.declared.resolved.GuardKind.{GuardKind}
+use Rattle.ss_resolved.specs.declared.resolved.GuardKind.TheVariants.{While, Until}
+use Rattle.ss_resolved.specs.declared.resolved.Guard.{Guard}
+use Rattle.ss_resolved.specs.declared.resolved.PhraseKind.{PhraseKind}
+use Rattle.ss_resolved.specs.declared.resolved.PhraseKind.TheVariants.{With as WithPhrase, Unless as UnlessPhrase, While as WhilePhrase, Until as UntilPhrase}
+use Rattle.ss_resolved.specs.declared.resolved.Phrase.{Phrase}
+use Rattle.ss_resolved.specs.declared.resolved.Range.{Range}
+use Rattle.ss_resolved.specs.declared.resolved.Target.{Target}
+use Rattle.ss_resolved.specs.declared.resolved.Statement.{Statement, Let, Change, Print, If', While', For', Find', Call, Return, Stop, Read, Skip, Row_of-Statement, end_of-Statement, more_of-Statement}
 use Rattle.ss_resolved.specs.declared.resolved.Section.{Section}
 use Rattle.ss_resolved.specs.declared.resolved.Resolved.{Resolved}
 use Rattle.ss_resolved.specs.Lines.{lines_of}
 use Rattle.ss_code.specs.declared.instruction.Operator.{Operator}
 use Rattle.ss_code.specs.declared.instruction.Operator.TheVariants.{Plus, Minus, Times, Quotient, Remainder, Least, Greatest, Distance}
-use Rattle.ss_code.specs.Store.{Store, World, zero_value, fetched, assigned, computed, printed}
+use Rattle.ss_input.specs.Words.{Given, is_ended, value_given}
+use Rattle.ss_code.specs.Store.{Store, World, zero_value, number_of, fetched, assigned, computed, printed, related, step_of, is_within, item_after, empty_lines, fresh, yielded}
 
 -- why a part of a program is left before its end
 pub data Exit : Type 0 where
@@ -100,18 +113,207 @@ abbrev pub values : List Expression → Store → Result (List Value) FaultKind
 values [] s = Ok []
 values (e ∷ es) s = if_ok (value e s) (λ v. if_ok (values es s) (λ vs. Ok (v ∷ vs)))
 
--- what a statement does
-abbrev pub effect : Statement → Part (Unit {0})
-effect (Let l x e) w = and_then (look l (value e) w) (assign x)
-effect (Change l sign x e) w =
-    and_then (look l (λ s. if_ok (value e s) (computed (operator_of sign) (fetched x s))) w) (assign x)
-effect (Print l items pictures) w =
-    and_then (look l (values items.items) w) (λ vs. send (printed (lines_of pictures.items) vs))
+-- the first values of variables
+abbrev pub firsts : List Mode → List Value
+firsts modes = map first_value modes
 
--- one statement after another
-abbrev pub effects : List Statement → Part (Unit {0})
-effects [] w = WentOn tt w
-effects (s ∷ ss) w = and_then (effect s w) (λ _. effects ss)
+-- a second condition where the first holds, or does not
+abbrev pub both : Bool → Result Bool FaultKind → Result Bool FaultKind
+both true second = second
+both false second = Ok false
+
+abbrev pub either : Bool → Result Bool FaultKind → Result Bool FaultKind
+either true second = Ok true
+either false second = second
+
+abbrev pub unless : Bool → Bool → Bool
+unless true b = not b
+unless false b = b
+
+-- whether a test holds
+abbrev pub test_holds : Test → Store → Result Bool FaultKind
+test_holds (Compare left relation right) s =
+    if_ok (value left s) (λ x. if_ok (value right s) (λ y. Ok (related relation x y)))
+test_holds (DataEnded negated) s = if_ok (is_ended s.input) (λ b. Ok (unless negated b))
+
+-- whether all of them hold: up to the first that does not
+abbrev pub all_hold : List Test → Store → Result Bool FaultKind
+all_hold [] s = Ok true
+all_hold (t ∷ ts) s = if_ok (test_holds t s) (λ b. both b (all_hold ts s))
+
+-- whether one of them holds: up to the first that does
+abbrev pub some_hold : List Conjunction → Store → Result Bool FaultKind
+some_hold [] s = Ok false
+some_hold (c ∷ cs) s = if_ok (all_hold c.tests.items s) (λ b. either b (some_hold cs s))
+
+abbrev pub holds : Condition → Store → Result Bool FaultKind
+holds c s = some_hold c.alternatives.items s
+
+-- whether a loop goes on at this condition
+abbrev pub passes : GuardKind → Bool → Bool
+passes While b = b
+passes Until b = not b
+
+-- and at all of them: up to the first at which it does not
+abbrev pub all_pass : List Guard → Store → Result Bool FaultKind
+all_pass [] s = Ok true
+all_pass (g ∷ gs) s = if_ok (holds g.condition s) (λ b. both (passes g.kind b) (all_pass gs s))
+
+-- a part with a tick, or none where no tick is left
+abbrev pub tick_from : {A : Type 0} → ℕ → Part A → Part A
+tick_from zero go w = Left OutOfTicks w
+tick_from (suc t) go w = go (record w { ticks = t })
+
+abbrev pub take_tick : {A : Type 0} → Part A → Part A
+take_tick go w = tick_from w.ticks go w
+
+abbrev pub choose : {A : Type 0} → Bool → Part A → Part A → Part A
+choose true a b w = a w
+choose false a b w = b w
+
+-- a part whose value is not wanted
+abbrev pub then_nothing : {A : Type 0} → Outcome A → Outcome (Unit {0})
+then_nothing o = and_then o (λ _. WentOn tt)
+
+-- at most n more turns of a loop whose guards passed
+abbrev pub turns : ℕ → Line → List Guard → Part (Unit {0}) → Part (Unit {0})
+turns zero l guards body w = Left OutOfTicks w
+turns (suc n) l guards body w =
+    take_tick
+    (λ w. and_then (body w) (λ _ w. and_then (look l (all_pass guards) w) (λ b. choose b (turns n l guards body) (WentOn tt))))
+    w
+
+-- what a turn of a FOR comes to: the loop goes on, it ends, or the case was found
+pub data Turn : Type 0 where
+  GoesOn : Turn
+  EndsLoop : Turn
+  IsFound : Turn
+
+-- what a phrase makes of an item by its condition: the further phrases, the next item, or the end of the loop
+abbrev pub phrase : PhraseKind → Bool → Part Turn → Part Turn
+phrase WithPhrase b more = choose b more (WentOn GoesOn)
+phrase UnlessPhrase b more = choose b (WentOn GoesOn) more
+phrase WhilePhrase b more = choose b more (WentOn EndsLoop)
+phrase UntilPhrase b more = choose b (WentOn EndsLoop) more
+
+-- the phrases in the order in which they are written, and then the turn itself
+abbrev pub phrases : Line → List Phrase → Part Turn → Part Turn
+phrases l [] turn w = turn w
+phrases l (p ∷ ps) turn w = and_then (look l (holds p.condition) w) (λ b. phrase p.kind b (phrases l ps turn))
+
+-- after a turn: whether the case was found, or the further items
+abbrev pub after_turn : Turn → Option Value → (Value → Part Bool) → Part Bool
+after_turn GoesOn None more = WentOn false
+after_turn GoesOn (Some v) more = more v
+after_turn EndsLoop next more = WentOn false
+after_turn IsFound next more = WentOn true
+
+-- at most n more items of a FOR, from v on
+abbrev pub items : ℕ → Variable → (limit step : Value) → Part Turn → Value → Part Bool
+items zero x limit step turn v w = Left OutOfTicks w
+items (suc n) x limit step turn v w =
+    take_tick
+    (λ w. and_then (assign x v w) (λ _ w. and_then (turn w) (λ t. after_turn t (item_after limit step v) (items n x limit step turn))))
+    w
+
+abbrev pub step_value : Option Expression → Store → Result Value FaultKind
+step_value None s = Ok (Whole (pos 1))
+step_value (Some e) s = value e s
+
+-- the first number of a FOR, its limit and its step
+pub record Bounds : Type 0 where
+  pub first : Value
+  pub limit : Value
+  pub step : Value
+
+abbrev pub bounds : Range → Store → Result Bounds FaultKind
+bounds r s =
+    if_ok (value r.first s) (λ x. if_ok (value r.limit s) (λ y. if_ok (step_value r.step s) (λ z.
+    if_ok (step_of z) (λ z. Ok (record { first = x; limit = y; step = z })))))
+
+-- a FOR over numbers: whether the case was found
+abbrev pub over_range : ℕ → Line → Range → Part Turn → Part Bool
+over_range n l r turn w =
+    and_then (look l (bounds r) w) (λ b. choose (is_within b.first b.limit) (items n r.variable b.limit b.step turn b.first) (WentOn false))
+
+-- takes the next word of the input
+abbrev pub given_by : Line → Result (Given Value) FaultKind → Part Value
+given_by l (Ok g) w = WentOn g.value (record w { store = record w.store { input = g.rest } })
+given_by l (Err k) w = Left (Faulted k l) w
+
+abbrev pub take_word : Line → Mode → Part Value
+take_word l mode w = given_by l (value_given mode w.store.input) w
+
+abbrev pub reads : Line → List Target → Part (Unit {0})
+reads l [] w = WentOn tt w
+reads l (t ∷ ts) w = and_then (and_then (take_word l t.mode w) (assign t.variable)) (λ _. reads l ts)
+
+-- each variable takes a value in turn
+abbrev pub assign_each : List Variable → List Value → Part (Unit {0})
+assign_each [] vs w = WentOn tt w
+assign_each (x ∷ xs) [] w = WentOn tt w
+assign_each (x ∷ xs) (v ∷ vs) w = and_then (assign x v w) (λ _. assign_each xs vs)
+
+-- what a call does: the routine, the values that it is given, and how many it yields
+abbrev pub Calls : Type 0
+Calls = (routine : ℕ) → (given : List Value) → (count : ℕ) → Part (List Value)
+
+abbrev mutual
+  -- what a statement does, where each loop makes at most n turns, and calls do what h says
+  pub effect : Calls → ℕ → Statement → Part (Unit {0})
+  effect h n (Let l x e) w = and_then (look l (value e) w) (assign x)
+  effect h n (Change l sign x e) w =
+      and_then (look l (λ s. if_ok (value e s) (computed (operator_of sign) (fetched x s))) w) (assign x)
+  effect h n (Print l them pictures) w =
+      and_then (look l (values them.items) w) (λ vs. send (printed (lines_of pictures.items) vs))
+  effect h n (If' l c p a q b) w = and_then (look l (holds c) w) (λ t. choose t (effects h n a) (effects h n b))
+  effect h n (While' l guards p a) w =
+      and_then (look l (all_pass guards.items) w) (λ t. choose t (turns n l guards.items (effects h n a)) (WentOn tt))
+  effect h n (For' l r ps p a) w =
+      then_nothing (over_range n l r (phrases l ps.items (λ w. and_then (effects h n a w) (λ _. WentOn GoesOn))) w)
+  effect h n (Find' l r ps p a q b) w =
+      and_then (over_range n l r (phrases l ps.items (WentOn IsFound)) w) (λ t. choose t (effects h n a) (effects h n b))
+  effect h n (Call l routine given yielding) w =
+      and_then (look l (values given.items) w) (λ vs w.
+      and_then (h routine vs (length yielding.items) w) (λ us. assign_each yielding.items us))
+  effect h n Return w = Left Returned w
+  effect h n Stop w = Left Stopped w
+  effect h n (Read l targets) w = reads l targets.items w
+  effect h n (Skip l e) w =
+      and_then (look l (λ s. if_ok (value e s) (λ v. empty_lines (number_of v))) w) send
+
+  -- one statement after another
+  pub effects : {m : _} → Calls → ℕ → Row_of-Statement m → Part (Unit {0})
+  effects h n end_of-Statement w = WentOn tt w
+  effects h n (more_of-Statement s rest) w = and_then (effect h n s w) (λ _. effects h n rest)
+
+-- the same of the statements of a section
+abbrev pub body : Calls → ℕ → List Statement → Part (Unit {0})
+body h n [] w = WentOn tt w
+body h n (s ∷ ss) w = and_then (effect h n s w) (λ _. body h n ss)
+
+-- a world with other local variables
+abbrev pub with_locals : List Value → World → World
+with_locals ls w = record w { store = record w.store { locals = ls } }
+
+-- after a routine: what it yields, and the caller's own variables
+abbrev pub come_back : (given count : ℕ) → List Value → Outcome (Unit {0}) → Outcome (List Value)
+come_back given count ls (WentOn u w) = WentOn (yielded given count w.store.locals) (with_locals ls w)
+come_back given count ls (Left Returned w) = WentOn (yielded given count w.store.locals) (with_locals ls w)
+come_back given count ls (Left Stopped w) = Left Stopped w
+come_back given count ls (Left (Faulted kind line) w) = Left (Faulted kind line) w
+come_back given count ls (Left OutOfTicks w) = Left OutOfTicks w
+
+-- the body of a routine with variables of its own; no checked program calls a routine that is not there
+abbrev pub routine_body : Option Section → Calls → ℕ → List Value → ℕ → Part (List Value)
+routine_body None h n given count w = WentOn (yielded 0 count []) w
+routine_body (Some r) h n given count w =
+    come_back (length given) count w.store.locals (body h n r.body.items (with_locals (fresh (firsts r.locals.items) given) w))
+
+-- a call takes a tick; n bounds how many calls stand in one another, and the turns of each loop
+abbrev pub calls : List Section → ℕ → Calls
+calls rs zero routine given count w = Left OutOfTicks w
+calls rs (suc n) routine given count w = take_tick (routine_body (slice_get rs routine) (calls rs n) n given count) w
 
 -- how a run ends
 pub data Ending : Type 0 where
@@ -135,16 +337,12 @@ abbrev pub run_of : Outcome (Unit {0}) → Run
 run_of (WentOn u w) = record { report = w.report; ending = Ended; ticks = w.ticks }
 run_of (Left e w) = record { report = w.report; ending = ending_of e; ticks = w.ticks }
 
--- the first values of variables
-abbrev pub firsts : List Mode → List Value
-firsts modes = map first_value modes
-
 abbrev pub first_store : List Value → List Value → List ℕ → Store
 first_store globals locals input = record { globals = globals; locals = locals; input = input }
 
+abbrev pub first_world : Resolved → List ℕ → ℕ → World
+first_world p input n = record { store = first_store (firsts p.globals.items) (firsts p.main.locals.items) input; report = []; ticks = n }
+
 -- what a program does with an input and n ticks
 abbrev pub meaning : Resolved → List ℕ → ℕ → Run
-meaning p input n =
-    run_of
-    (effects p.main.body.items
-    (record { store = first_store (firsts p.globals.items) (firsts p.main.locals.items) input; report = []; ticks = n }))
+meaning p input n = run_of (body (calls p.routines.items n) n p.main.body.items (first_world p input n))

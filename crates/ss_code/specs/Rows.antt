@@ -1,5 +1,5 @@
 -- The code of the terms of a sum and of the factors of a product as lists.
-use Rattle.std.specs.Prelude.{ℕ, List, [], ◌∷◌, ◌++◌, Option, None}
+use Rattle.std.specs.Prelude.{List, [], ◌∷◌, ◌++◌, Option, None}
 use Rattle.ss_base.specs.declared.line.Line.{Line}
 use Rattle.ss_resolved.specs.declared.resolved.Sign.{Sign}
 use Rattle.ss_resolved.specs.declared.resolved.Expression.{Expression}

@@ -1,13 +1,19 @@
 -- What a program works on, and what is done with it: the meaning and the machine share these.
-use Rattle.std.specs.Prelude.{ℕ, List, [], ◌∷◌, ◌++◌, ℤ, pos, int_le, Result, Ok, Err, slice_index_or, slice_set, take, drop, if◌then◌else◌}
+use Rattle.std.specs.Prelude.{ℕ, zero, suc, ◌+◌, Bool, true, false, List, [], ◌∷◌, ◌++◌, ℤ, pos, negsuc, int_le, int_lt, nat_lt, replicate, Option, Some, None, Result, Ok, Err, slice_index_or, slice_set, take, drop, if◌then◌else◌}
+use Rattle.std.specs.declared.cmp.Ordering.{Ordering}
+use Rattle.std.specs.declared.cmp.Ordering.TheVariants.{Less as IsLess, Equal as IsEqual, Greater as IsGreater}
 use Rattle.ss_base.specs.declared.fault.FaultKind.{FaultKind}
+use Rattle.ss_base.specs.declared.fault.FaultKind.TheVariants.{LoopStep, BadCount}
 use Rattle.ss_base.specs.declared.value.Value.{Value}
 use Rattle.ss_base.specs.declared.value.Value.TheVariants.{Whole, Text}
 use Rattle.ss_resolved.specs.declared.resolved.Variable.{Variable}
 use Rattle.ss_resolved.specs.declared.resolved.Variable.TheVariants.{Global, Local}
+use Rattle.ss_resolved.specs.declared.resolved.Relation.{Relation}
+use Rattle.ss_resolved.specs.declared.resolved.Relation.TheVariants.{Equal, NotEqual, Less, Greater, LessOrEqual, GreaterOrEqual}
 use Rattle.ss_code.specs.declared.instruction.Operator.{Operator}
 use Rattle.ss_code.specs.declared.instruction.Operator.TheVariants.{Plus, Minus, Times, Quotient, Remainder, Least, Greatest, Distance}
 use Rattle.ss_base.specs.Arithmetic.{plus_of, minus_of, times_of, quotient_of, remainder_of}
+use Rattle.ss_base.specs.Order.{value_cmp}
 use Rattle.ss_picture.specs.Pictures.{filled, field_count}
 
 -- the values of the global variables and of the local ones, and the input that is not yet read
@@ -69,3 +75,63 @@ abbrev pub printed : List (List ℕ) → List Value → List ℕ
 printed [] values = []
 printed (picture ∷ pictures) values =
     filled picture (take (field_count picture) values) ++ line_end ∷ printed pictures (drop (field_count picture) values)
+
+-- whether two values stand in a relation
+abbrev pub fits : Relation → Ordering → Bool
+fits Equal IsEqual = true
+fits Equal IsLess = false
+fits Equal IsGreater = false
+fits NotEqual IsEqual = false
+fits NotEqual IsLess = true
+fits NotEqual IsGreater = true
+fits Less IsLess = true
+fits Less IsEqual = false
+fits Less IsGreater = false
+fits Greater IsGreater = true
+fits Greater IsEqual = false
+fits Greater IsLess = false
+fits LessOrEqual IsLess = true
+fits LessOrEqual IsEqual = true
+fits LessOrEqual IsGreater = false
+fits GreaterOrEqual IsGreater = true
+fits GreaterOrEqual IsEqual = true
+fits GreaterOrEqual IsLess = false
+
+abbrev pub related : Relation → Value → Value → Bool
+related relation x y = fits relation (value_cmp x y)
+
+-- the step of a loop; one below 1 is the fault LOOP STEP
+abbrev pub step_of : Value → Result Value FaultKind
+step_of v = if int_lt (number_of v) (pos 1) then Err LoopStep else Ok v
+
+-- whether an item lies within the limit of a loop
+abbrev pub is_within : Value → Value → Bool
+is_within item limit = int_le (number_of item) (number_of limit)
+
+abbrev pub if_within : Value → Result Value FaultKind → Option Value
+if_within limit (Err k) = None
+if_within limit (Ok item) = if is_within item limit then Some item else None
+
+-- the item after this one, if there is one up to the limit and up to the greatest number
+abbrev pub item_after : (limit step item : Value) → Option Value
+item_after limit step item = if_within limit (computed Plus item step)
+
+-- the most lines of a SKIP
+abbrev pub skip_limit : ℕ
+skip_limit = 1000
+
+-- so many empty lines; below 0 or too many is the fault BAD COUNT
+abbrev pub empty_lines : ℤ → Result (List ℕ) FaultKind
+empty_lines (pos n) = if nat_lt skip_limit n then Err BadCount else Ok (replicate n line_end)
+empty_lines (negsuc n) = Err BadCount
+
+-- the first variables take the values that are given
+abbrev pub fresh : List Value → List Value → List Value
+fresh [] given = []
+fresh (v ∷ vs) [] = v ∷ vs
+fresh (v ∷ vs) (x ∷ xs) = x ∷ fresh vs xs
+
+-- the values of so many variables from a number on
+abbrev pub yielded : (first count : ℕ) → List Value → List Value
+yielded first zero vs = []
+yielded first (suc count) vs = slice_index_or vs first zero_value ∷ yielded (first + 1) count vs

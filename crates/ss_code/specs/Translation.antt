@@ -6,8 +6,20 @@ use Rattle.ss_base.specs.declared.value.Value.TheVariants.{Whole, Text}
 use Rattle.ss_resolved.specs.declared.resolved.Variable.{Variable}
 use Rattle.ss_resolved.specs.declared.resolved.Variable.TheVariants.{Global, Local}
 use Rattle.ss_resolved.specs.declared.resolved.Expression.{Expression, Constant, Fetch, Signed', Sum', Product', Applied', Absolute', Row_of-Expression, end_of-Expression, more_of-Expression, Row_of-Expression-Sum-1-2, end_of-Expression-Sum-1-2, more_of-Expression-Sum-1-2}
-use Rattle.ss_resolved.specs.declared.resolved.Statement.{Statement}
-use Rattle.ss_resolved.specs.declared.resolved.Statement.TheVariants.{Let, Change, Print}
+use Rattle.ss_resolved.specs.declared.resolved.Test.{Test}
+use Rattle.ss_resolved.specs.declared.resolved.Test.TheVariants.{Compare, DataEnded}
+use Rattle.ss_resolved.specs.declared.resolved.Conjunction.{Conjunction}
+use Rattle.ss_resolved.specs.declared.resolved.Condition.{Condition}
+use Rattle.ss_resolved.specs.declared.resolved.GuardKind.{GuardKind}
+use Rattle.ss_resolved.specs.declared.resolved.GuardKind.TheVariants.{While, Until}
+use Rattle.ss_resolved.specs.declared.resolved.Guard.{Guard}
+use Rattle.ss_resolved.specs.declared.resolved.PhraseKind.{PhraseKind}
+use Rattle.ss_resolved.specs.declared.resolved.PhraseKind.TheVariants.{With as WithPhrase, Unless as UnlessPhrase, While as WhilePhrase, Until as UntilPhrase}
+use Rattle.ss_resolved.specs.declared.resolved.Phrase.{Phrase}
+use Rattle.ss_resolved.specs.declared.resolved.Range.{Range}
+use Rattle.ss_resolved.specs.declared.resolved.Target.{Target}
+use Rattle.ss_resolved.specs.declared.resolved.Section.{Section}
+use Rattle.ss_resolved.specs.declared.resolved.Statement.{Statement, Let, Change, Print, If', While', For', Find', Call as CallRoutine, Return, Stop, Read, Skip as SkipLines, Row_of-Statement, end_of-Statement, more_of-Statement}
 use Rattle.ss_resolved.specs.declared.resolved.Resolved.{Resolved}
 use Rattle.ss_code.specs.declared.instruction.Operand.{Operand}
 use Rattle.ss_code.specs.declared.instruction.Operand.TheVariants.{Popped, Number, FromGlobal, FromLocal}
@@ -16,10 +28,10 @@ use Rattle.ss_code.specs.declared.instruction.Destination.TheVariants.{Pushed, T
 use Rattle.ss_code.specs.declared.instruction.Operator.{Operator}
 use Rattle.ss_code.specs.declared.instruction.Operator.TheVariants.{Times, Distance}
 use Rattle.ss_code.specs.declared.instruction.Instruction.{Instruction}
-use Rattle.ss_code.specs.declared.instruction.Instruction.TheVariants.{Load, Move, Calculate, Print as PrintLines, Leave}
+use Rattle.ss_code.specs.declared.instruction.Instruction.TheVariants.{Load, Move, Calculate, Compare as CompareThem, TestData, Jump, Turn, Repeat, Begin, Take, Next, Forget, Call, Leave, Halt, Read as ReadWord, Skip as SkipThem, Print as PrintLines}
 use Rattle.ss_code.specs.Meaning.{operator_of, operator_for, firsts}
 use Rattle.ss_resolved.specs.Lines.{lines_of}
-use Rattle.ss_code.specs.Machine.{Code}
+use Rattle.ss_code.specs.Machine.{Code, Entry}
 
 abbrev pub variable_operand : Variable → Operand
 variable_operand (Global k) = FromGlobal k
@@ -99,19 +111,136 @@ abbrev pub values_code : Line → List Expression → List Instruction
 values_code l [] = []
 values_code l (e ∷ es) = expression_code l (Some Pushed) e ++ values_code l es
 
--- the pictures of a statement
-abbrev pub statement_pictures : Statement → List (List ℕ)
-statement_pictures (Let l x e) = []
-statement_pictures (Change l sign x e) = []
-statement_pictures (Print l items pictures) = lines_of pictures.items
+-- a test: on where it holds, past so many instructions where it does not
+abbrev pub test_code : Line → ℕ → Test → List Instruction
+test_code l skip (Compare left relation right) =
+    expression_code l None left ++ (expression_code l None right ++ CompareThem relation (operand_of left) (operand_of right) skip ∷ [])
+test_code l skip (DataEnded negated) = TestData negated skip l ∷ []
 
--- a statement, before which there are so many pictures
-abbrev pub statement_code : ℕ → Statement → List Instruction
-statement_code first (Let l x e) = expression_code l (Some (destination_of x)) e
-statement_code first (Change l sign x e) =
-    expression_code l None e ++ Calculate (operator_of sign) (variable_operand x) (operand_of e) (destination_of x) l ∷ []
-statement_code first (Print l items pictures) =
-    values_code l items.items ++ PrintLines first (length pictures.items) (length items.items) ∷ []
+-- tests that all must hold
+abbrev pub tests_code : Line → ℕ → List Test → List Instruction
+tests_code l skip [] = []
+tests_code l skip (t ∷ ts) = test_code l (length (tests_code l skip ts) + skip) t ++ tests_code l skip ts
+
+-- one alternative and the further ones, of which one must hold
+abbrev pub alternatives_code : Line → ℕ → Conjunction → List Conjunction → List Instruction
+alternatives_code l skip c [] = tests_code l skip c.tests.items
+alternatives_code l skip c (d ∷ ds) =
+    tests_code l 1 c.tests.items ++ Jump (length (alternatives_code l skip d ds)) ∷ alternatives_code l skip d ds
+
+abbrev pub some_code : Line → ℕ → List Conjunction → List Instruction
+some_code l skip [] = Jump skip ∷ []
+some_code l skip (c ∷ cs) = alternatives_code l skip c cs
+
+abbrev pub condition_code : Line → ℕ → Condition → List Instruction
+condition_code l skip c = some_code l skip c.alternatives.items
+
+-- the same where it must not hold
+abbrev pub negated_code : Line → ℕ → Condition → List Instruction
+negated_code l skip c = condition_code l 1 c ++ Jump skip ∷ []
+
+abbrev pub guard_code : Line → ℕ → GuardKind → Condition → List Instruction
+guard_code l skip While c = condition_code l skip c
+guard_code l skip Until c = negated_code l skip c
+
+abbrev pub guards_code : Line → ℕ → List Guard → List Instruction
+guards_code l skip [] = []
+guards_code l skip (g ∷ gs) = guard_code l (length (guards_code l skip gs) + skip) g.kind g.condition ++ guards_code l skip gs
+
+-- a phrase before the rest of a turn: it goes on with the rest, or jumps past it, or past it and one instruction more
+abbrev pub phrase_code : Line → ℕ → PhraseKind → Condition → List Instruction
+phrase_code l rest WithPhrase c = condition_code l rest c
+phrase_code l rest UnlessPhrase c = negated_code l rest c
+phrase_code l rest WhilePhrase c = condition_code l (rest + 1) c
+phrase_code l rest UntilPhrase c = negated_code l (rest + 1) c
+
+abbrev pub phrases_code : Line → List Phrase → List Instruction → List Instruction
+phrases_code l [] turn = turn
+phrases_code l (p ∷ ps) turn = phrase_code l (length (phrases_code l ps turn)) p.kind p.condition ++ phrases_code l ps turn
+
+-- a condition, and two sides
+abbrev pub if_code : Line → Condition → List Instruction → List Instruction → List Instruction
+if_code l c a b = condition_code l (length a + 1) c ++ (a ++ Jump (length b) ∷ b)
+
+-- the guards; the tick of a turn; the body; the guards again; and a jump back to the tick
+abbrev pub while_code : Line → List Guard → List Instruction → List Instruction
+while_code l guards body =
+    guards_code l (length body + length (guards_code l 1 guards) + 2) guards
+    ++ (Turn ∷ (body ++ (guards_code l 1 guards ++ Repeat (length body + length (guards_code l 1 guards) + 1) ∷ [])))
+
+abbrev pub step_code : Line → Option Expression → List Instruction
+step_code l None = Move (Number (pos 1)) Pushed ∷ []
+step_code l (Some e) = expression_code l (Some Pushed) e
+
+-- the bounds of a FOR, one above the other on the stack
+abbrev pub bounds_code : Line → Range → List Instruction
+bounds_code l r =
+    expression_code l (Some Pushed) r.first ++ (expression_code l (Some Pushed) r.limit ++ step_code l r.step)
+
+-- a FOR: its bounds; the tick of an item; the turn; on to the next item; and the end of the loop
+abbrev pub for_code : Line → Range → List Instruction → List Instruction
+for_code l r turn =
+    bounds_code l r
+    ++ (Begin (length turn + 2) l ∷ (Take r.variable ∷ (turn ++ (Next (length turn + 1) ∷ Forget ∷ []))))
+
+-- behind a FIND: the end of the loop at which no case was found stands before its side, the other behind a jump past both sides
+abbrev pub find_code : Line → Range → List Phrase → List Instruction → List Instruction → List Instruction
+find_code l r ps found none =
+    for_code l r (phrases_code l ps (Jump (length none + 3) ∷ [])) ++ (none ++ Jump (length found + 1) ∷ (Forget ∷ found))
+
+-- each variable takes a value off the stack
+abbrev pub assigns_code : List Variable → List Instruction
+assigns_code [] = []
+assigns_code (x ∷ xs) = Move Popped (destination_of x) ∷ assigns_code xs
+
+abbrev pub reads_code : Line → List Target → List Instruction
+reads_code l [] = []
+reads_code l (t ∷ ts) = ReadWord t.mode (destination_of t.variable) l ∷ reads_code l ts
+
+abbrev mutual
+  -- the pictures of a statement
+  pub statement_pictures : Statement → List (List ℕ)
+  statement_pictures (Let l x e) = []
+  statement_pictures (Change l sign x e) = []
+  statement_pictures (Print l items pictures) = lines_of pictures.items
+  statement_pictures (If' l c p a q b) = row_pictures a ++ row_pictures b
+  statement_pictures (While' l guards p a) = row_pictures a
+  statement_pictures (For' l r ps p a) = row_pictures a
+  statement_pictures (Find' l r ps p a q b) = row_pictures a ++ row_pictures b
+  statement_pictures (CallRoutine l routine given yielding) = []
+  statement_pictures Return = []
+  statement_pictures Stop = []
+  statement_pictures (Read l targets) = []
+  statement_pictures (SkipLines l e) = []
+
+  pub row_pictures : {m : _} → Row_of-Statement m → List (List ℕ)
+  row_pictures end_of-Statement = []
+  row_pictures (more_of-Statement s rest) = statement_pictures s ++ row_pictures rest
+
+abbrev mutual
+  -- a statement, before which there are so many pictures
+  pub statement_code : ℕ → Statement → List Instruction
+  statement_code first (Let l x e) = expression_code l (Some (destination_of x)) e
+  statement_code first (Change l sign x e) =
+      expression_code l None e ++ Calculate (operator_of sign) (variable_operand x) (operand_of e) (destination_of x) l ∷ []
+  statement_code first (Print l items pictures) =
+      values_code l items.items ++ PrintLines first (length pictures.items) (length items.items) ∷ []
+  statement_code first (If' l c p a q b) = if_code l c (row_code first a) (row_code (first + length (row_pictures a)) b)
+  statement_code first (While' l guards p a) = while_code l guards.items (row_code first a)
+  statement_code first (For' l r ps p a) = for_code l r (phrases_code l ps.items (row_code first a))
+  statement_code first (Find' l r ps p a q b) =
+      find_code l r ps.items (row_code first a) (row_code (first + length (row_pictures a)) b)
+  statement_code first (CallRoutine l routine given yielding) =
+      values_code l given.items
+      ++ (Call routine (length given.items) (length yielding.items) ∷ assigns_code yielding.items)
+  statement_code first Return = Leave ∷ []
+  statement_code first Stop = Halt ∷ []
+  statement_code first (Read l targets) = reads_code l targets.items
+  statement_code first (SkipLines l e) = expression_code l None e ++ SkipThem (operand_of e) l ∷ []
+
+  pub row_code : {m : _} → ℕ → Row_of-Statement m → List Instruction
+  row_code first end_of-Statement = []
+  row_code first (more_of-Statement s rest) = statement_code first s ++ row_code (first + length (statement_pictures s)) rest
 
 abbrev pub body_pictures : List Statement → List (List ℕ)
 body_pictures [] = []
@@ -121,11 +250,31 @@ abbrev pub body_code : ℕ → List Statement → List Instruction
 body_code first [] = []
 body_code first (s ∷ ss) = statement_code first s ++ body_code (first + length (statement_pictures s)) ss
 
--- the code of a program: MAIN ends with a return
+-- a section ends with a return
+abbrev pub section_code : ℕ → Section → List Instruction
+section_code first s = body_code first s.body.items ++ Leave ∷ []
+
+abbrev pub routines_pictures : List Section → List (List ℕ)
+routines_pictures [] = []
+routines_pictures (r ∷ rs) = body_pictures r.body.items ++ routines_pictures rs
+
+abbrev pub routines_code : ℕ → List Section → List Instruction
+routines_code first [] = []
+routines_code first (r ∷ rs) = section_code first r ++ routines_code (first + length (body_pictures r.body.items)) rs
+
+-- where the routines begin, the first of them at this place
+abbrev pub entries_from : ℕ → ℕ → List Section → List Entry
+entries_from place first [] = []
+entries_from place first (r ∷ rs) =
+    record { place = place; locals = firsts r.locals.items }
+    ∷ entries_from (place + length (section_code first r)) (first + length (body_pictures r.body.items)) rs
+
+-- the code of a program: MAIN, and the routines behind it
 abbrev pub code_of : Resolved → Code
 code_of p = record {
-  instructions = body_code 0 p.main.body.items ++ Leave ∷ [];
-  pictures = body_pictures p.main.body.items;
+  instructions = section_code 0 p.main ++ routines_code (length (body_pictures p.main.body.items)) p.routines.items;
+  pictures = body_pictures p.main.body.items ++ routines_pictures p.routines.items;
+  entries = entries_from (length (section_code 0 p.main)) (length (body_pictures p.main.body.items)) p.routines.items;
   globals = firsts p.globals.items;
   locals = firsts p.main.locals.items;
 }

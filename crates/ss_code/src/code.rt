@@ -4,6 +4,7 @@ ghost use Rattle.std.specs.Prelude.{◌≡◌, ◌<◌, ◌^◌, length, slice_g
 ghost use Rattle.ss_code.specs.Listing.{listed};
 ghost use Rattle.ss_code.specs.Running.{Sound};
 
+use crate::entry::Entry;
 use crate::instruction::Instruction;
 use crate::listing::listing;
 use ss_base::Value;
@@ -11,14 +12,16 @@ use ss_picture::Picture;
 use std::alloc::{AllocError, Global};
 use std::marker::Model;
 
-/// The instructions of a program, the pictures that they print by, and the first values of the
-/// global variables and of MAIN's own.
+/// The instructions of a program, the pictures that they print by, the routines that they call, and
+/// the first values of the global variables and of MAIN's own.
 ///
-/// A contract sees it as a record of these lists. No run of it is ever stuck.
+/// A contract sees it as a record of these lists. No run of it is ever stuck, and each jump back leads
+/// to an instruction that takes a tick.
 #[derive(Drop)]
 pub struct Code {
     instructions: Vec<Instruction>,
     pictures: Vec<Picture>,
+    entries: Vec<Entry>,
     globals: Vec<Value>,
     locals: Vec<Value>,
 }
@@ -30,9 +33,9 @@ impl Model for Code {
 
     ghost use Rattle.ss_code.specs.Running.{Sound};
 
-    ghost view = { λ c. record { instructions = c.instructions.items; pictures = c.pictures.items; globals = c.globals.items; locals = c.locals.items } };
+    ghost view = { λ c. record { instructions = c.instructions.items; pictures = c.pictures.items; entries = c.entries.items; globals = c.globals.items; locals = c.locals.items } };
 
-    ghost invariant = { λ c. Sound (record { instructions = c.instructions.items; pictures = c.pictures.items; globals = c.globals.items; locals = c.locals.items }) };
+    ghost invariant = { λ c. Sound (record { instructions = c.instructions.items; pictures = c.pictures.items; entries = c.entries.items; globals = c.globals.items; locals = c.locals.items }) };
 }
 
 impl Code {
@@ -40,15 +43,17 @@ impl Code {
     pub(crate) fn new(
         instructions: Vec<Instruction>,
         pictures: Vec<Picture>,
+        entries: Vec<Entry>,
         globals: Vec<Value>,
         locals: Vec<Value>,
     ) -> Code
-        requires { Sound (record { instructions = instructions.items; pictures = pictures.items; globals = globals.items; locals = locals.items }) }
-        ensures { result ≡ record { instructions = instructions.items; pictures = pictures.items; globals = globals.items; locals = locals.items } }
+        requires { Sound (record { instructions = instructions.items; pictures = pictures.items; entries = entries.items; globals = globals.items; locals = locals.items }) }
+        ensures { result ≡ record { instructions = instructions.items; pictures = pictures.items; entries = entries.items; globals = globals.items; locals = locals.items } }
     {
         Code {
             instructions,
             pictures,
+            entries,
             globals,
             locals,
         }
@@ -75,6 +80,13 @@ impl Code {
         ensures { result.now ≡ self.now.pictures }
     {
         &self.pictures
+    }
+
+    /// The routines that the instructions call, by their numbers.
+    pub fn entries(&self) -> &[Entry]
+        ensures { result.now ≡ self.now.entries }
+    {
+        &self.entries
     }
 
     /// The first values of the global variables.

@@ -1,16 +1,14 @@
-//! The instructions of expressions and statements.
+//! The instructions of expressions.
 
-ghost use Rattle.std.specs.Prelude.{◌≡◌, [], ◌∷◌, ◌++◌, length, IfOk, OnOk};
-ghost use Rattle.ss_code.specs.Meaning.{operator_of, operator_for, firsts};
-ghost use Rattle.ss_resolved.specs.Lines.{lines_of};
-ghost use Rattle.ss_code.specs.Translation.{variable_operand, destination_of, operand_of, placed, constant_code, fetch_code, expression_code, values_code, statement_code, statement_pictures, body_code, body_pictures};
+ghost use Rattle.std.specs.Prelude.{◌≡◌, [], ◌∷◌, ◌++◌, length, OnOk};
+ghost use Rattle.ss_code.specs.Meaning.{operator_of, operator_for};
+ghost use Rattle.ss_code.specs.Translation.{variable_operand, destination_of, operand_of, placed, constant_code, fetch_code, expression_code, values_code};
 ghost use Rattle.ss_code.specs.Rows.{sum_list, product_list};
 
 use crate::instruction::{Destination, Instruction, Operand, Operator};
-use ss_base::{Line, Mode, Value};
-use ss_picture::Picture;
-use ss_resolved::resolved::{Expression, Function, Sign, Statement, Variable};
-use std::alloc::{AllocError, Global};
+use ss_base::{Line, Value};
+use ss_resolved::resolved::{Expression, Function, Sign, Variable};
+use std::alloc::AllocError;
 
 // The number 0 as an operand.
 const ZERO: Operand = Operand::Number { value: 0 };
@@ -23,7 +21,7 @@ pub(crate) fn put(code: &mut Vec<Instruction>, instruction: Instruction) -> Resu
     Ok(())
 }
 
-fn signed(sign: Sign) -> Operator
+pub(crate) fn signed(sign: Sign) -> Operator
     ensures { result ≡ operator_of sign }
 {
     match sign {
@@ -43,7 +41,7 @@ fn operator(function: Function) -> Operator
     }
 }
 
-fn from_variable(variable: Variable) -> Operand
+pub(crate) fn from_variable(variable: Variable) -> Operand
     ensures { result ≡ variable_operand variable }
 {
     match variable {
@@ -52,7 +50,7 @@ fn from_variable(variable: Variable) -> Operand
     }
 }
 
-fn to_variable(variable: Variable) -> Destination
+pub(crate) fn to_variable(variable: Variable) -> Destination
     ensures { result ≡ destination_of variable }
 {
     match variable {
@@ -62,7 +60,7 @@ fn to_variable(variable: Variable) -> Destination
 }
 
 // The operand that an expression is.
-fn operand(e: &Expression) -> Operand
+pub(crate) fn operand(e: &Expression) -> Operand
     ensures { result ≡ operand_of e.now }
 {
     match e {
@@ -310,107 +308,15 @@ fn emit_factors(
 }
 
 // Several values, one above the other on the stack.
-fn emit_values(code: &mut Vec<Instruction>, line: Line, es: &[Expression]) -> Result<(), AllocError>
+pub(crate) fn emit_values(
+    code: &mut Vec<Instruction>,
+    line: Line,
+    es: &[Expression],
+) -> Result<(), AllocError>
     ensures { OnOk result (code.new.items ≡ code.old.items ++ values_code line es.now) }
 {
     for e in es {
         emit_expression(code, line, Some(Destination::Pushed), e)?;
     }
     Ok(())
-}
-
-// The pictures of these lines.
-fn emit_pictures(
-    alloc: Global,
-    pictures: &mut Vec<Picture>,
-    lines: &[Vec<u8>],
-) -> Result<(), AllocError>
-    ensures { OnOk result (pictures.new.items ≡ pictures.old.items ++ lines_of lines.now) }
-{
-    for line in lines {
-        let picture = Picture::of(alloc, line)?;
-        pictures.push(picture)?;
-    }
-    Ok(())
-}
-
-// A statement.
-fn emit_statement(
-    alloc: Global,
-    code: &mut Vec<Instruction>,
-    pictures: &mut Vec<Picture>,
-    s: &Statement,
-) -> Result<(), AllocError>
-    ensures code { OnOk result (code.new.items ≡ code.old.items ++ statement_code (length pictures.old.items) s.now) }
-    ensures pictures { OnOk result (pictures.new.items ≡ pictures.old.items ++ statement_pictures s.now) }
-{
-    match s {
-        Statement::Let {
-            line,
-            target,
-            value,
-        } => emit_expression(code, *line, Some(to_variable(*target)), value),
-        Statement::Change {
-            line,
-            sign,
-            target,
-            value,
-        } => {
-            emit_expression(code, *line, None, value)?;
-            put(
-                code,
-                Instruction::Calculate {
-                    operator: signed(*sign),
-                    left: from_variable(*target),
-                    right: operand(value),
-                    into: to_variable(*target),
-                    line: *line,
-                },
-            )
-        }
-        Statement::Print {
-            line,
-            items,
-            pictures: lines,
-        } => {
-            let first = pictures.len();
-            emit_pictures(alloc, pictures, lines)?;
-            emit_values(code, *line, items)?;
-            put(
-                code,
-                Instruction::Print {
-                    first,
-                    lines: lines.len(),
-                    items: items.len(),
-                },
-            )
-        }
-    }
-}
-
-/// One statement after another.
-pub(crate) fn emit_body(
-    alloc: Global,
-    code: &mut Vec<Instruction>,
-    pictures: &mut Vec<Picture>,
-    body: &[Statement],
-) -> Result<(), AllocError>
-    ensures code { OnOk result (code.new.items ≡ code.old.items ++ body_code (length pictures.old.items) body.now) }
-    ensures pictures { OnOk result (pictures.new.items ≡ pictures.old.items ++ body_pictures body.now) }
-{
-    for s in body {
-        emit_statement(alloc, code, pictures, s)?;
-    }
-    Ok(())
-}
-
-/// The first values of variables of these modes.
-pub(crate) fn first_values(alloc: Global, modes: &[Mode]) -> Result<Vec<Value>, AllocError>
-    ensures { IfOk result (λ values. values.items ≡ firsts modes.now) }
-{
-    let mut values = Vec::new(alloc);
-    for mode in modes {
-        values.push(mode.first_value())?;
-    }
-    Ok(values)
 }

@@ -1,19 +1,42 @@
 //! From the tree of a program to its code.
 
-ghost use Rattle.std.specs.Prelude.{◌≡◌, ◌≤◌, ◌<◌, length, Err, IfOk};
-ghost use Rattle.ss_code.specs.Nodes.{nodes};
+ghost use Rattle.std.specs.Prelude.{◌≡◌, ◌≤◌, ◌<◌, ◌++◌, length, Err, IfOk, OnOk};
+ghost use Rattle.ss_resolved.specs.Nodes.{nodes};
 ghost use Rattle.ss_code.specs.Running.{Behaves};
-ghost use Rattle.ss_code.specs.Translation.{code_of};
+ghost use Rattle.ss_code.specs.Translation.{code_of, routines_code, routines_pictures, entries_from};
 
 use crate::code::Code;
-use crate::emit::{emit_body, first_values, put};
+use crate::entry::Entry;
 use crate::error::CodeError;
 use crate::instruction::Instruction;
-use ss_resolved::resolved::Resolved;
-use std::alloc::Global;
+use crate::statements::{emit_section, first_values};
+use ss_picture::Picture;
+use ss_resolved::resolved::{Resolved, Section};
+use std::alloc::{AllocError, Global};
 
 /// The most instructions of a program.
 pub const INSTRUCTION_LIMIT: usize = 1_048_576;
+
+// The routines, and where each of them begins.
+fn emit_routines(
+    alloc: Global,
+    code: &mut Vec<Instruction>,
+    pictures: &mut Vec<Picture>,
+    entries: &mut Vec<Entry>,
+    routines: &[Section],
+) -> Result<(), AllocError>
+    ensures code { OnOk result (code.new.items ≡ code.old.items ++ routines_code (length pictures.old.items) routines.now) }
+    ensures pictures { OnOk result (pictures.new.items ≡ pictures.old.items ++ routines_pictures routines.now) }
+    ensures entries { OnOk result (entries.new.items ≡ entries.old.items ++ entries_from (length code.old.items) (length pictures.old.items) routines.now) }
+{
+    for routine in routines {
+        let locals = first_values(alloc, &routine.locals)?;
+        let entry = Entry::new(code.len(), locals);
+        entries.push(entry)?;
+        emit_section(alloc, code, pictures, &routine.body)?;
+    }
+    Ok(())
+}
 
 /// The code of a program, which does for each input and each number of ticks what the program means,
 /// and nothing else.
@@ -28,14 +51,21 @@ pub fn generate(alloc: Global, program: &Resolved) -> Result<Code, CodeError>
 {
     let mut instructions = Vec::new(alloc);
     let mut pictures = Vec::new(alloc);
-    emit_body(alloc, &mut instructions, &mut pictures, &program.main.body)?;
-    put(&mut instructions, Instruction::Leave)?;
+    let mut entries = Vec::new(alloc);
+    emit_section(alloc, &mut instructions, &mut pictures, &program.main.body)?;
+    emit_routines(
+        alloc,
+        &mut instructions,
+        &mut pictures,
+        &mut entries,
+        &program.routines,
+    )?;
     if instructions.len() > INSTRUCTION_LIMIT {
         return Err(CodeError::CodeTooLong);
     }
     let globals = first_values(alloc, &program.globals)?;
     let locals = first_values(alloc, &program.main.locals)?;
-    Ok(Code::new(instructions, pictures, globals, locals))
+    Ok(Code::new(instructions, pictures, entries, globals, locals))
 }
 
 #[cfg(test)]
@@ -73,6 +103,7 @@ mod tests {
         })?;
         Ok(Resolved {
             globals: Vec::new(alloc),
+            routines: Vec::new(alloc),
             main: Section {
                 locals: Vec::from_slice(alloc, &[Mode::Integer])?,
                 body,

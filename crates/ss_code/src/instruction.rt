@@ -1,6 +1,7 @@
 //! The instructions of the machine.
 
-use ss_base::{Alpha, Line};
+use ss_base::{Alpha, Line, Mode};
+use ss_resolved::resolved::{Relation, Variable};
 
 /// Where an instruction finds a value.
 #[derive(Clone, Copy, PartialEq, Eq, Debug)]
@@ -40,7 +41,7 @@ pub enum Operator {
     Distance,
 }
 
-/// One instruction.
+/// One instruction. A jump counts the instructions that it skips, or that it goes back.
 #[derive(Clone, Copy, PartialEq, Eq, Debug)]
 pub enum Instruction {
     /// A text goes to its destination.
@@ -61,12 +62,70 @@ pub enum Instruction {
         into: Destination,
         line: Line,
     },
+    /// Goes on where two operands stand in the relation, and jumps where they don't.
+    Compare {
+        relation: Relation,
+        left: Operand,
+        right: Operand,
+        skip: usize,
+    },
+    /// Goes on where no word of input is left, or one is if negated, and jumps otherwise.
+    TestData {
+        negated: bool,
+        skip: usize,
+        line: Line,
+    },
+    /// Jumps.
+    Jump {
+        skip: usize,
+    },
+    /// Takes a tick: a turn of a loop that begins with WHILE or UNTIL.
+    Turn,
+    /// Jumps back to a turn.
+    Repeat {
+        back: usize,
+    },
+    /// Looks at the first number, the limit and the step of a FOR, which lie on the stack, and jumps
+    /// where there is no item.
+    Begin {
+        skip: usize,
+        line: Line,
+    },
+    /// Takes a tick, and assigns the item that lies on the stack.
+    Take {
+        variable: Variable,
+    },
+    /// Jumps back to the taking of the next item, if there is one.
+    Next {
+        back: usize,
+    },
+    /// Takes the item, the step and the limit of a FOR off the stack.
+    Forget,
+    /// Takes a tick, and calls a routine that takes so many values off the stack and yields so many.
+    Call {
+        routine: u32,
+        given: usize,
+        count: usize,
+    },
+    /// The routine, or MAIN, is left.
+    Leave,
+    /// The run ends.
+    Halt,
+    /// The next word of input goes to its destination.
+    Read {
+        mode: Mode,
+        into: Destination,
+        line: Line,
+    },
+    /// Empty lines are written.
+    Skip {
+        count: Operand,
+        line: Line,
+    },
     /// Lines are filled with so many values off the stack, and written.
     Print {
         first: usize,
         lines: usize,
         items: usize,
     },
-    /// The routine, or MAIN, is left.
-    Leave,
 }

@@ -15,8 +15,21 @@ fn name(instruction: &Instruction) -> &str
         Instruction::Load { .. } => "load",
         Instruction::Move { .. } => "move",
         Instruction::Calculate { .. } => "calculate",
-        Instruction::Print { .. } => "print",
+        Instruction::Compare { .. } => "compare",
+        Instruction::TestData { .. } => "test data",
+        Instruction::Jump { .. } => "jump",
+        Instruction::Turn => "turn",
+        Instruction::Repeat { .. } => "repeat",
+        Instruction::Begin { .. } => "begin",
+        Instruction::Take { .. } => "take",
+        Instruction::Next { .. } => "next",
+        Instruction::Forget => "forget",
+        Instruction::Call { .. } => "call",
         Instruction::Leave => "leave",
+        Instruction::Halt => "halt",
+        Instruction::Read { .. } => "read",
+        Instruction::Skip { .. } => "skip",
+        Instruction::Print { .. } => "print",
     }
 }
 

@@ -1,5 +1,5 @@
 -- From what each layer refuses to why the text is refused.
-use Rattle.std.proofs.Common.{◌≡◌, ◌≢◌, ℕ, ◌≤◌, ◌<◌, List, false, refl, arith}
+use Rattle.std.proofs.Common.{◌≡◌, ◌≢◌, ℕ, ◌≤◌, ◌<◌, List, true, Some, refl, arith}
 use Rattle.ss_base.specs.declared.line.Line.{Line}
 use Rattle.ss_lex.specs.declared.token.Token.{Token}
 use Rattle.ss_lex.specs.declared.error.LexError.{LexError}
@@ -10,15 +10,19 @@ use Rattle.ss_parse.specs.declared.error.ParseError.{ParseError}
 use Rattle.ss_parse.specs.declared.error.ParseError.TheVariants as parsing
 use Rattle.ss_tree.specs.Tree.{ProgramTree}
 use Rattle.ss_parse.specs.Promise.{Is_refused, Has_line}
-use Rattle.ss_check.specs.declared.check.CheckError.{CheckError}
-use Rattle.ss_check.specs.declared.check.CheckError.TheVariants as checking
-use Rattle.ss_check.specs.Checking.{served_program, LacksMode, HasMisfit}
+use Rattle.ss_tables.specs.Served.{served_program}
+use Rattle.ss_tables.specs.Refusals.{refusal}
+use Rattle.ss_tables.specs.declared.error.TableError.{TableError}
+use Rattle.ss_tables.specs.declared.error.TableError.TheVariants as declaring
+use Rattle.ss_rules.specs.declared.error.CheckError.{CheckError}
+use Rattle.ss_rules.specs.declared.error.CheckError.TheVariants as checking
+use Rattle.ss_rules.specs.Checking.{IsRefused as IsRefusedByRules}
 use Rattle.ss_resolved.specs.declared.resolved.Resolved.{Resolved}
+use Rattle.ss_resolved.specs.Nodes.{nodes}
 use Rattle.ss_code.specs.declared.error.CodeError.{CodeError}
 use Rattle.ss_code.specs.declared.error.CodeError.TheVariants as generating
-use Rattle.ss_code.specs.Nodes.{nodes}
-use Rattle.ss_engine.specs.Refusals.{refusal_of_lexer, refusal_of_parser, refusal_of_checker, refusal_of_generator}
-use Rattle.ss_engine.specs.Accepting.{IsTreeOf, IsProgramOf, RefusedFor}
+use Rattle.ss_engine.specs.Refusals.{refusal_of_lexer, refusal_of_parser, refusal_of_tables, refusal_of_checker, refusal_of_generator}
+use Rattle.ss_engine.specs.Accepting.{IsTreeOf, IsDeclared, IsProgramOf, RefusedFor}
 
 pub lexer_refused : (text : List ℕ) (e : LexError) → (e ≢ lexical.Memory → IsRefused text e) → RefusedFor text (refusal_of_lexer e)
 lexer_refused text (lexical.TooLong line) h = h (λ q. cc)
@@ -35,11 +39,29 @@ parser_refused text ts are (parsing.Syntax line) h l = record { tokens = ts; are
 parser_refused text ts are (parsing.TooDeep line) h l = record { tokens = ts; are = are; refused = h; line = l }
 parser_refused text ts are parsing.Memory h l = tt
 
-pub checker_refused : (text : List ℕ) (tree : ProgramTree) → IsTreeOf text tree → (e : CheckError) → (e ≡ checking.NotYet → served_program tree ≡ false) → ((line : Line) → e ≡ checking.RealMode line → LacksMode tree line) → ((line : Line) → e ≡ checking.Fields line → HasMisfit tree line) → RefusedFor text (refusal_of_checker e)
-checker_refused text tree r checking.NotYet n m f = record { tree = tree; read = r; holds = n refl }
-checker_refused text tree r (checking.RealMode line) n m f = record { tree = tree; read = r; holds = m line refl }
-checker_refused text tree r (checking.Fields line) n m f = record { tree = tree; read = r; holds = f line refl }
-checker_refused text tree r checking.Memory n m f = tt
+pub tables_refused : (text : List ℕ) (tree : ProgramTree) → IsTreeOf text tree → served_program tree ≡ true → (e : TableError) → (e ≢ declaring.Memory → refusal tree ≡ Some e) → RefusedFor text (refusal_of_tables e)
+tables_refused text tree r s (declaring.Twice line) h = record { tree = tree; read = r; holds = (s, h (λ q. cc)) }
+tables_refused text tree r s (declaring.RealMode line) h = record { tree = tree; read = r; holds = (s, h (λ q. cc)) }
+tables_refused text tree r s (declaring.UnknownClass line) h = record { tree = tree; read = r; holds = (s, h (λ q. cc)) }
+tables_refused text tree r s (declaring.UnknownSet line) h = record { tree = tree; read = r; holds = (s, h (λ q. cc)) }
+tables_refused text tree r s (declaring.NoOwner line) h = record { tree = tree; read = r; holds = (s, h (λ q. cc)) }
+tables_refused text tree r s (declaring.NoMember line) h = record { tree = tree; read = r; holds = (s, h (λ q. cc)) }
+tables_refused text tree r s (declaring.RankKey line) h = record { tree = tree; read = r; holds = (s, h (λ q. cc)) }
+tables_refused text tree r s (declaring.TallyTwice line) h = record { tree = tree; read = r; holds = (s, h (λ q. cc)) }
+tables_refused text tree r s (declaring.TooMany line) h = record { tree = tree; read = r; holds = (s, h (λ q. cc)) }
+tables_refused text tree r s (declaring.TieKey line) h = record { tree = tree; read = r; holds = (s, h (λ q. cc)) }
+tables_refused text tree r s declaring.Memory h = tt
+
+pub checker_refused : (text : List ℕ) (tree : ProgramTree) → IsTreeOf text tree → IsDeclared tree → (e : CheckError) → IsRefusedByRules tree e → RefusedFor text (refusal_of_checker e)
+checker_refused text tree r d (checking.NoMain line) h = record { tree = tree; read = r; holds = (d, h) }
+checker_refused text tree r d (checking.Mode line) h = record { tree = tree; read = r; holds = (d, h) }
+checker_refused text tree r d (checking.Arguments line) h = record { tree = tree; read = r; holds = (d, h) }
+checker_refused text tree r d (checking.Subscript line) h = record { tree = tree; read = r; holds = (d, h) }
+checker_refused text tree r d (checking.NotAssignable line) h = record { tree = tree; read = r; holds = (d, h) }
+checker_refused text tree r d (checking.Fields line) h = record { tree = tree; read = r; holds = (d, h) }
+checker_refused text tree r d (checking.StartPlace line) h = record { tree = tree; read = r; holds = (d, h) }
+checker_refused text tree r d (checking.Unknown line) h = record { tree = tree; read = r; holds = (d, h) }
+checker_refused text tree r d checking.Memory h = tt
 
 larger : (n : ℕ) → (n ≤ 16384 → ⊥) → 16384 < n
 larger n h = omega (arith, h)

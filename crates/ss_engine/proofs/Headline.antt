@@ -1,74 +1,134 @@
 -- What a run of the machine says of a program that its code behaves as.
-use Rattle.std.proofs.Common.{◌≡◌, ℕ, List, [], ◌++◌, ◌⊎◌, inl, inr, Option, None, Some, refl, sym, ap, ◌∙◌, subst, append_assoc, append-nil}
-use Rattle.std.specs.Io.KnownBytes.{Appends}
+use Rattle.std.proofs.Common.{◌≡◌, ℕ, suc, ◌+◌, true, false, List, [], ◌++◌, ◌⊎◌, inl, inr, Option, refl, sym, ap, ◌∙◌, subst, append_assoc, append-nil, arith}
+use Rattle.std.proofs.KnownBytes.{Appends-nil, Consumes-nil}
+use Rattle.std.specs.Io.KnownBytes.{Appends, Consumes, IsAtEnd}
+use Rattle.ss_input.specs.Blocks.{KnowsEnd}
+use Rattle.ss_input.specs.declared.source.Source.{Source}
+use Rattle.ss_input.specs.Inputs.{IsFresh, Finds, Reads, source_block, source_reader}
 use Rattle.ss_resolved.specs.declared.resolved.Resolved.{Resolved}
-use Rattle.ss_code.specs.Meaning.{Ending, Ended as EndedThere, Fault as FaultThere, Run, meaning}
-use Rattle.ss_code.specs.Machine.{Code, State, Goes, step}
-use Rattle.ss_code.specs.Running.{Underway, Ends, Behaves, start, steps}
-use Rattle.ss_code.specs.Laws.{Grows}
-use Rattle.ss_code.proofs.Steps.{Reaches, here, more}
-use Rattle.ss_code.proofs.Pieces.{from_steps, from_ends, rest_of, report_grows}
+use Rattle.ss_code.specs.Meaning.{Ending, Ended as EndedThere, Fault as FaultThere, Paused as PausedThere, Run, meaning}
+use Rattle.ss_code.specs.Machine.{Code, State, Goes, Over, step}
+use Rattle.ss_code.specs.Running.{Underway, Ends, Behaves, start, steps, go_on as goes_on}
+use Rattle.ss_code.specs.Laws.{Grows, OnTheWay, OneTickFewer, Pauses, StepsGoOn}
 use Rattle.ss_machine.specs.declared.stop.Stop.{Stop}
 use Rattle.ss_machine.specs.declared.stop.Stop.TheVariants.{Ended, Fault, Paused, Memory, Output, Input, Failed}
 use Rattle.ss_machine.specs.declared.working.Working.{Working}
 use Rattle.ss_machine.specs.Holding.{state_of}
-use Rattle.ss_machine.specs.Runs.{Finishes, IsCut, Ran}
-use Rattle.ss_engine.specs.Headline.{Simulated}
-use Rattle.ss_engine.specs.declared.session.Session.{Session}
-use Rattle.ss_engine.specs.Sessions.{Begins, session_machine, session_reader, session_writer}
+use Rattle.ss_machine.specs.Runs.{Finishes, IsCut, TookLast, Comes, Ran}
+use Rattle.ss_engine.specs.Headline.{IsBetween, Means, Gave, Simulated}
+use Rattle.ss_engine.proofs.Inputs.{fresh_stands}
 
-appends_none : (old : Option (List ℕ)) → Appends old old []
-appends_none None = tt
-appends_none (Some xs) = sym (append-nil xs)
+no_more : (n : ℕ) → n + 0 ≡ n
+no_more n = omega arith
 
-cut_first : {code : Code} {r : Run} (bytes : List ℕ) (x : State) → Reaches code x (Ends r) → (bytes ≡ x.report) ⊎ ((next : State) × (rest : List ℕ) × (step code x ≡ Goes next) × (next.report ≡ bytes ++ rest)) → Grows bytes r.report
-cut_first {code} {r} bytes x f (inl e) = subst (λ l. Grows l r.report) (sym e) (report_grows f)
-cut_first {code} {r} bytes x f (inr c) =
-    let on = report_grows (rest_of (more c.2 here) f) in
-    record { by = (c.1 ++ on.by.0, on.by.1 ∙ ap (λ l. l ++ on.by.0) c.3 ∙ append_assoc bytes c.1 on.by.0) }
+grows_first : (a b c : List ℕ) (part : List ℕ) → b ≡ a ++ part → Grows b c → Grows a c
+grows_first a b c part e g = record { by = (part ++ g.by.0, g.by.1 ∙ ap (λ l. l ++ g.by.0) e ∙ append_assoc a part g.by.0) }
 
-module _ (p : Resolved) (code : Code) (b : Behaves p code) where
+module _ (on_the_way : OnTheWay) (fewer_ticks : OneTickFewer) (pauses : Pauses) (go_on : StepsGoOn) (p : Resolved) (code : Code) (behaves : Behaves p code) where
   -- a run that comes to its end comes to what the program means
-  means : (input : List ℕ) (n : ℕ) (s : State) (bytes : List ℕ) (ending : Ending) → s ≡ start code input n → Finishes code s bytes ending n → meaning p input n ≡ record { report = bytes; ending = ending; ticks = n }
-  means input n s bytes ending same f =
-      let r : Run = record { report = bytes; ending = ending; ticks = n } in
-      sym (b.only input n f.ends.0 r (subst (λ x. steps code f.ends.0 x ≡ Ends r) same f.ends.1))
+  finished : (input : List ℕ) (n m : ℕ) (s : State) (bytes : List ℕ) (ending : Ending) (ticks : ℕ) → s ≡ start code input n → Finishes code s m bytes ending ticks → meaning p input n ≡ record { report = bytes; ending = ending; ticks = ticks }
+  finished input n m s bytes ending ticks same f =
+      let r : Run = record { report = bytes; ending = ending; ticks = ticks } in
+      sym (behaves.only input n m r (subst (λ x. steps code m x ≡ Ends r) same f))
 
-  -- a run that is cut wrote the first of what the program means
-  first_of : (input : List ℕ) (n : ℕ) (s : State) (bytes : List ℕ) → s ≡ start code input n → IsCut code s bytes → Grows bytes (meaning p input n).report
-  first_of input n s bytes same c =
-      let whole = b.ends input n in
-      let g = from_ends code whole.0 (start code input n) (meaning p input n) whole.1 in
-      let passed = subst (λ x. steps code c.passed.0 x ≡ Underway c.state) same c.passed.1 in
-      let f = from_steps code c.passed.0 (start code input n) c.state passed in
-      cut_first bytes c.state (rest_of f g) c.cut
+  -- the state behind a step
+  one_step : (m : ℕ) (s x next : State) → steps code m s ≡ Underway x → step code x ≡ Goes next → steps code (m + 1) s ≡ Underway next
+  one_step m s x next e f = go_on code m 1 s x e ∙ ap (λ r. goes_on r x (steps code 0)) f
 
-  -- what a run from the start came to
-  pub ran_simulated : (w : Working) (old new : Option (List ℕ)) (stop : Stop) → ((input : List ℕ) (n : ℕ) → state_of w input [] n ≡ start code input n) → Ran stop code w old new → Simulated stop p old new
-  ran_simulated w old new Ended at r =
-      record { bytes = r.bytes; took = r.took; holds = λ input n. means input n (state_of w input [] n) r.bytes EndedThere (at input n) (r.says input [] n) }
-  ran_simulated w old new (Fault kind line) at r =
-      record { bytes = r.bytes; took = r.took; holds = λ input n. means input n (state_of w input [] n) r.bytes (FaultThere kind line) (at input n) (r.says input [] n) }
-  ran_simulated w old new Paused at r = absurd r
-  ran_simulated w old new Memory at r =
-      record { bytes = r.bytes; took = r.took; holds = λ input n. first_of input n (state_of w input [] n) r.bytes (at input n) (r.says input [] n) }
-  ran_simulated w old new Output at r =
-      record { bytes = r.bytes; took = r.took; holds = λ input n. first_of input n (state_of w input [] n) r.bytes (at input n) (r.says input [] n) }
-  ran_simulated w old new Input at r = absurd r
-  ran_simulated w old new Failed at r = absurd r
+  -- a run that is cut wrote bytes between the report for a tick fewer and that for its ticks
+  cut_between : (input : List ℕ) (n m : ℕ) (s : State) (bytes : List ℕ) → s ≡ start code input n → IsCut code s m bytes 0 → IsBetween p input n bytes
+  cut_between input n m s bytes same c = record {
+    within = by-part c.cut.within;
+    beyond = λ fewer e.
+        let g = fewer_ticks p code behaves input fewer m c.state (subst (λ k. steps code m (start code input k) ≡ Underway c.state) e passed) c.left in
+        record { by = (g.by.0 ++ c.cut.part, c.cut.begins ∙ ap (λ l. l ++ c.cut.part) g.by.1 ∙ append_assoc (meaning p input fewer).report g.by.0 c.cut.part) };
+  } where
+    passed : steps code m (start code input n) ≡ Underway c.state
+    passed = subst (λ x. steps code m x ≡ Underway c.state) same c.passed
 
--- nothing was run, and nothing written
-pub refused_simulated : (p : Resolved) (old : Option (List ℕ)) → Simulated Memory p old old
-refused_simulated p old =
-    record { bytes = []; took = appends_none old; holds = λ input n. record { by = ((meaning p input n).report, refl) } }
+    by-part : (c.cut.part ≡ []) ⊎ ((next : State) × (rest : List ℕ) × (step code c.state ≡ Goes next) × (next.report ≡ bytes ++ rest)) → Grows bytes (meaning p input n).report
+    by-part (inl e) =
+        let whole : bytes ≡ c.state.report = c.cut.begins ∙ ap (λ l. c.state.report ++ l) e ∙ append-nil c.state.report in
+        subst (λ l. Grows l (meaning p input n).report) (sym whole) (on_the_way p code behaves input n m c.state passed)
+    by-part (inr f) =
+        let next = one_step m (start code input n) c.state f.0 passed f.2 in
+        grows_first bytes f.0.report (meaning p input n).report f.1 f.3 (on_the_way p code behaves input n (m + 1) f.0 next)
 
--- a session from its start to its close
-pub session_simulated : {R W : Type 0} (contents : W → Option (List ℕ)) (p : Resolved) (code : Code) → Behaves p code → (s new : Session R W) (reader : R) (writer : W) (stop : Stop) → Begins code reader writer s → Ran stop (session_machine s).code (session_machine s).working (contents (session_writer s)) (contents (session_writer new)) → (out : R × W) → out ≡ (session_reader new, session_writer new) → Simulated stop p (contents writer) (contents out.1)
-session_simulated {R} {W} contents p code b s new reader writer stop begins ran out closed =
-    let w = (session_machine s).working in
-    let now = contents (session_writer new) in
-    let same = subst (λ k. Ran stop k w (contents (session_writer s)) now) begins.first.code_is ran in
-    let from = subst (λ x. Ran stop code w (contents x) now) begins.writer_is same in
-    let means = ran_simulated p code b w (contents writer) now stop begins.first.state from in
-    let last : session_writer new ≡ out.1 = sym (ap (λ (x : R × W). x.1) closed) in
-    subst (λ x. Simulated stop p (contents writer) (contents x)) last means
+  module _ {R W : Type 0} (remaining : R → Option (List ℕ)) (contents : W → Option (List ℕ)) (reader last_reader : R) (writer last_writer : W) (w new : Working) (source last : Source R) (used made : ℕ)
+      (first : (input : List ℕ) (ticks : ℕ) → state_of w input [] ticks ≡ start code input ticks) (fresh : IsFresh reader source) (at_last : source_reader last ≡ last_reader) (knows : KnowsEnd remaining (source_block last)) where
+    -- what is said of the input before a run is said of what the reader gave
+    gave : (Says Means : List ℕ → Type 0) → ((input : List ℕ) → Says input → Means input) → Finds remaining source last Says → Gave remaining reader last_reader Means
+    gave Says Means to f = record {
+      read = f.got;
+      ended = (source_block last).ended;
+      gave = subst (λ r. Consumes (remaining reader) (remaining r) f.got) at_last (subst (λ r. Consumes (remaining r) (remaining (source_reader last)) f.got) fresh.reader_is f.consumed);
+      at_end = λ e. subst (λ r. IsAtEnd (remaining r)) at_last (knows e);
+      says = λ more e. to (f.got ++ more) (f.says more (f.got ++ more) e (fresh_stands reader source (f.got ++ more) fresh));
+    }
+
+    finds : (Says : (input rest : List ℕ) → Type 0) → Reads remaining source last Says → Finds remaining source last (λ input. (rest : List ℕ) × Says input rest)
+    finds Says h = record {
+      got = h.got;
+      consumed = h.consumed;
+      after_end = h.after_end;
+      says = λ more input e st. let l = h.says more input e st in (l.rest, l.says);
+    }
+
+    over : (stop : Stop) (ending : Ending) → ((bytes input : List ℕ) → ((more : ℕ) → meaning p input (used + more) ≡ record { report = bytes; ending = ending; ticks = more }) → Means stop p used bytes input)
+        → TookLast remaining source last (contents writer) (contents last_writer) (λ bytes input report ticks. Finishes code (state_of w input report (used + ticks)) made (report ++ bytes) ending ticks)
+        → Simulated remaining contents p stop used reader last_reader writer last_writer
+    over stop ending to h = record {
+      bytes = h.bytes;
+      took = h.took;
+      means = gave (λ input. (report : List ℕ) (ticks : ℕ) → Finishes code (state_of w input report (used + ticks)) made (report ++ h.bytes) ending ticks) (Means stop p used h.bytes)
+          (λ input s. to h.bytes input (λ more. finished input (used + more) made (state_of w input [] (used + more)) h.bytes ending more (first input (used + more)) (s [] more)))
+          h.says;
+    }
+
+    cut : (stop : Stop) → ((bytes input : List ℕ) → IsBetween p input used bytes → Means stop p used bytes input)
+        → TookLast remaining source last (contents writer) (contents last_writer) (λ bytes input report ticks. IsCut code (state_of w input report (used + ticks)) made (report ++ bytes) ticks)
+        → Simulated remaining contents p stop used reader last_reader writer last_writer
+    cut stop to h = record {
+      bytes = h.bytes;
+      took = h.took;
+      means = gave (λ input. (report : List ℕ) (ticks : ℕ) → IsCut code (state_of w input report (used + ticks)) made (report ++ h.bytes) ticks) (Means stop p used h.bytes)
+          (λ input s. to h.bytes input (cut_between input used made (state_of w input [] (used + 0)) h.bytes (first input (used + 0) ∙ ap (start code input) (no_more used)) (s [] 0)))
+          h.says;
+    }
+
+    paused : Comes remaining code w new source last (contents writer) (contents last_writer) used made → ((input report : List ℕ) → step code (state_of new input report 0) ≡ Over PausedThere)
+        → Simulated remaining contents p Paused used reader last_reader writer last_writer
+    paused h due = record {
+      bytes = h.bytes;
+      took = h.took;
+      means = gave (λ input. (rest : List ℕ) × ((report : List ℕ) (ticks : ℕ) → steps code made (state_of w input report (used + ticks)) ≡ Underway (state_of new rest (report ++ h.bytes) ticks))) (Means Paused p used h.bytes)
+          (λ input s.
+          let x = state_of new s.0 h.bytes 0 in
+          let at : state_of w input [] (used + 0) ≡ start code input used = first input (used + 0) ∙ ap (start code input) (no_more used) in
+          pauses p code behaves input used made x (subst (λ y. steps code made y ≡ Underway x) at (s.1 [] 0)) (due s.0 h.bytes))
+          (finds (λ input rest. (report : List ℕ) (ticks : ℕ) → steps code made (state_of w input report (used + ticks)) ≡ Underway (state_of new rest (report ++ h.bytes) ticks)) h.says);
+    }
+
+    -- what a run from the start came to
+    pub ran_simulated : (stop : Stop) → Ran remaining stop code w new source last (contents writer) (contents last_writer) used made → Simulated remaining contents p stop used reader last_reader writer last_writer
+    ran_simulated Ended h = over Ended EndedThere (λ bytes input m. m) h
+    ran_simulated (Fault kind line) h = over (Fault kind line) (FaultThere kind line) (λ bytes input m. m) h
+    ran_simulated Paused h = paused h.0 h.1
+    ran_simulated Memory h = cut Memory (λ bytes input m. m) h
+    ran_simulated Output h = cut Output (λ bytes input m. m) h
+    ran_simulated Input h = cut Input (λ bytes input m. m) h
+    ran_simulated Failed h = absurd h
+
+-- nothing was run, read or written
+pub nothing_simulated : {R W : Type 0} (remaining : R → Option (List ℕ)) (contents : W → Option (List ℕ)) (p : Resolved) (reader : R) (writer : W) → Simulated remaining contents p Memory 0 reader reader writer writer
+nothing_simulated remaining contents p reader writer = record {
+  bytes = [];
+  took = Appends-nil (contents writer);
+  means = record {
+    read = [];
+    ended = false;
+    gave = Consumes-nil (remaining reader);
+    at_end = λ e. absurd cc;
+    says = λ more e. record { within = record { by = ((meaning p more 0).report, refl) }; beyond = λ fewer e. absurd cc };
+  };
+}

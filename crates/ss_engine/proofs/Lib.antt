@@ -1,3 +1,6 @@
-pub mod Sessions
-pub mod Headline
 mod Fronts
+mod Inputs
+mod Pieces
+mod Handing
+mod Headline
+mod Sessions

@@ -1,7 +1,7 @@
 -- Sessions with the same parts.
 use Rattle.std.proofs.Common.{◌≡◌, ap, ◌∙◌}
 use Rattle.ss_picture.specs.Sending.{SinkState}
-use Rattle.ss_machine.specs.declared.source.Source.{Source}
+use Rattle.ss_input.specs.declared.source.Source.{Source}
 use Rattle.ss_machine.specs.Held.{Held}
 use Rattle.ss_engine.specs.declared.session.Session.{Session}
 

@@ -1,4 +1,4 @@
--- The headline: what comes of a text, and what the writer took.
+-- The headline: what comes of a text, what its reader gave and what its writer took.
 use Rattle.std.specs.Prelude.{ℕ, List}
 use Rattle.std.specs.declared.option.Option.{Option}
 use Rattle.ss_resolved.specs.declared.resolved.Resolved.{Resolved}
@@ -8,13 +8,15 @@ use Rattle.ss_engine.specs.declared.outcome.Outcome.TheVariants.{Refused, Stoppe
 use Rattle.ss_engine.specs.Accepting.{IsProgramOf, RefusedFor}
 use Rattle.ss_engine.specs.Headline.{Simulated}
 
--- the text is well formed, and the writer took what its program means; after a failure, the first of it
-pub record IsSimulated (text : List ℕ) (stop : Stop) (old new : Option (List ℕ)) : Type 0 where
+-- the text is well formed, and the run of its program that used so many ticks stopped so
+pub record IsSimulated {R W : Type 0} (remaining : R → Option (List ℕ)) (contents : W → Option (List ℕ)) (text : List ℕ) (stop : Stop) (used : ℕ) (reader new_reader : R) (writer new_writer : W) : Type 0 where
   pub program : Resolved
   pub meant : IsProgramOf text program
-  pub simulated : Simulated stop program old new
+  pub simulated : Simulated remaining contents program stop used reader new_reader writer new_writer
 
--- a refused text has the refusal's cause; of another the writer took the report of its meaning, and the run ended as its meaning does
-abbrev pub ComesTo : List ℕ → Outcome → Option (List ℕ) → Option (List ℕ) → Type 0
-ComesTo text (Refused refusal) old new = RefusedFor text refusal
-ComesTo text (Stopped stop used) old new = IsSimulated text stop old new
+-- a refused text has the refusal's cause; of another the writer took the report of its meaning, and the run ended as its
+-- meaning does
+abbrev pub ComesTo : {R W : Type 0} → (R → Option (List ℕ)) → (W → Option (List ℕ)) → List ℕ → Outcome → R → R → W → W → Type 0
+ComesTo remaining contents text (Refused refusal) reader new_reader writer new_writer = RefusedFor text refusal
+ComesTo remaining contents text (Stopped stop used) reader new_reader writer new_writer =
+    IsSimulated remaining contents text stop used reader new_reader writer new_writer

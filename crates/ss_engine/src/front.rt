@@ -1,14 +1,16 @@
 ghost use Rattle.std.specs.Prelude.{◌≡◌, IfOk, IfErr};
 ghost use Rattle.ss_engine.specs.Accepting.{Compiles, RefusedFor};
-ghost use Rattle.ss_engine.specs.Refusals.{refusal_of_lexer, refusal_of_parser, refusal_of_checker, refusal_of_generator};
+ghost use Rattle.ss_engine.specs.Refusals.{refusal_of_lexer, refusal_of_parser, refusal_of_tables, refusal_of_checker, refusal_of_generator};
 
 use crate::model::Model;
 use crate::refusal::Refusal;
-use ss_check::{CheckError, check_program};
+use ss_check::check;
 use ss_code::CodeError;
 use ss_code::generate::generate;
 use ss_lex::{LexError, tokens};
 use ss_parse::{ParseError, parse};
+use ss_rules::CheckError;
+use ss_tables::{TableError, Tables};
 use std::alloc::Global;
 
 // The refusal for what the lexer refuses.
@@ -38,14 +40,38 @@ fn syntactic(error: ParseError) -> Refusal
     }
 }
 
+// The refusal for what the tables refuse.
+fn declared(error: TableError) -> Refusal
+    ensures { result ≡ refusal_of_tables error }
+{
+    match error {
+        TableError::Twice(line) => Refusal::Twice(line),
+        TableError::RealMode(line) => Refusal::RealMode(line),
+        TableError::UnknownClass(line) => Refusal::UnknownClass(line),
+        TableError::UnknownSet(line) => Refusal::UnknownSet(line),
+        TableError::NoOwner(line) => Refusal::NoOwner(line),
+        TableError::NoMember(line) => Refusal::NoMember(line),
+        TableError::RankKey(line) => Refusal::RankKey(line),
+        TableError::TallyTwice(line) => Refusal::TallyTwice(line),
+        TableError::TooMany(line) => Refusal::TooMany(line),
+        TableError::TieKey(line) => Refusal::TieKey(line),
+        TableError::Memory => Refusal::Memory,
+    }
+}
+
 // The refusal for what the checker refuses.
 fn checked(error: CheckError) -> Refusal
     ensures { result ≡ refusal_of_checker error }
 {
     match error {
-        CheckError::NotYet => Refusal::NotYet,
-        CheckError::RealMode(line) => Refusal::RealMode(line),
+        CheckError::NoMain(line) => Refusal::NoMain(line),
+        CheckError::Mode(line) => Refusal::Mode(line),
+        CheckError::Arguments(line) => Refusal::Arguments(line),
+        CheckError::Subscript(line) => Refusal::Subscript(line),
+        CheckError::NotAssignable(line) => Refusal::NotAssignable(line),
         CheckError::Fields(line) => Refusal::Fields(line),
+        CheckError::StartPlace(line) => Refusal::StartPlace(line),
+        CheckError::Unknown(line) => Refusal::Unknown(line),
         CheckError::Memory => Refusal::Memory,
     }
 }
@@ -62,11 +88,13 @@ fn generated(error: CodeError) -> Refusal
 
 /// The program of a text, ready to run.
 ///
-/// A text is refused for its tokens (31 to 37); as `Syntax` or `TooDeep` where they spell no program;
-/// as `NotYet` where it has a form that is not served;
-/// for a name without a mode (52) or a PRINT whose items are not as many as its fields (77); as
-/// `CodeTooLong` where it has more than 16,384 nodes and too many instructions; or for want of
-/// memory, which says nothing of the text.
+/// # Errors
+/// In this order, each by the number of [`Refusal::number`]: for its tokens (31 to 37), for the place
+/// that stands first; `Syntax` or `TooDeep` where the tokens spell no program; `NotYet` where it has
+/// a form that is not served; for what it declares (51 to 60) and for its statements (71 to 79), the
+/// first rule broken in the line of the first place; `CodeTooLong` where it has more than 16,384
+/// nodes and too many instructions. `Memory` may come before any of them, and says nothing of the
+/// text.
 pub fn compile(alloc: Global, text: &[u8]) -> Result<Model, Refusal>
     ensures accepted { IfOk result (λ model. Compiles text.now model) }
     ensures refused { IfErr result (λ refusal. RefusedFor text.now refusal) }
@@ -79,7 +107,14 @@ pub fn compile(alloc: Global, text: &[u8]) -> Result<Model, Refusal>
         Ok(program) => program,
         Err(error) => return Err(syntactic(error)),
     };
-    let resolved = match check_program(alloc, &program) {
+    if !Tables::served(&program) {
+        return Err(Refusal::NotYet);
+    }
+    let tables = match Tables::of(alloc, &program) {
+        Ok(tables) => tables,
+        Err(error) => return Err(declared(error)),
+    };
+    let resolved = match check(alloc, program, tables) {
         Ok(resolved) => resolved,
         Err(error) => return Err(checked(error)),
     };

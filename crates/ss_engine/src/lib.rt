@@ -2,6 +2,7 @@
 #![tactic(auto)]
 
 mod front;
+pub mod laws;
 mod model;
 mod outcome;
 mod refusal;

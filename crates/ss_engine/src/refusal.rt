@@ -20,16 +20,48 @@ pub enum Refusal {
     PictureCut(Line),
     /// A name with more than 32 characters.
     NameTooLong(Line),
+    /// The text has a form that is not served yet.
+    NotYet,
     /// The tokens spell no program.
     Syntax(Line),
     /// More than 64 parentheses, IFs and loops are open at a place.
     TooDeep(Line),
-    /// The text has a form that is not served yet.
-    NotYet,
+    /// Something is declared or said twice, or a local name hides what may not be hidden.
+    Twice(Line),
     /// A name without a mode, or with the mode REAL.
     RealMode(Line),
+    /// A priority or ties of what is no class of notices.
+    UnknownClass(Line),
+    /// A DEFINE as a set of what nobody owns or belongs to.
+    UnknownSet(Line),
+    /// A set has members and no owner.
+    NoOwner(Line),
+    /// A set has an owner and no members.
+    NoMember(Line),
+    /// A rank is no attribute of the class of the set's members.
+    RankKey(Line),
+    /// A second TALLY or ACCUMULATE of one name.
+    TallyTwice(Line),
+    /// More than 64 classes, sets, or attributes of one class.
+    TooMany(Line),
+    /// A key for ties is no attribute of the class.
+    TieKey(Line),
+    /// There is no MAIN. Its line is 0.
+    NoMain(Line),
+    /// Two modes are joined, or a text stands where a number has to.
+    Mode(Line),
+    /// A routine or a function has another number of arguments than it takes.
+    Arguments(Line),
+    /// A subscript stands where none may, or more than one.
+    Subscript(Line),
+    /// Nothing can be assigned to a target.
+    NotAssignable(Line),
     /// The pictures of a PRINT have another number of fields than it has items.
     Fields(Line),
+    /// START SIMULATION stands outside MAIN.
+    StartPlace(Line),
+    /// A name isn't of the kind that its place needs.
+    Unknown(Line),
     /// The program has more instructions than may be.
     CodeTooLong,
     /// Memory was refused.
@@ -52,8 +84,24 @@ impl Refusal {
             Refusal::NotYet => 40,
             Refusal::Syntax(_) => 41,
             Refusal::TooDeep(_) => 42,
+            Refusal::Twice(_) => 51,
             Refusal::RealMode(_) => 52,
+            Refusal::UnknownClass(_) => 53,
+            Refusal::UnknownSet(_) => 54,
+            Refusal::NoOwner(_) => 55,
+            Refusal::NoMember(_) => 56,
+            Refusal::RankKey(_) => 57,
+            Refusal::TallyTwice(_) => 58,
+            Refusal::TooMany(_) => 59,
+            Refusal::TieKey(_) => 60,
+            Refusal::NoMain(_) => 71,
+            Refusal::Mode(_) => 73,
+            Refusal::Arguments(_) => 74,
+            Refusal::Subscript(_) => 75,
+            Refusal::NotAssignable(_) => 76,
             Refusal::Fields(_) => 77,
+            Refusal::StartPlace(_) => 78,
+            Refusal::Unknown(_) => 79,
             Refusal::CodeTooLong => 81,
             Refusal::Memory => 0,
         }
@@ -74,8 +122,24 @@ impl Refusal {
             Refusal::NotYet => "NotYet",
             Refusal::Syntax(_) => "Syntax",
             Refusal::TooDeep(_) => "TooDeep",
+            Refusal::Twice(_) => "Twice",
             Refusal::RealMode(_) => "RealMode",
+            Refusal::UnknownClass(_) => "UnknownClass",
+            Refusal::UnknownSet(_) => "UnknownSet",
+            Refusal::NoOwner(_) => "NoOwner",
+            Refusal::NoMember(_) => "NoMember",
+            Refusal::RankKey(_) => "RankKey",
+            Refusal::TallyTwice(_) => "TallyTwice",
+            Refusal::TooMany(_) => "TooMany",
+            Refusal::TieKey(_) => "TieKey",
+            Refusal::NoMain(_) => "NoMain",
+            Refusal::Mode(_) => "Mode",
+            Refusal::Arguments(_) => "Arguments",
+            Refusal::Subscript(_) => "Subscript",
+            Refusal::NotAssignable(_) => "NotAssignable",
             Refusal::Fields(_) => "Fields",
+            Refusal::StartPlace(_) => "StartPlace",
+            Refusal::Unknown(_) => "Unknown",
             Refusal::CodeTooLong => "CodeTooLong",
             Refusal::Memory => "Memory",
         }
@@ -96,8 +160,24 @@ impl Refusal {
             Refusal::NotYet => 0,
             Refusal::Syntax(line) => line.0,
             Refusal::TooDeep(line) => line.0,
+            Refusal::Twice(line) => line.0,
             Refusal::RealMode(line) => line.0,
+            Refusal::UnknownClass(line) => line.0,
+            Refusal::UnknownSet(line) => line.0,
+            Refusal::NoOwner(line) => line.0,
+            Refusal::NoMember(line) => line.0,
+            Refusal::RankKey(line) => line.0,
+            Refusal::TallyTwice(line) => line.0,
+            Refusal::TooMany(line) => line.0,
+            Refusal::TieKey(line) => line.0,
+            Refusal::NoMain(line) => line.0,
+            Refusal::Mode(line) => line.0,
+            Refusal::Arguments(line) => line.0,
+            Refusal::Subscript(line) => line.0,
+            Refusal::NotAssignable(line) => line.0,
             Refusal::Fields(line) => line.0,
+            Refusal::StartPlace(line) => line.0,
+            Refusal::Unknown(line) => line.0,
             Refusal::CodeTooLong => 0,
             Refusal::Memory => 0,
         }

@@ -1,28 +1,34 @@
-ghost use Rattle.std.specs.Prelude.{◌≡◌};
-ghost use Rattle.std.specs.Io.KnownBytes.{Keeps};
+ghost use Rattle.std.specs.Prelude.{◌≡◌, ◌+◌, ◌-◌, ◌^◌, ◌≤◌, min};
+ghost use Rattle.std.specs.List.{sum};
 ghost use Rattle.ss_base.specs.Failures.{HasRisen};
 ghost use Rattle.ss_resolved.specs.declared.resolved.Resolved.{Resolved};
 ghost use Rattle.ss_code.specs.Running.{Behaves};
-ghost use Rattle.ss_machine.specs.Held.{Held};
+ghost use Rattle.ss_input.specs.Blocks.{KnowsEnd};
+ghost use Rattle.ss_input.specs.Inputs.{source_block};
 ghost use Rattle.ss_machine.specs.Runs.{Ran};
-ghost use Rattle.ss_engine.specs.Headline.{Simulated};
-ghost use Rattle.ss_engine.specs.Sessions.{session_machine, session_reader, session_writer};
+ghost use Rattle.ss_engine.specs.Headline.{Simulated, handed_out};
+ghost use Rattle.ss_engine.specs.Sessions.{GoesOn, session_machine, session_reader, session_source, session_writer};
 
 use crate::model::Model;
 use crate::session::Session;
 use ss_base::{FaultyRead, FaultyWrite};
+use ss_code::laws::laws;
 use ss_machine::Stop;
 use std::alloc::Global;
 
 // One run for each piece of ticks, up to the first answer other than a pause; one run without a tick
 // where there is no piece.
 fn run_pieces<R: FaultyRead, W: FaultyWrite>(session: &mut Session<R, W>, pieces: &[u64]) -> Stop
-    requires { (session_machine session.old).stopped ≡ None }
-    ensures ran { Ran result (session_machine session.old).code (session_machine session.old).working (W.contents (session_writer session.old)) (W.contents (session_writer session.new)) }
-    ensures reader { session_reader session.new ≡ session_reader session.old }
-    ensures used { (session_machine session.new).used ≡ (session_machine session.old).used }
+    requires goes_on { GoesOn session.old }
+    requires first { (session_machine session.old).used ≡ 0 }
+    ensures ran { Ran R.remaining result (session_machine session.old).code (session_machine session.old).working (session_machine session.new).working (session_source session.old) (session_source session.new) (W.contents (session_writer session.old)) (W.contents (session_writer session.new)) ((session_machine session.new).used) ((session_machine session.new).steps - (session_machine session.old).steps) }
+    ensures end { KnowsEnd R.remaining (source_block (session_source session.old)) → KnowsEnd R.remaining (source_block (session_source session.new)) }
+    ensures used { (session_machine session.new).used ≤ sum pieces.now }
+    ensures paused { result ≡ Stop.Paused → (session_machine session.new).used ≡ handed_out pieces.now }
     ensures output { result ≡ Stop.Output → HasRisen (W.faults (session_writer session.old)) (W.faults (session_writer session.new)) }
+    ensures input { result ≡ Stop.Input → HasRisen (R.faults (session_reader session.old)) (R.faults (session_reader session.new)) }
 {
+    laws();
     let Some((first, rest)) = pieces.split_first() else {
         return session.run(0);
     };
@@ -48,11 +54,13 @@ pub(crate) fn run_model<R: FaultyRead, W: FaultyWrite>(
     writer: W,
     pieces: &[u64],
 ) -> (Stop, u64, R, W)
-    ensures simulated { (p : Resolved) → Behaves p model → Simulated result.0 p (W.contents writer) (W.contents result.3) }
-    ensures used { result.1 ≡ 0 }
-    ensures reads { result.2 ≡ reader }
+    ensures simulated { (p : Resolved) → Behaves p model → Simulated R.remaining W.contents p result.0 result.1 reader result.2 writer result.3 }
+    ensures used { result.1 ≤ handed_out pieces.now }
+    ensures paused { result.0 ≡ Stop.Paused → result.1 ≡ handed_out pieces.now }
     ensures output { result.0 ≡ Stop.Output → HasRisen (W.faults writer) (W.faults result.3) }
+    ensures input { result.0 ≡ Stop.Input → HasRisen (R.faults reader) (R.faults result.2) }
 {
+    laws();
     let mut session = match Session::start(alloc, model, reader, writer) {
         Ok(session) => session,
         Err((reader, writer)) => return (Stop::Memory, 0, reader, writer),

@@ -1,8 +1,10 @@
-ghost use Rattle.std.specs.Prelude.{◌≡◌, IfOk, OnErr, Some, None};
-ghost use Rattle.ss_base.specs.Failures.{HasRisen};
-ghost use Rattle.ss_machine.specs.Held.{answer_again};
+ghost use Rattle.std.specs.Prelude.{◌≡◌, ◌+◌, ◌-◌, ◌^◌, ◌≤◌, min, IfOk, Some};
+ghost use Rattle.ss_base.specs.Failures.{HasRisen, HasRisenBy};
+ghost use Rattle.ss_input.specs.Blocks.{KnowsEnd};
+ghost use Rattle.ss_input.specs.Inputs.{source_block};
+ghost use Rattle.ss_machine.specs.Held.{answer_again, kept_after};
 ghost use Rattle.ss_machine.specs.Runs.{Ran};
-ghost use Rattle.ss_engine.specs.Sessions.{Begins, session_machine, session_reader, session_writer};
+ghost use Rattle.ss_engine.specs.Sessions.{Begins, GoesOn, session_machine, session_reader, session_source, session_writer};
 
 use crate::model::Model;
 use ss_base::{FaultyRead, FaultyWrite};
@@ -36,19 +38,32 @@ impl<R: FaultyRead, W: FaultyWrite> Session<R, W> {
     }
 
     /// Runs with so many ticks until the program ends, a fault, a pause or a failure, and says
-    /// which.
+    /// which. After `Paused` all ticks were used, up to 2^64 - 1 since the start, and a further run
+    /// goes on.
     ///
     /// After `Ended` and `Fault` a further run answers the same, after `Memory`, `Output` and
     /// `Input` it answers `Failed`; it reads nothing, writes nothing and changes nothing.
-    /// `Output` comes only where the writer's count of failures rose in this run.
+    /// `Input` and `Output` come only where the reader's or the writer's count of failures rose in
+    /// this run.
     pub fn run(&mut self, ticks: u64) -> Stop
         ensures again { (before : Stop) → (session_machine self.old).stopped ≡ Some before → (result ≡ answer_again before) × (self.new ≡ self.old) }
-        ensures ran { (session_machine self.old).stopped ≡ None → Ran result (session_machine self.old).code (session_machine self.old).working (W.contents (session_writer self.old)) (W.contents (session_writer self.new)) }
-        ensures stopped { (session_machine self.old).stopped ≡ None → (session_machine self.new).stopped ≡ Some result }
-        ensures reader { session_reader self.new ≡ session_reader self.old }
-        ensures used { (session_machine self.new).used ≡ (session_machine self.old).used }
-        ensures output { (session_machine self.old).stopped ≡ None → result ≡ Stop.Output → HasRisen (W.faults (session_writer self.old)) (W.faults (session_writer self.new)) }
+        ensures ran { GoesOn self.old → Ran R.remaining result (session_machine self.old).code (session_machine self.old).working (session_machine self.new).working (session_source self.old) (session_source self.new) (W.contents (session_writer self.old)) (W.contents (session_writer self.new)) ((session_machine self.new).used - (session_machine self.old).used) ((session_machine self.new).steps - (session_machine self.old).steps) }
+        ensures goes_on { GoesOn self.old → result ≡ Stop.Paused → GoesOn self.new }
+        ensures stopped { GoesOn self.old → (session_machine self.new).stopped ≡ kept_after result }
+        ensures code { (session_machine self.new).code ≡ (session_machine self.old).code }
+        ensures end { KnowsEnd R.remaining (source_block (session_source self.old)) → KnowsEnd R.remaining (source_block (session_source self.new)) }
+        ensures used { ((session_machine self.old).used ≤ (session_machine self.new).used) × ((session_machine self.new).used ≤ (session_machine self.old).used + ticks) }
+        ensures paused { GoesOn self.old → result ≡ Stop.Paused → (session_machine self.new).used ≡ min ((session_machine self.old).used + ticks) (2 ^ 64 - 1) }
+        ensures output { GoesOn self.old → result ≡ Stop.Output → HasRisen (W.faults (session_writer self.old)) (W.faults (session_writer self.new)) }
+        ensures input { GoesOn self.old → result ≡ Stop.Input → HasRisen (R.faults (session_reader self.old)) (R.faults (session_reader self.new)) }
+        ensures steps { (session_machine self.old).steps ≤ (session_machine self.new).steps }
+        ensures never_falls { HasRisenBy 0 (W.faults (session_writer self.old)) (W.faults (session_writer self.new)) }
+        ensures read_never_falls { HasRisenBy 0 (R.faults (session_reader self.old)) (R.faults (session_reader self.new)) }
     {
+        // a source that missed something stands only behind a machine that has stopped
+        if self.machine.stopped().is_none() && self.source.missed().is_some() {
+            return Stop::Failed;
+        }
         self.machine.run(ticks, &mut self.source, &mut self.sink)
     }
 

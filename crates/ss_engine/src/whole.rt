@@ -1,8 +1,9 @@
-ghost use Rattle.std.specs.Prelude.{◌≡◌, ℕ};
+ghost use Rattle.std.specs.Prelude.{◌≡◌, ◌≤◌, ℕ};
 ghost use Rattle.ss_base.specs.Failures.{HasRisen};
 ghost use Rattle.ss_engine.specs.declared.refusal.Refusal.{Refusal as RefusalSeen};
-ghost use Rattle.ss_machine.specs.declared.stop.Stop.{Stop as StopSeen};
+ghost use Rattle.ss_engine.specs.Headline.{handed_out};
 ghost use Rattle.ss_engine.specs.Simulation.{ComesTo};
+ghost use Rattle.ss_machine.specs.declared.stop.Stop.{Stop as StopSeen};
 
 use crate::front::compile;
 use crate::outcome::Outcome;
@@ -17,8 +18,10 @@ use std::alloc::Global;
 ///
 /// It answers the refusal of the text, or why the last run stopped and the ticks that it used, and
 /// the reader and the writer as they stand. What the writer took is exactly the report that the
-/// text means, and the run ended exactly as its meaning does; where memory or the writer failed, the
-/// writer took the first bytes of that report. A text that is refused leaves both untouched.
+/// text means for the input and the ticks handed out, and the run ended exactly as its meaning does:
+/// ended, a fault at its line, or paused with all ticks used. Where memory, the reader or the writer
+/// failed, the writer took the first bytes of that report, at least those that it means for a tick
+/// fewer than were used. A text that is refused leaves both untouched.
 pub fn simulate<R: FaultyRead, W: FaultyWrite>(
     alloc: Global,
     text: &[u8],
@@ -26,11 +29,12 @@ pub fn simulate<R: FaultyRead, W: FaultyWrite>(
     writer: W,
     pieces: &[u64],
 ) -> (Outcome, R, W)
-    ensures headline { ComesTo text.now result.0 (W.contents writer) (W.contents result.2) }
-    ensures used { (stop : StopSeen) (used : ℕ) → result.0 ≡ Outcome.Stopped stop used → used ≡ 0 }
-    ensures reads { result.1 ≡ reader }
-    ensures untouched { (refusal : RefusalSeen) → result.0 ≡ Outcome.Refused refusal → result.2 ≡ writer }
+    ensures headline { ComesTo R.remaining W.contents text.now result.0 reader result.1 writer result.2 }
+    ensures ticks { (stop : StopSeen) (used : ℕ) → result.0 ≡ Outcome.Stopped stop used → used ≤ handed_out pieces.now }
+    ensures paused { (used : ℕ) → result.0 ≡ Outcome.Stopped Stop.Paused used → used ≡ handed_out pieces.now }
+    ensures untouched { (refusal : RefusalSeen) → result.0 ≡ Outcome.Refused refusal → (result.1 ≡ reader) × (result.2 ≡ writer) }
     ensures output { (used : ℕ) → result.0 ≡ Outcome.Stopped Stop.Output used → HasRisen (W.faults writer) (W.faults result.2) }
+    ensures input { (used : ℕ) → result.0 ≡ Outcome.Stopped Stop.Input used → HasRisen (R.faults reader) (R.faults result.1) }
 {
     let model = match compile(alloc, text) {
         Ok(model) => model,

@@ -2,9 +2,9 @@
 use Rattle.std.proofs.Common.{◌≡◌, ℕ, ◌+◌, true, List, [], ◌∷◌, ◌++◌, length, take, drop, slice_set, ◌<◌, Option, Some, None, refl, sym, ap, subst, ◌∙◌, arith}
 use Rattle.std.proofs.lemmas.List.{append_assoc, append-nil, length-append, take_more_set}
 use Rattle.std.proofs.lemmas.List.Folds.{list_all-append}
-use Rattle.std.specs.Io.KnownBytes.{Consumes}
-use Rattle.ss_input.specs.Blocks.{BlockSeen, Looks, first_of}
-use Rattle.ss_input.specs.Sources.{Passes, Passed, GapPassed, WordPassed}
+use Rattle.std.specs.Io.KnownBytes.{Consumes, Keeps}
+use Rattle.ss_input.specs.Blocks.{BlockSeen, Looks, Unread, first_of}
+use Rattle.ss_input.specs.Sources.{Gives, Passes, Passed, GapPassed, WordPassed}
 use Rattle.ss_input.specs.Words.{is_separator, is_word_byte}
 
 some_first : (x : ℕ) (l : List ℕ) → Some x ≡ first_of l → l ≡ x ∷ drop 1 l
@@ -46,6 +46,27 @@ passes_nothing remaining a = record {
   consumes_nothing : (p : Option (List ℕ)) → Consumes p p []
   consumes_nothing None = tt
   consumes_nothing (Some a) = refl
+
+-- a passage, and then an error of the reader
+pub gives_behind : {R : Type 0} (remaining : R → Option (List ℕ)) (a b c : BlockSeen R) (xs : List ℕ) → Passes remaining a b xs → Unread remaining b c → Gives remaining a c
+gives_behind remaining a b c xs h u = record {
+  got = h.got;
+  consumed = consumes_kept (remaining a.reader) (remaining b.reader) (remaining c.reader) h.got h.consumed u.kept;
+  after_end = λ e. let v = h.after_end e in (v.0, u.ended ∙ v.1);
+} where
+  consumes_kept : (p q r : Option (List ℕ)) (got : List ℕ) → Consumes p q got → Keeps q r → Consumes p r got
+  consumes_kept None q r got h k = tt
+  consumes_kept (Some a) None r got h k = absurd h
+  consumes_kept (Some a) (Some b) None got h k = absurd k
+  consumes_kept (Some a) (Some b) (Some c) got h k = h ∙ ap (λ t. got ++ t) (sym k)
+
+-- and a passage that gave
+pub gives_then : {R : Type 0} (remaining : R → Option (List ℕ)) (a b c : BlockSeen R) (xs : List ℕ) → Passes remaining a b xs → Gives remaining b c → Gives remaining a c
+gives_then remaining a b c xs h g = record {
+  got = h.got ++ g.got;
+  consumed = consumes_more (remaining a.reader) (remaining b.reader) (remaining c.reader) h.got g.got h.consumed g.consumed;
+  after_end = λ e. let u = h.after_end e in let v = g.after_end u.1 in (ap (λ t. t ++ g.got) u.0 ∙ v.0, v.1);
+}
 
 -- ---- separators
 

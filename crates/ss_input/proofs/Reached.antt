@@ -7,7 +7,7 @@ use Rattle.std.proofs.lemmas.List.Folds.{list_all-append}
 use Rattle.ss_base.specs.declared.fault.FaultKind.TheVariants.{BadData}
 use Rattle.ss_input.specs.declared.source.Source.{Source}
 use Rattle.ss_input.specs.Blocks.{BlockSeen, first_of}
-use Rattle.ss_input.specs.Sources.{Passes, Passed, GapPassed, WordPassed, StandsBefore}
+use Rattle.ss_input.specs.Sources.{Gives, Passes, Passed, GapPassed, WordPassed, StandsBefore}
 use Rattle.ss_input.specs.Inputs.{source_block, source_gap, Reaches, Stands, Reads, Finds}
 use Rattle.ss_input.specs.Words.{is_separator, is_word_byte, from_word, word_at, next_word, is_ended, no_word}
 use Rattle.ss_input.proofs.Passages.{consumes_more}
@@ -180,6 +180,15 @@ module _ {R : Type 0} (remaining : R → Option (List ℕ)) where
           stands = record { gap = l.stands.gap; separators = l.stands.separators; long = l.stands.long ∙ gap; input_is = l.stands.input_is ∙ ap (λ (k : BlockSeen R). l.stands.gap ++ (k.left ++ more)) block };
           says = l.says;
         };
+  }
+
+  -- some bytes were read, and nothing is found
+  pub nothing_found : (old a b : Source R) → source_block a ≡ source_block b → Gives remaining (source_block old) (source_block a) → Finds remaining old b (λ input. Unit {0})
+  nothing_found old a b block h = record {
+    got = h.got;
+    consumed = subst (λ k. Consumes (remaining (source_block old).reader) (remaining k.reader) h.got) block h.consumed;
+    after_end = λ e. let u = h.after_end e in (u.0, subst (λ k. k.ended ≡ true) block u.1);
+    says = λ more input e st. tt;
   }
 
   no_word_more : (l more : List ℕ) (ended : Bool) → (l ≡ [] → more ≡ []) → no_word (Ok l) ≡ Ok ended → no_word (Ok (l ++ more)) ≡ Ok ended

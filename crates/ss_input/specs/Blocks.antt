@@ -1,7 +1,7 @@
 -- What is seen of a block of input.
 use Rattle.std.specs.Prelude.{◌≡◌, ℕ, Bool, true, false, List, [], ◌∷◌, ◌++◌, Option, Some, None, refl}
 use Rattle.std.specs.Coded.{Coded, code_by, coded×, coded_list, coded_ℕ, coded_bool}
-use Rattle.std.specs.Io.KnownBytes.{Consumes}
+use Rattle.std.specs.Io.KnownBytes.{IsAtEnd, Consumes, Keeps}
 
 -- a reader, the bytes that it gave and that are still to be looked at, and whether it gave an end
 pub record BlockSeen (R : Type 0) : Type 0 where
@@ -25,6 +25,12 @@ pub record Fills {R : Type 0} (remaining : R → Option (List ℕ)) (old new : B
   pub at_end : new.left ≡ [] → new.ended ≡ true
   pub not_ended : (new.left ≡ [] → ⊥) → new.ended ≡ false
 
+-- a reader that answered an error: it gave nothing, and all is as it was
+pub record Unread {R : Type 0} (remaining : R → Option (List ℕ)) (old new : BlockSeen R) : Type 0 where
+  pub kept : Keeps (remaining old.reader) (remaining new.reader)
+  pub left : new.left ≡ old.left
+  pub ended : new.ended ≡ old.ended
+
 -- a look at the next byte: the reader gave some bytes, none after its end
 pub record Looks {R : Type 0} (remaining : R → Option (List ℕ)) (old new : BlockSeen R) (byte : Option ℕ) : Type 0 where
   pub got : List ℕ
@@ -33,3 +39,7 @@ pub record Looks {R : Type 0} (remaining : R → Option (List ℕ)) (old new : B
   pub after_end : old.ended ≡ true → (got ≡ []) × (new.ended ≡ true)
   pub byte_is : byte ≡ first_of new.left
   pub at_end : byte ≡ None → new.ended ≡ true
+
+-- where a block has met the end of its reader, that reader has nothing left, if it tells
+abbrev pub KnowsEnd : {R : Type 0} → (R → Option (List ℕ)) → BlockSeen R → Type 0
+KnowsEnd remaining b = b.ended ≡ true → IsAtEnd (remaining b.reader)

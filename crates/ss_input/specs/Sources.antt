@@ -5,6 +5,12 @@ use Rattle.std.specs.Io.KnownBytes.{Consumes}
 use Rattle.ss_input.specs.Blocks.{BlockSeen}
 use Rattle.ss_input.specs.Words.{is_separator, is_word_byte}
 
+-- the reader gave some bytes, none after its end
+pub record Gives {R : Type 0} (remaining : R → Option (List ℕ)) (old new : BlockSeen R) : Type 0 where
+  pub got : List ℕ
+  pub consumed : Consumes (remaining old.reader) (remaining new.reader) got
+  pub after_end : old.ended ≡ true → (got ≡ []) × (new.ended ≡ true)
+
 -- bytes that were passed: the reader gave some, none after its end, and behind those that were passed the same are left
 pub record Passes {R : Type 0} (remaining : R → Option (List ℕ)) (old new : BlockSeen R) (bytes : List ℕ) : Type 0 where
   pub got : List ℕ

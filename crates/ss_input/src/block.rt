@@ -3,7 +3,7 @@
 ghost use Rattle.std.specs.Prelude.{◌≡◌, ◌<◌, [], false, length, drop, IfOk, OnOk, OnErr};
 ghost use Rattle.std.specs.Io.KnownBytes.{Keeps};
 ghost use Rattle.ss_base.specs.Failures.{HasRisen, HasRisenBy};
-ghost use Rattle.ss_input.specs.Blocks.{Looks, Fills, first_of};
+ghost use Rattle.ss_input.specs.Blocks.{KnowsEnd, Looks, Fills, Unread, first_of};
 
 use ss_base::FaultyRead;
 use std::marker::Model;
@@ -90,7 +90,9 @@ impl<R: FaultyRead> Block<R> {
     pub fn peek(&mut self) -> Result<Option<u8>, ReadFailed>
         ensures ok { IfOk result (λ byte. Looks R.remaining self.old self.new byte) }
         ensures err { OnErr result (HasRisen (R.faults self.old.reader) (R.faults self.new.reader)) }
+        ensures unread { OnErr result (Unread R.remaining self.old self.new) }
         ensures never_falls { HasRisenBy 0 (R.faults self.old.reader) (R.faults self.new.reader) }
+        ensures end { KnowsEnd R.remaining self.old → KnowsEnd R.remaining self.new }
     {
         if let Some(byte) = self.first() {
             return Ok(Some(byte));
@@ -108,7 +110,9 @@ impl<R: FaultyRead> Block<R> {
         requires not_ended { self.old.ended ≡ false }
         ensures ok { OnOk result (Fills R.remaining self.old self.new) }
         ensures failed { OnErr result (HasRisen (R.faults self.old.reader) (R.faults self.new.reader)) }
+        ensures unread { OnErr result (Unread R.remaining self.old self.new) }
         ensures never_falls { HasRisenBy 0 (R.faults self.old.reader) (R.faults self.new.reader) }
+        ensures end { KnowsEnd R.remaining self.old → KnowsEnd R.remaining self.new }
     {
         match self.reader.read_some(&mut self.room) {
             Ok(0) => {

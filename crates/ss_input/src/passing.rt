@@ -3,7 +3,8 @@
 ghost use Rattle.std.specs.List.{list_all};
 ghost use Rattle.std.specs.Prelude.{length, take, ◌≡◌, ◌≤◌, ◌+◌, ◌∷◌, [], true, false, ℕ, Ok, Some, None, OnErr};
 ghost use Rattle.ss_base.specs.Failures.{HasRisen, HasRisenBy};
-ghost use Rattle.ss_input.specs.Sources.{Passes, Passed, GapPassed, WordPassed, StandsBefore};
+ghost use Rattle.ss_input.specs.Blocks.{KnowsEnd, Unread};
+ghost use Rattle.ss_input.specs.Sources.{Gives, Passes, Passed, GapPassed, WordPassed, StandsBefore};
 ghost use Rattle.ss_input.specs.Words.{is_separator, is_word_byte};
 
 use crate::block::{Block, ReadFailed};
@@ -27,7 +28,9 @@ pub(crate) fn pass_separator<R: FaultyRead>(block: &mut Block<R>) -> Result<bool
     ensures passed { result ≡ Ok true → Passed R.remaining block.old block.new (λ bytes. (b : ℕ) × (bytes ≡ b ∷ []) × (is_separator b ≡ true)) }
     ensures none { result ≡ Ok false → Passes R.remaining block.old block.new [] × StandsBefore is_word_byte block.new }
     ensures err { OnErr result (HasRisen (R.faults block.old.reader) (R.faults block.new.reader)) }
+    ensures unread { OnErr result (Unread R.remaining block.old block.new) }
     ensures never_falls { HasRisenBy 0 (R.faults block.old.reader) (R.faults block.new.reader) }
+    ensures end { KnowsEnd R.remaining block.old → KnowsEnd R.remaining block.new }
 {
     match block.peek()? {
         Some(byte) if is_separator(byte) => {
@@ -43,7 +46,9 @@ pub(crate) fn pass_word_byte<R: FaultyRead>(block: &mut Block<R>) -> Result<Opti
     ensures passed { (b : ℕ) → result ≡ Ok (Some b) → Passes R.remaining block.old block.new (b ∷ []) × (is_word_byte b ≡ true) }
     ensures none { result ≡ Ok None → Passes R.remaining block.old block.new [] × StandsBefore is_separator block.new }
     ensures err { OnErr result (HasRisen (R.faults block.old.reader) (R.faults block.new.reader)) }
+    ensures unread { OnErr result (Unread R.remaining block.old block.new) }
     ensures never_falls { HasRisenBy 0 (R.faults block.old.reader) (R.faults block.new.reader) }
+    ensures end { KnowsEnd R.remaining block.old → KnowsEnd R.remaining block.new }
 {
     match block.peek()? {
         Some(byte) if !is_separator(byte) => {
@@ -56,7 +61,7 @@ pub(crate) fn pass_word_byte<R: FaultyRead>(block: &mut Block<R>) -> Result<Opti
 
 /// Passes all separators at hand, where so many were passed before them, and answers how many there
 /// are then; None where they are too many.
-#[tactic(auto, using(crate::proofs::Passages::gap_begins, crate::proofs::Passages::gap_more, crate::proofs::Passages::gap_stays))]
+#[tactic(auto, using(crate::proofs::Passages::gap_begins, crate::proofs::Passages::gap_more, crate::proofs::Passages::gap_stays, crate::proofs::Passages::gives_behind))]
 pub(crate) fn pass_gap<R: FaultyRead>(
     block: &mut Block<R>,
     before: usize,
@@ -65,7 +70,9 @@ pub(crate) fn pass_gap<R: FaultyRead>(
     ensures passed { (count : ℕ) → result ≡ Ok (Some count) → GapPassed R.remaining block.old block.new before count × (count ≤ SEPARATOR_LIMIT) × StandsBefore is_word_byte block.new }
     ensures too_many { result ≡ Ok None → GapPassed R.remaining block.old block.new before (SEPARATOR_LIMIT + 1) }
     ensures err { OnErr result (HasRisen (R.faults block.old.reader) (R.faults block.new.reader)) }
+    ensures gives { OnErr result (Gives R.remaining block.old block.new) }
     ensures never_falls { HasRisenBy 0 (R.faults block.old.reader) (R.faults block.new.reader) }
+    ensures end { KnowsEnd R.remaining block.old → KnowsEnd R.remaining block.new }
 {
     for count in before..SEPARATOR_LIMIT {
         if !pass_separator(block)? {
@@ -81,7 +88,7 @@ pub(crate) fn pass_gap<R: FaultyRead>(
 
 /// Passes the bytes of a word and keeps them, and answers how many there are; None where they are
 /// too many.
-#[tactic(auto, using(crate::proofs::Passages::word_begins, crate::proofs::Passages::word_more, crate::proofs::Passages::word_stays))]
+#[tactic(auto, using(crate::proofs::Passages::word_begins, crate::proofs::Passages::word_more, crate::proofs::Passages::word_stays, crate::proofs::Passages::gives_behind))]
 pub(crate) fn pass_word<R: FaultyRead>(
     block: &mut Block<R>,
     word: &mut [u8; WORD_LIMIT],
@@ -89,7 +96,9 @@ pub(crate) fn pass_word<R: FaultyRead>(
     ensures passed { (count : ℕ) → result ≡ Ok (Some count) → WordPassed R.remaining block.old block.new (take count word.new) × (count ≤ WORD_LIMIT) × StandsBefore is_separator block.new }
     ensures too_long { result ≡ Ok None → Passed R.remaining block.old block.new (λ bytes. (list_all is_word_byte bytes ≡ true) × (length bytes ≡ WORD_LIMIT + 1)) }
     ensures err { OnErr result (HasRisen (R.faults block.old.reader) (R.faults block.new.reader)) }
+    ensures gives { OnErr result (Gives R.remaining block.old block.new) }
     ensures never_falls { HasRisenBy 0 (R.faults block.old.reader) (R.faults block.new.reader) }
+    ensures end { KnowsEnd R.remaining block.old → KnowsEnd R.remaining block.new }
 {
     for count in 0..WORD_LIMIT {
         match pass_word_byte(block)? {

@@ -6,7 +6,8 @@ ghost use Rattle.ss_base.specs.declared.value.Value.TheVariants.{Whole, Text};
 ghost use Rattle.ss_base.specs.declared.layout.Mode.TheVariants.{Integer, Alpha as AlphaMode};
 ghost use Rattle.ss_base.specs.Failures.{HasRisen, HasRisenBy};
 ghost use Rattle.ss_input.specs.declared.source.Missed.{Missed as MissedSeen};
-ghost use Rattle.ss_input.specs.Sources.{GapPassed, StandsBefore};
+ghost use Rattle.ss_input.specs.Blocks.{KnowsEnd};
+ghost use Rattle.ss_input.specs.Sources.{Gives, GapPassed, StandsBefore};
 ghost use Rattle.ss_input.specs.Inputs.{source_block, source_gap, source_missed, source_reader, IsFresh, Reads, Finds, Reaches, missed_of};
 ghost use Rattle.ss_input.specs.Words.{is_word_byte, is_ended, next_word, value_given};
 
@@ -65,6 +66,13 @@ impl<R> Source<R> {
         }
     }
 
+    /// Why it gives no more; None where it may still give something.
+    pub fn missed(&self) -> Option<Missed>
+        ensures { result ≡ source_missed self.now }
+    {
+        self.missed
+    }
+
     /// The reader, as it stands.
     pub fn into_inner(self) -> R
         ensures { result ≡ source_reader self }
@@ -79,8 +87,10 @@ impl<R: FaultyRead> Source<R> {
         ensures ok { OnOk result (Reaches R.remaining self.old self.new) }
         ensures fault { (kind : FaultSeen) → result ≡ Err (Missed.Fault kind) → (kind ≡ FaultKind.BadData) × GapPassed R.remaining (source_block self.old) (source_block self.new) (source_gap self.old) 1048577 }
         ensures input { result ≡ Err Missed.Input → HasRisen (R.faults (source_reader self.old)) (R.faults (source_reader self.new)) }
+        ensures gives { result ≡ Err Missed.Input → Gives R.remaining (source_block self.old) (source_block self.new) }
         ensures missed { source_missed self.new ≡ source_missed self.old }
         ensures never_falls { HasRisenBy 0 (R.faults (source_reader self.old)) (R.faults (source_reader self.new)) }
+        ensures end { KnowsEnd R.remaining (source_block self.old) → KnowsEnd R.remaining (source_block self.new) }
     {
         match pass_gap(&mut self.block, self.gap.count) {
             Ok(Some(count)) => {
@@ -98,8 +108,10 @@ impl<R: FaultyRead> Source<R> {
         ensures read { (count : ℕ) → result ≡ Ok count → Reads R.remaining self.old self.new (λ input rest. next_word input ≡ Ok (record { value = take count word.new; rest = rest })) }
         ensures fault { (kind : FaultSeen) → result ≡ Err (Missed.Fault kind) → Finds R.remaining self.old self.new (λ input. next_word input ≡ Err kind) }
         ensures input { result ≡ Err Missed.Input → HasRisen (R.faults (source_reader self.old)) (R.faults (source_reader self.new)) }
+        ensures gives { result ≡ Err Missed.Input → Gives R.remaining (source_block self.old) (source_block self.new) }
         ensures missed { source_missed self.new ≡ source_missed self.old }
         ensures never_falls { HasRisenBy 0 (R.faults (source_reader self.old)) (R.faults (source_reader self.new)) }
+        ensures end { KnowsEnd R.remaining (source_block self.old) → KnowsEnd R.remaining (source_block self.new) }
     {
         self.reach_word()?;
         if self.block.first().is_none() {
@@ -120,8 +132,10 @@ impl<R: FaultyRead> Source<R> {
         ensures read { (number : ℤ) → result ≡ Ok number → Reads R.remaining self.old self.new (λ input rest. value_given Integer input ≡ Ok (record { value = Whole number; rest = rest })) }
         ensures fault { (kind : FaultSeen) → result ≡ Err (Missed.Fault kind) → Finds R.remaining self.old self.new (λ input. value_given Integer input ≡ Err kind) }
         ensures input { result ≡ Err Missed.Input → HasRisen (R.faults (source_reader self.old)) (R.faults (source_reader self.new)) }
+        ensures gives { result ≡ Err Missed.Input → Gives R.remaining (source_block self.old) (source_block self.new) }
         ensures missed { source_missed self.new ≡ source_missed self.old }
         ensures never_falls { HasRisenBy 0 (R.faults (source_reader self.old)) (R.faults (source_reader self.new)) }
+        ensures end { KnowsEnd R.remaining (source_block self.old) → KnowsEnd R.remaining (source_block self.new) }
     {
         let mut word = [0; WORD_LIMIT];
         let count = self.read_word(&mut word)?;
@@ -136,8 +150,10 @@ impl<R: FaultyRead> Source<R> {
         ensures read { (text : List ℕ) → result ≡ Ok text → Reads R.remaining self.old self.new (λ input rest. value_given AlphaMode input ≡ Ok (record { value = Text text; rest = rest })) }
         ensures fault { (kind : FaultSeen) → result ≡ Err (Missed.Fault kind) → Finds R.remaining self.old self.new (λ input. value_given AlphaMode input ≡ Err kind) }
         ensures input { result ≡ Err Missed.Input → HasRisen (R.faults (source_reader self.old)) (R.faults (source_reader self.new)) }
+        ensures gives { result ≡ Err Missed.Input → Gives R.remaining (source_block self.old) (source_block self.new) }
         ensures missed { source_missed self.new ≡ source_missed self.old }
         ensures never_falls { HasRisenBy 0 (R.faults (source_reader self.old)) (R.faults (source_reader self.new)) }
+        ensures end { KnowsEnd R.remaining (source_block self.old) → KnowsEnd R.remaining (source_block self.new) }
     {
         let mut word = [0; WORD_LIMIT];
         let count = self.read_word(&mut word)?;
@@ -170,8 +186,10 @@ impl<R: FaultyRead> Source<R> {
         ensures read { (number : ℤ) → result ≡ Ok number → Reads R.remaining self.old self.new (λ input rest. value_given Integer input ≡ Ok (record { value = Whole number; rest = rest })) }
         ensures fault { source_missed self.old ≡ None → (kind : FaultSeen) → result ≡ Err (Missed.Fault kind) → Finds R.remaining self.old self.new (λ input. value_given Integer input ≡ Err kind) }
         ensures input { source_missed self.old ≡ None → result ≡ Err Missed.Input → HasRisen (R.faults (source_reader self.old)) (R.faults (source_reader self.new)) }
+        ensures lost { source_missed self.old ≡ None → result ≡ Err Missed.Input → Finds R.remaining self.old self.new (λ input. Unit {0}) }
         ensures missed { source_missed self.old ≡ None → source_missed self.new ≡ missed_of result }
         ensures never_falls { HasRisenBy 0 (R.faults (source_reader self.old)) (R.faults (source_reader self.new)) }
+        ensures end { KnowsEnd R.remaining (source_block self.old) → KnowsEnd R.remaining (source_block self.new) }
     {
         if let Some(missed) = self.missed {
             return Err(missed);
@@ -190,8 +208,10 @@ impl<R: FaultyRead> Source<R> {
         ensures read { (text : List ℕ) → result ≡ Ok text → Reads R.remaining self.old self.new (λ input rest. value_given AlphaMode input ≡ Ok (record { value = Text text; rest = rest })) }
         ensures fault { source_missed self.old ≡ None → (kind : FaultSeen) → result ≡ Err (Missed.Fault kind) → Finds R.remaining self.old self.new (λ input. value_given AlphaMode input ≡ Err kind) }
         ensures input { source_missed self.old ≡ None → result ≡ Err Missed.Input → HasRisen (R.faults (source_reader self.old)) (R.faults (source_reader self.new)) }
+        ensures lost { source_missed self.old ≡ None → result ≡ Err Missed.Input → Finds R.remaining self.old self.new (λ input. Unit {0}) }
         ensures missed { source_missed self.old ≡ None → source_missed self.new ≡ missed_of result }
         ensures never_falls { HasRisenBy 0 (R.faults (source_reader self.old)) (R.faults (source_reader self.new)) }
+        ensures end { KnowsEnd R.remaining (source_block self.old) → KnowsEnd R.remaining (source_block self.new) }
     {
         if let Some(missed) = self.missed {
             return Err(missed);
@@ -205,8 +225,10 @@ impl<R: FaultyRead> Source<R> {
         ensures read { (ended : Bool) → result ≡ Ok ended → Reads R.remaining self.old self.new (λ input rest. (rest ≡ input) × (is_ended input ≡ Ok ended)) }
         ensures fault { (kind : FaultSeen) → result ≡ Err (Missed.Fault kind) → Finds R.remaining self.old self.new (λ input. is_ended input ≡ Err kind) }
         ensures input { result ≡ Err Missed.Input → HasRisen (R.faults (source_reader self.old)) (R.faults (source_reader self.new)) }
+        ensures gives { result ≡ Err Missed.Input → Gives R.remaining (source_block self.old) (source_block self.new) }
         ensures missed { source_missed self.new ≡ source_missed self.old }
         ensures never_falls { HasRisenBy 0 (R.faults (source_reader self.old)) (R.faults (source_reader self.new)) }
+        ensures end { KnowsEnd R.remaining (source_block self.old) → KnowsEnd R.remaining (source_block self.new) }
     {
         self.reach_word()?;
         Ok(self.block.first().is_none())
@@ -223,8 +245,10 @@ impl<R: FaultyRead> Source<R> {
         ensures read { (ended : Bool) → result ≡ Ok ended → Reads R.remaining self.old self.new (λ input rest. (rest ≡ input) × (is_ended input ≡ Ok ended)) }
         ensures fault { source_missed self.old ≡ None → (kind : FaultSeen) → result ≡ Err (Missed.Fault kind) → Finds R.remaining self.old self.new (λ input. is_ended input ≡ Err kind) }
         ensures input { source_missed self.old ≡ None → result ≡ Err Missed.Input → HasRisen (R.faults (source_reader self.old)) (R.faults (source_reader self.new)) }
+        ensures lost { source_missed self.old ≡ None → result ≡ Err Missed.Input → Finds R.remaining self.old self.new (λ input. Unit {0}) }
         ensures missed { source_missed self.old ≡ None → source_missed self.new ≡ missed_of result }
         ensures never_falls { HasRisenBy 0 (R.faults (source_reader self.old)) (R.faults (source_reader self.new)) }
+        ensures end { KnowsEnd R.remaining (source_block self.old) → KnowsEnd R.remaining (source_block self.new) }
     {
         if let Some(missed) = self.missed {
             return Err(missed);

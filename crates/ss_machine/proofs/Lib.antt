@@ -1,6 +1,12 @@
+pub mod Layered
 mod Stacked
 mod Alike
 mod Known
+pub mod Inputs
+pub mod Steps
 mod Stepping
+mod Unread
+mod Worded
 mod Onwards
 mod Ending
+mod Counting

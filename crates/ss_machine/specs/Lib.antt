@@ -1,5 +1,7 @@
+pub mod Frames
 pub mod Holding
 pub mod Sent
 pub mod Runs
+pub mod Measure
 pub mod Held
-pub mod Sources
+pub mod Unread

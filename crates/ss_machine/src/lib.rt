@@ -1,18 +1,26 @@
 //! The machine that runs the code of a program.
 #![tactic(auto)]
 
+mod frame;
+mod frames;
 mod machine;
 mod operands;
 mod printing;
+mod reading;
 pub mod running;
-mod source;
+mod stack;
 mod stop;
+#[cfg(test)]
+mod tests;
 mod variables;
 pub mod working;
 
+pub use frame::Frame;
+pub use frames::Frames;
 pub use machine::Machine;
 pub use operands::Operands;
 pub use printing::Unprinted;
-pub use source::Source;
+pub use ss_input::{Missed, Source};
+pub use stack::Stack;
 pub use stop::Stop;
 pub use variables::Variables;

@@ -1,16 +1,20 @@
-ghost use Rattle.std.specs.Prelude.{◌≡◌, IfOk, Some, None};
+ghost use Rattle.std.specs.Prelude.{◌≡◌, ◌+◌, ◌-◌, ◌*◌, ◌^◌, ◌≤◌, min, length, IfOk, Some, None};
 ghost use Rattle.ss_base.specs.Failures.{HasRisen, HasRisenBy};
-ghost use Rattle.ss_machine.specs.Held.{IsFirst, answer_again};
+ghost use Rattle.ss_input.specs.Blocks.{KnowsEnd};
+ghost use Rattle.ss_input.specs.Inputs.{source_block, source_missed, source_reader};
+ghost use Rattle.ss_machine.specs.Held.{IsFirst, answer_again, kept_after};
 ghost use Rattle.ss_machine.specs.Runs.{Ran};
 
+use crate::frames::Frames;
 use crate::operands::Operands;
 use crate::running::Running;
-use crate::source::Source;
+use crate::stack::Stack;
 use crate::stop::Stop;
 use crate::variables::Variables;
 use crate::working::Working;
 use ss_base::{FaultyRead, FaultyWrite};
 use ss_code::Code;
+use ss_input::Source;
 use ss_picture::Sink;
 use std::alloc::{AllocError, Global};
 use std::marker::Model;
@@ -22,18 +26,18 @@ use std::marker::Model;
 #[derive(Drop)]
 pub struct Machine {
     running: Running,
-    used: u64,
     stopped: Option<Stop>,
 }
 
 impl Model for Machine {
+    ghost use Rattle.ss_input.specs.Inputs.{source_missed, source_reader};
     ghost use Rattle.ss_machine.specs.Held.{Held, IsReady};
 
     ghost Value = { Held };
 
-    ghost view = { λ m. record { code = m.running.code; working = m.running.working; used = m.used; steps = m.running.steps; stopped = m.stopped } };
+    ghost view = { λ m. record { code = m.running.code; working = m.running.working; used = m.running.used; steps = m.running.steps; stopped = m.stopped } };
 
-    ghost invariant = { λ m. IsReady (record { code = m.running.code; working = m.running.working; used = m.used; steps = m.running.steps; stopped = m.stopped }) };
+    ghost invariant = { λ m. IsReady (record { code = m.running.code; working = m.running.working; used = m.running.used; steps = m.running.steps; stopped = m.stopped }) };
 }
 
 // The answer of a run after one that stood still.
@@ -46,17 +50,28 @@ fn again(stop: Stop) -> Stop
     }
 }
 
+// Why a machine stands still after a run that answered so; None where the next run goes on.
+fn kept(stop: Stop) -> Option<Stop>
+    ensures { result ≡ kept_after stop }
+{
+    match stop {
+        Stop::Paused => None,
+        other => Some(other),
+    }
+}
+
 impl Machine {
     /// A machine before the first instruction of this code. The error comes where memory was refused.
     pub fn new(alloc: Global, code: Code) -> Result<Machine, AllocError>
         ensures { IfOk result (λ machine. IsFirst code machine) }
     {
         let globals = Variables::of(alloc, code.globals())?;
-        let locals = Variables::of(alloc, code.locals())?;
+        let locals = Stack::of(alloc, code.locals())?;
         let _sound = code.len();
         let working = Working {
             place: 0,
             operands: Operands::new(alloc),
+            frames: Frames::new(alloc),
             globals,
             locals,
         };
@@ -65,52 +80,85 @@ impl Machine {
                 code,
                 working,
                 line: Vec::new(alloc),
+                used: 0,
                 steps: 0,
             },
-            used: 0,
             stopped: None,
         })
     }
 
-    /// Runs with so many ticks, the input of this source and this way out, until the program ends,
-    /// a fault, a pause or a failure, and says which. Each line goes out as it is filled.
+    /// Runs with so many ticks, the input of this source and this way out, until the program ends, or
+    /// until a fault, a pause or a failure, and says which.
     ///
-    /// After `Ended` and `Fault` a further run answers the same, after `Memory`, `Output` and
-    /// `Input` it answers `Failed`; it reads nothing, writes nothing and changes nothing.
-    /// `Output` comes only where the writer's count of failures rose in this run.
+    /// The source must have missed nothing, where the machine has not stopped. READ takes the next word
+    /// of it, and a test whether data is ended looks for one and takes none; how far the source reads
+    /// ahead is its own affair. Each line goes out as it is filled.
+    ///
+    /// After `Paused` all ticks were used, up to 2^64 - 1 since the start, and a further run goes on; the
+    /// source may be used again. After `Ended` and `Fault` a further run answers the same, after
+    /// `Memory`, `Output` and `Input` it answers `Failed`; it reads nothing, writes nothing and changes
+    /// nothing.
+    ///
+    /// `Memory` comes only where memory was refused, `Output` only where the writer's count of failures
+    /// rose in this run, and `Input` only where the reader's did. What was written by then is the
+    /// beginning of the report: at least what is written before the last tick used, and no more than
+    /// what is written before the next.
     pub fn run<R: FaultyRead, W: FaultyWrite>(
         &mut self,
         ticks: u64,
         source: &mut Source<R>,
         sink: &mut Sink<W>,
     ) -> Stop
-        ensures again { (before : Stop) → self.old.stopped ≡ Some before → (result ≡ answer_again before) × (self.new ≡ self.old) × (sink.new ≡ sink.old) }
-        ensures ran { self.old.stopped ≡ None → Ran result self.old.code self.old.working (W.contents sink.old.writer) (W.contents sink.new.writer) }
-        ensures stopped { self.old.stopped ≡ None → self.new.stopped ≡ Some result }
-        ensures reads { source.new ≡ source.old }
-        ensures used { self.new.used ≡ self.old.used }
+        requires { self.old.stopped ≡ None → source_missed source.old ≡ None }
+        ensures again { (before : Stop) → self.old.stopped ≡ Some before → (result ≡ answer_again before) × (self.new ≡ self.old) × (source.new ≡ source.old) × (sink.new ≡ sink.old) }
+        ensures ran { self.old.stopped ≡ None → Ran R.remaining result self.old.code self.old.working self.new.working source.old source.new (W.contents sink.old.writer) (W.contents sink.new.writer) (self.new.used - self.old.used) (self.new.steps - self.old.steps) }
+        ensures code { self.new.code ≡ self.old.code }
+        ensures stopped { self.old.stopped ≡ None → self.new.stopped ≡ kept_after result }
+        ensures used { (self.old.used ≤ self.new.used) × (self.new.used ≤ self.old.used + ticks) }
+        ensures paused { self.old.stopped ≡ None → result ≡ Stop.Paused → self.new.used ≡ min (self.old.used + ticks) (2 ^ 64 - 1) }
+        ensures unmissed { self.old.stopped ≡ None → result ≡ Stop.Paused → source_missed source.new ≡ None }
+        ensures steps { self.old.steps ≤ self.new.steps }
+        ensures least { self.new.used ≤ self.new.steps }
+        ensures most { self.new.steps ≤ (3 * self.new.used + 4) * length self.new.code.instructions }
         ensures output { self.old.stopped ≡ None → result ≡ Stop.Output → HasRisen (W.faults sink.old.writer) (W.faults sink.new.writer) }
+        ensures input { self.old.stopped ≡ None → result ≡ Stop.Input → HasRisen (R.faults (source_reader source.old)) (R.faults (source_reader source.new)) }
+        ensures never_falls { HasRisenBy 0 (W.faults sink.old.writer) (W.faults sink.new.writer) }
+        ensures read_never_falls { HasRisenBy 0 (R.faults (source_reader source.old)) (R.faults (source_reader source.new)) }
+        ensures end { KnowsEnd R.remaining (source_block source.old) → KnowsEnd R.remaining (source_block source.new) }
     {
         match self.stopped {
             Some(stop) => again(stop),
             None => {
-                let stop = self.running.run(sink);
-                self.stopped = Some(stop);
+                let stop = self.running.run(ticks, source, sink);
+                self.stopped = kept(stop);
                 stop
             }
         }
+    }
+
+    /// Why the last run stopped; None where a further run goes on.
+    pub fn stopped(&self) -> Option<Stop>
+        ensures { result ≡ self.now.stopped }
+    {
+        self.stopped
     }
 
     /// The ticks used since the start.
     pub fn used(&self) -> u64
         ensures { result ≡ self.now.used }
     {
-        self.used
+        self.running.used
     }
 
-    /// The steps made since the start.
+    /// The steps made since the start: each instruction that was carried out, the one that ended the
+    /// program and the one that came to a fault among them. A pause is no step, nor is an instruction
+    /// that failed for want of memory or at its reader or writer.
+    ///
+    /// After u ticks there are at least u, and at most 3u + 4 times as many as there are instructions.
     pub fn steps(&self) -> u128
-        ensures { result ≡ self.now.steps }
+        ensures value { result ≡ self.now.steps }
+        ensures least { self.now.used ≤ result }
+        ensures most { result ≤ (3 * self.now.used + 4) * length self.now.code.instructions }
     {
         self.running.steps
     }

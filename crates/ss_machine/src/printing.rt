@@ -1,12 +1,12 @@
-ghost use Rattle.std.specs.Prelude.{◌≡◌, ◌≤◌, ◌++◌, [], ◌∷◌, length, OnOk, OnErr, IsErrOf};
+ghost use Rattle.std.specs.Prelude.{◌≡◌, ◌≤◌, ◌++◌, [], ◌∷◌, length, replicate, OnOk, OnErr, IsErrOf};
 ghost use Rattle.std.specs.Io.KnownBytes.{Appends};
 ghost use Rattle.ss_base.specs.Failures.{HasRisen, HasRisenBy};
-ghost use Rattle.ss_code.specs.Store.{printed, line_end};
+ghost use Rattle.ss_code.specs.Store.{printed, line_end, empty_lines};
 ghost use Rattle.ss_picture.specs.Pictures.{filled, field_count};
-ghost use Rattle.ss_machine.specs.Sent.{TookPart};
+ghost use Rattle.ss_machine.specs.Sent.{TookPart, lines_told};
 
 use ss_base::{FaultyWrite, Value};
-use ss_picture::{Picture, Sink};
+use ss_picture::{Picture, Sink, SinkError};
 
 /// Why printing stopped.
 #[derive(Clone, Copy, PartialEq, Eq, Debug)]
@@ -58,6 +58,30 @@ pub(crate) fn print_lines<W: FaultyWrite>(
         let (now, later) = rest.split_at(count);
         print_line(line, picture, now, sink)?;
         rest = later;
+    }
+    Ok(())
+}
+
+// How many empty lines a SKIP writes, if its count is a good one.
+pub(crate) fn empty_count(count: i64) -> Option<usize>
+    ensures { empty_lines count ≡ lines_told result }
+{
+    if 0 <= count && count <= 1000 {
+        Some(count as usize)
+    } else {
+        None
+    }
+}
+
+// Sends so many empty lines one by one.
+pub(crate) fn send_empty<W: FaultyWrite>(lines: usize, sink: &mut Sink<W>) -> Result<(), SinkError>
+    ensures ok { OnOk result (Appends (W.contents sink.old.writer) (W.contents sink.new.writer) (replicate lines line_end)) }
+    ensures err { OnErr result (TookPart (W.contents sink.old.writer) (W.contents sink.new.writer) (replicate lines line_end)) }
+    ensures risen { OnErr result (HasRisen (W.faults sink.old.writer) (W.faults sink.new.writer)) }
+    ensures never_falls { HasRisenBy 0 (W.faults sink.old.writer) (W.faults sink.new.writer) }
+{
+    for _line in 0..lines {
+        sink.write(b"\n")?;
     }
     Ok(())
 }

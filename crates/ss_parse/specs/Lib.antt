@@ -1,7 +1,5 @@
-pub mod SpelledStatements
 pub mod SpelledPreambles
 pub mod SpelledPrograms
-pub mod ReadStatements
 pub mod ReadPreambles
 pub mod ReadPrograms
 pub mod Promise

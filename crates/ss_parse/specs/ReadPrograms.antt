@@ -3,19 +3,17 @@ use Rattle.std.specs.Prelude.{ℕ, suc, Bool, true, false, List, [], ◌∷◌, 
 use Rattle.ss_base.specs.declared.line.Line.{Line}
 use Rattle.ss_lex.specs.declared.word.Word.{Word}
 use Rattle.ss_lex.specs.declared.word.Word.TheVariants as words
-use Rattle.ss_lex.specs.declared.token.TokenKind.{TokenKind}
-use Rattle.ss_lex.specs.declared.token.TokenKind.TheVariants as kinds
 use Rattle.ss_lex.specs.declared.token.Token.{Token}
 use Rattle.ss_grammar.specs.declared.failure.Fault.{Fault}
 use Rattle.ss_grammar.specs.declared.failure.Fault.TheVariants.{Syntax}
 use Rattle.ss_tree.specs.declared.preamble.Mode.{Mode}
-use Rattle.ss_tree.specs.Tree.{PreambleTree, normally, DefinitionTree, SectionKindTree, main, routine, event, SectionTree, ProgramTree, StatementTree}
+use Rattle.ss_tree.specs.Tree.{PreambleTree, DefinitionTree, SectionKindTree, main, routine, event, SectionTree, ProgramTree, StatementTree}
 use Rattle.ss_grammar.specs.declared.classes.Class.TheVariants as classes
 use Rattle.ss_grammar.specs.ReadWords.{done, fail, skip_class, begins_among, names}
-use Rattle.ss_grammar.specs.Reading.{Reader, ◌>>=◌, word, begins, expect, in_table, taken, name_of, flag, seq, behind, closed, apply, lined, maybe_list, rows, skip_comma}
+use Rattle.ss_grammar.specs.Reading.{Reader, ◌>>=◌, word, begins, expect, in_table, taken, name_of, flag, seq, behind, closed, apply, lined, maybe_list, rows}
 use Rattle.ss_parse.specs.SpelledPreambles.{mode_of}
 use Rattle.ss_parse.specs.ReadPreambles.{whole_preamble}
-use Rattle.ss_parse.specs.ReadStatements.{by_word, behind_the, statements_in}
+use Rattle.ss_statements.specs.ReadStatements.{by_word, behind_the, statements_in}
 
 -- ---- sections
 

@@ -17,7 +17,7 @@ use Rattle.ss_tree.specs.Tree.{ClauseTree, has, owns, belongs_to, OrderTree, fif
 use Rattle.ss_grammar.specs.declared.classes.Class.TheVariants as alike
 use Rattle.ss_grammar.specs.Shapes.{Shape, ◌▷◌, nothing, optional, provided, Word_is, Name_is, Said, first_and, listed, at}
 use Rattle.ss_grammar.specs.Words.{One_of, the, Item_is, perhaps_listed}
-use Rattle.ss_parse.specs.SpelledStatements.{noisy}
+use Rattle.ss_statements.specs.SpelledStatements.{noisy}
 
 -- ---- parts
 

@@ -55,6 +55,96 @@ pub enum Expression {
     },
 }
 
+/// How two values compare: numbers by their size, texts by their bytes.
+#[derive(Clone, Copy, PartialEq, Eq, Debug)]
+pub enum Relation {
+    Equal,
+    NotEqual,
+    Less,
+    Greater,
+    LessOrEqual,
+    GreaterOrEqual,
+}
+
+/// A test, which holds or does not.
+#[derive(Drop)]
+pub enum Test {
+    Compare {
+        left: Expression,
+        relation: Relation,
+        right: Expression,
+    },
+    /// Whether no word of input is left or, if negated, whether one is.
+    DataEnded {
+        negated: bool,
+    },
+}
+
+/// Tests joined by AND.
+#[derive(Drop)]
+pub struct Conjunction {
+    pub tests: Vec<Test>,
+}
+
+/// Conjunctions joined by OR.
+#[derive(Drop)]
+pub struct Condition {
+    pub alternatives: Vec<Conjunction>,
+}
+
+/// How the condition of a loop that begins with WHILE or UNTIL ends it.
+#[derive(Clone, Copy, PartialEq, Eq, Debug)]
+pub enum GuardKind {
+    /// WHILE: ends the loop where the condition doesn't hold.
+    While,
+    /// UNTIL: ends the loop where the condition holds.
+    Until,
+}
+
+/// A condition of a loop that begins with WHILE or UNTIL.
+#[derive(Drop)]
+pub struct Guard {
+    pub kind: GuardKind,
+    pub condition: Condition,
+}
+
+/// What a phrase does with an item of a FOR, by its condition.
+#[derive(Clone, Copy, PartialEq, Eq, Debug)]
+pub enum PhraseKind {
+    /// WITH or WHEN: passes an item where the condition holds.
+    With,
+    /// UNLESS: passes an item where the condition doesn't hold.
+    Unless,
+    /// WHILE: ends the loop where the condition doesn't hold.
+    While,
+    /// UNTIL: ends the loop where the condition holds.
+    Until,
+}
+
+/// A phrase of a FOR.
+#[derive(Drop)]
+pub struct Phrase {
+    pub kind: PhraseKind,
+    pub condition: Condition,
+}
+
+/// The numbers that a FOR goes over: from the first on, each by the step more, up to the limit.
+#[derive(Drop)]
+pub struct Range {
+    pub variable: Variable,
+    pub first: Expression,
+    pub limit: Expression,
+    /// What stands behind BY; 1 where nothing does.
+    pub step: Option<Expression>,
+}
+
+/// A variable that takes a word of input, and its mode.
+#[derive(Clone, Copy, PartialEq, Eq, Debug)]
+pub struct Target {
+    pub variable: Variable,
+    pub mode: Mode,
+}
+
 /// A statement. Its line is that of its first word.
 #[derive(Drop)]
 pub enum Statement {
@@ -77,18 +167,68 @@ pub enum Statement {
         items: Vec<Expression>,
         pictures: Vec<Vec<u8>>,
     },
+    /// IF: the statements before ELSE, or those behind it.
+    If {
+        line: Line,
+        condition: Condition,
+        then: Vec<Statement>,
+        otherwise: Vec<Statement>,
+    },
+    /// A loop that begins with WHILE or UNTIL.
+    While {
+        line: Line,
+        guards: Vec<Guard>,
+        body: Vec<Statement>,
+    },
+    /// A FOR over numbers.
+    For {
+        line: Line,
+        range: Range,
+        phrases: Vec<Phrase>,
+        body: Vec<Statement>,
+    },
+    /// FIND THE FIRST CASE of a FOR over numbers: what follows where one was found, and where none was.
+    Find {
+        line: Line,
+        range: Range,
+        phrases: Vec<Phrase>,
+        found: Vec<Statement>,
+        none: Vec<Statement>,
+    },
+    /// CALL: the number of the routine, the values that it is given, and the variables that take what
+    /// it yields.
+    Call {
+        line: Line,
+        routine: u32,
+        given: Vec<Expression>,
+        yielding: Vec<Variable>,
+    },
+    Return,
+    Stop,
+    /// READ: each variable takes the next word of input.
+    Read {
+        line: Line,
+        targets: Vec<Target>,
+    },
+    /// SKIP: so many empty lines.
+    Skip {
+        line: Line,
+        count: Expression,
+    },
 }
 
-/// MAIN or a routine: its variables in the order of their numbers, and its statements.
+/// MAIN or a routine: its variables in the order of their numbers, and its statements. The first
+/// variables of a routine are those that it is given, and then those that it yields.
 #[derive(Drop)]
 pub struct Section {
     pub locals: Vec<Mode>,
     pub body: Vec<Statement>,
 }
 
-/// A program: its global variables in the order of their numbers, and its sections.
+/// A program: its global variables and its routines in the order of their numbers, and MAIN.
 #[derive(Drop)]
 pub struct Resolved {
     pub globals: Vec<Mode>,
+    pub routines: Vec<Section>,
     pub main: Section,
 }

@@ -1,4 +1,5 @@
 mod Rows
 mod Firsts
 mod Scoping
+mod Defining
 mod Keeping

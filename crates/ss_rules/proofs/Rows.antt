@@ -1,7 +1,7 @@
 -- What is tested of a row, by its list.
-use Rattle.std.proofs.Common.{◌≡◌, ℕ, zero, suc, arith, ◌+◌, ◌<◌, Bool, true, false, not, ◌||◌, ◌==◌, List, [], ◌∷◌, ◌++◌, length, get_or, take, drop, map, refl, sym, ap, ◌∙◌}
+use Rattle.std.proofs.Common.{◌≡◌, ℕ, zero, suc, arith, ◌+◌, ◌<◌, Bool, true, false, not, ◌||◌, ◌==◌, List, [], ◌∷◌, ◌++◌, length, get_or, take, map, refl, sym, ap, ◌∙◌}
 use Rattle.std.specs.List.{list_any}
-use Rattle.std.proofs.lemmas.List.{take_more, map-append}
+use Rattle.std.proofs.lemmas.List.{take_more}
 use Rattle.std.specs.Global.{Vec, Box}
 use Rattle.ss_tree.specs.declared.expression.Sign.{Sign}
 use Rattle.ss_tree.specs.declared.expression.Function.{Function}
@@ -10,11 +10,11 @@ use Rattle.ss_tree.specs.declared.expression.Term.{Term}
 use Rattle.ss_tree.specs.declared.expression.Expression.{Expression}
 use Rattle.ss_tree.specs.declared.expression.Expression.TheVariants as variants
 use Rattle.ss_tree.specs.Tree.{ExpressionTree, expression_row, term_row}
-use Rattle.ss_tree.specs.View.{view_expression, view_named, view_term}
+use Rattle.ss_tree.specs.View.{view_expression, view_term}
 use Rattle.ss_tree.specs.Views.{view_named_made, view_call_made, view_product_made, view_sum_made}
 use Rattle.ss_tables.specs.Mentions.{row_length}
 use Rattle.ss_rules.specs.Scopes.{Scope}
-use Rattle.ss_rules.specs.Rules.{argument_count, miscalls, any_miscalls, any_term_miscalls, term_miscalls, named_miscalls, is_text, is_no_number, mixes, any_mixes, any_term_mixes, term_mixes}
+use Rattle.ss_rules.specs.Rules.{argument_count, miscalls, any_miscalls, any_term_miscalls, term_miscalls, is_no_number, mixes, any_mixes, any_term_mixes, term_mixes}
 
 pub row_counted : (es : List Expression) → row_length (expression_row (map view_expression es)) ≡ length es
 row_counted [] = refl

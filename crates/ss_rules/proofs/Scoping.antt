@@ -1,20 +1,16 @@
 -- Names one after another.
-use Rattle.std.proofs.Common.{◌≡◌, ℕ, ◌+◌, ◌<◌, Bool, true, false, List, [], ◌∷◌, ◌++◌, length, get_or, take, drop, map, Option, Some, None, refl, sym, ap, ◌∙◌, arith}
+use Rattle.std.proofs.Common.{◌≡◌, ℕ, ◌+◌, ◌<◌, Bool, true, false, List, [], ◌∷◌, ◌++◌, length, get_or, take, map, Option, Some, None, refl, sym, ap, ◌∙◌}
 use Rattle.std.specs.Prelude.{if◌then◌else◌, slice_get}
-use Rattle.std.proofs.Math.Path.{fun_ext}
 use Rattle.ss_base.specs.declared.layout.Mode.{Mode}
 use Rattle.std.specs.List.{flat_map}
-use Rattle.std.proofs.lemmas.List.{take_more, drop_more, map-append, flat_map_more}
+use Rattle.std.proofs.lemmas.List.{take_more, map-append, flat_map_more}
 use Rattle.ss_tree.specs.declared.preamble.Mode.{Mode as Said}
-use Rattle.ss_tree.specs.declared.program.LocalDefinition.{LocalDefinition}
 use Rattle.ss_tree.specs.declared.program.Section.{Section}
-use Rattle.ss_tree.specs.Tree.{SectionTree, ProgramTree}
-use Rattle.ss_tree.specs.View.{view_definition, view_kind, view_section}
-use Rattle.ss_tables.specs.Declarations.{NameBytes, same_name, is_one_of, place_among, kind_of, globals, routines}
-use Rattle.ss_tables.specs.declared.kind.Kind.{Kind}
-use Rattle.ss_tables.specs.Tables.{kind_among, AreTablesOf}
-use Rattle.ss_tables.specs.Modes.{Moded, moded, mode_among}
-use Rattle.ss_rules.specs.Scopes.{Scope, as_list, each_once, moded_in, modes_at, locals_in, mode_of_local, is_main, is_routine_section, signature, signatures, scope_by, scope_of}
+use Rattle.ss_tree.specs.Tree.{SectionTree}
+use Rattle.ss_tree.specs.View.{view_kind, view_section}
+use Rattle.ss_tables.specs.Declarations.{NameBytes, is_one_of, place_among}
+use Rattle.ss_tables.specs.Tables.{kind_among}
+use Rattle.ss_rules.specs.Scopes.{Scope, as_list, each_once, moded_in, modes_at, locals_in, mode_of_local, is_main, is_routine_section, signature, signatures}
 use Rattle.ss_rules.specs.declared.scope.Names.{Names}
 use Rattle.ss_rules.specs.declared.scope.Locals.{Locals}
 use Rattle.ss_rules.specs.Seen.{modes_in, scope_seen, scope_in}
@@ -32,15 +28,6 @@ once_more f v xs i x old now new lt is h e =
     e ∙ ap (λ l. each_once l (f (v x))) h ∙ sym (once_both old (flat_map f before) (f (v x))) ∙ ap (each_once old) (flat_map_more f [] before (v x)) ∙
     ap (λ l. each_once old (flat_map f l)) (sym taken)
 
-among_cases : (usual : Option Said) (m : Said) (n : NameBytes) (ns : List NameBytes) (rest : List Moded) (name : NameBytes) (b : Bool) → same_name name n ≡ b → mode_among usual (map (moded m) ns ++ rest) name ≡ (if is_one_of ns name then Some m else mode_among usual rest name) → mode_among usual (map (moded m) (n ∷ ns) ++ rest) name ≡ (if is_one_of (n ∷ ns) name then Some m else mode_among usual rest name)
-among_cases usual m n ns rest name true e h = simp e
-among_cases usual m n ns rest name false e h = simp e h
-
--- the mode that one DEFINE gives a name, or those behind it
-pub among_more : (usual : Option Said) (m : Said) (names : List NameBytes) (rest : List Moded) (name : NameBytes) → mode_among usual (map (moded m) names ++ rest) name ≡ (if is_one_of names name then Some m else mode_among usual rest name)
-among_more usual m [] rest name = refl
-among_more usual m (n ∷ ns) rest name = among_cases usual m n ns rest name (same_name name n) refl (among_more usual m ns rest name)
-
 -- one more of some names
 pub once_next : (xs : List NameBytes) (i : ℕ) (x : NameBytes) (old now new : List NameBytes) → i < length xs → x ≡ get_or xs i x → now ≡ each_once old (take i xs) → new ≡ each_once now (x ∷ []) → new ≡ each_once old (take (i + 1) xs)
 once_next xs i x old now new lt is h e =
@@ -55,13 +42,6 @@ once_plain f xs i x old now new lt is h e =
 pub none_listed : (o : Option NameBytes) → ((n : NameBytes) → o ≡ Some n → ⊥) → [] ≡ as_list o
 none_listed None h = refl
 none_listed (Some n) h = absurd (h n refl)
-
--- the mode that a name has by one DEFINE and those behind it
-pub among_here : (usual : Option Said) (ds : List LocalDefinition) (i : ℕ) (d : LocalDefinition) (name : NameBytes) (b : Bool) → i < length ds → d ≡ get_or ds i d → is_one_of d.names.items name ≡ b → mode_among usual (flat_map moded_in (map view_definition (drop i ds))) name ≡ (if b then Some d.mode else mode_among usual (flat_map moded_in (map view_definition (drop (i + 1) ds))) name)
-among_here usual ds i d name b lt is e =
-    ap (λ l. mode_among usual (flat_map moded_in (map view_definition l)) name) (drop_more ds i d lt ∙ ap (λ y. y ∷ drop (i + 1) ds) (sym is)) ∙
-    among_more usual d.mode d.names.items (flat_map moded_in (map view_definition (drop (i + 1) ds))) name ∙
-    ap (λ x. if x then Some d.mode else mode_among usual (flat_map moded_in (map view_definition (drop (i + 1) ds))) name) e
 
 -- ---- the scope of a section
 
@@ -83,15 +63,6 @@ same_scope n l s k m b =
     let mode = mode_of_local n.tables.usual (flat_map moded_in s.definitions) in
     ap (λ (x : List NameBytes). scope_made n x l.modes.items l.in_main) k ∙ ap (λ (x : List Mode). scope_made n names x l.in_main) (m ∙ ap (map mode) k) ∙
     ap (scope_made n names (map mode names)) b
-
--- what the tables of a program give is its scope
-pub scope_given : (p : ProgramTree) (n : Names) (s : SectionTree) → AreTablesOf p n.tables → map modes_in n.signatures.items ≡ signatures n.tables.usual p.sections → scope_in n s ≡ scope_of p s
-scope_given p n s t g =
-    ap (λ (k : NameBytes → Option Kind). scope_by k n.tables.globals n.tables.routines (map modes_in n.signatures.items) n.tables.usual s) (fun_ext t.kinds) ∙
-    ap (λ (x : List NameBytes). scope_by (kind_of p) x n.tables.routines (map modes_in n.signatures.items) n.tables.usual s) t.globals_are ∙
-    ap (λ (x : List NameBytes). scope_by (kind_of p) (globals p) x (map modes_in n.signatures.items) n.tables.usual s) t.routines_are ∙
-    ap (λ (x : List (List Mode)). scope_by (kind_of p) (globals p) (routines p) x n.tables.usual s) g ∙
-    ap (λ (u : Option Said). scope_by (kind_of p) (globals p) (routines p) (signatures u p.sections) u s) t.usual_is
 
 -- ---- routines
 

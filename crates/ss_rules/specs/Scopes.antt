@@ -1,6 +1,6 @@
 -- What a name stands for in a section.
 use Rattle.std.specs.Prelude.{ℕ, Bool, true, false, is_some, ◌&&◌, List, [], ◌∷◌, ◌++◌, map, slice_get, Option, Some, None, if◌then◌else◌}
-use Rattle.std.specs.List.{list_any, flat_map}
+use Rattle.std.specs.List.{flat_map}
 use Rattle.ss_base.specs.declared.line.Line.{Line}
 use Rattle.ss_base.specs.declared.layout.Mode.{Mode}
 use Rattle.ss_base.specs.declared.layout.Mode.TheVariants.{Integer, Alpha}
@@ -8,16 +8,16 @@ use Rattle.ss_tree.specs.declared.preamble.Mode.{Mode as Said}
 use Rattle.ss_tree.specs.declared.preamble.Mode.TheVariants as said
 use Rattle.ss_tree.specs.declared.expression.Designator.{Designator}
 use Rattle.ss_tree.specs.declared.expression.Designator.TheVariants.{Name, TimeV, TimeA}
-use Rattle.ss_tree.specs.Tree.{DefinitionTree, SectionKindTree, main, routine, event, SectionTree, ProgramTree}
+use Rattle.ss_tree.specs.Tree.{DefinitionTree, SectionKindTree, main, routine, SectionTree, ProgramTree}
 use Rattle.ss_tables.specs.declared.kind.Kind.{Kind}
 use Rattle.ss_tables.specs.declared.kind.Kind.TheVariants.{Variable}
 use Rattle.ss_tables.specs.declared.mentions.Mention.{Mention}
-use Rattle.ss_tables.specs.Declarations.{NameBytes, same_name, is_one_of, place_among, kind_of, globals, routines}
+use Rattle.ss_tables.specs.Declarations.{NameBytes, is_one_of, place_among, kind_of, globals, routines}
 use Rattle.ss_tables.specs.Repeated.{parameters_of}
 use Rattle.ss_tables.specs.Mentions.{mentions_at, statements_of}
 use Rattle.ss_tables.specs.Modes.{is_variable_role, is_none_left, Moded, moded, mode_among, usual_mode}
-use Rattle.ss_flow.specs.declared.resolved.Variable.{Variable as Place}
-use Rattle.ss_flow.specs.declared.resolved.Variable.TheVariants.{Global, Local}
+use Rattle.ss_resolved.specs.declared.resolved.Variable.{Variable as Place}
+use Rattle.ss_resolved.specs.declared.resolved.Variable.TheVariants.{Global, Local}
 
 -- what the names in a section stand for
 pub record Scope : Type 0 where

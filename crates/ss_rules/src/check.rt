@@ -8,17 +8,17 @@ ghost use Rattle.ss_tables.specs.Tables.{AreTablesOf};
 ghost use Rattle.ss_rules.specs.Scopes.{is_routine_section, signature, signatures};
 ghost use Rattle.ss_rules.specs.Rules.{breach, first_among, first_in, has_main_in};
 ghost use Rattle.ss_rules.specs.Checking.{IsKept, IsRefused, refusal};
-ghost use Rattle.ss_rules.specs.Seen.{modes_in, scope_in};
+ghost use Rattle.ss_rules.specs.Seen.{AreNamesOf, modes_in, scope_in};
 
 use crate::error::CheckError;
 use crate::finding::{earlier, first_in_body};
-use crate::locals::{is_main, locals_in, signature};
+use crate::locals::{is_main, is_routine, locals_of, signature};
 use crate::rule::Rule;
 use crate::scope::Names;
 use ss_base::{Line, Mode};
 use ss_tables::Tables;
 use ss_tree::preamble::Mode as Said;
-use ss_tree::program::{Program, Section, SectionKind};
+use ss_tree::program::{Program, Section};
 use std::alloc::{AllocError, Global};
 
 // The rules in the order in which they are looked at.
@@ -42,13 +42,6 @@ fn has_main(sections: &[Section]) -> bool
         }
     }
     false
-}
-
-// Whether a section is a routine.
-fn is_routine(kind: &SectionKind) -> bool
-    ensures { result ≡ is_routine_section (view_kind kind.now) }
-{
-    matches!(kind, SectionKind::Routine { .. })
 }
 
 // Adds the modes of the parameters of a section, where it is a routine.
@@ -90,7 +83,7 @@ fn first_in_section(
 ) -> Result<Option<Line>, AllocError>
     ensures { IfOk result (λ line. line ≡ first_in (scope_in names.now (view_section section.now)) rule (statements_of (view_section section.now).body)) }
 {
-    let locals = locals_in(alloc, &names.tables, section)?;
+    let locals = locals_of(alloc, names, section)?;
     first_in_body(alloc, names, &locals, rule, &section.body)
 }
 
@@ -128,12 +121,15 @@ fn first_breach(
     Ok(None)
 }
 
-// The names of a program.
-fn names_of(alloc: Global, tables: Tables, sections: &[Section]) -> Result<Names, AllocError>
-    ensures tables { IfOk result (λ n. n.tables ≡ tables) }
-    ensures signatures { IfOk result (λ n. map modes_in n.signatures.items ≡ signatures tables.usual (map view_section sections.now)) }
+/// What the names of a program stand for, by its tables.
+///
+/// # Errors
+/// `AllocError` where memory is refused.
+pub fn names_of(alloc: Global, program: &Program, tables: Tables) -> Result<Names, AllocError>
+    requires { AreTablesOf (view_program program.now) tables }
+    ensures { IfOk result (AreNamesOf (view_program program.now)) }
 {
-    let signatures = signatures(alloc, tables.usual(), sections)?;
+    let signatures = signatures(alloc, tables.usual(), &program.sections)?;
     Ok(Names { tables, signatures })
 }
 
@@ -152,23 +148,22 @@ fn refusal(rule: Rule, line: Line) -> CheckError
     }
 }
 
-/// Whether a program has MAIN and keeps every rule.
+/// Whether a program, whose names stand for this, has MAIN and keeps every rule.
 ///
 /// The errors come in this order: `NoMain`, with line 0, where there is no MAIN; then that of the
 /// first rule that a statement breaks, in the order `StartPlace`, `Unknown`, `Subscript`,
 /// `NotAssignable`, `Arguments`, `Mode`, `Fields`, with the line of the first such statement.
 /// `Memory` may come before any of them.
-pub fn keeps_rules(alloc: Global, program: &Program, tables: Tables) -> Result<(), CheckError>
+pub fn keeps_rules(alloc: Global, program: &Program, names: &Names) -> Result<(), CheckError>
     requires served { served_program (view_program program.now) ≡ true }
-    requires tables { AreTablesOf (view_program program.now) tables }
+    requires names { AreNamesOf (view_program program.now) names.now }
     ensures ok { OnOk result (IsKept (view_program program.now)) }
     ensures err { IfErr result (IsRefused (view_program program.now)) }
 {
     if !has_main(&program.sections) {
         return Err(CheckError::NoMain(Line(0)));
     }
-    let names = names_of(alloc, tables, &program.sections)?;
-    match first_breach(alloc, &names, &RULES, &program.sections)? {
+    match first_breach(alloc, names, &RULES, &program.sections)? {
         Some((rule, line)) => Err(refusal(rule, line)),
         None => Ok(()),
     }

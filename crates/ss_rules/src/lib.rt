@@ -4,13 +4,13 @@
 mod check;
 mod error;
 mod finding;
-mod locals;
+pub mod locals;
 mod miscalls;
 mod mixes;
 mod names;
 mod rule;
-mod scope;
+pub mod scope;
 mod statements;
 
-pub use check::keeps_rules;
+pub use check::{keeps_rules, names_of};
 pub use error::CheckError;

@@ -7,8 +7,8 @@ ghost use Rattle.ss_rules.specs.Seen.{modes_in, scope_seen};
 
 use indexmap::IndexSet;
 use ss_base::Mode;
-use ss_flow::resolved::Variable;
 use ss_lex::Name;
+use ss_resolved::resolved::Variable;
 use ss_tables::{Kind, Tables};
 use ss_tree::preamble::Mode as Said;
 use std::alloc::AllocError;
@@ -45,8 +45,8 @@ pub(crate) fn mode_said(mode: Option<Said>) -> Mode
     }
 }
 
-// The mode of what a name stands for in the whole program.
-pub(crate) fn mode_of_kind(kind: Option<Kind>) -> Mode
+/// The mode of what a name stands for in the whole program; INTEGER where it is no variable.
+pub fn mode_of_kind(kind: Option<Kind>) -> Mode
     ensures { result ≡ mode_of_kind kind }
 {
     match kind {
@@ -55,8 +55,8 @@ pub(crate) fn mode_of_kind(kind: Option<Kind>) -> Mode
     }
 }
 
-// The mode of a variable.
-pub(crate) fn mode_of_name(names: &Names, locals: &Locals, name: Name) -> Mode
+/// The mode of a variable, by its name.
+pub fn mode_of_name(names: &Names, locals: &Locals, name: Name) -> Mode
     ensures { result ≡ mode_of_name (scope_seen names.now locals.now) name }
 {
     match locals.names.get_index_of(&name) {
@@ -68,12 +68,11 @@ pub(crate) fn mode_of_name(names: &Names, locals: &Locals, name: Name) -> Mode
     }
 }
 
-// The variable of a name. Memory where its number doesn't fit.
-pub(crate) fn variable_of(
-    names: &Names,
-    locals: &Locals,
-    name: Name,
-) -> Result<Variable, AllocError>
+/// The variable of a name: a local one, or else a global one.
+///
+/// # Errors
+/// `AllocError` where its number doesn't fit 32 bits.
+pub fn variable_of(names: &Names, locals: &Locals, name: Name) -> Result<Variable, AllocError>
     ensures { IfOk result (λ x. x ≡ variable_of (scope_seen names.now locals.now) name) }
 {
     match locals.names.get_index_of(&name) {

@@ -61,6 +61,21 @@ fn place_in(names: &IndexSet<Spelling>, name: Spelling) -> usize
     }
 }
 
+// What each of some names stands for.
+fn kinds_of(
+    alloc: Global,
+    names: &Names,
+    spellings: &[Spelling],
+) -> Result<Vec<Option<Kind>>, AllocError>
+    ensures { IfOk result (λ kinds. kinds.items ≡ map (kind_among names.now.names) spellings.now) }
+{
+    let mut kinds = Vec::new(alloc);
+    for spelling in spellings {
+        kinds.push(names.kind(*spelling))?;
+    }
+    Ok(kinds)
+}
+
 /// A global name or a derived name of a program, by its place among the names of its tables.
 #[derive(Clone, Copy, PartialEq, Eq, Debug)]
 pub struct NameId(pub usize);
@@ -182,6 +197,16 @@ impl Tables {
         ensures { result ≡ place_among self.now.globals name }
     {
         place_in(&self.globals, Spelling::of_name(&name))
+    }
+
+    /// What each global variable stands for, in the order of their numbers.
+    ///
+    /// # Errors
+    /// `AllocError` where memory is refused.
+    pub fn global_kinds(&self, alloc: Global) -> Result<Vec<Option<Kind>>, AllocError>
+        ensures { IfOk result (λ kinds. kinds.items ≡ map (kind_among self.now.names) self.now.globals) }
+    {
+        kinds_of(alloc, &self.names, self.globals.as_slice())
     }
 
     /// The number of a routine among all of them, from 0; as many as there are where it is none.

@@ -8,7 +8,6 @@ ghost use Rattle.ss_grammar.specs.ReadWords.{begins_name, names};
 ghost use Rattle.ss_parse.specs.SpelledPreambles.{mode_of, rank_of, statistic_of, group_behind};
 ghost use Rattle.ss_parse.specs.ReadPreambles.{then_rank, keys, statistic_kind, found, clause, begins_clause, clause_list, clauses, ranking, order, permanent_at, temporary_at, notices_at, every_at, normally_at, system_at, define_end, define_at, priority_at, break_at, statistics_at, preamble_at, begins_preamble, preamble_in, preambles, whole_preamble};
 
-use crate::reading::statements::{begins_noisy, expect_noisy};
 use ss_base::Line;
 use ss_grammar::classes::{Class, skip_class};
 use ss_grammar::failure::Failure;
@@ -17,6 +16,7 @@ use ss_grammar::tokens::{
     begins_symbol, begins_word, behind_first, expect_word, skip_separator, skip_word, syntax,
 };
 use ss_lex::{Name, Symbol, Token, TokenKind, Word};
+use ss_statements::statements::{begins_noisy, expect_noisy};
 use ss_tree::preamble::{
     ClassKind, Clause, Key, Mode, PreambleStatement, SetOrder, Statistic, StatisticKind, Weighting,
 };

@@ -8,13 +8,13 @@ ghost use Rattle.ss_grammar.specs.ReadWords.{names};
 ghost use Rattle.ss_parse.specs.ReadPrograms.{begins_section, saving, routine_kind, event_kind, kind_at, variables, definition, definitions, section_at, section_in, program_in, program_of};
 
 use crate::reading::preambles::{mode, preamble};
-use crate::reading::statements::statements;
 use ss_base::Line;
 use ss_grammar::classes::{Class, skip_class};
 use ss_grammar::failure::Failure;
 use ss_grammar::names::{name, names};
 use ss_grammar::tokens::{begins_word, behind_first, expect_word, skip_word, syntax};
 use ss_lex::{Name, Token, TokenKind, Word};
+use ss_statements::statements::statements;
 use ss_tree::preamble::Mode;
 use ss_tree::program::{LocalDefinition, Program, Section, SectionKind};
 use std::alloc::Global;

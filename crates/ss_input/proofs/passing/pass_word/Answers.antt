@@ -13,6 +13,7 @@ loop-count-preserved g c =
     record {
       passed = word_more g.R.FaultyRead.remaining c.args.block.now c.loop-count.block c.pass_word_byte.new.block c.loop-count.word c.loop-count.count c.in-Some.byte lt c.loop-count.invariant.passed one;
       size = search rules;
+      end = λ h. c.pass_word_byte.ensures.end (c.loop-count.invariant.end h);
       risen = search rules;
     }
 

@@ -1,9 +1,8 @@
-use Rattle.std.proofs.Common.{rules, ◌≡◌, ◌+◌, ◌++◌, [], ◌∷◌, min, length, take, drop, refl, sym, ap, ◌∙◌, arith}
+use Rattle.std.proofs.Common.{rules, ◌≡◌, ◌+◌, ◌++◌, [], ◌∷◌, min, length, drop, refl, sym, ap, ◌∙◌, arith}
 use Rattle.std.proofs.lemmas.List.{append_assoc}
 use Rattle.std.proofs.lemmas.Result.{err_from_is_err_and}
 use Rattle.ss_code.specs.Store.{printed, line_end}
 use Rattle.ss_picture.specs.Pictures.{filled, widths}
-use Rattle.ss_machine.specs.Sent.{TookPart}
 use Rattle.ss_machine.proofs.Known.{turn, took_both, part_behind}
 use Rattle.ss_machine.proofs.printing.print_lines.Goals as goal
 

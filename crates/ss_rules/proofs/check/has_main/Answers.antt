@@ -1,4 +1,4 @@
-use Rattle.std.proofs.Common.{◌≡◌, sym, ◌∙◌}
+use Rattle.std.proofs.Common.{sym, ◌∙◌}
 use Rattle.ss_tree.specs.View.{view_section}
 use Rattle.ss_rules.specs.Rules.{is_main_section}
 use Rattle.ss_rules.proofs.Rows.{none_more, one_passes}

@@ -1,9 +1,9 @@
-use Rattle.std.proofs.Common.{◌≡◌, map, sym, ap, ◌∙◌}
+use Rattle.std.proofs.Common.{map, ap, ◌∙◌}
 use Rattle.ss_tree.specs.View.{view_statement}
 use Rattle.ss_tables.specs.Inner.{inner_if, inner_find_if, inner_loop}
-use Rattle.ss_tables.specs.Mentions.{inner_of, statements_of}
+use Rattle.ss_tables.specs.Mentions.{statements_of}
 use Rattle.ss_tables.specs.Repeated.{earlier}
-use Rattle.ss_rules.specs.Rules.{breaks, first_in, where_broken}
+use Rattle.ss_rules.specs.Rules.{breaks, where_broken}
 use Rattle.ss_rules.specs.Seen.{scope_seen}
 use Rattle.ss_rules.proofs.Firsts.{first_of_both, first_of_more}
 use Rattle.ss_rules.proofs.finding.+finding.Goals as goal

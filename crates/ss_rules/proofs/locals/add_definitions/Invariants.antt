@@ -1,7 +1,7 @@
 use Rattle.std.proofs.Common.{◌≡◌, map, take}
 use Rattle.std.specs.List.{flat_map}
 use Rattle.ss_tree.specs.View.{view_definition}
-use Rattle.ss_rules.specs.Scopes.{each_once, variable_mentioned, variables_mentioned, names_of}
+use Rattle.ss_rules.specs.Scopes.{each_once, names_of}
 use Rattle.ss_rules.proofs.locals.add_definitions.Given as goal
 
 abbrev pub invariant-loop-definition : goal.invariant-loop-definition

@@ -1,7 +1,7 @@
-use Rattle.std.proofs.Common.{◌≡◌, map, take}
+use Rattle.std.proofs.Common.{◌≡◌, take}
 use Rattle.std.specs.List.{flat_map}
 use Rattle.ss_tables.specs.Tables.{kind_among}
-use Rattle.ss_rules.specs.Scopes.{each_once, variable_mentioned, variables_mentioned, names_of}
+use Rattle.ss_rules.specs.Scopes.{each_once, variable_mentioned}
 use Rattle.ss_rules.proofs.locals.add_mentioned.Given as goal
 
 abbrev pub invariant-loop-mention : goal.invariant-loop-mention

@@ -1,6 +1,5 @@
-use Rattle.std.proofs.Common.{◌≡◌, map, take}
-use Rattle.std.specs.List.{flat_map}
-use Rattle.ss_rules.specs.Scopes.{each_once, variable_mentioned, variables_mentioned, names_of}
+use Rattle.std.proofs.Common.{◌≡◌, take}
+use Rattle.ss_rules.specs.Scopes.{each_once}
 use Rattle.ss_rules.proofs.locals.add_names.Given as goal
 
 abbrev pub invariant-loop-name : goal.invariant-loop-name

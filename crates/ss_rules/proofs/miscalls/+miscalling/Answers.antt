@@ -2,7 +2,6 @@ use Rattle.std.proofs.Common.{rules, ◌≡◌, ◌==◌, not, length, map, ap, 
 use Rattle.std.specs.List.{list_any}
 use Rattle.ss_tree.specs.View.{view_expression, view_term}
 use Rattle.ss_rules.specs.Rules.{argument_count, miscalls, term_miscalls}
-use Rattle.ss_rules.specs.Seen.{scope_seen}
 use Rattle.ss_rules.proofs.Rows.{none_more, one_passes, or_rest, or_first, call_miscalls_made, product_miscalls_made, sum_miscalls_made}
 use Rattle.ss_rules.proofs.miscalls.+miscalling.Goals as goal
 

@@ -2,7 +2,6 @@ use Rattle.std.proofs.Common.{◌≡◌, false, map, take}
 use Rattle.std.specs.List.{list_any}
 use Rattle.ss_tree.specs.View.{view_expression, view_term}
 use Rattle.ss_rules.specs.Rules.{miscalls, term_miscalls}
-use Rattle.ss_rules.specs.Seen.{scope_seen}
 use Rattle.ss_rules.proofs.miscalls.+miscalling.Given as goal
 
 abbrev pub invariant-any_miscalls-loop-expression : goal.invariant-any_miscalls-loop-expression

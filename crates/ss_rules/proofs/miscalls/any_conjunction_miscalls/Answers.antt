@@ -1,8 +1,7 @@
-use Rattle.std.proofs.Common.{rules, ◌≡◌, map, ap, sym, ◌∙◌}
+use Rattle.std.proofs.Common.{map, ap, sym, ◌∙◌}
 use Rattle.std.specs.List.{list_any}
 use Rattle.ss_tree.specs.View.{view_conjunction, view_test}
 use Rattle.ss_rules.specs.Rules.{miscalls, never_differ, bad_in_test}
-use Rattle.ss_rules.specs.Seen.{scope_seen}
 use Rattle.ss_rules.proofs.Rows.{none_more, one_passes}
 use Rattle.ss_rules.proofs.miscalls.any_conjunction_miscalls.Goals as goal
 

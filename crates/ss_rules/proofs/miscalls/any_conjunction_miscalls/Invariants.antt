@@ -2,7 +2,6 @@ use Rattle.std.proofs.Common.{◌≡◌, false, map, take}
 use Rattle.std.specs.List.{list_any}
 use Rattle.ss_tree.specs.View.{view_conjunction}
 use Rattle.ss_rules.specs.Rules.{miscalls, never_differ, bad_in_test}
-use Rattle.ss_rules.specs.Seen.{scope_seen}
 use Rattle.ss_rules.proofs.miscalls.any_conjunction_miscalls.Given as goal
 
 abbrev pub invariant-loop-conjunction : goal.invariant-loop-conjunction

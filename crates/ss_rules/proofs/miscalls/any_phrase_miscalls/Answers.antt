@@ -1,7 +1,6 @@
-use Rattle.std.proofs.Common.{rules, ◌≡◌, sym, ◌∙◌}
+use Rattle.std.proofs.Common.{sym, ◌∙◌}
 use Rattle.ss_tree.specs.View.{view_phrase}
 use Rattle.ss_rules.specs.Rules.{phrase_miscalls}
-use Rattle.ss_rules.specs.Seen.{scope_seen}
 use Rattle.ss_rules.proofs.Rows.{none_more, one_passes}
 use Rattle.ss_rules.proofs.miscalls.any_phrase_miscalls.Goals as goal
 

@@ -1,4 +1,4 @@
-use Rattle.std.proofs.Common.{rules, ◌≡◌, map, ap, sym, ◌∙◌}
+use Rattle.std.proofs.Common.{map, ap, sym, ◌∙◌}
 use Rattle.std.specs.List.{list_any}
 use Rattle.ss_tree.specs.View.{view_expression, view_term}
 use Rattle.ss_rules.specs.Rules.{is_no_number, mixes, term_mixes}

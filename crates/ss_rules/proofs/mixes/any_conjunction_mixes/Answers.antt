@@ -1,4 +1,4 @@
-use Rattle.std.proofs.Common.{rules, ◌≡◌, map, ap, sym, ◌∙◌}
+use Rattle.std.proofs.Common.{map, ap, sym, ◌∙◌}
 use Rattle.std.specs.List.{list_any}
 use Rattle.ss_tree.specs.View.{view_conjunction, view_test}
 use Rattle.ss_rules.specs.Rules.{mixes, modes_differ, bad_in_test}

@@ -1,4 +1,4 @@
-use Rattle.std.proofs.Common.{rules, ◌≡◌, sym, ◌∙◌}
+use Rattle.std.proofs.Common.{sym, ◌∙◌}
 use Rattle.ss_tree.specs.View.{view_named}
 use Rattle.ss_rules.specs.Rules.{target_mixes}
 use Rattle.ss_rules.specs.Seen.{scope_seen}

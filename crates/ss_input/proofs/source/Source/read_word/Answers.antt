@@ -6,6 +6,7 @@ use Rattle.ss_input.specs.Blocks.{first_of}
 use Rattle.ss_input.specs.Words.{next_word, word_at}
 use Rattle.ss_input.specs.Inputs.{Reaches, Reads, Finds, source_block}
 use Rattle.ss_input.proofs.Reached.{too_many_found, none_found, word_found, too_long_found, finds_so}
+use Rattle.ss_input.proofs.Passages.{gives_then}
 use Rattle.ss_input.proofs.source.Source.read_word.Goals as goal
 
 pub returns-in_err-reach_word-clause-fault : goal.returns-in_err-reach_word-clause-fault
@@ -45,3 +46,8 @@ returns-in-Ok-None-clause-fault g c kind e =
     let new : Source g.row.R.Denot = record { block = c.pass_word.new.block; gap = c.reach_word.new.self.gap; missed = c.reach_word.new.self.missed } in
     subst (λ k. Finds g.R.FaultyRead.remaining c.args.self.now new (λ input. next_word input ≡ Err k)) same
     (too_long_found g.R.FaultyRead.remaining c.args.self.now c.reach_word.new.self new reached reached.small some (c.in-Ok-None.ensures.too_long (ap Ok c.in-Ok-None.field-0-is)))
+
+pub returns-in-Err-clause-gives : goal.returns-in-Err-clause-gives
+returns-in-Err-clause-gives g c e =
+    let reached : Reaches g.R.FaultyRead.remaining c.args.self.now c.reach_word.new.self = search rules in
+    gives_then g.R.FaultyRead.remaining (source_block c.args.self.now) (source_block c.reach_word.new.self) c.pass_word.new.block reached.passed.bytes reached.passed.passes c.in-Err.ensures.gives

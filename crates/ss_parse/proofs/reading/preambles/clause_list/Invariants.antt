@@ -1,4 +1,4 @@
-use Rattle.std.proofs.Common.{◌≡◌, ℕ, length, map}
+use Rattle.std.proofs.Common.{◌≡◌, length, map}
 use Rattle.ss_tree.specs.View.{view_clause}
 use Rattle.ss_grammar.specs.Reading.{rows, begins_more, skip_separator}
 use Rattle.ss_parse.specs.ReadPreambles.{clause, begins_clause, clause_list}

@@ -1,4 +1,4 @@
-use Rattle.std.proofs.Common.{◌≡◌, ℕ, length}
+use Rattle.std.proofs.Common.{◌≡◌, length}
 use Rattle.ss_grammar.specs.Reading.{rows, begins_more, skip_separator}
 use Rattle.ss_grammar.specs.ReadWords.{begins_name}
 use Rattle.ss_grammar.proofs.Rows.{with_front}

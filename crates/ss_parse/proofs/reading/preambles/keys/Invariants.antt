@@ -1,4 +1,4 @@
-use Rattle.std.proofs.Common.{◌≡◌, ℕ, length}
+use Rattle.std.proofs.Common.{◌≡◌, length}
 use Rattle.ss_lex.specs.declared.word.Word.TheVariants as words
 use Rattle.ss_grammar.specs.Reading.{rows, word}
 use Rattle.ss_grammar.specs.ReadWords.{begins_noisy}

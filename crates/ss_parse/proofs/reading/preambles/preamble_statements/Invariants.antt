@@ -1,4 +1,4 @@
-use Rattle.std.proofs.Common.{◌≡◌, ℕ, length, map, None}
+use Rattle.std.proofs.Common.{◌≡◌, length, map, None}
 use Rattle.ss_tree.specs.View.{view_preamble}
 use Rattle.ss_grammar.proofs.Rows.{with_front}
 use Rattle.ss_parse.specs.ReadPreambles.{preambles}

@@ -1,0 +1,14 @@
+use Rattle.std.proofs.Common.{◌≡◌, sym, subst}
+use Rattle.std.specs.Prelude.{IfErr}
+use Rattle.std.proofs.lemmas.Result.{err_from_is_err_and}
+use Rattle.ss_tree.specs.View.{view_program}
+use Rattle.ss_rules.specs.Checking.{IsRefused}
+use Rattle.ss_rules.specs.declared.error.CheckError.TheVariants.{Memory}
+use Rattle.ss_check.proofs.program.check.Goals as goal
+
+pub returns-in_err-checked-clause-refused : goal.returns-in_err-checked-clause-refused
+returns-in_err-checked-clause-refused c =
+    let p = view_program c.args.program in
+    let e = err_from_is_err_and c.from_residual-in_err-checked.result c.from_residual-in_err-checked.ensures.1 in
+    let memory : e.0 ≡ Memory = e.2 in
+    subst (λ r. IfErr r (IsRefused p)) (sym e.1) (subst (IsRefused p) (sym memory) tt)

@@ -1,0 +1,205 @@
+//! Conditions and heads of loops in which each name is replaced by what it stands for.
+
+ghost use Rattle.std.specs.Prelude.{◌≡◌, map, IfOk};
+ghost use Rattle.ss_tree.specs.View.{view_condition, view_conjunction, view_expression, view_guard, view_option, view_phrase, view_test};
+ghost use Rattle.ss_rules.specs.Seen.{scope_seen};
+ghost use Rattle.ss_check.specs.Resolving.{Each, ResolvesCondition, ResolvesConjunction, ResolvesGuard, ResolvesOption, ResolvesPhrase, ResolvesRange, ResolvesTest};
+
+use crate::expressions::resolve_expression;
+use crate::words::{guard_kind_of, phrase_kind_of, relation_of};
+use ss_lex::Name;
+use ss_resolved::resolved::{
+    Condition as ResolvedCondition, Conjunction as ResolvedConjunction,
+    Expression as ResolvedExpression, Guard as ResolvedGuard, Phrase as ResolvedPhrase, Range,
+    Test as ResolvedTest,
+};
+use ss_rules::scope::{Locals, Names, variable_of};
+use ss_tree::condition::{Condition, Conjunction, Test};
+use ss_tree::expression::Expression;
+use ss_tree::head::{Guard, Phrase};
+use std::alloc::{AllocError, Global};
+
+// A test. Those on sets are not served.
+fn resolve_test(
+    alloc: Global,
+    names: &Names,
+    locals: &Locals,
+    test: &Test,
+) -> Result<ResolvedTest, AllocError>
+    ensures { IfOk result (λ x. ResolvesTest (scope_seen names.now locals.now) (view_test test.now) x) }
+{
+    match test {
+        Test::Compare {
+            left,
+            relation,
+            right,
+        } => {
+            let left = resolve_expression(alloc, names, locals, left)?;
+            let right = resolve_expression(alloc, names, locals, right)?;
+            Ok(ResolvedTest::Compare {
+                left,
+                relation: relation_of(*relation),
+                right,
+            })
+        }
+        Test::Empty { negated, .. } => Ok(ResolvedTest::DataEnded { negated: *negated }),
+        Test::Member { negated, .. } => Ok(ResolvedTest::DataEnded { negated: *negated }),
+        Test::DataEnded { negated } => Ok(ResolvedTest::DataEnded { negated: *negated }),
+    }
+}
+
+// Tests joined by AND.
+fn resolve_conjunction(
+    alloc: Global,
+    names: &Names,
+    locals: &Locals,
+    tests: &[Test],
+) -> Result<ResolvedConjunction, AllocError>
+    ensures { IfOk result (λ x. ResolvesConjunction (scope_seen names.now locals.now) (map view_test tests.now) x) }
+{
+    let mut resolved = Vec::new(alloc);
+    for test in tests {
+        let one = resolve_test(alloc, names, locals, test)?;
+        resolved.push(one)?;
+    }
+    Ok(ResolvedConjunction { tests: resolved })
+}
+
+// Conjunctions joined by OR.
+fn resolve_alternatives(
+    alloc: Global,
+    names: &Names,
+    locals: &Locals,
+    alternatives: &[Conjunction],
+) -> Result<ResolvedCondition, AllocError>
+    ensures { IfOk result (λ x. ResolvesCondition (scope_seen names.now locals.now) (map view_conjunction alternatives.now) x) }
+{
+    let mut resolved = Vec::new(alloc);
+    for alternative in alternatives {
+        let one = resolve_conjunction(alloc, names, locals, &alternative.tests)?;
+        resolved.push(one)?;
+    }
+    Ok(ResolvedCondition {
+        alternatives: resolved,
+    })
+}
+
+// A condition.
+pub(crate) fn resolve_condition(
+    alloc: Global,
+    names: &Names,
+    locals: &Locals,
+    condition: &Condition,
+) -> Result<ResolvedCondition, AllocError>
+    ensures { IfOk result (λ x. ResolvesCondition (scope_seen names.now locals.now) (view_condition condition.now) x) }
+{
+    resolve_alternatives(alloc, names, locals, &condition.alternatives)
+}
+
+// A phrase of a FOR.
+fn resolve_phrase(
+    alloc: Global,
+    names: &Names,
+    locals: &Locals,
+    phrase: &Phrase,
+) -> Result<ResolvedPhrase, AllocError>
+    ensures { IfOk result (λ x. ResolvesPhrase (scope_seen names.now locals.now) (view_phrase phrase.now) x) }
+{
+    let condition = resolve_condition(alloc, names, locals, &phrase.condition)?;
+    Ok(ResolvedPhrase {
+        kind: phrase_kind_of(phrase.kind),
+        condition,
+    })
+}
+
+// The phrases of a FOR.
+pub(crate) fn resolve_phrases(
+    alloc: Global,
+    names: &Names,
+    locals: &Locals,
+    phrases: &[Phrase],
+) -> Result<Vec<ResolvedPhrase>, AllocError>
+    ensures { IfOk result (λ xs. Each (ResolvesPhrase (scope_seen names.now locals.now)) (map view_phrase phrases.now) xs.items) }
+{
+    let mut resolved = Vec::new(alloc);
+    for phrase in phrases {
+        let one = resolve_phrase(alloc, names, locals, phrase)?;
+        resolved.push(one)?;
+    }
+    Ok(resolved)
+}
+
+// A condition of a loop that begins with WHILE or UNTIL.
+fn resolve_guard(
+    alloc: Global,
+    names: &Names,
+    locals: &Locals,
+    guard: &Guard,
+) -> Result<ResolvedGuard, AllocError>
+    ensures { IfOk result (λ x. ResolvesGuard (scope_seen names.now locals.now) (view_guard guard.now) x) }
+{
+    let condition = resolve_condition(alloc, names, locals, &guard.condition)?;
+    Ok(ResolvedGuard {
+        kind: guard_kind_of(guard.kind),
+        condition,
+    })
+}
+
+// The conditions of a loop that begins with WHILE or UNTIL.
+pub(crate) fn resolve_guards(
+    alloc: Global,
+    names: &Names,
+    locals: &Locals,
+    guards: &[Guard],
+) -> Result<Vec<ResolvedGuard>, AllocError>
+    ensures { IfOk result (λ xs. Each (ResolvesGuard (scope_seen names.now locals.now)) (map view_guard guards.now) xs.items) }
+{
+    let mut resolved = Vec::new(alloc);
+    for guard in guards {
+        let one = resolve_guard(alloc, names, locals, guard)?;
+        resolved.push(one)?;
+    }
+    Ok(resolved)
+}
+
+// The step of a FOR, where one is written.
+fn resolve_step(
+    alloc: Global,
+    names: &Names,
+    locals: &Locals,
+    step: &Option<Expression>,
+) -> Result<Option<ResolvedExpression>, AllocError>
+    ensures { IfOk result (λ x. ResolvesOption (scope_seen names.now locals.now) (view_option view_expression step.now) x) }
+{
+    match step {
+        None => Ok(None),
+        Some(step) => {
+            let step = resolve_expression(alloc, names, locals, step)?;
+            Ok(Some(step))
+        }
+    }
+}
+
+// The numbers that a FOR goes over.
+pub(crate) fn resolve_range(
+    alloc: Global,
+    names: &Names,
+    locals: &Locals,
+    variable: Name,
+    from: &Expression,
+    to: &Expression,
+    step: &Option<Expression>,
+) -> Result<Range, AllocError>
+    ensures { IfOk result (λ x. ResolvesRange (scope_seen names.now locals.now) variable (view_expression from.now) (view_expression to.now) (view_option view_expression step.now) x) }
+{
+    let variable = variable_of(names, locals, variable)?;
+    let first = resolve_expression(alloc, names, locals, from)?;
+    let limit = resolve_expression(alloc, names, locals, to)?;
+    let step = resolve_step(alloc, names, locals, step)?;
+    Ok(Range {
+        variable,
+        first,
+        limit,
+        step,
+    })
+}

@@ -1,0 +1,75 @@
+//! Words that stand for themselves, and variables.
+
+ghost use Rattle.std.specs.Prelude.{◌≡◌, IfOk};
+ghost use Rattle.ss_rules.specs.Seen.{scope_seen};
+ghost use Rattle.ss_check.specs.Resolving.{guard_kind_of, phrase_kind_of, relation_of, sign_of, variable_at};
+
+use ss_resolved::resolved::{
+    GuardKind as ResolvedGuardKind, PhraseKind as ResolvedPhraseKind, Relation as ResolvedRelation,
+    Sign as ResolvedSign, Variable,
+};
+use ss_rules::scope::{Locals, Names, variable_of};
+use ss_tree::condition::Relation;
+use ss_tree::expression::{Designator, Sign};
+use ss_tree::head::{GuardKind, PhraseKind};
+use std::alloc::AllocError;
+
+// The sign that a sign stands for.
+pub(crate) fn sign_of(sign: Sign) -> ResolvedSign
+    ensures { result ≡ sign_of sign }
+{
+    match sign {
+        Sign::Plus => ResolvedSign::Plus,
+        Sign::Minus => ResolvedSign::Minus,
+    }
+}
+
+// The relation that a relation stands for.
+pub(crate) fn relation_of(relation: Relation) -> ResolvedRelation
+    ensures { result ≡ relation_of relation }
+{
+    match relation {
+        Relation::Equal => ResolvedRelation::Equal,
+        Relation::NotEqual => ResolvedRelation::NotEqual,
+        Relation::Less => ResolvedRelation::Less,
+        Relation::Greater => ResolvedRelation::Greater,
+        Relation::LessOrEqual => ResolvedRelation::LessOrEqual,
+        Relation::GreaterOrEqual => ResolvedRelation::GreaterOrEqual,
+    }
+}
+
+// What a phrase does.
+pub(crate) fn phrase_kind_of(kind: PhraseKind) -> ResolvedPhraseKind
+    ensures { result ≡ phrase_kind_of kind }
+{
+    match kind {
+        PhraseKind::With => ResolvedPhraseKind::With,
+        PhraseKind::Unless => ResolvedPhraseKind::Unless,
+        PhraseKind::While => ResolvedPhraseKind::While,
+        PhraseKind::Until => ResolvedPhraseKind::Until,
+    }
+}
+
+// How a guard ends its loop.
+pub(crate) fn guard_kind_of(kind: GuardKind) -> ResolvedGuardKind
+    ensures { result ≡ guard_kind_of kind }
+{
+    match kind {
+        GuardKind::While => ResolvedGuardKind::While,
+        GuardKind::Until => ResolvedGuardKind::Until,
+    }
+}
+
+// The variable that is named. TIME.V and TIME.A are not served.
+pub(crate) fn variable_at(
+    names: &Names,
+    locals: &Locals,
+    designator: Designator,
+) -> Result<Variable, AllocError>
+    ensures { IfOk result (λ x. x ≡ variable_at (scope_seen names.now locals.now) designator) }
+{
+    match designator {
+        Designator::Name(name) => variable_of(names, locals, name),
+        Designator::TimeV | Designator::TimeA => Ok(Variable::Global { number: 0 }),
+    }
+}

@@ -1,0 +1,367 @@
+-- The code of statements.
+use Rattle.std.proofs.Common.{◌≡◌, ℕ, zero, suc, ◌+◌, ◌≤◌, Bool, true, false, List, [], ◌∷◌, ◌++◌, length, take, drop, Some, None, Ok, Err, refl, sym, ap, ◌∙◌, subst, arith, length-append}
+use Rattle.std.specs.Prelude.{slice_get, Result as OkOr}
+use Rattle.std.specs.declared.vec.Vec.{Vec}
+use Rattle.std.specs.declared.alloc.Global.{Global as TheGlobal}
+use Rattle.ss_base.specs.declared.line.Line.{Line}
+use Rattle.ss_base.specs.declared.fault.FaultKind.{FaultKind}
+use Rattle.ss_base.specs.declared.layout.Mode.{Mode}
+use Rattle.ss_base.specs.declared.value.Value.{Value}
+use Rattle.ss_resolved.specs.declared.resolved.Variable.{Variable}
+use Rattle.ss_resolved.specs.declared.resolved.Variable.TheVariants.{Global, Local}
+use Rattle.ss_resolved.specs.declared.resolved.Sign.{Sign}
+use Rattle.ss_resolved.specs.declared.resolved.Expression.{Expression}
+use Rattle.ss_resolved.specs.declared.resolved.Condition.{Condition}
+use Rattle.ss_resolved.specs.declared.resolved.Phrase.{Phrase}
+use Rattle.ss_resolved.specs.declared.resolved.Range.{Range}
+use Rattle.ss_resolved.specs.declared.resolved.Target.{Target}
+use Rattle.ss_resolved.specs.declared.resolved.Statement.{Statement, Let, Change, Print, If', While', For', Find', Call as CallRoutine, Return, Stop, Read, Skip as SkipLines, Row_of-Statement, end_of-Statement, more_of-Statement}
+use Rattle.ss_code.specs.declared.instruction.Instruction.{Instruction}
+use Rattle.ss_code.specs.declared.instruction.Instruction.TheVariants.{Calculate, Jump, Begin, Take, Next, Forget, Call, Leave, Halt, Read as ReadWord, Skip as SkipThem, Print as PrintLines}
+use Rattle.ss_input.specs.Words.{Given, value_given}
+use Rattle.ss_code.specs.Store.{Store, World, number_of, fetched, assigned, computed, printed, empty_lines, yielded}
+use Rattle.ss_code.specs.Meaning.{Turn, Returned, Stopped, Fault, Ended, Outcome, WentOn, Left, Part, and_then, if_ok, look, looked, assign, send, operator_of, value, values, holds as condition_holds, choose, GoesOn, IsFound, phrases, over_range, then_nothing, given_by, reads, assign_each, Calls, with_locals, effect, effects, body}
+use Rattle.ss_resolved.specs.Lines.{lines_of}
+use Rattle.ss_code.specs.Machine.{Frame, State, Code, To, did, sent, delivered, Goes, with_taken, Sends, next, with_rest}
+use Rattle.ss_code.specs.Translation.{variable_operand, destination_of, operand_of, expression_code, values_code, condition_code, phrases_code, bounds_code, if_code, for_code, find_code, assigns_code, reads_code, statement_code, statement_pictures, row_code, row_pictures, body_code, body_pictures}
+use Rattle.ss_code.specs.Running.{Underway}
+use Rattle.ss_code.proofs.Steps.{HasAt, has_front, has_back, Reaches, here, reaches_on, core_of, at, left_to, arrive, join}
+use Rattle.ss_code.proofs.Parts.{Runs, same, done, onto, take_them, told, told_join, told_part, told_moved, goes, rests, moved, IfWentOn, seq, seq_such, none}
+use Rattle.std.proofs.lemmas.List.{length-map}
+use Rattle.ss_code.specs.declared.instruction.Operand.{Operand}
+use Rattle.ss_code.specs.declared.instruction.Operand.TheVariants.{Popped, FromGlobal, FromLocal}
+use Rattle.ss_code.specs.declared.instruction.Destination.TheVariants.{ToGlobal, ToLocal}
+use Rattle.ss_code.specs.declared.instruction.Operator.{Operator}
+use Rattle.ss_code.proofs.Branching.{aimed, condition_run}
+use Rattle.ss_code.proofs.Looping.{Turns, leads, phrases_run, range_run, behind, while_run}
+use Rattle.ss_code.proofs.Expressions.{Holds, same_ok, shelved, holds, holds_variable, at_destination, calculates, moves, holds_popped, expression_run, values_run}
+
+drop_at : {A : Type 0} (all : List A) (place : ℕ) (i : A) → slice_get all place ≡ Some i → drop place all ≡ i ∷ drop (place + 1) all
+drop_at [] zero i h = absurd cc
+drop_at [] (suc k) i h = absurd cc
+drop_at (x ∷ xs) zero i h = let e : x ≡ i = cc in ap (λ y. y ∷ xs) e
+drop_at (x ∷ xs) (suc k) i h =
+    let e : suc (k + 1) ≡ suc k + 1 = omega arith in
+    drop_at xs k i h ∙ ap (λ j. i ∷ drop j (x ∷ xs)) e
+
+-- what stands in a list at a place is taken from it there
+pub taken_at : {A : Type 0} (all : List A) (place : ℕ) (is : List A) → HasAt all place is → take (length is) (drop place all) ≡ is
+taken_at all place [] h = refl
+taken_at all place (i ∷ is) h = ap (take (suc (length is))) (drop_at all place i h.0) ∙ ap (λ l. i ∷ l) (taken_at all (place + 1) is h.1)
+
+-- as many values as expressions
+values_length : (es : List Expression) (s : Store) (vs : List Value) → values es s ≡ Ok vs → length es ≡ length vs
+values_length [] s vs q = let e : [] ≡ vs = same_ok q in ap length e
+values_length (e ∷ es) s vs q = first (value e s) (values es s) (λ us h. values_length es s us h) q
+  where
+    first : (r : OkOr Value FaultKind) (rs : OkOr (List Value) FaultKind) → ((us : List Value) → rs ≡ Ok us → length es ≡ length us) → if_ok r (λ v. if_ok rs (λ vs. Ok (v ∷ vs))) ≡ Ok vs → length (e ∷ es) ≡ length vs
+    first (Err k) rs h q = absurd cc
+    first (Ok v) (Err k) h q = absurd cc
+    first (Ok v) (Ok us) h q = let e' : v ∷ us ≡ vs = same_ok q in ap suc (h us refl) ∙ ap length e'
+
+-- what follows a part that went on
+follow : (code : Code) (s : State) (k k' : Unit {0} → World → State) (frames : List Frame) (r : Outcome (Unit {0})) → Reaches code s (arrive k frames r) → ((u : Unit {0}) (w : World) → Reaches code (k u w) (Underway (k' u w))) → Reaches code s (arrive k' frames r)
+follow code s k k' frames (WentOn u w) g h = reaches_on g (h u w)
+follow code s k k' frames (Left e w) g h = g
+
+module _ (code : Code) (n : ℕ) where
+  assigned_is : (x : Variable) (v : Value) (place : ℕ) (stack : List Value) (frames : List Frame) (w : World) → at_destination (destination_of x) v place stack frames w ≡ at place stack frames (record w { store = assigned x v w.store })
+  assigned_is (Global k) v place stack frames w = refl
+  assigned_is (Local k) v place stack frames w = refl
+
+  -- a look whose value is assigned
+  assign_run : (l : Line) (x : Variable) (c : List Instruction) (f : Store → OkOr Value FaultKind) → ((place : ℕ) (stack : List Value) (frames : List Frame) (w : World) → HasAt code.instructions place c → Reaches code (at place stack frames w) (told l w (λ v. at_destination (destination_of x) v (place + length c) stack frames w) (f w.store))) → Runs code n same c done (λ w. and_then (look l f w) (assign x))
+  assign_run l x c f r = record {
+    by = λ place stack frames w has le.
+        let k = λ (v : Value). at (place + length c) stack frames (record w { store = assigned x v w.store }) in
+        told_part l w (at place stack frames w) k (λ u w'. at (place + length c) stack frames w') frames (f w.store) (assign x)
+        (told_moved l w (at place stack frames w) (λ v. at_destination (destination_of x) v (place + length c) stack frames w) k (f w.store) (λ v. assigned_is x v (place + length c) stack frames w)
+        (r place stack frames w has))
+        (λ v q. here);
+  }
+
+  change_last : (l : Line) (op : Operator) (x : Variable) (right : Operand) (y : Value) (place end : ℕ) (stack : List Value) (frames : List Frame) (w : World) → Holds right y w.store → slice_get code.instructions place ≡ Some (Calculate op (variable_operand x) right (destination_of x) l) → place + 1 ≡ end → Reaches code (at place (shelved right y stack) frames w) (told l w (λ v. at_destination (destination_of x) v end stack frames w) (computed op (fetched x w.store) y))
+  change_last l op (Global k) right y place end stack frames w hy has len =
+      subst (λ p. Reaches code (at place (shelved right y stack) frames w) (told l w (λ v. at_destination (ToGlobal k) v p stack frames w) (computed op (fetched (Global k) w.store) y))) len
+      (calculates code l frames w op (FromGlobal k) right (ToGlobal k) (fetched (Global k) w.store) y place stack (holds_variable (Global k) w.store) hy has)
+  change_last l op (Local k) right y place end stack frames w hy has len =
+      subst (λ p. Reaches code (at place (shelved right y stack) frames w) (told l w (λ v. at_destination (ToLocal k) v p stack frames w) (computed op (fetched (Local k) w.store) y))) len
+      (calculates code l frames w op (FromLocal k) right (ToLocal k) (fetched (Local k) w.store) y place stack (holds_variable (Local k) w.store) hy has)
+
+  change_run : (l : Line) (sign : Sign) (x : Variable) (e : Expression) → Runs code n same (expression_code l None e ++ Calculate (operator_of sign) (variable_operand x) (operand_of e) (destination_of x) l ∷ []) done (λ w. and_then (look l (λ s. if_ok (value e s) (computed (operator_of sign) (fetched x s))) w) (assign x))
+  change_run l sign x e = assign_run l x _ (λ s. if_ok (value e s) (computed (operator_of sign) (fetched x s))) (λ place stack frames w has.
+      let c = expression_code l None e in
+      let tail = Calculate (operator_of sign) (variable_operand x) (operand_of e) (destination_of x) l ∷ [] in
+      let len : place + length c + 1 ≡ place + length (c ++ tail) = omega (arith, length-append c tail) in
+      told_join l w (at place stack frames w) (λ v. at (place + length c) (shelved (operand_of e) v stack) frames w) _ (value e w.store) (computed (operator_of sign) (fetched x w.store))
+      (expression_run code l frames w e None place stack (has_front code.instructions place c tail has))
+      (λ y q. change_last l (operator_of sign) x (operand_of e) y (place + length c) (place + length (c ++ tail)) stack frames w (holds e y w.store q) (has_back code.instructions place c tail has).0 len))
+
+  -- the values that stand on the stack go into the fields of the lines
+  print_step : (first : ℕ) (pictures : List (Vec ℕ TheGlobal)) (k : ℕ) (vs : List Value) (place end : ℕ) (stack : List Value) (frames : List Frame) (w : World) → HasAt code.pictures first (lines_of pictures) → k ≡ length vs → slice_get code.instructions place ≡ Some (PrintLines first (length pictures) k) → place + 1 ≡ end → Reaches code (at place (onto vs stack) frames w) (Underway (at end stack frames (record w { report = w.report ++ printed (lines_of pictures) vs })))
+  print_step first pictures k vs place end stack frames w p len has e =
+      let c = core_of place (onto vs stack) frames w.store in
+      let lines : take (length pictures) (drop first code.pictures) ≡ lines_of pictures =
+      ap (λ j. take j (drop first code.pictures)) (sym (length-map pictures (λ p. p.items))) ∙ taken_at code.pictures first (lines_of pictures) p in
+      goes code (at place (onto vs stack) frames w) (at (place + 1) stack frames (record w { report = w.report ++ printed (lines_of pictures) vs })) (PrintLines first (length pictures) k) _ has
+      (ap (λ o. with_rest w.report w.ticks (with_taken o (λ vs rest. Sends (printed (take (length pictures) (drop first code.pictures)) vs) (next rest c)))) (take_them vs stack k len)
+      ∙ ap (λ ls. with_rest w.report w.ticks (Sends (printed ls vs) (next stack c))) lines)
+      (subst (λ j. Reaches code (at (place + 1) stack frames (record w { report = w.report ++ printed (lines_of pictures) vs })) (Underway (at j stack frames (record w { report = w.report ++ printed (lines_of pictures) vs })))) e here)
+
+  print_run : (l : Line) (first : ℕ) (items : Vec Expression TheGlobal) (pictures : Vec (Vec ℕ TheGlobal) TheGlobal) → HasAt code.pictures first (lines_of pictures.items) → Runs code n same (values_code l items.items ++ PrintLines first (length pictures.items) (length items.items) ∷ []) done (λ w. and_then (look l (values items.items) w) (λ vs. send (printed (lines_of pictures.items) vs)))
+  print_run l first items pictures p = record {
+    by = λ place stack frames w has le.
+        let c = values_code l items.items in
+        let tail = PrintLines first (length pictures.items) (length items.items) ∷ [] in
+        let len : place + length c + 1 ≡ place + length (c ++ tail) = omega (arith, length-append c tail) in
+        told_part l w (at place stack frames w) (λ vs. at (place + length c) (onto vs stack) frames w) (λ u w'. at (place + length (c ++ tail)) stack frames w') frames (values items.items w.store) (λ vs. send (printed (lines_of pictures.items) vs))
+        (values_run code l frames w items.items place (place + length c) stack (has_front code.instructions place c tail has) refl)
+        (λ vs q. print_step first pictures.items (length items.items) vs (place + length c) (place + length (c ++ tail)) stack frames w p (values_length items.items w.store vs q) (has_back code.instructions place c tail has).0 len);
+  }
+
+  -- what stands on the stack is assigned to variables in turn
+  assigns : (l : Line) (xs : List Variable) (us : List Value) → length us ≡ length xs → (place end : ℕ) (stack : List Value) (frames : List Frame) (w : World) → HasAt code.instructions place (assigns_code xs) → place + length (assigns_code xs) ≡ end → Reaches code (at place (us ++ stack) frames w) (arrive (λ u w'. at end stack frames w') frames (assign_each xs us w))
+  assigns l [] [] len place end stack frames w has e =
+      let e' : place ≡ end = omega (arith, e) in subst (λ p. Reaches code (at place stack frames w) (Underway (at p stack frames w))) e' here
+  assigns l [] (u ∷ us) len place end stack frames w has e = absurd (omega (arith, len))
+  assigns l (x ∷ xs) [] len place end stack frames w has e = absurd (omega (arith, len))
+  assigns l (x ∷ xs) (u ∷ us) len place end stack frames w has e =
+      reaches_on
+      (subst (λ s. Reaches code (at place (u ∷ (us ++ stack)) frames w) (Underway s)) (assigned_is x u (place + 1) (us ++ stack) frames w)
+      (moves code l frames w Popped (destination_of x) u place (us ++ stack) (holds_popped u w.store) has.0))
+      (assigns l xs us (omega (arith, len)) (place + 1) end stack frames (record w { store = assigned x u w.store }) has.1 (omega (arith, e)))
+
+  assigns_run : (l : Line) (xs : List Variable) (us : List Value) → length us ≡ length xs → Runs code n (λ stack. us ++ stack) (assigns_code xs) done (assign_each xs us)
+  assigns_run l xs us len = record { by = λ place stack frames w has le. assigns l xs us len place (place + length (assigns_code xs)) stack frames w has refl }
+
+  -- a word that is read goes to a variable
+  put_in : (x : Variable) (v : Value) (s : Store) (place : ℕ) (stack : List Value) (frames : List Frame) (r : List ℕ) (t : ℕ) → with_rest r t (To (delivered (destination_of x) v stack (core_of place stack frames s))) ≡ Goes (record { core = core_of (place + 1) stack frames (assigned x v s); report = r; ticks = t })
+  put_in (Global k) v s place stack frames r t = refl
+  put_in (Local k) v s place stack frames r t = refl
+
+  read_step : (l : Line) (mode : Mode) (x : Variable) (r : OkOr (Given Value) FaultKind) (place : ℕ) (stack : List Value) (frames : List Frame) (w : World) → value_given mode w.store.input ≡ r → slice_get code.instructions place ≡ Some (ReadWord mode (destination_of x) l) → Reaches code (at place stack frames w) (arrive (λ u w'. at (place + 1) stack frames w') frames (and_then (given_by l r w) (assign x)))
+  read_step l mode x (Ok g) place stack frames w q has =
+      let c = core_of place stack frames w.store in
+      let s : Store = record w.store { input = g.rest } in
+      goes code (at place stack frames w) (at (place + 1) stack frames (record w { store = assigned x g.value s })) (ReadWord mode (destination_of x) l) _ has
+      (ap (λ r. with_rest w.report w.ticks (did l r (λ g. delivered (destination_of x) g.value stack (record c { store = record c.store { input = g.rest } })))) q
+      ∙ put_in x g.value s place stack frames w.report w.ticks)
+      here
+  read_step l mode x (Err kind) place stack frames w q has =
+      let c = core_of place stack frames w.store in
+      rests code (at place stack frames w) (ReadWord mode (destination_of x) l) (Fault kind l) has
+      (ap (λ r. with_rest w.report w.ticks (did l r (λ g. delivered (destination_of x) g.value stack (record c { store = record c.store { input = g.rest } })))) q)
+
+  reads_run : (l : Line) (ts : List Target) → Runs code n same (reads_code l ts) done (reads l ts)
+  reads_run l [] = none code n tt
+  reads_run l (t ∷ ts) = seq code n {c1 = ReadWord t.mode (destination_of t.variable) l ∷ []} {mid = done} (record {
+    by = λ place stack frames w has le. read_step l t.mode t.variable (value_given t.mode w.store.input) place stack frames w refl has.0;
+  }) (λ u. reads_run l ts)
+
+  -- empty lines
+  skip_step : (l : Line) (o : Operand) (v : Value) (r : OkOr (List ℕ) FaultKind) (place end : ℕ) (stack : List Value) (frames : List Frame) (w : World) → empty_lines (number_of v) ≡ r → Holds o v w.store → slice_get code.instructions place ≡ Some (SkipThem o l) → place + 1 ≡ end → Reaches code (at place (shelved o v stack) frames w) (arrive (λ u w'. at end stack frames w') frames (and_then (looked l r w) send))
+  skip_step l o v (Ok bytes) place end stack frames w q h has e =
+      let c = core_of place (shelved o v stack) frames w.store in
+      goes code (at place (shelved o v stack) frames w) (at (place + 1) stack frames (record w { report = w.report ++ bytes })) (SkipThem o l) _ has
+      (ap (with_rest w.report w.ticks) (h.by stack (λ v rest. sent l (empty_lines (number_of v)) (next rest c)))
+      ∙ ap (λ r. with_rest w.report w.ticks (sent l r (next stack c))) q)
+      (subst (λ p. Reaches code (at (place + 1) stack frames (record w { report = w.report ++ bytes })) (Underway (at p stack frames (record w { report = w.report ++ bytes })))) e here)
+  skip_step l o v (Err kind) place end stack frames w q h has e =
+      let c = core_of place (shelved o v stack) frames w.store in
+      rests code (at place (shelved o v stack) frames w) (SkipThem o l) (Fault kind l) has
+      (ap (with_rest w.report w.ticks) (h.by stack (λ v rest. sent l (empty_lines (number_of v)) (next rest c)))
+      ∙ ap (λ r. with_rest w.report w.ticks (sent l r (next stack c))) q)
+
+  look_on : {A B C : Type 0} (l : Line) (w : World) (s : State) (k : A → State) (k' : C → World → State) (frames : List Frame) (r : OkOr A FaultKind) (f : A → OkOr B FaultKind) (go : B → Part C) → Reaches code s (told l w k r) → ((a : A) → r ≡ Ok a → Reaches code (k a) (arrive k' frames (and_then (looked l (f a) w) go))) → Reaches code s (arrive k' frames (and_then (looked l (if_ok r f) w) go))
+  look_on l w s k k' frames (Ok a) f go g h = reaches_on g (h a refl)
+  look_on l w s k k' frames (Err kind) f go g h = g
+
+  skip_run : (l : Line) (e : Expression) → Runs code n same (expression_code l None e ++ SkipThem (operand_of e) l ∷ []) done (λ w. and_then (look l (λ s. if_ok (value e s) (λ v. empty_lines (number_of v))) w) send)
+  skip_run l e = record {
+    by = λ place stack frames w has le.
+        let c = expression_code l None e in
+        let tail = SkipThem (operand_of e) l ∷ [] in
+        let end = place + length (c ++ tail) in
+        let len : place + length c + 1 ≡ end = omega (arith, length-append c tail) in
+        look_on l w (at place stack frames w) (λ v. at (place + length c) (shelved (operand_of e) v stack) frames w) (λ u w'. at end stack frames w') frames (value e w.store) (λ v. empty_lines (number_of v)) send
+        (expression_run code l frames w e None place stack (has_front code.instructions place c tail has))
+        (λ v q. skip_step l (operand_of e) v (empty_lines (number_of v)) (place + length c) end stack frames w refl (holds e v w.store q) (has_back code.instructions place c tail has).0 len);
+  }
+
+  -- a choice between two sides
+  if_run : (l : Line) (c : Condition) (ca cb : List Instruction) (ma mb : Part (Unit {0})) → Runs code n same ca done ma → Runs code n same cb done mb → Runs code n same (if_code l c ca cb) done (λ w. and_then (look l (condition_holds c) w) (λ t. choose t ma mb))
+  if_run l c ca cb ma mb ra rb = record {
+    by = λ place stack frames w has le.
+        let ct = condition_code l (length ca + 1) c in
+        let tail = ca ++ Jump (length cb) ∷ cb in
+        let mid = place + length ct in
+        let end = place + length (if_code l c ca cb) in
+        let len : mid + length ca + 1 + length cb ≡ end = omega (arith, length-append ct tail, length-append ca (Jump (length cb) ∷ cb)) in
+        told_part l w (at place stack frames w) (aimed code l frames w mid (length ca + 1) stack) (λ u w'. at end stack frames w') frames (condition_holds c w.store) (λ t. choose t ma mb)
+        (condition_run code l frames w c (length ca + 1) place mid stack (has_front code.instructions place ct tail has) refl)
+        (λ t q. sides t mid end stack frames w (has_back code.instructions place ct tail has) len le);
+  }
+    where
+      sides : (t : Bool) (mid end : ℕ) (stack : List Value) (frames : List Frame) (w : World) → HasAt code.instructions mid (ca ++ Jump (length cb) ∷ cb) → mid + length ca + 1 + length cb ≡ end → w.ticks ≤ n → Reaches code (aimed code l frames w mid (length ca + 1) stack t) (arrive (λ u w'. at end stack frames w') frames (choose t ma mb w))
+      sides true mid end stack frames w h e le =
+          follow code (at mid stack frames w) (λ u w'. at (mid + length ca) stack frames w') (λ u w'. at end stack frames w') frames (ma w)
+          (ra.by mid stack frames w (has_front code.instructions mid ca _ h) le)
+          (λ u w'. goes code (at (mid + length ca) stack frames w') (at (mid + length ca + 1 + length cb) stack frames w') (Jump (length cb)) _ (has_back code.instructions mid ca _ h).0 refl
+          (subst (λ p. Reaches code (at (mid + length ca + 1 + length cb) stack frames w') (Underway (at p stack frames w'))) e here))
+      sides false mid end stack frames w h e le =
+          let k : mid + length ca + 1 ≡ mid + (length ca + 1) = omega arith in
+          subst (λ p. Reaches code (at p stack frames w) (arrive (λ u w'. at end stack frames w') frames (mb w))) k
+          (moved code (mid + length ca + 1 + length cb) end stack frames done e (at (mid + length ca + 1) stack frames w) (mb w)
+          (rb.by (mid + length ca + 1) stack frames w (has_back code.instructions mid ca _ h).1 le))
+
+  -- a turn that only does the body
+  body_turn : (cb : List Instruction) (mb : Part (Unit {0})) → Runs code n same cb done mb → Turns code n 1 cb (λ w. and_then (mb w) (λ u. WentOn GoesOn))
+  body_turn cb mb r = record {
+    by = λ place stack frames w has le.
+        join (at place stack frames w) (λ u w'. at (place + length cb) stack frames w') (λ t w'. at (leads t (place + length cb) 1) stack frames w') frames (mb w) (λ u. WentOn GoesOn)
+        (r.by place stack frames w has le) (λ u w' fewer. here);
+  }
+
+  -- where the next item of a FOR is found, and the ends behind it
+  abbrev next_at : Line → Range → List Instruction → ℕ → ℕ
+  next_at l f turn place = place + length (bounds_code l f) + 1 + 1 + length turn
+
+  for_length : (l : Line) (f : Range) (turn : List Instruction) (place : ℕ) → place + length (for_code l f turn) ≡ next_at l f turn place + 2
+  for_length l f turn place = omega (arith, length-append (bounds_code l f) (Begin (length turn + 2) l ∷ (Take f.variable ∷ (turn ++ (Next (length turn + 1) ∷ Forget ∷ [])))), length-append turn (Next (length turn + 1) ∷ Forget ∷ []))
+
+  forgets : (l : Line) (f : Range) (turn : List Instruction) (place : ℕ) → HasAt code.instructions place (for_code l f turn) → slice_get code.instructions (next_at l f turn place + 1) ≡ Some Forget
+  forgets l f turn place has =
+      let h = has_back code.instructions place (bounds_code l f) (Begin (length turn + 2) l ∷ (Take f.variable ∷ (turn ++ (Next (length turn + 1) ∷ Forget ∷ [])))) has in
+      (has_back code.instructions (place + length (bounds_code l f) + 1 + 1) turn (Next (length turn + 1) ∷ Forget ∷ []) h.1.1).1.0
+
+  for_run : (l : Line) (f : Range) (turn : List Instruction) (m : Part Turn) → Turns code n 1 turn m → Runs code n same (for_code l f turn) done (λ w. then_nothing (over_range n l f m w))
+  for_run l f turn m rt = record {
+    by = λ place stack frames w has le.
+        let end = next_at l f turn place in
+        let e = for_length l f turn place in
+        join (at place stack frames w) (λ b w'. at (behind code n 1 l f.variable turn m rt b end) stack frames w') (λ u w'. at (place + length (for_code l f turn)) stack frames w') frames (over_range n l f m w) (λ b. WentOn tt)
+        (range_run code n 1 l f turn m rt place end stack frames w has e (forgets l f turn place has) le)
+        (λ b w' fewer. ends b place end stack frames w' e);
+  }
+    where
+      ends : (b : Bool) (place end : ℕ) (stack : List Value) (frames : List Frame) (w : World) → place + length (for_code l f turn) ≡ end + 2 → Reaches code (at (behind code n 1 l f.variable turn m rt b end) stack frames w) (Underway (at (place + length (for_code l f turn)) stack frames w))
+      ends false place end stack frames w e =
+          let k : end + 1 + 1 ≡ place + length (for_code l f turn) = omega (arith, e) in
+          subst (λ p. Reaches code (at (end + 1 + 1) stack frames w) (Underway (at p stack frames w))) k here
+      ends true place end stack frames w e =
+          let k : end + 1 + 1 ≡ place + length (for_code l f turn) = omega (arith, e) in
+          subst (λ p. Reaches code (at (end + 1 + 1) stack frames w) (Underway (at p stack frames w))) k here
+
+  -- the turn of a FIND: the case is found
+  case_turn : (found : ℕ) → Turns code n found (Jump found ∷ []) (WentOn IsFound)
+  case_turn found = record {
+    by = λ place stack frames w has le. goes code (at place stack frames w) (at (place + 1 + found) stack frames w) (Jump found) _ has.0 refl here;
+  }
+
+  find_run : (l : Line) (f : Range) (ps : List Phrase) (ca cb : List Instruction) (ma mb : Part (Unit {0})) → Runs code n same ca done ma → Runs code n same cb done mb → Runs code n same (find_code l f ps ca cb) done (λ w. and_then (over_range n l f (phrases l ps (WentOn IsFound)) w) (λ t. choose t ma mb))
+  find_run l f ps ca cb ma mb ra rb = record {
+    by = λ place stack frames w has le.
+        let turn = phrases_code l ps (Jump (length cb + 3) ∷ []) in
+        let m = phrases l ps (WentOn IsFound) in
+        let rt = phrases_run code n (length cb + 3) l ps (Jump (length cb + 3) ∷ []) (WentOn IsFound) (case_turn (length cb + 3)) in
+        let front = for_code l f turn in
+        let tail = cb ++ Jump (length ca + 1) ∷ (Forget ∷ ca) in
+        let end = next_at l f turn place in
+        let e = for_length l f turn place in
+        let last = place + length (find_code l f ps ca cb) in
+        let len : end + 2 + length cb + 1 + 1 + length ca ≡ last = omega (arith, e, length-append front tail, length-append cb (Jump (length ca + 1) ∷ (Forget ∷ ca))) in
+        let h = subst (λ p. HasAt code.instructions p tail) e (has_back code.instructions place front tail has) in
+        let h2 = has_back code.instructions (end + 2) cb (Jump (length ca + 1) ∷ (Forget ∷ ca)) h in
+        let e2 : end + 2 + length cb + 1 ≡ end + (length cb + 3) = omega arith in
+        join (at place stack frames w) (λ b w'. at (behind code n (length cb + 3) l f.variable turn m rt b end) stack frames w') (λ u w'. at last stack frames w') frames (over_range n l f m w) (λ t. choose t ma mb)
+        (range_run code n (length cb + 3) l f turn m rt place end stack frames w (has_front code.instructions place front tail has) e (subst (λ p. slice_get code.instructions p ≡ Some Forget) e2 h2.1.0) le)
+        (λ b w' fewer. sides b turn m rt end last stack frames w' h len (omega arith));
+  }
+    where
+      sides : (b : Bool) (turn : List Instruction) (m : Part Turn) (rt : Turns code n (length cb + 3) turn m) (end last : ℕ) (stack : List Value) (frames : List Frame) (w : World) → HasAt code.instructions (end + 2) (cb ++ Jump (length ca + 1) ∷ (Forget ∷ ca)) → end + 2 + length cb + 1 + 1 + length ca ≡ last → w.ticks ≤ n → Reaches code (at (behind code n (length cb + 3) l f.variable turn m rt b end) stack frames w) (arrive (λ u w'. at last stack frames w') frames (choose b ma mb w))
+      sides true turn m rt end last stack frames w h len le =
+          let e : end + 2 + length cb + 1 + 1 ≡ end + (length cb + 3) + 1 = omega arith in
+          let h2 = (has_back code.instructions (end + 2) cb (Jump (length ca + 1) ∷ (Forget ∷ ca)) h).1.1 in
+          subst (λ p. Reaches code (at p stack frames w) (arrive (λ u w'. at last stack frames w') frames (ma w))) e
+          (moved code (end + 2 + length cb + 1 + 1 + length ca) last stack frames done len (at (end + 2 + length cb + 1 + 1) stack frames w) (ma w)
+          (ra.by (end + 2 + length cb + 1 + 1) stack frames w h2 le))
+      sides false turn m rt end last stack frames w h len le =
+          let e : end + 2 ≡ end + 1 + 1 = omega arith in
+          let e3 : end + 2 + length cb + 1 + (length ca + 1) ≡ last = omega (arith, len) in
+          let hj = (has_back code.instructions (end + 2) cb (Jump (length ca + 1) ∷ (Forget ∷ ca)) h).0 in
+          subst (λ p. Reaches code (at p stack frames w) (arrive (λ u w'. at last stack frames w') frames (mb w))) e
+          (follow code (at (end + 2) stack frames w) (λ u w'. at (end + 2 + length cb) stack frames w') (λ u w'. at last stack frames w') frames (mb w)
+          (rb.by (end + 2) stack frames w (has_front code.instructions (end + 2) cb _ h) le)
+          (λ u w'. goes code (at (end + 2 + length cb) stack frames w') (at (end + 2 + length cb + 1 + (length ca + 1)) stack frames w') (Jump (length ca + 1)) _ hj refl
+          (subst (λ p. Reaches code (at (end + 2 + length cb + 1 + (length ca + 1)) stack frames w') (Underway (at p stack frames w'))) e3 here)))
+
+  return_run : Runs code n same (Leave ∷ []) done (Left Returned)
+  return_run = record { by = λ place stack frames w has le. leaves place stack frames w has.0 }
+    where
+      leaves : (place : ℕ) (stack : List Value) (frames : List Frame) (w : World) → slice_get code.instructions place ≡ Some Leave → Reaches code (at place stack frames w) (left_to Returned frames w)
+      leaves place stack [] w has = rests code (at place stack [] w) Leave Ended has refl
+      leaves place stack (f ∷ fs) w has =
+          goes code (at place stack (f ∷ fs) w) (at f.back (yielded f.first f.count w.store.locals ++ f.operands) fs (with_locals f.locals w)) Leave _ has refl here
+
+  stop_run : Runs code n same (Halt ∷ []) done (Left Stopped)
+  stop_run = record { by = λ place stack frames w has le. rests code (at place stack frames w) Halt Ended has.0 refl }
+
+  -- several values on the stack
+  values_runs : (l : Line) (es : List Expression) → Runs code n same (values_code l es) onto (look l (values es))
+  values_runs l es = record {
+    by = λ place stack frames w has le. told_arrive l w (at place stack frames w) (λ vs. at (place + length (values_code l es)) (onto vs stack) frames w) (λ vs w'. at (place + length (values_code l es)) (onto vs stack) frames w') frames (values es w.store) (λ vs. refl) (values_run code l frames w es place (place + length (values_code l es)) stack has refl);
+  }
+    where
+      told_arrive : {A : Type 0} (l : Line) (w : World) (s : State) (k : A → State) (k' : A → World → State) (frames : List Frame) (r : OkOr A FaultKind) → ((a : A) → k a ≡ k' a w) → Reaches code s (told l w k r) → Reaches code s (arrive k' frames (looked l r w))
+      told_arrive l w s k k' frames (Ok a) e g = subst (λ t. Reaches code s (Underway t)) (e a) g
+      told_arrive l w s k k' frames (Err kind) e g = g
+
+  values_such : (l : Line) (es : List Expression) (w : World) → IfWentOn (λ vs. length es ≡ length vs) (look l (values es) w)
+  values_such l es w = such (values es w.store) refl
+    where
+      such : (r : OkOr (List Value) FaultKind) → values es w.store ≡ r → IfWentOn (λ vs. length es ≡ length vs) (looked l r w)
+      such (Ok vs) q = values_length es w.store vs q
+      such (Err kind) q = tt
+
+-- the code of a call does what h says
+pub record CallsRun (code : Code) (n : ℕ) (h : Calls) : Type 0 where
+  pub by : (r given count : ℕ) (vs : List Value) → given ≡ length vs → Runs code n (onto vs) (Call r given count ∷ []) (λ us stack. us ++ stack) (h r vs count)
+  pub such : (r count : ℕ) (vs : List Value) (w : World) → IfWentOn (λ us. length us ≡ count) (h r vs count w)
+
+module _ (code : Code) (n : ℕ) (h : Calls) (ok : CallsRun code n h) where
+  mutual
+    -- a statement whose pictures stand in the table of pictures
+    pub statement_run : (first : ℕ) (s : Statement) → HasAt code.pictures first (statement_pictures s) → Runs code n same (statement_code first s) done (effect h n s)
+    statement_run first (Let l x e) p = assign_run code n l x _ (value e) (λ place stack frames w has. expression_run code l frames w e (Some (destination_of x)) place stack has)
+    statement_run first (Change l sign x e) p = change_run code n l sign x e
+    statement_run first (Print l items pictures) p = print_run code n l first items pictures p
+    statement_run first (If' l c pa a pb b) p =
+        if_run code n l c _ _ (effects h n a) (effects h n b) (row_run first a (has_front code.pictures first (row_pictures a) (row_pictures b) p))
+        (row_run (first + length (row_pictures a)) b (has_back code.pictures first (row_pictures a) (row_pictures b) p))
+    statement_run first (While' l guards pa a) p = while_run code n l guards.items _ (effects h n a) (row_run first a p)
+    statement_run first (For' l f ps pa a) p =
+        for_run code n l f (phrases_code l ps.items (row_code first a)) (phrases l ps.items (λ w. and_then (effects h n a w) (λ u. WentOn GoesOn)))
+        (phrases_run code n 1 l ps.items (row_code first a) (λ w. and_then (effects h n a w) (λ u. WentOn GoesOn)) (body_turn code n (row_code first a) (effects h n a) (row_run first a p)))
+    statement_run first (Find' l f ps pa a pb b) p =
+        find_run code n l f ps.items _ _ (effects h n a) (effects h n b) (row_run first a (has_front code.pictures first (row_pictures a) (row_pictures b) p))
+        (row_run (first + length (row_pictures a)) b (has_back code.pictures first (row_pictures a) (row_pictures b) p))
+    statement_run first (CallRoutine l routine given yielding) p =
+        seq_such code n (λ vs. length given.items ≡ length vs) (values_such code n l given.items) (values_runs code n l given.items) (λ vs len.
+        seq_such code n (λ us. length us ≡ length yielding.items) (ok.such routine (length yielding.items) vs) (ok.by routine (length given.items) (length yielding.items) vs len) (λ us len'.
+        assigns_run code n l yielding.items us len'))
+    statement_run first Return p = return_run code n
+    statement_run first Stop p = stop_run code n
+    statement_run first (Read l targets) p = reads_run code n l targets.items
+    statement_run first (SkipLines l e) p = skip_run code n l e
+
+    row_run : {m : _} (first : ℕ) (r : Row_of-Statement m) → HasAt code.pictures first (row_pictures r) → Runs code n same (row_code first r) done (effects h n r)
+    row_run first end_of-Statement p = none code n tt
+    row_run first (more_of-Statement s rest) p =
+        seq code n (statement_run first s (has_front code.pictures first (statement_pictures s) (row_pictures rest) p))
+        (λ u. row_run (first + length (statement_pictures s)) rest (has_back code.pictures first (statement_pictures s) (row_pictures rest) p))
+
+  pub body_run : (first : ℕ) (ss : List Statement) → HasAt code.pictures first (body_pictures ss) → Runs code n same (body_code first ss) done (body h n ss)
+  body_run first [] p = none code n tt
+  body_run first (s ∷ ss) p =
+      seq code n (statement_run first s (has_front code.pictures first (statement_pictures s) (body_pictures ss) p))
+      (λ u. body_run (first + length (statement_pictures s)) ss (has_back code.pictures first (statement_pictures s) (body_pictures ss) p))

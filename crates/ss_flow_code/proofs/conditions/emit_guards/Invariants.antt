@@ -1,6 +1,0 @@
-use Rattle.std.proofs.Common.{◌≡◌, drop}
-use Rattle.ss_flow_code.specs.Translation.{guards_code}
-use Rattle.ss_flow_code.proofs.conditions.emit_guards.Given as goal
-
-abbrev pub invariant-loop-i : goal.invariant-loop-i
-invariant-loop-i l = l.rest.items ≡ guards_code l.line l.skip (drop l.i l.guards)

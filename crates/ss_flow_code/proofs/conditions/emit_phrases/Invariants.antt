@@ -1,6 +1,0 @@
-use Rattle.std.proofs.Common.{◌≡◌, drop}
-use Rattle.ss_flow_code.specs.Translation.{phrases_code}
-use Rattle.ss_flow_code.proofs.conditions.emit_phrases.Given as goal
-
-abbrev pub invariant-loop-i : goal.invariant-loop-i
-invariant-loop-i l = l.rest.items ≡ phrases_code l.line (drop l.i l.phrases) l.fn.turn.items

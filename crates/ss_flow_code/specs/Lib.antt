@@ -1,9 +1,0 @@
-pub mod Store
-pub mod Meaning
-pub mod Machine
-pub mod Running
-pub mod Translation
-pub mod Rows
-pub mod Nodes
-pub mod Laws
-pub mod Listing

@@ -1,6 +1,0 @@
-mod Stacked
-mod Alike
-mod Known
-mod Stepping
-mod Onwards
-mod Ending

@@ -1,7 +1,0 @@
-use Rattle.ss_flow_code.specs.Running.{begins, changed}
-use Rattle.ss_flow_machine.proofs.machine.Machine.new.Goals as goal
-
-pub invariant_of-result : goal.invariant_of-result
-invariant_of-result c = λ _. record {
-  ready = λ input report ticks. rw (c.new.ensures, c.new-2.ensures, c.in_ok-globals.ensures, c.in_ok-locals.ensures, c.globals.ensures, c.locals.ensures) (changed (begins input ticks) input report ticks);
-}

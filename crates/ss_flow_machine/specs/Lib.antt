@@ -1,6 +1,0 @@
-pub mod Holding
-pub mod Sent
-pub mod Runs
-pub mod Measure
-pub mod Held
-pub mod Sources

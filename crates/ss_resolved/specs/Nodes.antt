@@ -1,0 +1,118 @@
+-- The size of a tree.
+use Rattle.std.specs.Prelude.{ℕ, ◌+◌, List, [], ◌∷◌, length, Option, Some, None}
+use Rattle.ss_resolved.specs.declared.resolved.Expression.{Expression, Constant, Fetch, Signed', Sum', Product', Applied', Absolute', Row_of-Expression, end_of-Expression, more_of-Expression, Row_of-Expression-Sum-1-2, end_of-Expression-Sum-1-2, more_of-Expression-Sum-1-2}
+use Rattle.ss_resolved.specs.declared.resolved.Test.{Test}
+use Rattle.ss_resolved.specs.declared.resolved.Test.TheVariants.{Compare, DataEnded}
+use Rattle.ss_resolved.specs.declared.resolved.Conjunction.{Conjunction}
+use Rattle.ss_resolved.specs.declared.resolved.Condition.{Condition}
+use Rattle.ss_resolved.specs.declared.resolved.Guard.{Guard}
+use Rattle.ss_resolved.specs.declared.resolved.Phrase.{Phrase}
+use Rattle.ss_resolved.specs.declared.resolved.Range.{Range}
+use Rattle.ss_resolved.specs.declared.resolved.Section.{Section}
+use Rattle.ss_resolved.specs.declared.resolved.Statement.{Statement, Let, Change, Print, If', While', For', Find', Call, Return, Stop, Read, Skip, Row_of-Statement, end_of-Statement, more_of-Statement}
+use Rattle.ss_resolved.specs.declared.resolved.Resolved.{Resolved}
+
+abbrev mutual
+  -- one for each number, text, name, sign, operator and function in an expression
+  pub expression_nodes : Expression → ℕ
+  expression_nodes (Constant v) = 1
+  expression_nodes (Fetch x) = 1
+  expression_nodes (Signed' sign p e) = expression_nodes e + 1
+  expression_nodes (Sum' p e h terms) = expression_nodes e + sum_nodes terms
+  expression_nodes (Product' p e h factors) = expression_nodes e + product_nodes factors
+  expression_nodes (Applied' function p a q b) = expression_nodes a + expression_nodes b + 1
+  expression_nodes (Absolute' p e) = expression_nodes e + 1
+
+  -- an operator before each further term; a sum of one term, which no text has, counts as one
+  pub sum_nodes : {m : _} → Row_of-Expression-Sum-1-2 m → ℕ
+  sum_nodes end_of-Expression-Sum-1-2 = 1
+  sum_nodes (more_of-Expression-Sum-1-2 sign e rest) = expression_nodes e + 1 + terms_nodes rest
+
+  pub terms_nodes : {m : _} → Row_of-Expression-Sum-1-2 m → ℕ
+  terms_nodes end_of-Expression-Sum-1-2 = 0
+  terms_nodes (more_of-Expression-Sum-1-2 sign e rest) = expression_nodes e + 1 + terms_nodes rest
+
+  pub product_nodes : {m : _} → Row_of-Expression m → ℕ
+  product_nodes end_of-Expression = 1
+  product_nodes (more_of-Expression e rest) = expression_nodes e + 1 + factors_nodes rest
+
+  pub factors_nodes : {m : _} → Row_of-Expression m → ℕ
+  factors_nodes end_of-Expression = 0
+  factors_nodes (more_of-Expression e rest) = expression_nodes e + 1 + factors_nodes rest
+
+abbrev pub expressions_nodes : List Expression → ℕ
+expressions_nodes [] = 0
+expressions_nodes (e ∷ es) = expression_nodes e + expressions_nodes es
+
+-- a test is a node
+abbrev pub test_nodes : Test → ℕ
+test_nodes (Compare left relation right) = 1 + expression_nodes left + expression_nodes right
+test_nodes (DataEnded negated) = 1
+
+abbrev pub tests_nodes : List Test → ℕ
+tests_nodes [] = 0
+tests_nodes (t ∷ ts) = test_nodes t + tests_nodes ts
+
+-- AND and OR are none; an alternative without a test, which no text has, counts as one
+abbrev pub alternative_nodes : List Test → ℕ
+alternative_nodes [] = 1
+alternative_nodes (t ∷ ts) = test_nodes t + tests_nodes ts
+
+abbrev pub alternatives_nodes : List Conjunction → ℕ
+alternatives_nodes [] = 0
+alternatives_nodes (c ∷ cs) = alternative_nodes c.tests.items + alternatives_nodes cs
+
+-- and so does a condition without an alternative
+abbrev pub some_nodes : List Conjunction → ℕ
+some_nodes [] = 1
+some_nodes (c ∷ cs) = alternative_nodes c.tests.items + alternatives_nodes cs
+
+abbrev pub condition_nodes : Condition → ℕ
+condition_nodes c = some_nodes c.alternatives.items
+
+abbrev pub guards_nodes : List Guard → ℕ
+guards_nodes [] = 0
+guards_nodes (g ∷ gs) = condition_nodes g.condition + guards_nodes gs
+
+abbrev pub phrases_nodes : List Phrase → ℕ
+phrases_nodes [] = 0
+phrases_nodes (p ∷ ps) = 1 + condition_nodes p.condition + phrases_nodes ps
+
+abbrev pub step_nodes : Option Expression → ℕ
+step_nodes None = 0
+step_nodes (Some e) = expression_nodes e
+
+abbrev pub range_nodes : Range → ℕ
+range_nodes r = 1 + expression_nodes r.first + expression_nodes r.limit + step_nodes r.step
+
+abbrev mutual
+  -- a statement is a node, and so is each name and each picture in it
+  pub statement_nodes : Statement → ℕ
+  statement_nodes (Let l x e) = 2 + expression_nodes e
+  statement_nodes (Change l sign x e) = 2 + expression_nodes e
+  statement_nodes (Print l items pictures) = 1 + expressions_nodes items.items + length pictures.items
+  statement_nodes (If' l c p a q b) = 1 + condition_nodes c + row_nodes a + row_nodes b
+  statement_nodes (While' l guards p a) = 1 + guards_nodes guards.items + row_nodes a
+  statement_nodes (For' l r ps p a) = 1 + range_nodes r + phrases_nodes ps.items + row_nodes a
+  statement_nodes (Find' l r ps p a q b) = 1 + range_nodes r + phrases_nodes ps.items + row_nodes a + row_nodes b
+  statement_nodes (Call l routine given yielding) = 2 + expressions_nodes given.items + length yielding.items
+  statement_nodes Return = 1
+  statement_nodes Stop = 1
+  statement_nodes (Read l targets) = 1 + length targets.items
+  statement_nodes (Skip l e) = 1 + expression_nodes e
+
+  pub row_nodes : {m : _} → Row_of-Statement m → ℕ
+  row_nodes end_of-Statement = 0
+  row_nodes (more_of-Statement s rest) = statement_nodes s + row_nodes rest
+
+abbrev pub body_nodes : List Statement → ℕ
+body_nodes [] = 0
+body_nodes (s ∷ ss) = statement_nodes s + body_nodes ss
+
+abbrev pub sections_nodes : List Section → ℕ
+sections_nodes [] = 0
+sections_nodes (r ∷ rs) = 1 + body_nodes r.body.items + sections_nodes rs
+
+-- how many nodes a program has: a section is one, and so is each name that is declared
+abbrev pub nodes : Resolved → ℕ
+nodes p = body_nodes p.main.body.items + 1 + sections_nodes p.routines.items

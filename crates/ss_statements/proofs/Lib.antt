@@ -1,0 +1,4 @@
+pub mod FirstWords
+pub mod StatementParts
+pub mod SimpleLaws
+pub mod StatementLaws

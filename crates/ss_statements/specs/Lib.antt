@@ -1,0 +1,2 @@
+pub mod SpelledStatements
+pub mod ReadStatements

@@ -1,0 +1,6 @@
+//! Statements: from tokens to their trees.
+#![tactic(auto)]
+
+mod parts;
+mod simple;
+pub mod statements;
