@@ -21,7 +21,7 @@ pub(crate) mod ties;
 pub(crate) mod words;
 
 pub use commands::{
-    Answer, Command, commands_leave_other_sets, filing_leaves_other_sets,
+    Answer, Command, commands_leave_other_sets, filing_changes_its_set, filing_leaves_other_sets,
     other_calls_leave_the_sets,
 };
 pub use heap::Heap;
