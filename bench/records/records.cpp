@@ -1,9 +1,9 @@
 // The same steps by the standard containers of C++: a std::list with the place of each member in a vector, and records
-// by new and delete, found by a std::unordered_map.
+// by new and delete, found by a std::unordered_map. Churn goes by a list whose links stand in the records.
 //
-// For each number of records on the command line it prints a line: that number, the nanoseconds of a turn, of a move
-// and of a replacement, each in the fastest of several rounds, and sums of what was taken out, of the order at the end
-// and of what was destroyed.
+// For each number of records on the command line it prints a line: that number, the nanoseconds of a turn, of a move,
+// of a replacement and of churn, each in the fastest of several rounds, and sums of what was taken out, of the order at
+// the end, of what was destroyed in replacements and in churn.
 #include <chrono>
 #include <cstdint>
 #include <cstdio>
@@ -23,12 +23,40 @@ struct Draws {
     }
 };
 
-// As many words as a record has there.
+struct Line;
+
+// As many words as a record has there. The line that it is in leads to it, and it to its neighbours and the line.
 struct Record {
     int64_t kind;
     int64_t number;
     int64_t values[2];
-    Record *links[3];
+    Record *next, *previous;
+    Line *line;
+};
+
+// A list whose links stand in the records.
+struct Line {
+    Record *first = nullptr, *last = nullptr;
+    int64_t count = 0;
+
+    void put(Record *x) {
+        x->next = nullptr;
+        x->previous = last;
+        x->line = this;
+        (last ? last->next : first) = x;
+        last = x;
+        count++;
+    }
+
+    Record *take() {
+        Record *x = first;
+        first = x->next;
+        (first ? first->previous : last) = nullptr;
+        x->next = x->previous = nullptr;
+        x->line = nullptr;
+        count--;
+        return x;
+    }
 };
 
 static uint64_t joined(uint64_t sum, int64_t x) { return sum * 31 + (uint64_t)x; }
@@ -44,6 +72,24 @@ template <typename Round> static double fastest(Round round) {
     return best / STEPS;
 }
 
+// The nanoseconds of churn, and the sum of what was destroyed: a new record goes to the end, the first is destroyed.
+static double measure_churn(uint32_t entries, uint64_t &destroyed) {
+    Line line;
+    int64_t last = 0;
+    auto arrive = [&] { line.put(new Record{0, ++last, {0, 0}, nullptr, nullptr, nullptr}); };
+    for (uint32_t i = 0; i < entries; i++) arrive();
+    double churns = fastest([&] {
+        for (int i = 0; i < STEPS; i++) {
+            arrive();
+            Record *first = line.take();
+            destroyed = joined(destroyed, first->number);
+            delete first;
+        }
+    });
+    while (line.count > 0) delete line.take();
+    return churns;
+}
+
 static void measure(uint32_t entries) {
     Draws draws;
     std::list<int64_t> line;
@@ -51,10 +97,11 @@ static void measure(uint32_t entries) {
     std::vector<int64_t> living;
     std::unordered_map<int64_t, Record *> records;
     int64_t last = 0;
-    uint64_t taken = 0, order = 0, destroyed = 0;
+    uint64_t taken = 0, order = 0, replaced = 0, destroyed = 0;
+    double churns = measure_churn(entries, destroyed);
     auto create = [&] {
         last++;
-        records.emplace(last, new Record{0, last, {0, 0}, {nullptr, nullptr, nullptr}});
+        records.emplace(last, new Record{0, last, {0, 0}, nullptr, nullptr, nullptr});
         return last;
     };
     for (uint32_t i = 0; i < entries; i++) {
@@ -88,14 +135,15 @@ static void measure(uint32_t entries) {
             if (found != records.end()) {
                 delete found->second;
                 records.erase(found);
-                destroyed = joined(destroyed, place);
+                replaced = joined(replaced, place);
             }
             place = create();
         }
     });
-    printf("%u %.1f %.1f %.1f %llu %llu %llu\n", entries, turns, moves, replacements, (unsigned long long)taken,
-           (unsigned long long)order, (unsigned long long)destroyed);
     for (auto &entry : records) delete entry.second;
+    printf("%u %.1f %.1f %.1f %.1f %llu %llu %llu %llu\n", entries, turns, moves, replacements, churns,
+           (unsigned long long)taken, (unsigned long long)order, (unsigned long long)replaced,
+           (unsigned long long)destroyed);
 }
 
 int main(int argc, char **argv) {

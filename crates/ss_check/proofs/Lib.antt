@@ -1,3 +1,4 @@
 mod Trees
 mod Rows
 mod Sections
+mod Sizes

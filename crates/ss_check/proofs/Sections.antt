@@ -10,11 +10,17 @@ use Rattle.ss_resolved.specs.declared.resolved.Section.{Section}
 use Rattle.ss_resolved.specs.declared.resolved.Resolved.{Resolved}
 use Rattle.ss_tables.specs.declared.kind.Kind.{Kind}
 use Rattle.ss_tables.specs.Declarations.{NameBytes, kind_of}
+use Rattle.ss_tables.specs.Layouts.{shape_of, classes_laid, sets_laid}
 use Rattle.ss_tables.specs.Tables.{kind_among}
 use Rattle.ss_rules.specs.declared.scope.Names.{Names}
-use Rattle.ss_rules.specs.Scopes.{Scope, is_routine_section, scope_of, sections_of}
-use Rattle.ss_rules.specs.Seen.{AreNamesOf, scope_in}
+use Rattle.ss_tables.specs.declared.saying.Saying.{Saying}
+use Rattle.ss_rules.specs.declared.scope.Locals.{Locals}
+use Rattle.ss_tables.specs.Sayings.{sayings}
+use Rattle.ss_rules.specs.Scopes.{Scope, scope_of, is_routine_section, sections_of}
+use Rattle.ss_rules.specs.Seen.{AreNamesOf, scope_in, scope_seen}
 use Rattle.ss_rules.specs.Given.{scope_given}
+use Rattle.ss_check.specs.Contexts.{Context, context_of}
+use Rattle.ss_check.specs.Seen.{context_in, context_seen}
 use Rattle.ss_check.specs.Resolving.{Each, ResolveRoutines, ResolvesMain, ResolvesProgram, ResolvesSection, mode_of_global}
 use Rattle.ss_check.proofs.Trees.{each_more}
 
@@ -39,15 +45,27 @@ none_more [] = refl
 none_more (x ∷ xs) = ap (λ l. x ∷ l) (none_more xs)
 
 -- one section further on, which is a routine or not
-pub routine_next : (scope : SectionTree → Scope) (xs : List Parsed) (i : ℕ) (x : Parsed) (old new : List Section) (y : Section) → i < length xs → x ≡ get_or xs i x → new ≡ old ++ y ∷ [] → ResolveRoutines scope (map view_section (take i xs)) old → is_routine_section (view_kind x.kind) ≡ true → ResolvesSection (scope (view_section x)) (view_section x) y → ResolveRoutines scope (map view_section (take (i + 1) xs)) new
-routine_next scope xs i x old new y lt is e h r g =
-    let R : SectionTree → Section → Type 0 = λ s. ResolvesSection (scope s) s in
+pub routine_next : (context : SectionTree → Context) (xs : List Parsed) (i : ℕ) (x : Parsed) (old new : List Section) (y : Section) → i < length xs → x ≡ get_or xs i x → new ≡ old ++ y ∷ [] → ResolveRoutines context (map view_section (take i xs)) old → is_routine_section (view_kind x.kind) ≡ true → ResolvesSection (context (view_section x)) (view_section x) y → ResolveRoutines context (map view_section (take (i + 1) xs)) new
+routine_next context xs i x old new y lt is e h r g =
+    let R : SectionTree → Section → Type 0 = λ s. ResolvesSection (context s) s in
     rw (routines_taken xs i x true lt is r, e) (each_more R (sections_of is_routine_section (map view_section (take i xs))) old (view_section x) y h g)
 
-pub other_next : (scope : SectionTree → Scope) (xs : List Parsed) (i : ℕ) (x : Parsed) (old : List Section) → i < length xs → x ≡ get_or xs i x → ResolveRoutines scope (map view_section (take i xs)) old → is_routine_section (view_kind x.kind) ≡ false → ResolveRoutines scope (map view_section (take (i + 1) xs)) old
-other_next scope xs i x old lt is h r =
-    let R : SectionTree → Section → Type 0 = λ s. ResolvesSection (scope s) s in
+pub other_next : (context : SectionTree → Context) (xs : List Parsed) (i : ℕ) (x : Parsed) (old : List Section) → i < length xs → x ≡ get_or xs i x → ResolveRoutines context (map view_section (take i xs)) old → is_routine_section (view_kind x.kind) ≡ false → ResolveRoutines context (map view_section (take (i + 1) xs)) old
+other_next context xs i x old lt is h r =
+    let R : SectionTree → Section → Type 0 = λ s. ResolvesSection (context s) s in
     subst (λ l. Each R l old) (none_more (sections_of is_routine_section (map view_section (take i xs))) ∙ sym (routines_taken xs i x false lt is r)) h
+
+-- ---- contexts
+
+abbrev context_made : Scope → List Saying → Context
+context_made s says = record { scope = s; says = says }
+
+same_context : (s t : Scope) (a b : List Saying) → s ≡ t → a ≡ b → context_made s a ≡ context_made t b
+same_context s t a b e h = λ i. context_made (e i) (h i)
+
+-- the local variables of a section make its context
+pub section_context : (n : Names) (l : Locals) (s : SectionTree) → scope_seen n l ≡ scope_in n s → context_seen n l ≡ context_in n s
+section_context n l s e = same_context (scope_seen n l) (scope_in n s) n.tables.says n.tables.says e refl
 
 -- ---- the whole program
 
@@ -55,13 +73,17 @@ pub map_twice : {A B C : Type 0} (f : B → C) (g : A → B) (xs : List A) → m
 map_twice f g [] = refl
 map_twice f g (x ∷ xs) = ap (λ l. f (g x) ∷ l) (map_twice f g xs)
 
-pub program_resolves : (p : ProgramTree) (n : Names) (r : Resolved) → AreNamesOf p n → r.globals.items ≡ map (mode_of_global (kind_among n.tables.names)) n.tables.globals → ResolveRoutines (scope_in n) p.sections r.routines.items → ResolvesMain (scope_in n) p.sections r.main → ResolvesProgram p r
-program_resolves p n r h g rs m =
-    let scopes : scope_in n ≡ scope_of p = fun_ext (λ s. scope_given p n s h) in
+pub program_resolves : (p : ProgramTree) (n : Names) (r : Resolved) → AreNamesOf p n → map shape_of r.layout.classes.items ≡ classes_laid (kind_among n.tables.names) n.tables.usual n.tables.says → r.layout.sets.items ≡ sets_laid n.tables.says → r.globals.items ≡ map (mode_of_global (kind_among n.tables.names)) n.tables.globals → ResolveRoutines (context_in n) p.sections r.routines.items → ResolvesMain (context_in n) p.sections r.main → ResolvesProgram p r
+program_resolves p n r h ls ss g rs m =
+    let contexts : context_in n ≡ context_of p = fun_ext (λ s. same_context (scope_in n s) (scope_of p s) n.tables.says (sayings p) (scope_given p n s h) h.tables_are.says_is) in
     record {
+      classes_are =
+          ls ∙ ap (λ (kind : NameBytes → Option Kind). classes_laid kind n.tables.usual n.tables.says) (fun_ext h.tables_are.kinds) ∙
+          (λ i. classes_laid (kind_of p) (h.tables_are.usual_is i) (h.tables_are.says_is i));
+      sets_are = ss ∙ ap sets_laid h.tables_are.says_is;
       globals_are =
           g ∙ ap (λ (kind : NameBytes → Option Kind). map (mode_of_global kind) n.tables.globals) (fun_ext h.tables_are.kinds) ∙
           ap (map (mode_of_global (kind_of p))) h.tables_are.globals_are;
-      routines_are = subst (λ (scope : SectionTree → Scope). ResolveRoutines scope p.sections r.routines.items) scopes rs;
-      main_is = subst (λ (scope : SectionTree → Scope). ResolvesMain scope p.sections r.main) scopes m;
+      routines_are = subst (λ (context : SectionTree → Context). ResolveRoutines context p.sections r.routines.items) contexts rs;
+      main_is = subst (λ (context : SectionTree → Context). ResolvesMain context p.sections r.main) contexts m;
     }

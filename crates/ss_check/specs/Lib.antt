@@ -1,1 +1,4 @@
+pub mod Contexts
+pub mod Seen
 pub mod Resolving
+pub mod Examples

@@ -2,9 +2,10 @@
 
 ghost use Rattle.std.specs.Prelude.{◌≡◌, map, IfOk};
 ghost use Rattle.ss_tree.specs.View.{view_statement};
-ghost use Rattle.ss_rules.specs.Seen.{scope_seen};
+ghost use Rattle.ss_check.specs.Seen.{context_seen};
 ghost use Rattle.ss_check.specs.Resolving.{Each, ResolvesStatement};
 
+use crate::entities::{resolve_create, resolve_create_every, resolve_destroy};
 use crate::nested::{resolve_find_if, resolve_if, resolve_loop};
 use crate::statements::{
     resolve_add, resolve_find, resolve_let, resolve_print, resolve_read, resolve_routine_call,
@@ -24,7 +25,7 @@ fn resolve_statement(
     locals: &Locals,
     statement: &Statement,
 ) -> Result<Resolved, AllocError>
-    ensures { IfOk result (λ x. ResolvesStatement (scope_seen names.now locals.now) (view_statement statement.now) x) }
+    ensures { IfOk result (λ x. ResolvesStatement (context_seen names.now locals.now) (view_statement statement.now) x) }
 {
     match statement {
         Statement::Let {
@@ -77,6 +78,19 @@ fn resolve_statement(
             let otherwise = resolve_body(alloc, names, locals, otherwise)?;
             resolve_find_if(alloc, names, locals, *line, head, *outcome, then, otherwise)
         }
+        Statement::Create {
+            line,
+            class,
+            called,
+        } => resolve_create(alloc, names, locals, *line, *class, called),
+        Statement::CreateEvery { line, classes } => {
+            resolve_create_every(alloc, names, locals, *line, classes)
+        }
+        Statement::Destroy {
+            line,
+            class,
+            called,
+        } => resolve_destroy(alloc, names, locals, *line, *class, called),
         Statement::Print {
             line,
             items,
@@ -84,9 +98,6 @@ fn resolve_statement(
         } => resolve_print(alloc, names, locals, *line, items, pictures),
         Statement::Skip { line, count } => resolve_skip(alloc, names, locals, *line, count),
         Statement::StartSimulation { .. }
-        | Statement::Create { .. }
-        | Statement::CreateEvery { .. }
-        | Statement::Destroy { .. }
         | Statement::File { .. }
         | Statement::RemoveEnd { .. }
         | Statement::Remove { .. }
@@ -105,7 +116,7 @@ pub(crate) fn resolve_body(
     locals: &Locals,
     statements: &[Statement],
 ) -> Result<Vec<Resolved>, AllocError>
-    ensures { IfOk result (λ xs. Each (ResolvesStatement (scope_seen names.now locals.now)) (map view_statement statements.now) xs.items) }
+    ensures { IfOk result (λ xs. Each (ResolvesStatement (context_seen names.now locals.now)) (map view_statement statements.now) xs.items) }
 {
     let mut resolved = Vec::new(alloc);
     for statement in statements {

@@ -2,11 +2,13 @@
 
 ghost use Rattle.std.specs.Prelude.{◌≡◌, map, IfOk};
 ghost use Rattle.ss_tree.specs.View.{view_condition, view_conjunction, view_expression, view_guard, view_option, view_phrase, view_test};
-ghost use Rattle.ss_rules.specs.Seen.{scope_seen};
-ghost use Rattle.ss_check.specs.Resolving.{Each, ResolvesCondition, ResolvesConjunction, ResolvesGuard, ResolvesOption, ResolvesPhrase, ResolvesRange, ResolvesTest};
+ghost use Rattle.ss_check.specs.Seen.{context_seen};
+ghost use Rattle.ss_check.specs.Resolving.{Each, ResolvesCondition, ResolvesConjunction, ResolvesGuard, ResolvesOption, ResolvesPhrase, ResolvesRange, RangesOver, ResolvesTest};
 
 use crate::expressions::resolve_expression;
+use crate::meanings::{class_of, name_called};
 use crate::words::{guard_kind_of, phrase_kind_of, relation_of};
+use ss_base::Value;
 use ss_lex::Name;
 use ss_resolved::resolved::{
     Condition as ResolvedCondition, Conjunction as ResolvedConjunction,
@@ -26,7 +28,7 @@ fn resolve_test(
     locals: &Locals,
     test: &Test,
 ) -> Result<ResolvedTest, AllocError>
-    ensures { IfOk result (λ x. ResolvesTest (scope_seen names.now locals.now) (view_test test.now) x) }
+    ensures { IfOk result (λ x. ResolvesTest (context_seen names.now locals.now) (view_test test.now) x) }
 {
     match test {
         Test::Compare {
@@ -55,7 +57,7 @@ fn resolve_conjunction(
     locals: &Locals,
     tests: &[Test],
 ) -> Result<ResolvedConjunction, AllocError>
-    ensures { IfOk result (λ x. ResolvesConjunction (scope_seen names.now locals.now) (map view_test tests.now) x) }
+    ensures { IfOk result (λ x. ResolvesConjunction (context_seen names.now locals.now) (map view_test tests.now) x) }
 {
     let mut resolved = Vec::new(alloc);
     for test in tests {
@@ -72,7 +74,7 @@ fn resolve_alternatives(
     locals: &Locals,
     alternatives: &[Conjunction],
 ) -> Result<ResolvedCondition, AllocError>
-    ensures { IfOk result (λ x. ResolvesCondition (scope_seen names.now locals.now) (map view_conjunction alternatives.now) x) }
+    ensures { IfOk result (λ x. ResolvesCondition (context_seen names.now locals.now) (map view_conjunction alternatives.now) x) }
 {
     let mut resolved = Vec::new(alloc);
     for alternative in alternatives {
@@ -91,7 +93,7 @@ pub(crate) fn resolve_condition(
     locals: &Locals,
     condition: &Condition,
 ) -> Result<ResolvedCondition, AllocError>
-    ensures { IfOk result (λ x. ResolvesCondition (scope_seen names.now locals.now) (view_condition condition.now) x) }
+    ensures { IfOk result (λ x. ResolvesCondition (context_seen names.now locals.now) (view_condition condition.now) x) }
 {
     resolve_alternatives(alloc, names, locals, &condition.alternatives)
 }
@@ -103,7 +105,7 @@ fn resolve_phrase(
     locals: &Locals,
     phrase: &Phrase,
 ) -> Result<ResolvedPhrase, AllocError>
-    ensures { IfOk result (λ x. ResolvesPhrase (scope_seen names.now locals.now) (view_phrase phrase.now) x) }
+    ensures { IfOk result (λ x. ResolvesPhrase (context_seen names.now locals.now) (view_phrase phrase.now) x) }
 {
     let condition = resolve_condition(alloc, names, locals, &phrase.condition)?;
     Ok(ResolvedPhrase {
@@ -119,7 +121,7 @@ pub(crate) fn resolve_phrases(
     locals: &Locals,
     phrases: &[Phrase],
 ) -> Result<Vec<ResolvedPhrase>, AllocError>
-    ensures { IfOk result (λ xs. Each (ResolvesPhrase (scope_seen names.now locals.now)) (map view_phrase phrases.now) xs.items) }
+    ensures { IfOk result (λ xs. Each (ResolvesPhrase (context_seen names.now locals.now)) (map view_phrase phrases.now) xs.items) }
 {
     let mut resolved = Vec::new(alloc);
     for phrase in phrases {
@@ -136,7 +138,7 @@ fn resolve_guard(
     locals: &Locals,
     guard: &Guard,
 ) -> Result<ResolvedGuard, AllocError>
-    ensures { IfOk result (λ x. ResolvesGuard (scope_seen names.now locals.now) (view_guard guard.now) x) }
+    ensures { IfOk result (λ x. ResolvesGuard (context_seen names.now locals.now) (view_guard guard.now) x) }
 {
     let condition = resolve_condition(alloc, names, locals, &guard.condition)?;
     Ok(ResolvedGuard {
@@ -152,7 +154,7 @@ pub(crate) fn resolve_guards(
     locals: &Locals,
     guards: &[Guard],
 ) -> Result<Vec<ResolvedGuard>, AllocError>
-    ensures { IfOk result (λ xs. Each (ResolvesGuard (scope_seen names.now locals.now)) (map view_guard guards.now) xs.items) }
+    ensures { IfOk result (λ xs. Each (ResolvesGuard (context_seen names.now locals.now)) (map view_guard guards.now) xs.items) }
 {
     let mut resolved = Vec::new(alloc);
     for guard in guards {
@@ -169,7 +171,7 @@ fn resolve_step(
     locals: &Locals,
     step: &Option<Expression>,
 ) -> Result<Option<ResolvedExpression>, AllocError>
-    ensures { IfOk result (λ x. ResolvesOption (scope_seen names.now locals.now) (view_option view_expression step.now) x) }
+    ensures { IfOk result (λ x. ResolvesOption (context_seen names.now locals.now) (view_option view_expression step.now) x) }
 {
     match step {
         None => Ok(None),
@@ -190,7 +192,7 @@ pub(crate) fn resolve_range(
     to: &Expression,
     step: &Option<Expression>,
 ) -> Result<Range, AllocError>
-    ensures { IfOk result (λ x. ResolvesRange (scope_seen names.now locals.now) variable (view_expression from.now) (view_expression to.now) (view_option view_expression step.now) x) }
+    ensures { IfOk result (λ x. ResolvesRange (context_seen names.now locals.now) variable (view_expression from.now) (view_expression to.now) (view_option view_expression step.now) x) }
 {
     let variable = variable_of(names, locals, variable)?;
     let first = resolve_expression(alloc, names, locals, from)?;
@@ -201,5 +203,26 @@ pub(crate) fn resolve_range(
         first,
         limit,
         step,
+    })
+}
+
+// The numbers of all entities of a permanent class.
+pub(crate) fn resolve_class(
+    names: &Names,
+    locals: &Locals,
+    class: Name,
+    called: &Option<Name>,
+) -> Result<Range, AllocError>
+    ensures { IfOk result (λ x. RangesOver (context_seen names.now locals.now) class called.now x) }
+{
+    let variable = variable_of(names, locals, name_called(class, called))?;
+    let class = class_of(names, class)?;
+    Ok(Range {
+        variable,
+        first: ResolvedExpression::Constant {
+            value: Value::Whole(1),
+        },
+        limit: ResolvedExpression::Made { class },
+        step: None,
     })
 }

@@ -2,17 +2,18 @@
 
 ghost use Rattle.std.specs.Prelude.{◌≡◌, map, IfOk};
 ghost use Rattle.ss_tree.specs.View.{view_expression, view_term};
-ghost use Rattle.ss_tree.specs.Tree.{call, expression_row};
-ghost use Rattle.ss_rules.specs.Seen.{scope_seen};
-ghost use Rattle.ss_check.specs.Resolving.{IsNoCall, Resolves, ResolveAll, ResolveOne, ResolveSigned, ResolveTwo};
+ghost use Rattle.ss_tree.specs.Tree.{call, expression_row, named};
+ghost use Rattle.ss_check.specs.Seen.{context_seen};
+ghost use Rattle.ss_check.specs.Resolving.{IsNoCall, Resolves, ResolvesEntity, ResolveAll, ResolveOne, ResolveSigned, ResolveTwo};
 
-use crate::words::{sign_of, variable_at};
+use crate::meanings::{Meaning, meaning_of};
+use crate::words::sign_of;
 use ss_base::Value;
 use ss_resolved::resolved::{
-    Expression as Resolved, Function as ResolvedFunction, Sign as ResolvedSign,
+    Expression as Resolved, Function as ResolvedFunction, Sign as ResolvedSign, Variable,
 };
 use ss_rules::scope::{Locals, Names};
-use ss_tree::expression::{Expression, Function, Term};
+use ss_tree::expression::{Designator, Expression, Function, Term};
 use std::alloc::{AllocError, Global};
 
 // What a function with another number of arguments comes to: no accepted program has one.
@@ -33,7 +34,7 @@ pub(crate) fn resolve_expression(
     locals: &Locals,
     expression: &Expression,
 ) -> Result<Resolved, AllocError>
-    ensures { IfOk result (λ x. Resolves (scope_seen names.now locals.now) (view_expression expression.now) x) }
+    ensures { IfOk result (λ x. Resolves (context_seen names.now locals.now) (view_expression expression.now) x) }
 {
     match expression {
         Expression::Number(number) => Ok(Resolved::Constant {
@@ -43,8 +44,7 @@ pub(crate) fn resolve_expression(
             value: Value::Text(*text),
         }),
         Expression::Named(named) => {
-            let variable = variable_at(names, locals, named.designator)?;
-            Ok(Resolved::Fetch { variable })
+            resolve_named(alloc, names, locals, named.designator, &named.subscripts)
         }
         Expression::Call {
             function,
@@ -77,6 +77,51 @@ pub(crate) fn resolve_expression(
     }
 }
 
+// What is named, with its subscripts.
+#[cycle(resolving)]
+fn resolve_named(
+    alloc: Global,
+    names: &Names,
+    locals: &Locals,
+    designator: Designator,
+    subscripts: &[Expression],
+) -> Result<Resolved, AllocError>
+    ensures { IfOk result (λ x. Resolves (context_seen names.now locals.now) (named designator (expression_row (map view_expression subscripts.now))) x) }
+{
+    match meaning_of(names, locals, designator)? {
+        Meaning::Variable { variable } => Ok(Resolved::Fetch { variable }),
+        Meaning::Count { number, .. } => Ok(Resolved::Fetch {
+            variable: Variable::Global { number },
+        }),
+        Meaning::Attribute {
+            class,
+            field,
+            implied,
+        } => {
+            let of = resolve_entity(alloc, names, locals, implied, subscripts)?;
+            let of = Box::new(alloc, of)?;
+            Ok(Resolved::Attribute { class, field, of })
+        }
+    }
+}
+
+// The entity of an attribute: the subscript, or else the entity in a variable.
+#[cycle(resolving)]
+pub(crate) fn resolve_entity(
+    alloc: Global,
+    names: &Names,
+    locals: &Locals,
+    implied: Variable,
+    subscripts: &[Expression],
+) -> Result<Resolved, AllocError>
+    ensures { IfOk result (λ x. ResolvesEntity (context_seen names.now locals.now) implied (expression_row (map view_expression subscripts.now)) x) }
+{
+    match subscripts {
+        [] => Ok(Resolved::Fetch { variable: implied }),
+        [entity, ..] => resolve_expression(alloc, names, locals, entity),
+    }
+}
+
 // A function with its arguments.
 #[cycle(resolving)]
 fn resolve_call(
@@ -86,7 +131,7 @@ fn resolve_call(
     function: Function,
     arguments: &[Expression],
 ) -> Result<Resolved, AllocError>
-    ensures { IfOk result (λ x. Resolves (scope_seen names.now locals.now) (call function (expression_row (map view_expression arguments.now))) x) }
+    ensures { IfOk result (λ x. Resolves (context_seen names.now locals.now) (call function (expression_row (map view_expression arguments.now))) x) }
 {
     match function {
         Function::Abs => resolve_one(alloc, names, locals, arguments),
@@ -105,7 +150,7 @@ fn resolve_one(
     locals: &Locals,
     arguments: &[Expression],
 ) -> Result<Resolved, AllocError>
-    ensures { IfOk result (λ x. ResolveOne (scope_seen names.now locals.now) (expression_row (map view_expression arguments.now)) x) }
+    ensures { IfOk result (λ x. ResolveOne (context_seen names.now locals.now) (expression_row (map view_expression arguments.now)) x) }
 {
     match arguments {
         [only] => {
@@ -127,7 +172,7 @@ fn resolve_two(
     function: ResolvedFunction,
     arguments: &[Expression],
 ) -> Result<Resolved, AllocError>
-    ensures { IfOk result (λ x. ResolveTwo (scope_seen names.now locals.now) function (expression_row (map view_expression arguments.now)) x) }
+    ensures { IfOk result (λ x. ResolveTwo (context_seen names.now locals.now) function (expression_row (map view_expression arguments.now)) x) }
 {
     match arguments {
         [left, right] => {
@@ -155,7 +200,7 @@ pub(crate) fn resolve_all(
     locals: &Locals,
     expressions: &[Expression],
 ) -> Result<Vec<Resolved>, AllocError>
-    ensures { IfOk result (λ xs. ResolveAll (scope_seen names.now locals.now) (map view_expression expressions.now) xs.items) }
+    ensures { IfOk result (λ xs. ResolveAll (context_seen names.now locals.now) (map view_expression expressions.now) xs.items) }
 {
     let mut resolved = Vec::new(alloc);
     for expression in expressions {
@@ -173,7 +218,7 @@ fn resolve_terms(
     locals: &Locals,
     terms: &[Term],
 ) -> Result<Vec<(ResolvedSign, Resolved)>, AllocError>
-    ensures { IfOk result (λ xs. ResolveSigned (scope_seen names.now locals.now) (map view_term terms.now) xs.items) }
+    ensures { IfOk result (λ xs. ResolveSigned (context_seen names.now locals.now) (map view_term terms.now) xs.items) }
 {
     let mut resolved = Vec::new(alloc);
     for term in terms {

@@ -3,7 +3,9 @@
 
 mod bodies;
 mod conditions;
+mod entities;
 mod expressions;
+mod meanings;
 mod nested;
 mod program;
 mod statements;

@@ -4,17 +4,17 @@ ghost use Rattle.std.specs.Prelude.{◌≡◌, map, IfOk};
 ghost use Rattle.ss_tree.specs.View.{view_expression, view_head, view_named};
 ghost use Rattle.ss_tree.specs.Tree.{add_statement, call_statement, find_statement, let_statement, print_statement, read_statement, skip_statement, subtract_statement};
 ghost use Rattle.ss_resolved.specs.Lines.{lines_of};
-ghost use Rattle.ss_tables.specs.Declarations.{place_among};
 ghost use Rattle.ss_rules.specs.Seen.{scope_seen};
-ghost use Rattle.ss_check.specs.Resolving.{Each, IsTarget, IsVariable, ResolvesStatement};
+ghost use Rattle.ss_check.specs.Seen.{context_seen};
+ghost use Rattle.ss_check.specs.Resolving.{Each, IsPlace, IsTarget, ResolvesStatement};
 ghost use Rattle.ss_rules.specs.Rules.{mode_of_designator};
 
-use crate::conditions::{resolve_phrases, resolve_range};
-use crate::expressions::{resolve_all, resolve_expression};
-use crate::words::variable_at;
+use crate::conditions::{resolve_class, resolve_phrases, resolve_range};
+use crate::expressions::{resolve_all, resolve_entity, resolve_expression};
+use crate::meanings::{Meaning, meaning_of, routine_of};
 use ss_base::{Line, Mode};
 use ss_lex::{Name, PictureLine};
-use ss_resolved::resolved::{Sign, Statement as Resolved, Target, Variable};
+use ss_resolved::resolved::{Place, Sign, Statement as Resolved, Target};
 use ss_rules::scope::{Locals, Names, mode_of_name};
 use ss_tree::expression::{Designator, Expression, Named};
 use ss_tree::head::Head;
@@ -30,13 +30,41 @@ fn mode_at(names: &Names, locals: &Locals, designator: Designator) -> Mode
     }
 }
 
-// A target of READ.
-fn resolve_target(names: &Names, locals: &Locals, target: &Named) -> Result<Target, AllocError>
-    ensures { IfOk result (λ x. IsTarget (scope_seen names.now locals.now) (view_named target.now) x) }
+// What a target is.
+pub(crate) fn resolve_place(
+    alloc: Global,
+    names: &Names,
+    locals: &Locals,
+    target: &Named,
+) -> Result<Place, AllocError>
+    ensures { IfOk result (λ x. IsPlace (context_seen names.now locals.now) (view_named target.now) x) }
 {
-    let variable = variable_at(names, locals, target.designator)?;
+    match meaning_of(names, locals, target.designator)? {
+        Meaning::Variable { variable } => Ok(Place::Variable { variable }),
+        Meaning::Count { class, number } => Ok(Place::Count { class, number }),
+        Meaning::Attribute {
+            class,
+            field,
+            implied,
+        } => {
+            let of = resolve_entity(alloc, names, locals, implied, &target.subscripts)?;
+            Ok(Place::Attribute { class, field, of })
+        }
+    }
+}
+
+// A target of READ.
+fn resolve_target(
+    alloc: Global,
+    names: &Names,
+    locals: &Locals,
+    target: &Named,
+) -> Result<Target, AllocError>
+    ensures { IfOk result (λ x. IsTarget (context_seen names.now locals.now) (view_named target.now) x) }
+{
+    let place = resolve_place(alloc, names, locals, target)?;
     Ok(Target {
-        variable,
+        place,
         mode: mode_at(names, locals, target.designator),
     })
 }
@@ -48,48 +76,31 @@ fn resolve_targets(
     locals: &Locals,
     targets: &[Named],
 ) -> Result<Vec<Target>, AllocError>
-    ensures { IfOk result (λ xs. Each (IsTarget (scope_seen names.now locals.now)) (map view_named targets.now) xs.items) }
+    ensures { IfOk result (λ xs. Each (IsTarget (context_seen names.now locals.now)) (map view_named targets.now) xs.items) }
 {
     let mut resolved = Vec::new(alloc);
     for target in targets {
-        let one = resolve_target(names, locals, target)?;
+        let one = resolve_target(alloc, names, locals, target)?;
         resolved.push(one)?;
     }
     Ok(resolved)
 }
 
-// The variable that is a target.
-fn resolve_variable(names: &Names, locals: &Locals, target: &Named) -> Result<Variable, AllocError>
-    ensures { IfOk result (λ x. IsVariable (scope_seen names.now locals.now) (view_named target.now) x) }
-{
-    variable_at(names, locals, target.designator)
-}
-
-// The variables that take what a routine yields.
-fn resolve_variables(
+// The targets that take what a routine yields.
+fn resolve_places(
     alloc: Global,
     names: &Names,
     locals: &Locals,
     targets: &[Named],
-) -> Result<Vec<Variable>, AllocError>
-    ensures { IfOk result (λ xs. Each (IsVariable (scope_seen names.now locals.now)) (map view_named targets.now) xs.items) }
+) -> Result<Vec<Place>, AllocError>
+    ensures { IfOk result (λ xs. Each (IsPlace (context_seen names.now locals.now)) (map view_named targets.now) xs.items) }
 {
     let mut resolved = Vec::new(alloc);
     for target in targets {
-        let one = resolve_variable(names, locals, target)?;
+        let one = resolve_place(alloc, names, locals, target)?;
         resolved.push(one)?;
     }
     Ok(resolved)
-}
-
-// The number of a routine.
-fn routine_of(names: &Names, routine: Name) -> Result<u32, AllocError>
-    ensures { IfOk result (λ n. n ≡ place_among names.now.tables.routines routine) }
-{
-    match u32::try_from(names.tables.routine(routine)) {
-        Ok(number) => Ok(number),
-        Err(_) => Err(AllocError),
-    }
 }
 
 // The bytes of some pictures.
@@ -112,9 +123,9 @@ pub(crate) fn resolve_let(
     target: &Named,
     value: &Expression,
 ) -> Result<Resolved, AllocError>
-    ensures { IfOk result (λ x. ResolvesStatement (scope_seen names.now locals.now) (let_statement line (view_named target.now) (view_expression value.now)) x) }
+    ensures { IfOk result (λ x. ResolvesStatement (context_seen names.now locals.now) (let_statement line (view_named target.now) (view_expression value.now)) x) }
 {
-    let target = resolve_variable(names, locals, target)?;
+    let target = resolve_place(alloc, names, locals, target)?;
     let value = resolve_expression(alloc, names, locals, value)?;
     Ok(Resolved::Let {
         line,
@@ -132,10 +143,10 @@ pub(crate) fn resolve_add(
     amount: &Expression,
     target: &Named,
 ) -> Result<Resolved, AllocError>
-    ensures { IfOk result (λ x. ResolvesStatement (scope_seen names.now locals.now) (add_statement line (view_expression amount.now) (view_named target.now)) x) }
+    ensures { IfOk result (λ x. ResolvesStatement (context_seen names.now locals.now) (add_statement line (view_expression amount.now) (view_named target.now)) x) }
 {
     let value = resolve_expression(alloc, names, locals, amount)?;
-    let target = resolve_variable(names, locals, target)?;
+    let target = resolve_place(alloc, names, locals, target)?;
     Ok(Resolved::Change {
         line,
         sign: Sign::Plus,
@@ -153,10 +164,10 @@ pub(crate) fn resolve_subtract(
     amount: &Expression,
     target: &Named,
 ) -> Result<Resolved, AllocError>
-    ensures { IfOk result (λ x. ResolvesStatement (scope_seen names.now locals.now) (subtract_statement line (view_expression amount.now) (view_named target.now)) x) }
+    ensures { IfOk result (λ x. ResolvesStatement (context_seen names.now locals.now) (subtract_statement line (view_expression amount.now) (view_named target.now)) x) }
 {
     let value = resolve_expression(alloc, names, locals, amount)?;
-    let target = resolve_variable(names, locals, target)?;
+    let target = resolve_place(alloc, names, locals, target)?;
     Ok(Resolved::Change {
         line,
         sign: Sign::Minus,
@@ -175,11 +186,11 @@ pub(crate) fn resolve_routine_call(
     given: &[Expression],
     yielding: &[Named],
 ) -> Result<Resolved, AllocError>
-    ensures { IfOk result (λ x. ResolvesStatement (scope_seen names.now locals.now) (call_statement line routine (map view_expression given.now) (map view_named yielding.now)) x) }
+    ensures { IfOk result (λ x. ResolvesStatement (context_seen names.now locals.now) (call_statement line routine (map view_expression given.now) (map view_named yielding.now)) x) }
 {
     let routine = routine_of(names, routine)?;
     let given = resolve_all(alloc, names, locals, given)?;
-    let yielding = resolve_variables(alloc, names, locals, yielding)?;
+    let yielding = resolve_places(alloc, names, locals, yielding)?;
     Ok(Resolved::Call {
         line,
         routine,
@@ -196,7 +207,7 @@ pub(crate) fn resolve_read(
     line: Line,
     targets: &[Named],
 ) -> Result<Resolved, AllocError>
-    ensures { IfOk result (λ x. ResolvesStatement (scope_seen names.now locals.now) (read_statement line (map view_named targets.now)) x) }
+    ensures { IfOk result (λ x. ResolvesStatement (context_seen names.now locals.now) (read_statement line (map view_named targets.now)) x) }
 {
     let targets = resolve_targets(alloc, names, locals, targets)?;
     Ok(Resolved::Read { line, targets })
@@ -211,7 +222,7 @@ pub(crate) fn resolve_print(
     items: &[Expression],
     pictures: &[PictureLine],
 ) -> Result<Resolved, AllocError>
-    ensures { IfOk result (λ x. ResolvesStatement (scope_seen names.now locals.now) (print_statement line (map view_expression items.now) pictures.now) x) }
+    ensures { IfOk result (λ x. ResolvesStatement (context_seen names.now locals.now) (print_statement line (map view_expression items.now) pictures.now) x) }
 {
     let items = resolve_all(alloc, names, locals, items)?;
     let pictures = picture_lines(alloc, pictures)?;
@@ -230,13 +241,13 @@ pub(crate) fn resolve_skip(
     line: Line,
     count: &Expression,
 ) -> Result<Resolved, AllocError>
-    ensures { IfOk result (λ x. ResolvesStatement (scope_seen names.now locals.now) (skip_statement line (view_expression count.now)) x) }
+    ensures { IfOk result (λ x. ResolvesStatement (context_seen names.now locals.now) (skip_statement line (view_expression count.now)) x) }
 {
     let count = resolve_expression(alloc, names, locals, count)?;
     Ok(Resolved::Skip { line, count })
 }
 
-// FIND THE FIRST CASE without an IF. Only one of a FOR over numbers is served.
+// FIND THE FIRST CASE without an IF. One of a FOR over a set is not served.
 pub(crate) fn resolve_find(
     alloc: Global,
     names: &Names,
@@ -244,7 +255,7 @@ pub(crate) fn resolve_find(
     line: Line,
     head: &Head,
 ) -> Result<Resolved, AllocError>
-    ensures { IfOk result (λ x. ResolvesStatement (scope_seen names.now locals.now) (find_statement line (view_head head.now)) x) }
+    ensures { IfOk result (λ x. ResolvesStatement (context_seen names.now locals.now) (find_statement line (view_head head.now)) x) }
 {
     match head {
         Head::Range {
@@ -264,8 +275,22 @@ pub(crate) fn resolve_find(
                 none: Vec::new(alloc),
             })
         }
+        Head::Class {
+            class,
+            called,
+            phrases,
+        } => {
+            let range = resolve_class(names, locals, *class, called)?;
+            let phrases = resolve_phrases(alloc, names, locals, phrases)?;
+            Ok(Resolved::Find {
+                line,
+                range,
+                phrases,
+                found: Vec::new(alloc),
+                none: Vec::new(alloc),
+            })
+        }
         Head::Members { .. } => Ok(Resolved::Return),
-        Head::Class { .. } => Ok(Resolved::Return),
         Head::Guards { .. } => Ok(Resolved::Return),
     }
 }

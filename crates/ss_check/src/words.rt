@@ -1,18 +1,15 @@
-//! Words that stand for themselves, and variables.
+//! Words that stand for themselves.
 
-ghost use Rattle.std.specs.Prelude.{◌≡◌, IfOk};
-ghost use Rattle.ss_rules.specs.Seen.{scope_seen};
-ghost use Rattle.ss_check.specs.Resolving.{guard_kind_of, phrase_kind_of, relation_of, sign_of, variable_at};
+ghost use Rattle.std.specs.Prelude.{◌≡◌};
+ghost use Rattle.ss_check.specs.Resolving.{guard_kind_of, phrase_kind_of, relation_of, sign_of};
 
 use ss_resolved::resolved::{
     GuardKind as ResolvedGuardKind, PhraseKind as ResolvedPhraseKind, Relation as ResolvedRelation,
-    Sign as ResolvedSign, Variable,
+    Sign as ResolvedSign,
 };
-use ss_rules::scope::{Locals, Names, variable_of};
 use ss_tree::condition::Relation;
-use ss_tree::expression::{Designator, Sign};
+use ss_tree::expression::Sign;
 use ss_tree::head::{GuardKind, PhraseKind};
-use std::alloc::AllocError;
 
 // The sign that a sign stands for.
 pub(crate) fn sign_of(sign: Sign) -> ResolvedSign
@@ -57,19 +54,5 @@ pub(crate) fn guard_kind_of(kind: GuardKind) -> ResolvedGuardKind
     match kind {
         GuardKind::While => ResolvedGuardKind::While,
         GuardKind::Until => ResolvedGuardKind::Until,
-    }
-}
-
-// The variable that is named. TIME.V and TIME.A are not served.
-pub(crate) fn variable_at(
-    names: &Names,
-    locals: &Locals,
-    designator: Designator,
-) -> Result<Variable, AllocError>
-    ensures { IfOk result (λ x. x ≡ variable_at (scope_seen names.now locals.now) designator) }
-{
-    match designator {
-        Designator::Name(name) => variable_of(names, locals, name),
-        Designator::TimeV | Designator::TimeA => Ok(Variable::Global { number: 0 }),
     }
 }

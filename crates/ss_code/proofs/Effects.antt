@@ -5,36 +5,28 @@ use Rattle.std.specs.declared.vec.Vec.{Vec}
 use Rattle.std.specs.declared.alloc.Global.{Global as TheGlobal}
 use Rattle.ss_base.specs.declared.line.Line.{Line}
 use Rattle.ss_base.specs.declared.fault.FaultKind.{FaultKind}
-use Rattle.ss_base.specs.declared.layout.Mode.{Mode}
 use Rattle.ss_base.specs.declared.value.Value.{Value}
-use Rattle.ss_resolved.specs.declared.resolved.Variable.{Variable}
-use Rattle.ss_resolved.specs.declared.resolved.Variable.TheVariants.{Global, Local}
-use Rattle.ss_resolved.specs.declared.resolved.Sign.{Sign}
 use Rattle.ss_resolved.specs.declared.resolved.Expression.{Expression}
 use Rattle.ss_resolved.specs.declared.resolved.Condition.{Condition}
 use Rattle.ss_resolved.specs.declared.resolved.Phrase.{Phrase}
 use Rattle.ss_resolved.specs.declared.resolved.Range.{Range}
-use Rattle.ss_resolved.specs.declared.resolved.Target.{Target}
-use Rattle.ss_resolved.specs.declared.resolved.Statement.{Statement, Let, Change, Print, If', While', For', Find', Call as CallRoutine, Return, Stop, Read, Skip as SkipLines, Row_of-Statement, end_of-Statement, more_of-Statement}
+use Rattle.ss_resolved.specs.declared.resolved.Statement.{Statement, Let, Change, Print, If', While', For', Find', Call as CallRoutine, Return, Stop, Read, Skip as SkipLines, Create, CreateEvery, Destroy, Row_of-Statement, end_of-Statement, more_of-Statement}
 use Rattle.ss_code.specs.declared.instruction.Instruction.{Instruction}
-use Rattle.ss_code.specs.declared.instruction.Instruction.TheVariants.{Calculate, Jump, Begin, Take, Next, Forget, Call, Leave, Halt, Read as ReadWord, Skip as SkipThem, Print as PrintLines}
-use Rattle.ss_input.specs.Words.{Given, value_given}
-use Rattle.ss_code.specs.Store.{Store, World, number_of, fetched, assigned, computed, printed, empty_lines, yielded}
-use Rattle.ss_code.specs.Meaning.{Turn, Returned, Stopped, Fault, Ended, Outcome, WentOn, Left, Part, and_then, if_ok, look, looked, assign, send, operator_of, value, values, holds as condition_holds, choose, GoesOn, IsFound, phrases, over_range, then_nothing, given_by, reads, assign_each, Calls, with_locals, effect, effects, body}
+use Rattle.ss_code.specs.declared.instruction.Instruction.TheVariants.{Jump, Begin, Take, Next, Forget, Call, Leave, Halt, Skip as SkipThem, Print as PrintLines}
+use Rattle.ss_code.specs.Store.{Store, World, number_of, printed, empty_lines, yielded}
+use Rattle.ss_code.specs.Meaning.{Turn, Returned, Stopped, Fault, Ended, Outcome, WentOn, Left, Part, and_then, if_ok, look, looked, send, value, values, holds as condition_holds, choose, GoesOn, IsFound, phrases, over_range, then_nothing, Calls, with_locals, effect, effects, body}
 use Rattle.ss_resolved.specs.Lines.{lines_of}
-use Rattle.ss_code.specs.Machine.{Frame, State, Code, To, did, sent, delivered, Goes, with_taken, Sends, next, with_rest}
-use Rattle.ss_code.specs.Translation.{variable_operand, destination_of, operand_of, expression_code, values_code, condition_code, phrases_code, bounds_code, if_code, for_code, find_code, assigns_code, reads_code, statement_code, statement_pictures, row_code, row_pictures, body_code, body_pictures}
+use Rattle.ss_code.specs.Machine.{Frame, State, Code, sent, with_taken, Sends, next, with_rest}
+use Rattle.ss_code.specs.Translation.{operand_of, expression_code, values_code, condition_code, phrases_code, bounds_code, if_code, for_code, find_code, statement_code, statement_pictures, row_code, row_pictures, body_code, body_pictures}
 use Rattle.ss_code.specs.Running.{Underway}
 use Rattle.ss_code.proofs.Steps.{HasAt, has_front, has_back, Reaches, here, reaches_on, core_of, at, left_to, arrive, join}
-use Rattle.ss_code.proofs.Parts.{Runs, same, done, onto, take_them, told, told_join, told_part, told_moved, goes, rests, moved, IfWentOn, seq, seq_such, none}
+use Rattle.ss_code.proofs.Parts.{Runs, same, done, onto, take_them, told, told_part, goes, rests, moved, IfWentOn, seq, seq_such, none}
 use Rattle.std.proofs.lemmas.List.{length-map}
 use Rattle.ss_code.specs.declared.instruction.Operand.{Operand}
-use Rattle.ss_code.specs.declared.instruction.Operand.TheVariants.{Popped, FromGlobal, FromLocal}
-use Rattle.ss_code.specs.declared.instruction.Destination.TheVariants.{ToGlobal, ToLocal}
-use Rattle.ss_code.specs.declared.instruction.Operator.{Operator}
+use Rattle.ss_code.proofs.Writing.{look_on, let_run, change_run, reads_run, create_run, creates_run, assigns_run, destroy_run}
 use Rattle.ss_code.proofs.Branching.{aimed, condition_run}
 use Rattle.ss_code.proofs.Looping.{Turns, leads, phrases_run, range_run, behind, while_run}
-use Rattle.ss_code.proofs.Expressions.{Holds, same_ok, shelved, holds, holds_variable, at_destination, calculates, moves, holds_popped, expression_run, values_run}
+use Rattle.ss_code.proofs.Expressions.{Holds, same_ok, shelved, holds, expression_run, values_run}
 
 drop_at : {A : Type 0} (all : List A) (place : ℕ) (i : A) → slice_get all place ≡ Some i → drop place all ≡ i ∷ drop (place + 1) all
 drop_at [] zero i h = absurd cc
@@ -65,38 +57,6 @@ follow code s k k' frames (WentOn u w) g h = reaches_on g (h u w)
 follow code s k k' frames (Left e w) g h = g
 
 module _ (code : Code) (n : ℕ) where
-  assigned_is : (x : Variable) (v : Value) (place : ℕ) (stack : List Value) (frames : List Frame) (w : World) → at_destination (destination_of x) v place stack frames w ≡ at place stack frames (record w { store = assigned x v w.store })
-  assigned_is (Global k) v place stack frames w = refl
-  assigned_is (Local k) v place stack frames w = refl
-
-  -- a look whose value is assigned
-  assign_run : (l : Line) (x : Variable) (c : List Instruction) (f : Store → OkOr Value FaultKind) → ((place : ℕ) (stack : List Value) (frames : List Frame) (w : World) → HasAt code.instructions place c → Reaches code (at place stack frames w) (told l w (λ v. at_destination (destination_of x) v (place + length c) stack frames w) (f w.store))) → Runs code n same c done (λ w. and_then (look l f w) (assign x))
-  assign_run l x c f r = record {
-    by = λ place stack frames w has le.
-        let k = λ (v : Value). at (place + length c) stack frames (record w { store = assigned x v w.store }) in
-        told_part l w (at place stack frames w) k (λ u w'. at (place + length c) stack frames w') frames (f w.store) (assign x)
-        (told_moved l w (at place stack frames w) (λ v. at_destination (destination_of x) v (place + length c) stack frames w) k (f w.store) (λ v. assigned_is x v (place + length c) stack frames w)
-        (r place stack frames w has))
-        (λ v q. here);
-  }
-
-  change_last : (l : Line) (op : Operator) (x : Variable) (right : Operand) (y : Value) (place end : ℕ) (stack : List Value) (frames : List Frame) (w : World) → Holds right y w.store → slice_get code.instructions place ≡ Some (Calculate op (variable_operand x) right (destination_of x) l) → place + 1 ≡ end → Reaches code (at place (shelved right y stack) frames w) (told l w (λ v. at_destination (destination_of x) v end stack frames w) (computed op (fetched x w.store) y))
-  change_last l op (Global k) right y place end stack frames w hy has len =
-      subst (λ p. Reaches code (at place (shelved right y stack) frames w) (told l w (λ v. at_destination (ToGlobal k) v p stack frames w) (computed op (fetched (Global k) w.store) y))) len
-      (calculates code l frames w op (FromGlobal k) right (ToGlobal k) (fetched (Global k) w.store) y place stack (holds_variable (Global k) w.store) hy has)
-  change_last l op (Local k) right y place end stack frames w hy has len =
-      subst (λ p. Reaches code (at place (shelved right y stack) frames w) (told l w (λ v. at_destination (ToLocal k) v p stack frames w) (computed op (fetched (Local k) w.store) y))) len
-      (calculates code l frames w op (FromLocal k) right (ToLocal k) (fetched (Local k) w.store) y place stack (holds_variable (Local k) w.store) hy has)
-
-  change_run : (l : Line) (sign : Sign) (x : Variable) (e : Expression) → Runs code n same (expression_code l None e ++ Calculate (operator_of sign) (variable_operand x) (operand_of e) (destination_of x) l ∷ []) done (λ w. and_then (look l (λ s. if_ok (value e s) (computed (operator_of sign) (fetched x s))) w) (assign x))
-  change_run l sign x e = assign_run l x _ (λ s. if_ok (value e s) (computed (operator_of sign) (fetched x s))) (λ place stack frames w has.
-      let c = expression_code l None e in
-      let tail = Calculate (operator_of sign) (variable_operand x) (operand_of e) (destination_of x) l ∷ [] in
-      let len : place + length c + 1 ≡ place + length (c ++ tail) = omega (arith, length-append c tail) in
-      told_join l w (at place stack frames w) (λ v. at (place + length c) (shelved (operand_of e) v stack) frames w) _ (value e w.store) (computed (operator_of sign) (fetched x w.store))
-      (expression_run code l frames w e None place stack (has_front code.instructions place c tail has))
-      (λ y q. change_last l (operator_of sign) x (operand_of e) y (place + length c) (place + length (c ++ tail)) stack frames w (holds e y w.store q) (has_back code.instructions place c tail has).0 len))
-
   -- the values that stand on the stack go into the fields of the lines
   print_step : (first : ℕ) (pictures : List (Vec ℕ TheGlobal)) (k : ℕ) (vs : List Value) (place end : ℕ) (stack : List Value) (frames : List Frame) (w : World) → HasAt code.pictures first (lines_of pictures) → k ≡ length vs → slice_get code.instructions place ≡ Some (PrintLines first (length pictures) k) → place + 1 ≡ end → Reaches code (at place (onto vs stack) frames w) (Underway (at end stack frames (record w { report = w.report ++ printed (lines_of pictures) vs })))
   print_step first pictures k vs place end stack frames w p len has e =
@@ -119,45 +79,6 @@ module _ (code : Code) (n : ℕ) where
         (λ vs q. print_step first pictures.items (length items.items) vs (place + length c) (place + length (c ++ tail)) stack frames w p (values_length items.items w.store vs q) (has_back code.instructions place c tail has).0 len);
   }
 
-  -- what stands on the stack is assigned to variables in turn
-  assigns : (l : Line) (xs : List Variable) (us : List Value) → length us ≡ length xs → (place end : ℕ) (stack : List Value) (frames : List Frame) (w : World) → HasAt code.instructions place (assigns_code xs) → place + length (assigns_code xs) ≡ end → Reaches code (at place (us ++ stack) frames w) (arrive (λ u w'. at end stack frames w') frames (assign_each xs us w))
-  assigns l [] [] len place end stack frames w has e =
-      let e' : place ≡ end = omega (arith, e) in subst (λ p. Reaches code (at place stack frames w) (Underway (at p stack frames w))) e' here
-  assigns l [] (u ∷ us) len place end stack frames w has e = absurd (omega (arith, len))
-  assigns l (x ∷ xs) [] len place end stack frames w has e = absurd (omega (arith, len))
-  assigns l (x ∷ xs) (u ∷ us) len place end stack frames w has e =
-      reaches_on
-      (subst (λ s. Reaches code (at place (u ∷ (us ++ stack)) frames w) (Underway s)) (assigned_is x u (place + 1) (us ++ stack) frames w)
-      (moves code l frames w Popped (destination_of x) u place (us ++ stack) (holds_popped u w.store) has.0))
-      (assigns l xs us (omega (arith, len)) (place + 1) end stack frames (record w { store = assigned x u w.store }) has.1 (omega (arith, e)))
-
-  assigns_run : (l : Line) (xs : List Variable) (us : List Value) → length us ≡ length xs → Runs code n (λ stack. us ++ stack) (assigns_code xs) done (assign_each xs us)
-  assigns_run l xs us len = record { by = λ place stack frames w has le. assigns l xs us len place (place + length (assigns_code xs)) stack frames w has refl }
-
-  -- a word that is read goes to a variable
-  put_in : (x : Variable) (v : Value) (s : Store) (place : ℕ) (stack : List Value) (frames : List Frame) (r : List ℕ) (t : ℕ) → with_rest r t (To (delivered (destination_of x) v stack (core_of place stack frames s))) ≡ Goes (record { core = core_of (place + 1) stack frames (assigned x v s); report = r; ticks = t })
-  put_in (Global k) v s place stack frames r t = refl
-  put_in (Local k) v s place stack frames r t = refl
-
-  read_step : (l : Line) (mode : Mode) (x : Variable) (r : OkOr (Given Value) FaultKind) (place : ℕ) (stack : List Value) (frames : List Frame) (w : World) → value_given mode w.store.input ≡ r → slice_get code.instructions place ≡ Some (ReadWord mode (destination_of x) l) → Reaches code (at place stack frames w) (arrive (λ u w'. at (place + 1) stack frames w') frames (and_then (given_by l r w) (assign x)))
-  read_step l mode x (Ok g) place stack frames w q has =
-      let c = core_of place stack frames w.store in
-      let s : Store = record w.store { input = g.rest } in
-      goes code (at place stack frames w) (at (place + 1) stack frames (record w { store = assigned x g.value s })) (ReadWord mode (destination_of x) l) _ has
-      (ap (λ r. with_rest w.report w.ticks (did l r (λ g. delivered (destination_of x) g.value stack (record c { store = record c.store { input = g.rest } })))) q
-      ∙ put_in x g.value s place stack frames w.report w.ticks)
-      here
-  read_step l mode x (Err kind) place stack frames w q has =
-      let c = core_of place stack frames w.store in
-      rests code (at place stack frames w) (ReadWord mode (destination_of x) l) (Fault kind l) has
-      (ap (λ r. with_rest w.report w.ticks (did l r (λ g. delivered (destination_of x) g.value stack (record c { store = record c.store { input = g.rest } })))) q)
-
-  reads_run : (l : Line) (ts : List Target) → Runs code n same (reads_code l ts) done (reads l ts)
-  reads_run l [] = none code n tt
-  reads_run l (t ∷ ts) = seq code n {c1 = ReadWord t.mode (destination_of t.variable) l ∷ []} {mid = done} (record {
-    by = λ place stack frames w has le. read_step l t.mode t.variable (value_given t.mode w.store.input) place stack frames w refl has.0;
-  }) (λ u. reads_run l ts)
-
   -- empty lines
   skip_step : (l : Line) (o : Operand) (v : Value) (r : OkOr (List ℕ) FaultKind) (place end : ℕ) (stack : List Value) (frames : List Frame) (w : World) → empty_lines (number_of v) ≡ r → Holds o v w.store → slice_get code.instructions place ≡ Some (SkipThem o l) → place + 1 ≡ end → Reaches code (at place (shelved o v stack) frames w) (arrive (λ u w'. at end stack frames w') frames (and_then (looked l r w) send))
   skip_step l o v (Ok bytes) place end stack frames w q h has e =
@@ -172,10 +93,6 @@ module _ (code : Code) (n : ℕ) where
       (ap (with_rest w.report w.ticks) (h.by stack (λ v rest. sent l (empty_lines (number_of v)) (next rest c)))
       ∙ ap (λ r. with_rest w.report w.ticks (sent l r (next stack c))) q)
 
-  look_on : {A B C : Type 0} (l : Line) (w : World) (s : State) (k : A → State) (k' : C → World → State) (frames : List Frame) (r : OkOr A FaultKind) (f : A → OkOr B FaultKind) (go : B → Part C) → Reaches code s (told l w k r) → ((a : A) → r ≡ Ok a → Reaches code (k a) (arrive k' frames (and_then (looked l (f a) w) go))) → Reaches code s (arrive k' frames (and_then (looked l (if_ok r f) w) go))
-  look_on l w s k k' frames (Ok a) f go g h = reaches_on g (h a refl)
-  look_on l w s k k' frames (Err kind) f go g h = g
-
   skip_run : (l : Line) (e : Expression) → Runs code n same (expression_code l None e ++ SkipThem (operand_of e) l ∷ []) done (λ w. and_then (look l (λ s. if_ok (value e s) (λ v. empty_lines (number_of v))) w) send)
   skip_run l e = record {
     by = λ place stack frames w has le.
@@ -183,7 +100,7 @@ module _ (code : Code) (n : ℕ) where
         let tail = SkipThem (operand_of e) l ∷ [] in
         let end = place + length (c ++ tail) in
         let len : place + length c + 1 ≡ end = omega (arith, length-append c tail) in
-        look_on l w (at place stack frames w) (λ v. at (place + length c) (shelved (operand_of e) v stack) frames w) (λ u w'. at end stack frames w') frames (value e w.store) (λ v. empty_lines (number_of v)) send
+        look_on code l w (at place stack frames w) (λ v. at (place + length c) (shelved (operand_of e) v stack) frames w) (λ u w'. at end stack frames w') frames (value e w.store) (λ v. empty_lines (number_of v)) send
         (expression_run code l frames w e None place stack (has_front code.instructions place c tail has))
         (λ v q. skip_step l (operand_of e) v (empty_lines (number_of v)) (place + length c) end stack frames w refl (holds e v w.store q) (has_back code.instructions place c tail has).0 len);
   }
@@ -332,8 +249,8 @@ module _ (code : Code) (n : ℕ) (h : Calls) (ok : CallsRun code n h) where
   mutual
     -- a statement whose pictures stand in the table of pictures
     pub statement_run : (first : ℕ) (s : Statement) → HasAt code.pictures first (statement_pictures s) → Runs code n same (statement_code first s) done (effect h n s)
-    statement_run first (Let l x e) p = assign_run code n l x _ (value e) (λ place stack frames w has. expression_run code l frames w e (Some (destination_of x)) place stack has)
-    statement_run first (Change l sign x e) p = change_run code n l sign x e
+    statement_run first (Let l t e) p = let_run code n l t e
+    statement_run first (Change l sign t e) p = change_run code n l sign t e
     statement_run first (Print l items pictures) p = print_run code n l first items pictures p
     statement_run first (If' l c pa a pb b) p =
         if_run code n l c _ _ (effects h n a) (effects h n b) (row_run first a (has_front code.pictures first (row_pictures a) (row_pictures b) p))
@@ -353,6 +270,9 @@ module _ (code : Code) (n : ℕ) (h : Calls) (ok : CallsRun code n h) where
     statement_run first Stop p = stop_run code n
     statement_run first (Read l targets) p = reads_run code n l targets.items
     statement_run first (SkipLines l e) p = skip_run code n l e
+    statement_run first (Create l class t) p = create_run code n l class t
+    statement_run first (CreateEvery l classes) p = creates_run code n l classes.items
+    statement_run first (Destroy l class e) p = destroy_run code n l class e
 
     row_run : {m : _} (first : ℕ) (r : Row_of-Statement m) → HasAt code.pictures first (row_pictures r) → Runs code n same (row_code first r) done (effects h n r)
     row_run first end_of-Statement p = none code n tt

@@ -7,7 +7,7 @@ use Rattle.ss_base.specs.declared.value.Value.{Value}
 use Rattle.ss_base.specs.declared.value.Value.TheVariants.{Whole, Text}
 use Rattle.ss_resolved.specs.declared.resolved.Variable.{Variable}
 use Rattle.ss_resolved.specs.declared.resolved.Variable.TheVariants.{Global, Local}
-use Rattle.ss_resolved.specs.declared.resolved.Expression.{Expression, Constant, Fetch, Signed', Sum', Product', Applied', Absolute', Row_of-Expression, end_of-Expression, more_of-Expression, Row_of-Expression-Sum-1-2, end_of-Expression-Sum-1-2, more_of-Expression-Sum-1-2}
+use Rattle.ss_resolved.specs.declared.resolved.Expression.{Expression, Constant, Fetch, Signed', Sum', Product', Applied', Absolute', Attribute', Made, Row_of-Expression, end_of-Expression, more_of-Expression, Row_of-Expression-Sum-1-2, end_of-Expression-Sum-1-2, more_of-Expression-Sum-1-2}
 use Rattle.ss_code.specs.declared.instruction.Operand.{Operand}
 use Rattle.ss_code.specs.declared.instruction.Operand.TheVariants.{Popped, Number, FromGlobal, FromLocal}
 use Rattle.ss_code.specs.declared.instruction.Destination.{Destination}
@@ -15,13 +15,14 @@ use Rattle.ss_code.specs.declared.instruction.Destination.TheVariants.{Pushed, T
 use Rattle.ss_code.specs.declared.instruction.Operator.{Operator}
 use Rattle.ss_code.specs.declared.instruction.Operator.TheVariants.{Times, Distance}
 use Rattle.ss_code.specs.declared.instruction.Instruction.{Instruction}
-use Rattle.ss_code.specs.declared.instruction.Instruction.TheVariants.{Load, Move, Calculate}
+use Rattle.ss_code.specs.declared.instruction.Instruction.TheVariants.{Load, Move, Calculate, Get, CountMade}
 use Rattle.ss_code.specs.Store.{Store, World, fetched, assigned, computed, zero_value}
+use Rattle.ss_code.specs.Entities.{attribute, made_count}
 use Rattle.ss_code.specs.Meaning.{Fault, if_ok, operator_of, operator_for, value, sum_from, product_from, values}
-use Rattle.ss_code.specs.Machine.{Frame, Core, State, Code, Moved, To, Stepped, Goes, act, is_due, did, with_operand, delivered, with_rest, when_due}
-use Rattle.ss_code.specs.Translation.{variable_operand, constant_operand, operand_of, placed, constant_code, fetch_code, expression_code, sum_code, terms_code, product_code, factors_code, values_code}
+use Rattle.ss_code.specs.Machine.{Frame, Core, State, Code, Moved, To, Stepped, Goes, act, is_due, next, did, with_operand, delivered, with_rest, when_due}
+use Rattle.ss_code.specs.Translation.{variable_operand, constant_operand, operand_of, placed, constant_code, fetch_code, onwards_code, expression_code, sum_code, terms_code, product_code, factors_code, values_code}
 use Rattle.ss_code.specs.Running.{Underway}
-use Rattle.ss_code.proofs.Steps.{HasAt, has_front, has_back, Reaches, here, core_of, at}
+use Rattle.ss_code.proofs.Steps.{HasAt, has_front, has_back, Reaches, here, reaches_on, core_of, at}
 use Rattle.ss_code.proofs.Parts.{told, told_join, told_moved, goes, rests, onto}
 
 -- the stack above which an operand's value is ready
@@ -61,6 +62,8 @@ holds (Sum' p e h terms) v s q = holds_popped v s
 holds (Product' p e h factors) v s q = holds_popped v s
 holds (Applied' function p a r b) v s q = holds_popped v s
 holds (Absolute' p e) v s q = holds_popped v s
+holds (Attribute' class field p e) v s q = holds_popped v s
+holds (Made class) v s q = holds_popped v s
 
 -- the state after a value came to its destination
 abbrev pub at_destination : Destination → Value → ℕ → List Value → List Frame → World → State
@@ -78,13 +81,13 @@ module _ (code : Code) (l : Line) (frames : List Frame) (w : World) where
   landed_popped None v place place' stack e = ap (λ p. at p (v ∷ stack) frames w) e
   landed_popped (Some d) v place place' stack e = ap (λ p. at_destination d v p stack frames w) e
 
-  delivers : (into : Destination) (v : Value) (place : ℕ) (stack above : List Value) → with_rest w.report w.ticks (To (delivered into v stack (core_of place above frames w.store))) ≡ Goes (at_destination into v (place + 1) stack frames w)
+  pub delivers : (into : Destination) (v : Value) (place : ℕ) (stack above : List Value) → with_rest w.report w.ticks (To (delivered into v stack (core_of place above frames w.store))) ≡ Goes (at_destination into v (place + 1) stack frames w)
   delivers Pushed v place stack above = refl
   delivers (ToGlobal k) v place stack above = refl
   delivers (ToLocal k) v place stack above = refl
 
   -- an instruction that takes no tick
-  untimed : (i : Instruction) (c : Core) (m : Moved) (x : Stepped) → is_due i ≡ false → act code i c ≡ m → with_rest w.report w.ticks m ≡ x → when_due (is_due i) w.report w.ticks (act code i c) ≡ x
+  pub untimed : (i : Instruction) (c : Core) (m : Moved) (x : Stepped) → is_due i ≡ false → act code i c ≡ m → with_rest w.report w.ticks m ≡ x → when_due (is_due i) w.report w.ticks (act code i c) ≡ x
   untimed i c m x free e f = ap (λ b. when_due b w.report w.ticks (act code i c)) free ∙ ap (with_rest w.report w.ticks) e ∙ f
 
   -- one instruction that looks, and leaves what it found at its destination
@@ -136,6 +139,38 @@ module _ (code : Code) (l : Line) (frames : List Frame) (w : World) where
       told_moved l w (at place (shelved right y (shelved left x stack)) frames w) (λ v. at_destination (placed into) v (place + 1) stack frames w) (λ v. landed into Popped v place' stack frames w) (computed op x y) (λ v. landed_popped into v (place + 1) place' stack e)
       (calculates op left right (placed into) x y place stack hx hy has)
 
+  -- the value of an attribute, on top of the stack
+  gets : (class field : ℕ) (o : Operand) (x : Value) (place : ℕ) (stack : List Value) → Holds o x w.store → slice_get code.instructions place ≡ Some (Get class field o l) → Reaches code (at place (shelved o x stack) frames w) (told l w (λ v. at (place + 1) (v ∷ stack) frames w) (attribute class field x w.store))
+  gets class field o x place stack hx has =
+      let c = core_of place (shelved o x stack) frames w.store in
+      did_told (Get class field o l) Pushed place stack (shelved o x stack) (attribute class field x w.store) has refl
+      (hx.by stack (λ x rest. did l (attribute class field x w.store) (λ v. next (v ∷ rest) c)))
+
+  -- on from the top of the stack
+  onwards_run : (into : Option Destination) (v : Value) (place end : ℕ) (stack : List Value) → HasAt code.instructions place (onwards_code into) → place + length (onwards_code into) ≡ end → Reaches code (at place (v ∷ stack) frames w) (Underway (landed into Popped v end stack frames w))
+  onwards_run None v place end stack has len = let e : place ≡ end = omega (arith, len) in moved_to _ _ _ (ap (λ p. at p (v ∷ stack) frames w) e) here
+  onwards_run (Some Pushed) v place end stack has len = let e : place ≡ end = omega (arith, len) in moved_to _ _ _ (ap (λ p. at p (v ∷ stack) frames w) e) here
+  onwards_run (Some (ToGlobal k)) v place end stack has len =
+      moved_to _ _ _ (ap (λ p. at_destination (ToGlobal k) v p stack frames w) len) (moves Popped (ToGlobal k) v place stack (holds_popped v w.store) has.0)
+  onwards_run (Some (ToLocal k)) v place end stack has len =
+      moved_to _ _ _ (ap (λ p. at_destination (ToLocal k) v p stack frames w) len) (moves Popped (ToLocal k) v place stack (holds_popped v w.store) has.0)
+
+  -- where it is told what was looked at, and what follows leads on
+  told_on : (s : State) (k k' : Value → State) (r : OkOr Value FaultKind) → Reaches code s (told l w k r) → ((v : Value) → Reaches code (k v) (Underway (k' v))) → Reaches code s (told l w k' r)
+  told_on s k k' (Ok v) g h = reaches_on g (h v)
+  told_on s k k' (Err kind) g h = g
+
+  attribute_run : (class field : ℕ) (o : Operand) (into : Option Destination) (x : Value) (place end : ℕ) (stack : List Value) → Holds o x w.store → HasAt code.instructions place (Get class field o l ∷ onwards_code into) → place + 1 + length (onwards_code into) ≡ end → Reaches code (at place (shelved o x stack) frames w) (told l w (λ v. landed into Popped v end stack frames w) (attribute class field x w.store))
+  attribute_run class field o into x place end stack hx has len =
+      told_on (at place (shelved o x stack) frames w) (λ v. at (place + 1) (v ∷ stack) frames w) (λ v. landed into Popped v end stack frames w) (attribute class field x w.store)
+      (gets class field o x place stack hx has.0)
+      (λ v. onwards_run into v (place + 1) end stack has.1 len)
+
+  made_run : (class : ℕ) (into : Option Destination) (place end : ℕ) (stack : List Value) → slice_get code.instructions place ≡ Some (CountMade class (placed into)) → place + 1 ≡ end → Reaches code (at place stack frames w) (Underway (landed into Popped (made_count class w.store) end stack frames w))
+  made_run class into place end stack has len =
+      moved_to _ _ _ (landed_popped into (made_count class w.store) (place + 1) end stack len)
+      (delivered_told (CountMade class (placed into)) (placed into) (made_count class w.store) place stack stack has refl refl)
+
   mutual
     pub expression_run : (e : Expression) (into : Option Destination) (place : ℕ) (stack : List Value) → HasAt code.instructions place (expression_code l into e) → Reaches code (at place stack frames w) (told l w (λ v. landed into (operand_of e) v (place + length (expression_code l into e)) stack frames w) (value e w.store))
     expression_run (Constant v) into place stack has = constant_run v into place stack has
@@ -181,6 +216,14 @@ module _ (code : Code) (l : Line) (frames : List Frame) (w : World) where
         told_join l w (at place stack frames w) (λ v. at (place + length c) (shelved (operand_of e) v stack) frames w) _ (value e w.store) (λ x. computed Distance x zero_value)
         (expression_run e None place stack (has_front code.instructions place c tail has))
         (λ x q. last_run Distance (operand_of e) (Number (pos 0)) into x zero_value (place + length c) (place + length (c ++ tail)) stack (holds e x w.store q) (holds_number w.store) (has_back code.instructions place c tail has).0 len)
+    expression_run (Attribute' class field p e) into place stack has =
+        let c = expression_code l None e in
+        let tail = Get class field (operand_of e) l ∷ onwards_code into in
+        let len : place + length c + 1 + length (onwards_code into) ≡ place + length (c ++ tail) = omega (arith, length-append c tail) in
+        told_join l w (at place stack frames w) (λ v. at (place + length c) (shelved (operand_of e) v stack) frames w) _ (value e w.store) (λ x. attribute class field x w.store)
+        (expression_run e None place stack (has_front code.instructions place c tail has))
+        (λ x q. attribute_run class field (operand_of e) into x (place + length c) (place + length (c ++ tail)) stack (holds e x w.store q) (has_back code.instructions place c tail has) len)
+    expression_run (Made class) into place stack has = made_run class into place (place + 1) stack has.0 refl
 
     sum_run : {m : _} (terms : Row_of-Expression-Sum-1-2 m) (into : Option Destination) (first : Operand) (x : Value) (place end : ℕ) (stack : List Value) → Holds first x w.store → HasAt code.instructions place (sum_code l into first terms) → place + length (sum_code l into first terms) ≡ end → Reaches code (at place (shelved first x stack) frames w) (told l w (λ v. landed into Popped v end stack frames w) (sum_from x terms w.store))
     sum_run end_of-Expression-Sum-1-2 into first x place end stack hx has len =

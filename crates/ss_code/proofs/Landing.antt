@@ -5,7 +5,7 @@ use Rattle.ss_base.specs.declared.line.Line.{Line}
 use Rattle.ss_base.specs.declared.value.Value.{Value}
 use Rattle.ss_base.specs.declared.value.Value.TheVariants.{Whole, Text}
 use Rattle.ss_resolved.specs.declared.resolved.Variable.{Variable}
-use Rattle.ss_resolved.specs.declared.resolved.Expression.{Expression, Constant, Fetch, Signed', Sum', Product', Applied', Absolute', Row_of-Expression, end_of-Expression, more_of-Expression, Row_of-Expression-Sum-1-2, end_of-Expression-Sum-1-2, more_of-Expression-Sum-1-2}
+use Rattle.ss_resolved.specs.declared.resolved.Expression.{Expression, Constant, Fetch, Signed', Sum', Product', Applied', Absolute', Attribute', Made, Row_of-Expression, end_of-Expression, more_of-Expression, Row_of-Expression-Sum-1-2, end_of-Expression-Sum-1-2, more_of-Expression-Sum-1-2}
 use Rattle.ss_resolved.specs.declared.resolved.Test.{Test}
 use Rattle.ss_resolved.specs.declared.resolved.Test.TheVariants.{Compare, DataEnded}
 use Rattle.ss_resolved.specs.declared.resolved.Conjunction.{Conjunction}
@@ -17,9 +17,14 @@ use Rattle.ss_resolved.specs.declared.resolved.PhraseKind.{PhraseKind}
 use Rattle.ss_resolved.specs.declared.resolved.PhraseKind.TheVariants.{With as WithPhrase, Unless as UnlessPhrase, While as WhilePhrase, Until as UntilPhrase}
 use Rattle.ss_resolved.specs.declared.resolved.Phrase.{Phrase}
 use Rattle.ss_resolved.specs.declared.resolved.Range.{Range}
+use Rattle.ss_resolved.specs.declared.resolved.Place.{Place}
+use Rattle.ss_resolved.specs.declared.resolved.Place.TheVariants.{Variable as PlainVariable, Attribute as AttributePlace, Count}
 use Rattle.ss_resolved.specs.declared.resolved.Target.{Target}
+use Rattle.ss_resolved.specs.declared.resolved.Counted.{Counted}
+use Rattle.ss_base.specs.declared.layout.Mode.{Mode}
+use Rattle.ss_code.specs.declared.instruction.Destination.TheVariants.{Pushed, ToGlobal, ToLocal}
 use Rattle.ss_resolved.specs.declared.resolved.Section.{Section}
-use Rattle.ss_resolved.specs.declared.resolved.Statement.{Statement, Let, Change, Print, If', While', For', Find', Call as CallRoutine, Return, Stop, Read, Skip as SkipLines, Row_of-Statement, end_of-Statement, more_of-Statement}
+use Rattle.ss_resolved.specs.declared.resolved.Statement.{Statement, Let, Change, Print, If', While', For', Find', Call as CallRoutine, Return, Stop, Read, Skip as SkipLines, Create, CreateEvery, Destroy, Row_of-Statement, end_of-Statement, more_of-Statement}
 use Rattle.ss_resolved.specs.declared.resolved.Resolved.{Resolved}
 use Rattle.ss_code.specs.declared.instruction.Operand.{Operand}
 use Rattle.ss_code.specs.declared.instruction.Destination.{Destination}
@@ -28,7 +33,7 @@ use Rattle.ss_code.specs.declared.instruction.Instruction.{Instruction}
 use Rattle.ss_code.specs.declared.instruction.Instruction.TheVariants.{Turn, Next, Jump, Begin, Take, Forget, Leave}
 use Rattle.ss_code.specs.Machine.{Code, is_due}
 use Rattle.ss_code.specs.Running.{TicksAt, goes_back, Sound}
-use Rattle.ss_code.specs.Translation.{operand_of, constant_code, fetch_code, expression_code, sum_code, terms_code, product_code, factors_code, values_code, test_code, tests_code, alternatives_code, some_code, condition_code, negated_code, guard_code, guards_code, phrase_code, phrases_code, if_code, while_code, step_code, bounds_code, for_code, find_code, assigns_code, reads_code, statement_code, statement_pictures, row_code, row_pictures, body_code, body_pictures, section_code, routines_code, code_of}
+use Rattle.ss_code.specs.Translation.{operand_of, constant_code, fetch_code, onwards_code, expression_code, sum_code, terms_code, product_code, factors_code, values_code, test_code, tests_code, alternatives_code, some_code, condition_code, negated_code, guard_code, guards_code, phrase_code, phrases_code, if_code, while_code, step_code, bounds_code, for_code, find_code, reference_code, let_code, change_code, read_code, reads_code, create_code, creates_code, assign_code, assigns_code, statement_code, statement_pictures, row_code, row_pictures, body_code, body_pictures, section_code, routines_code, code_of}
 use Rattle.ss_code.specs.Meaning.{operator_of}
 use Rattle.ss_code.proofs.Steps.{HasAt, has_front, has_back, has_all}
 use Rattle.ss_code.proofs.Secure.{never_stuck}
@@ -52,6 +57,12 @@ fetch_straight : (into : Option Destination) (x : Variable) → Straight (fetch_
 fetch_straight None x = tt
 fetch_straight (Some d) x = (refl, tt)
 
+onwards_straight : (into : Option Destination) → Straight (onwards_code into)
+onwards_straight None = tt
+onwards_straight (Some Pushed) = tt
+onwards_straight (Some (ToGlobal k)) = (refl, tt)
+onwards_straight (Some (ToLocal k)) = (refl, tt)
+
 module _ (l : Line) where
   mutual
     expression_straight : (into : Option Destination) (e : Expression) → Straight (expression_code l into e)
@@ -63,6 +74,8 @@ module _ (l : Line) where
     expression_straight into (Applied' function p a q b) =
         straight_both (expression_code l None a) _ (expression_straight None a) (straight_both (expression_code l None b) _ (expression_straight None b) (refl, tt))
     expression_straight into (Absolute' p e) = straight_both (expression_code l None e) _ (expression_straight None e) (refl, tt)
+    expression_straight into (Attribute' class field p e) = straight_both (expression_code l None e) _ (expression_straight None e) (refl, onwards_straight into)
+    expression_straight into (Made class) = (refl, tt)
 
     sum_straight : {m : _} (into : Option Destination) (first : Operand) (r : Row_of-Expression-Sum-1-2 m) → Straight (sum_code l into first r)
     sum_straight into first end_of-Expression-Sum-1-2 = (refl, tt)
@@ -130,13 +143,46 @@ module _ (l : Line) where
   bounds_straight : (r : Range) → Straight (bounds_code l r)
   bounds_straight r = straight_both (expression_code l _ r.first) _ (expression_straight _ r.first) (straight_both (expression_code l _ r.limit) _ (expression_straight _ r.limit) (step_straight r.step))
 
+  reference_straight : (class : ℕ) (e : Expression) → Straight (reference_code l class e)
+  reference_straight class e = straight_both (expression_code l None e) _ (expression_straight None e) (refl, tt)
+
+  let_straight : (t : Place) (e : Expression) → Straight (let_code l t e)
+  let_straight (PlainVariable x) e = expression_straight _ e
+  let_straight (AttributePlace class field r) e =
+      straight_both (reference_code l class r) _ (reference_straight class r) (straight_both (expression_code l None e) _ (expression_straight None e) (refl, tt))
+  let_straight (Count class number) e = straight_both (expression_code l None e) _ (expression_straight None e) (refl, tt)
+
+  change_straight : (op : Operator) (t : Place) (right : Operand) → Straight (change_code l op t right)
+  change_straight op (PlainVariable x) right = (refl, tt)
+  change_straight op (AttributePlace class field r) right = straight_both (expression_code l _ r) _ (expression_straight _ r) (refl, tt)
+  change_straight op (Count class number) right = (refl, (refl, tt))
+
+  read_straight : (mode : Mode) (t : Place) → Straight (read_code l mode t)
+  read_straight mode (PlainVariable x) = (refl, tt)
+  read_straight mode (AttributePlace class field r) = straight_both (reference_code l class r) _ (reference_straight class r) (refl, (refl, tt))
+  read_straight mode (Count class number) = (refl, (refl, tt))
+
   reads_straight : (ts : List Target) → Straight (reads_code l ts)
   reads_straight [] = tt
-  reads_straight (t ∷ ts) = (refl, reads_straight ts)
+  reads_straight (t ∷ ts) = straight_both (read_code l t.mode t.place) _ (read_straight t.mode t.place) (reads_straight ts)
 
-assigns_straight : (xs : List Variable) → Straight (assigns_code xs)
-assigns_straight [] = tt
-assigns_straight (x ∷ xs) = (refl, assigns_straight xs)
+  create_straight : (class : ℕ) (t : Place) → Straight (create_code l class t)
+  create_straight class (PlainVariable x) = (refl, tt)
+  create_straight class (AttributePlace owner field r) = straight_both (reference_code l owner r) _ (reference_straight owner r) (refl, (refl, tt))
+  create_straight class (Count counted number) = (refl, (refl, tt))
+
+  creates_straight : (cs : List Counted) → Straight (creates_code l cs)
+  creates_straight [] = tt
+  creates_straight (c ∷ cs) = (refl, creates_straight cs)
+
+  assign_straight : (t : Place) → Straight (assign_code l t)
+  assign_straight (PlainVariable x) = (refl, tt)
+  assign_straight (AttributePlace class field r) = straight_both (expression_code l None r) _ (expression_straight None r) (refl, tt)
+  assign_straight (Count class number) = (refl, tt)
+
+  assigns_straight : (ts : List Place) → Straight (assigns_code l ts)
+  assigns_straight [] = tt
+  assigns_straight (t ∷ ts) = straight_both (assign_code l t) _ (assign_straight t) (assigns_straight ts)
 
 -- each jump back of these, which stand at a place of a code, leads to a tick
 pub record LandsAt (all : List Instruction) (place : ℕ) (i : Instruction) : Type 0 where
@@ -223,18 +269,21 @@ module _ (all : List Instruction) where
 
   mutual
     statement_lands : (first : ℕ) (s : Statement) (place : ℕ) → HasAt all place (statement_code first s) → Lands all place (statement_code first s)
-    statement_lands first (Let l x e) place has = lands_straight place (statement_code first (Let l x e)) (expression_straight l _ e)
-    statement_lands first (Change l sign x e) place has = lands_straight place (statement_code first (Change l sign x e)) (straight_both (expression_code l None e) _ (expression_straight l None e) (refl, tt))
+    statement_lands first (Let l t e) place has = lands_straight place (statement_code first (Let l t e)) (let_straight l t e)
+    statement_lands first (Change l sign t e) place has = lands_straight place (statement_code first (Change l sign t e)) (straight_both (expression_code l None e) _ (expression_straight l None e) (change_straight l (operator_of sign) t (operand_of e)))
     statement_lands first (Print l items pictures) place has = lands_straight place (statement_code first (Print l items pictures)) (straight_both (values_code l items.items) _ (values_straight l items.items) (refl, tt))
     statement_lands first (If' l c p a q b) place has = if_lands l c (row_code first a) (row_code (first + length (row_pictures a)) b) place has (λ p h. row_lands first a p h) (λ p h. row_lands (first + length (row_pictures a)) b p h)
     statement_lands first (While' l guards p a) place has = while_lands l guards.items (row_code first a) place has (λ p h. row_lands first a p h)
     statement_lands first (For' l r ps p a) place has = for_lands l r (phrases_code l ps.items (row_code first a)) place has (phrases_lands l ps.items (row_code first a) (λ p h. row_lands first a p h))
     statement_lands first (Find' l r ps p a q b) place has = find_lands l r ps.items (row_code first a) (row_code (first + length (row_pictures a)) b) place has (λ p h. row_lands first a p h) (λ p h. row_lands (first + length (row_pictures a)) b p h)
-    statement_lands first (CallRoutine l routine given yielding) place has = lands_straight place (statement_code first (CallRoutine l routine given yielding)) (straight_both (values_code l given.items) _ (values_straight l given.items) (refl, assigns_straight yielding.items))
+    statement_lands first (CallRoutine l routine given yielding) place has = lands_straight place (statement_code first (CallRoutine l routine given yielding)) (straight_both (values_code l given.items) _ (values_straight l given.items) (refl, assigns_straight l yielding.items))
     statement_lands first Return place has = lands_straight place (statement_code first Return) (refl, tt)
     statement_lands first Stop place has = lands_straight place (statement_code first Stop) (refl, tt)
     statement_lands first (Read l targets) place has = lands_straight place (statement_code first (Read l targets)) (reads_straight l targets.items)
     statement_lands first (SkipLines l e) place has = lands_straight place (statement_code first (SkipLines l e)) (straight_both (expression_code l None e) _ (expression_straight l None e) (refl, tt))
+    statement_lands first (Create l class t) place has = lands_straight place (statement_code first (Create l class t)) (create_straight l class t)
+    statement_lands first (CreateEvery l classes) place has = lands_straight place (statement_code first (CreateEvery l classes)) (creates_straight l classes.items)
+    statement_lands first (Destroy l class e) place has = lands_straight place (statement_code first (Destroy l class e)) (straight_both (expression_code l None e) _ (expression_straight l None e) (refl, tt))
 
     row_lands : {m : _} (first : ℕ) (r : Row_of-Statement m) (place : ℕ) → HasAt all place (row_code first r) → Lands all place (row_code first r)
     row_lands first end_of-Statement place has = tt

@@ -3,6 +3,7 @@ pub mod Parts
 pub mod Expressions
 pub mod Branching
 pub mod Looping
+pub mod Writing
 pub mod Effects
 pub mod Calling
 pub mod Whole
@@ -10,5 +11,8 @@ pub mod Pieces
 pub mod Rows
 pub mod Sizes
 pub mod Safety
+pub mod Guarded
 pub mod Secure
 pub mod Landing
+pub mod Alike
+pub mod Natural

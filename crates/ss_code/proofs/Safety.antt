@@ -7,7 +7,7 @@ use Rattle.ss_base.specs.declared.value.Value.{Value}
 use Rattle.ss_base.specs.declared.value.Value.TheVariants.{Whole, Text}
 use Rattle.ss_resolved.specs.declared.resolved.Variable.{Variable}
 use Rattle.ss_resolved.specs.declared.resolved.Variable.TheVariants.{Global, Local}
-use Rattle.ss_resolved.specs.declared.resolved.Expression.{Expression, Constant, Fetch, Signed', Sum', Product', Applied', Absolute', Row_of-Expression, end_of-Expression, more_of-Expression, Row_of-Expression-Sum-1-2, end_of-Expression-Sum-1-2, more_of-Expression-Sum-1-2}
+use Rattle.ss_resolved.specs.declared.resolved.Expression.{Expression, Constant, Fetch, Signed', Sum', Product', Applied', Absolute', Attribute', Made, Row_of-Expression, end_of-Expression, more_of-Expression, Row_of-Expression-Sum-1-2, end_of-Expression-Sum-1-2, more_of-Expression-Sum-1-2}
 use Rattle.ss_resolved.specs.declared.resolved.Test.{Test}
 use Rattle.ss_resolved.specs.declared.resolved.Test.TheVariants.{Compare, DataEnded}
 use Rattle.ss_resolved.specs.declared.resolved.Conjunction.{Conjunction}
@@ -22,12 +22,13 @@ use Rattle.ss_code.specs.declared.instruction.Destination.TheVariants.{Pushed, T
 use Rattle.ss_code.specs.declared.instruction.Operator.{Operator}
 use Rattle.ss_code.specs.declared.instruction.Operator.TheVariants.{Times, Distance}
 use Rattle.ss_code.specs.declared.instruction.Instruction.{Instruction}
-use Rattle.ss_code.specs.declared.instruction.Instruction.TheVariants.{Load, Move, Calculate, Compare as CompareThem, TestData, Jump}
+use Rattle.ss_code.specs.declared.instruction.Instruction.TheVariants.{Load, Move, Calculate, Compare as CompareThem, TestData, Jump, Get, CountMade}
 use Rattle.ss_input.specs.Words.{is_ended}
 use Rattle.ss_code.specs.Store.{Store, computed, related}
+use Rattle.ss_code.specs.Entities.{attribute, made_count}
 use Rattle.ss_code.specs.Meaning.{operator_of, operator_for, unless}
 use Rattle.ss_code.specs.Machine.{Frame, Core, State, Code, Moved, To, Sends, Rest, Stuck, Taken, take_off, with_taken, with_top, with_three, with_operand, delivered, next, did, sent, branch, where_next, act, is_due, Stepped, Goes, Over, NoStep, with_rest, when_due, step_at, step}
-use Rattle.ss_code.specs.Translation.{variable_operand, destination_of, constant_operand, operand_of, placed, constant_code, fetch_code, expression_code, sum_code, terms_code, product_code, factors_code, values_code, test_code, tests_code, alternatives_code, some_code, condition_code, negated_code, guard_code, guards_code}
+use Rattle.ss_code.specs.Translation.{variable_operand, destination_of, constant_operand, operand_of, placed, constant_code, fetch_code, onwards_code, expression_code, sum_code, terms_code, product_code, factors_code, values_code, test_code, tests_code, alternatives_code, some_code, condition_code, negated_code, guard_code, guards_code}
 use Rattle.ss_code.proofs.Steps.{HasAt, has_front, has_back, core_of}
 
 module _ (code : Code) where
@@ -183,6 +184,24 @@ module _ (code : Code) where
     last_safe : (op : Operator) (left right : Operand) (into : Option Destination) (l : Line) (place end h : ℕ) → slice_get code.instructions place ≡ Some (Calculate op left right (placed into) l) → place + 1 ≡ end → Now k end (landed into Popped h) frames → Now k place (up right (up left h)) frames
     last_safe op left right into l place end h has e n = calculate_safe op left right (placed into) l place h has (moved_now (sym e) (sym (placed_is into h)) n)
 
+    -- a look whose value goes on top of the stack
+    pub pushed_safe : (j place h : ℕ) (l : Line) (r : OkOr Value FaultKind) (rest above : List Value) (s : Store) → length rest ≡ h → Safe j (place + 1) (suc h) frames → ActSafe (Safe j) (did l r (λ v. next (v ∷ rest) (core_of place above frames s)))
+    pushed_safe j place h l r rest above s len p = did_safe (Safe j) l r _ (λ v. subst (λ m. Safe j (place + 1) (suc m) frames) (sym len) p)
+
+    get_safe : (class field : ℕ) (o : Operand) (l : Line) (place h : ℕ) → slice_get code.instructions place ≡ Some (Get class field o l) → Now k (place + 1) (suc h) frames → Now k place (up o h) frames
+    get_safe class field o l place h has n = one (Get class field o l) k place _ frames has (λ j lt stack s len.
+        operand_safe (Safe j) o stack h s _ len (λ x rest len2. pushed_safe j place h l (attribute class field x s) rest stack s len2 (n.upto j (omega (arith, lt)))))
+
+    made_safe : (class : ℕ) (into : Destination) (place h : ℕ) → slice_get code.instructions place ≡ Some (CountMade class into) → Now k (place + 1) (down into h) frames → Now k place h frames
+    made_safe class into place h has n = one (CountMade class into) k place h frames has (λ j lt stack s len.
+        deliver_safe (Safe j) into (made_count class s) stack (core_of place stack frames s) h len (n.upto j (omega (arith, lt))))
+
+    onwards_safe : (into : Option Destination) (place end h : ℕ) → HasAt code.instructions place (onwards_code into) → place + length (onwards_code into) ≡ end → Now k end (landed into Popped h) frames → Now k place (suc h) frames
+    onwards_safe None place end h has len n = moved_now (omega (arith, len)) refl n
+    onwards_safe (Some Pushed) place end h has len n = moved_now (omega (arith, len)) refl n
+    onwards_safe (Some (ToGlobal g)) place end h has len n = move_safe Popped (ToGlobal g) place h has.0 (moved_now (sym len) refl n)
+    onwards_safe (Some (ToLocal g)) place end h has len n = move_safe Popped (ToLocal g) place h has.0 (moved_now (sym len) refl n)
+
     module _ (l : Line) where
       mutual
         pub expression_safe : (e : Expression) (into : Option Destination) (place end h : ℕ) → HasAt code.instructions place (expression_code l into e) → place + length (expression_code l into e) ≡ end → Now k end (landed into (operand_of e) h) frames → Now k place h frames
@@ -221,6 +240,14 @@ module _ (code : Code) where
             let e' : place + length c + 1 ≡ end = omega (arith, len, length-append c tail) in
             expression_safe e None place (place + length c) h (has_front code.instructions place c tail has) refl
             (last_safe Distance (operand_of e) (Number (pos 0)) into l (place + length c) end h (has_back code.instructions place c tail has).0 e' n)
+        expression_safe (Attribute' class field p e) into place end h has len n =
+            let c = expression_code l None e in
+            let tail = Get class field (operand_of e) l ∷ onwards_code into in
+            let e' : place + length c + 1 + length (onwards_code into) ≡ end = omega (arith, len, length-append c tail) in
+            let hh = has_back code.instructions place c tail has in
+            expression_safe e None place (place + length c) h (has_front code.instructions place c tail has) refl
+            (get_safe class field (operand_of e) l (place + length c) h hh.0 (onwards_safe into (place + length c + 1) end h hh.1 e' n))
+        expression_safe (Made class) into place end h has len n = made_safe class (placed into) place h has.0 (moved_now (sym len) (sym (placed_is into h)) n)
 
         sum_safe : {m : _} (terms : Row_of-Expression-Sum-1-2 m) (into : Option Destination) (first : Operand) (place end h : ℕ) → HasAt code.instructions place (sum_code l into first terms) → place + length (sum_code l into first terms) ≡ end → Now k end (landed into Popped h) frames → Now k place (up first h) frames
         sum_safe end_of-Expression-Sum-1-2 into first place end h has len n = move_safe first (placed into) place h has.0 (moved_now (sym len) (sym (placed_is into h)) n)

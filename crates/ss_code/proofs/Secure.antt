@@ -3,7 +3,6 @@ use Rattle.std.proofs.Common.{◌≡◌, ℕ, zero, suc, ◌+◌, ◌-◌, ◌<�
 use Rattle.std.specs.Prelude.{slice_get, Result as OkOr}
 use Rattle.ss_base.specs.declared.line.Line.{Line}
 use Rattle.ss_base.specs.declared.fault.FaultKind.{FaultKind}
-use Rattle.ss_base.specs.declared.layout.Mode.{Mode}
 use Rattle.ss_base.specs.declared.value.Value.{Value}
 use Rattle.ss_resolved.specs.declared.resolved.Variable.{Variable}
 use Rattle.ss_resolved.specs.declared.resolved.Expression.{Expression}
@@ -13,23 +12,23 @@ use Rattle.ss_resolved.specs.declared.resolved.PhraseKind.{PhraseKind}
 use Rattle.ss_resolved.specs.declared.resolved.PhraseKind.TheVariants.{With as WithPhrase, Unless as UnlessPhrase, While as WhilePhrase, Until as UntilPhrase}
 use Rattle.ss_resolved.specs.declared.resolved.Phrase.{Phrase}
 use Rattle.ss_resolved.specs.declared.resolved.Range.{Range}
-use Rattle.ss_resolved.specs.declared.resolved.Target.{Target}
+use Rattle.ss_resolved.specs.declared.resolved.Place.{Place}
 use Rattle.ss_resolved.specs.declared.resolved.Section.{Section}
 use Rattle.ss_resolved.specs.declared.resolved.Resolved.{Resolved}
-use Rattle.ss_resolved.specs.declared.resolved.Statement.{Statement, Let, Change, Print, If', While', For', Find', Call as CallRoutine, Return, Stop, Read, Skip as SkipLines, Row_of-Statement, end_of-Statement, more_of-Statement}
-use Rattle.ss_code.specs.declared.instruction.Operand.TheVariants.{Popped, Number}
+use Rattle.ss_resolved.specs.declared.resolved.Statement.{Statement, Let, Change, Print, If', While', For', Find', Call as CallRoutine, Return, Stop, Read, Skip as SkipLines, Create, CreateEvery, Destroy, Row_of-Statement, end_of-Statement, more_of-Statement}
+use Rattle.ss_code.specs.declared.instruction.Operand.TheVariants.{Number}
 use Rattle.ss_code.specs.declared.instruction.Destination.TheVariants.{Pushed}
 use Rattle.ss_code.specs.declared.instruction.Instruction.{Instruction}
-use Rattle.ss_code.specs.declared.instruction.Instruction.TheVariants.{Calculate, Jump, Turn, Repeat, Begin, Take, Next, Forget, Call, Leave, Halt, Read as ReadWord, Skip as SkipThem, Print as PrintLines}
-use Rattle.ss_input.specs.Words.{value_given}
+use Rattle.ss_code.specs.declared.instruction.Instruction.TheVariants.{Jump, Turn, Repeat, Begin, Take, Next, Forget, Call, Leave, Halt, Skip as SkipThem, Print as PrintLines}
 use Rattle.ss_code.specs.Store.{Store, number_of, step_of, is_within, item_after, empty_lines, yielded}
 use Rattle.ss_code.specs.Meaning.{operator_of}
 use Rattle.ss_code.specs.Machine.{Frame, Core, State, Code, Entry, To, enter, sent, next, Goes, NoStep, where_next, step}
-use Rattle.ss_code.specs.Translation.{variable_operand, destination_of, operand_of, expression_code, values_code, condition_code, negated_code, guards_code, phrase_code, phrases_code, if_code, while_code, step_code, bounds_code, for_code, find_code, assigns_code, reads_code, statement_code, statement_pictures, row_code, row_pictures, body_code, section_code, code_of}
-use Rattle.ss_code.specs.Running.{Reachable, begins, onwards, changed}
+use Rattle.ss_code.specs.Translation.{operand_of, expression_code, values_code, condition_code, negated_code, guards_code, phrase_code, phrases_code, if_code, while_code, step_code, bounds_code, for_code, find_code, assigns_code, statement_code, statement_pictures, row_code, row_pictures, body_code, section_code, code_of}
+use Rattle.ss_code.specs.Running.{Reachable, begins, onwards, changed, peopled}
 use Rattle.ss_code.proofs.Steps.{HasAt, has_front, has_back, core_of}
 use Rattle.ss_code.proofs.Calling.{yielded_length, LinkedAt, Linked}
-use Rattle.ss_code.proofs.Safety.{SafeStep, Safe, Now, now_less, ActSafe, one, up, variable_up, variable_down, moved_now, top_safe, operand_safe, three_safe, off_safe, deliver_safe, did_safe, calculate_safe, move_safe, jump_safe, branch_safe, expression_safe, values_safe, condition_safe, negated_safe, guards_safe}
+use Rattle.ss_code.proofs.Safety.{SafeStep, Safe, Now, now_less, ActSafe, one, moved_now, top_safe, operand_safe, three_safe, off_safe, did_safe, move_safe, jump_safe, branch_safe, expression_safe, values_safe, condition_safe, negated_safe, guards_safe}
+use Rattle.ss_code.proofs.Guarded.{let_safe, change_safe, reads_safe, create_safe, creates_safe, destroy_safe, assigns_safe}
 use Rattle.ss_code.proofs.Whole.{linked, instructions_at}
 
 module _ (code : Code) where
@@ -261,25 +260,6 @@ module _ (code : Code) where
           (moved_now code {place = p4 + 1} (omega arith) refl (forget_safe k (p4 + 1) h frames hj.1.0 (pa.by k le (p4 + 1 + 1) end h frames hj.1.1 e' back n)));
     }
 
-    assigns_safe : (xs : List Variable) (k place end h : ℕ) (frames : List Frame) → HasAt code.instructions place (assigns_code xs) → place + length (assigns_code xs) ≡ end → Now code k end h frames → Now code k place (length xs + h) frames
-    assigns_safe [] k place end h frames has len n = moved_now code (omega (arith, len)) (omega arith) n
-    assigns_safe (x ∷ xs) k place end h frames has len n =
-        moved_now code {h = suc (length xs + h)} refl (omega arith)
-        (move_safe code k frames Popped (destination_of x) place (length xs + h) has.0
-        (moved_now code refl (sym (variable_down code x (length xs + h))) (assigns_safe xs k (place + 1) end h frames has.1 (omega (arith, len)) n)))
-
-    read_safe : (l : Line) (mode : Mode) (x : Variable) (k place h : ℕ) (frames : List Frame) → slice_get code.instructions place ≡ Some (ReadWord mode (destination_of x) l) → Now code k (place + 1) h frames → Now code k place h frames
-    read_safe l mode x k place h frames has n = one code (ReadWord mode (destination_of x) l) k place h frames has (λ j lt stack s len.
-        did_safe code (Safe code j) l (value_given mode s.input) _ (λ g.
-        deliver_safe code (Safe code j) (destination_of x) g.value stack (record (core_of place stack frames s) { store = record s { input = g.rest } }) h len
-        (subst (λ m. Safe code j (place + 1) m frames) (sym (variable_down code x h)) (n.upto j (omega (arith, lt))))))
-
-    reads_safe : (l : Line) (ts : List Target) → Piece (reads_code l ts)
-    reads_safe l [] = record { by = λ k le place end h frames has len back n. moved_now code (omega (arith, len)) refl n }
-    reads_safe l (t ∷ ts) =
-        let rest = reads_safe l ts in
-        record { by = λ k le place end h frames has len back n. read_safe l t.mode t.variable k place h frames has.0 (rest.by k le (place + 1) end h frames has.1 (omega (arith, len)) back n) }
-
     sent_safe : (j : ℕ) (l : Line) (r : OkOr (List ℕ) FaultKind) (c : Core) → Safe code j c.place (length c.operands) c.frames → ActSafe code (Safe code j) (sent l r c)
     sent_safe j l (Ok bytes) c s = s
     sent_safe j l (Err kind) c s = tt
@@ -311,18 +291,6 @@ module _ (code : Code) where
           off_safe code (Safe code j) (length es) stack [] h _ ls (λ vs rest lr lv. subst (λ m. Safe code j (mid + 1) m frames) (sym lr) (n'.upto j (omega (arith, lt))))));
     }
 
-    change_safe : (l : Line) (op : _) (x : Variable) (e : Expression) → Piece (expression_code l None e ++ Calculate op (variable_operand x) (operand_of e) (destination_of x) l ∷ [])
-    change_safe l op x e = record {
-      by = λ k le place end h frames has len back n.
-          let c = expression_code l None e in
-          let tail = Calculate op (variable_operand x) (operand_of e) (destination_of x) l ∷ [] in
-          let mid = place + length c in
-          let e' : mid + 1 ≡ end = omega (arith, len, length-append c tail) in
-          expression_safe code k frames l e None place mid h (has_front code.instructions place c tail has) refl
-          (moved_now code refl (ap (up code (operand_of e)) (variable_up code x h))
-          (calculate_safe code k frames op (variable_operand x) (operand_of e) (destination_of x) l mid h (has_back code.instructions place c tail has).0 (moved_now code (sym e') (sym (variable_down code x h)) n)));
-    }
-
     -- the routines are safe for fewer steps
     module _ (routines : (j : ℕ) → j < K → (r : ℕ) (e : Entry) (f : Frame) (frames : List Frame) → slice_get code.entries r ≡ Some e → Back j (f ∷ frames) → Now code j e.place 0 (f ∷ frames)) where
       enter_safe : (k j : ℕ) → j < k → k ≤ K → (r count place h : ℕ) (frames : List Frame) → Now code k (place + 1) (count + h) frames → (vs rest above : List Value) (s : Store) → length rest ≡ h → (o : Option Entry) → slice_get code.entries r ≡ o → ActSafe code (Safe code j) (enter o count (core_of place above frames s) vs rest)
@@ -334,15 +302,15 @@ module _ (code : Code) where
           let b : Now code j (place + 1) (count + length rest) frames = moved_now code refl (ap (λ m. count + m) (sym lr)) (now_less code j (omega (arith, lt)) n) in
           (routines j (omega (arith, lt, le)) r e f frames q b).upto j (omega arith)
 
-      call_safe : (l : Line) (r : ℕ) (es : List Expression) (xs : List Variable) → Piece (values_code l es ++ (Call r (length es) (length xs) ∷ assigns_code xs))
+      call_safe : (l : Line) (r : ℕ) (es : List Expression) (xs : List Place) → Piece (values_code l es ++ (Call r (length es) (length xs) ∷ assigns_code l xs))
       call_safe l r es xs = record {
         by = λ k le place end h frames has len back n.
             let c = values_code l es in
-            let tail = Call r (length es) (length xs) ∷ assigns_code xs in
+            let tail = Call r (length es) (length xs) ∷ assigns_code l xs in
             let mid = place + length c in
-            let e' : mid + 1 + length (assigns_code xs) ≡ end = omega (arith, len, length-append c tail) in
+            let e' : mid + 1 + length (assigns_code l xs) ≡ end = omega (arith, len, length-append c tail) in
             let hh = has_back code.instructions place c tail has in
-            let n' = assigns_safe xs k (mid + 1) end h frames hh.1 e' n in
+            let n' = assigns_safe code k frames l xs (mid + 1) end h hh.1 e' n in
             values_safe code k frames l es place mid h (has_front code.instructions place c tail has) refl
             (one code (Call r (length es) (length xs)) k mid (h + length es) frames hh.0 (λ j lt stack s ls.
             off_safe code (Safe code j) (length es) stack [] h _ ls (λ vs rest lr lv.
@@ -358,10 +326,8 @@ module _ (code : Code) where
 
       mutual
         statement_safe : (first : ℕ) (s : Statement) → Piece (statement_code first s)
-        statement_safe first (Let l x e) = record {
-          by = λ k le place end h frames has len back n. expression_safe code k frames l e (Some (destination_of x)) place end h has len (moved_now code refl (sym (variable_down code x h)) n);
-        }
-        statement_safe first (Change l sign x e) = change_safe l (operator_of sign) x e
+        statement_safe first (Let l t e) = record { by = λ k le place end h frames has len back n. let_safe code k frames l t e place end h has len n }
+        statement_safe first (Change l sign t e) = record { by = λ k le place end h frames has len back n. change_safe code k frames l (operator_of sign) t e place end h has len n }
         statement_safe first (Print l items pictures) = print_safe l first _ items.items
         statement_safe first (If' l c pa a pb b) = if_safe l c _ _ (row_safe first a) (row_safe (first + length (row_pictures a)) b)
         statement_safe first (While' l guards pa a) = while_safe l guards.items _ (row_safe first a)
@@ -370,8 +336,11 @@ module _ (code : Code) where
         statement_safe first (CallRoutine l routine given yielding) = call_safe l routine given.items yielding.items
         statement_safe first Return = record { by = λ k le place end h frames has len back n. leave_safe k place h frames has.0 back }
         statement_safe first Stop = record { by = λ k le place end h frames has len back n. halt_safe k place h frames has.0 }
-        statement_safe first (Read l targets) = reads_safe l targets.items
+        statement_safe first (Read l targets) = record { by = λ k le place end h frames has len back n. reads_safe code k frames l targets.items place end h has len n }
         statement_safe first (SkipLines l e) = skip_safe l e
+        statement_safe first (Create l class t) = record { by = λ k le place end h frames has len back n. create_safe code k frames l class t place end h has len n }
+        statement_safe first (CreateEvery l classes) = record { by = λ k le place end h frames has len back n. creates_safe code k frames l classes.items place end h has len n }
+        statement_safe first (Destroy l class e) = record { by = λ k le place end h frames has len back n. destroy_safe code k frames l class e place end h has len n }
 
         row_safe : {m : _} (first : ℕ) (r : Row_of-Statement m) → Piece (row_code first r)
         row_safe first end_of-Statement = record { by = λ k le place end h frames has len back n. moved_now code (omega (arith, len)) refl n }
@@ -413,6 +382,7 @@ module _ (code : Code) where
   reached h s (begins input n) k = h k
   reached h t (onwards {s = s} r e) k = next_all s t (reached h s r) e k
   reached h t (changed {s = s} r input report ticks) k = reached h s r k
+  reached h t (peopled {s = s} r entities) k = reached h s r k
 
   pub no_stuck : ((k : ℕ) → Safe code k 0 0 []) → (s : State) → Reachable code s → step code s ≡ NoStep → ⊥
   no_stuck h s r e = subst (SafeStep code (Safe code 0)) e (reached h s r 1 s.core.operands s.core.store s.report s.ticks refl)

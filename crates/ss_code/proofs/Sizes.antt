@@ -4,7 +4,7 @@ use Rattle.ss_base.specs.declared.line.Line.{Line}
 use Rattle.ss_base.specs.declared.value.Value.{Value}
 use Rattle.ss_base.specs.declared.value.Value.TheVariants.{Whole, Text}
 use Rattle.ss_resolved.specs.declared.resolved.Variable.{Variable}
-use Rattle.ss_resolved.specs.declared.resolved.Expression.{Expression, Constant, Fetch, Signed', Sum', Product', Applied', Absolute', Row_of-Expression, end_of-Expression, more_of-Expression, Row_of-Expression-Sum-1-2, end_of-Expression-Sum-1-2, more_of-Expression-Sum-1-2}
+use Rattle.ss_resolved.specs.declared.resolved.Expression.{Expression, Constant, Fetch, Signed', Sum', Product', Applied', Absolute', Attribute', Made, Row_of-Expression, end_of-Expression, more_of-Expression, Row_of-Expression-Sum-1-2, end_of-Expression-Sum-1-2, more_of-Expression-Sum-1-2}
 use Rattle.ss_resolved.specs.declared.resolved.Test.{Test}
 use Rattle.ss_resolved.specs.declared.resolved.Test.TheVariants.{Compare, DataEnded}
 use Rattle.ss_resolved.specs.declared.resolved.Conjunction.{Conjunction}
@@ -16,9 +16,13 @@ use Rattle.ss_resolved.specs.declared.resolved.PhraseKind.{PhraseKind}
 use Rattle.ss_resolved.specs.declared.resolved.PhraseKind.TheVariants.{With as WithPhrase, Unless as UnlessPhrase, While as WhilePhrase, Until as UntilPhrase}
 use Rattle.ss_resolved.specs.declared.resolved.Phrase.{Phrase}
 use Rattle.ss_resolved.specs.declared.resolved.Range.{Range}
+use Rattle.ss_resolved.specs.declared.resolved.Place.{Place}
+use Rattle.ss_resolved.specs.declared.resolved.Place.TheVariants.{Variable as PlainVariable, Attribute as AttributePlace, Count}
 use Rattle.ss_resolved.specs.declared.resolved.Target.{Target}
+use Rattle.ss_resolved.specs.declared.resolved.Counted.{Counted}
+use Rattle.ss_base.specs.declared.layout.Mode.{Mode}
 use Rattle.ss_resolved.specs.declared.resolved.Section.{Section}
-use Rattle.ss_resolved.specs.declared.resolved.Statement.{Statement, Let, Change, Print, If', While', For', Find', Call as CallRoutine, Return, Stop, Read, Skip as SkipLines, Row_of-Statement, end_of-Statement, more_of-Statement}
+use Rattle.ss_resolved.specs.declared.resolved.Statement.{Statement, Let, Change, Print, If', While', For', Find', Call as CallRoutine, Return, Stop, Read, Skip as SkipLines, Create, CreateEvery, Destroy, Row_of-Statement, end_of-Statement, more_of-Statement}
 use Rattle.ss_code.specs.declared.instruction.Instruction.{Instruction}
 use Rattle.ss_resolved.specs.declared.resolved.Resolved.{Resolved}
 use Rattle.ss_code.specs.declared.instruction.Operand.{Operand}
@@ -26,12 +30,12 @@ use Rattle.ss_code.specs.declared.instruction.Operand.TheVariants.{Popped, Numbe
 use Rattle.ss_code.specs.declared.instruction.Destination.{Destination}
 use Rattle.ss_code.specs.declared.instruction.Operator.{Operator}
 use Rattle.ss_code.specs.declared.instruction.Operator.TheVariants.{Distance}
-use Rattle.ss_code.specs.declared.instruction.Destination.TheVariants.{Pushed}
-use Rattle.ss_code.specs.declared.instruction.Instruction.TheVariants.{Calculate, Compare as CompareThem, Jump, Turn, Repeat, Begin, Take, Next, Forget, Call, Leave, Skip as SkipThem, Print as PrintLines}
+use Rattle.ss_code.specs.declared.instruction.Destination.TheVariants.{Pushed, ToGlobal, ToLocal}
+use Rattle.ss_code.specs.declared.instruction.Instruction.TheVariants.{Calculate, Compare as CompareThem, Jump, Turn, Repeat, Begin, Take, Next, Forget, Call, Leave, Read as ReadWord, Skip as SkipThem, Print as PrintLines, Look, Get, Put, Give, ChangeField, CreateOne, SetCount, DestroyOne}
 use Rattle.std.specs.Prelude.{pos}
 use Rattle.ss_code.specs.Meaning.{operator_of, operator_for}
-use Rattle.ss_resolved.specs.Nodes.{expression_nodes, sum_nodes, terms_nodes, product_nodes, factors_nodes, expressions_nodes, test_nodes, tests_nodes, alternative_nodes, alternatives_nodes, some_nodes, condition_nodes, guards_nodes, phrases_nodes, step_nodes, range_nodes, statement_nodes, row_nodes, body_nodes, sections_nodes, nodes}
-use Rattle.ss_code.specs.Translation.{variable_operand, destination_of, operand_of, placed, constant_code, fetch_code, expression_code, sum_code, terms_code, product_code, factors_code, values_code, test_code, tests_code, alternatives_code, some_code, condition_code, negated_code, guard_code, guards_code, phrase_code, phrases_code, if_code, while_code, step_code, bounds_code, for_code, find_code, assigns_code, reads_code, statement_code, statement_pictures, row_code, row_pictures, body_code, body_pictures, section_code, routines_code, code_of}
+use Rattle.ss_resolved.specs.Nodes.{unless_plain, expression_nodes, sum_nodes, terms_nodes, product_nodes, factors_nodes, expressions_nodes, test_nodes, tests_nodes, alternative_nodes, alternatives_nodes, some_nodes, condition_nodes, guards_nodes, phrases_nodes, place_nodes, places_nodes, targets_nodes, step_nodes, ends_nodes, range_nodes, statement_nodes, row_nodes, body_nodes, sections_nodes, nodes}
+use Rattle.ss_code.specs.Translation.{destination_of, operand_of, placed, constant_code, fetch_code, onwards_code, expression_code, sum_code, terms_code, product_code, factors_code, values_code, test_code, tests_code, alternatives_code, some_code, condition_code, negated_code, guard_code, guards_code, phrase_code, phrases_code, if_code, while_code, step_code, bounds_code, for_code, find_code, reference_code, let_code, change_code, read_code, reads_code, create_code, creates_code, assign_code, assigns_code, statement_code, statement_pictures, row_code, row_pictures, body_code, body_pictures, section_code, routines_code, code_of}
 
 constant_size : (into : Option Destination) (v : Value) → length (constant_code into v) ≤ 1
 constant_size None (Whole z) = omega arith
@@ -43,11 +47,63 @@ fetch_size : (into : Option Destination) (x : Variable) → length (fetch_code i
 fetch_size None x = omega arith
 fetch_size (Some d) x = omega arith
 
+onwards_size : (into : Option Destination) → length (onwards_code into) ≤ 1
+onwards_size None = omega arith
+onwards_size (Some Pushed) = omega arith
+onwards_size (Some (ToGlobal k)) = omega arith
+onwards_size (Some (ToLocal k)) = omega arith
+
+-- so many instructions for an operand, where a variable has none
+plain_size : (e : Expression) (l : Line) → length (expression_code l None e) ≤ expression_nodes e → length (expression_code l None e) ≤ unless_plain e (expression_nodes e)
+plain_size (Constant v) l h = h
+plain_size (Fetch x) l h = omega arith
+plain_size (Signed' sign p e) l h = h
+plain_size (Sum' p e k terms) l h = h
+plain_size (Product' p e k factors) l h = h
+plain_size (Applied' function p a q b) l h = h
+plain_size (Absolute' p e) l h = h
+plain_size (Attribute' class field p e) l h = h
+plain_size (Made class) l h = h
+
+pushed_size : (e : Expression) (n : ℕ) → n ≤ expression_nodes e → n ≤ 1 + unless_plain e (expression_nodes e)
+pushed_size (Constant v) n h = omega (arith, h)
+pushed_size (Fetch x) n h = omega (arith, h)
+pushed_size (Signed' sign p e) n h = omega (arith, h)
+pushed_size (Sum' p e k terms) n h = omega (arith, h)
+pushed_size (Product' p e k factors) n h = omega (arith, h)
+pushed_size (Applied' function p a q b) n h = omega (arith, h)
+pushed_size (Absolute' p e) n h = omega (arith, h)
+pushed_size (Attribute' class field p e) n h = omega (arith, h)
+pushed_size (Made class) n h = omega (arith, h)
+
+-- the ends of a FOR
+limit_size : (v : Value) (f : Expression) (a b : ℕ) → a ≤ 1 → b ≤ expression_nodes f → a + b ≤ 2 + ends_nodes (Constant v) f
+limit_size v (Constant u) a b h k = omega (arith, h, k)
+limit_size v (Fetch x) a b h k = omega (arith, h, k)
+limit_size v (Signed' sign p e) a b h k = omega (arith, h, k)
+limit_size v (Sum' p e q terms) a b h k = omega (arith, h, k)
+limit_size v (Product' p e q factors) a b h k = omega (arith, h, k)
+limit_size v (Applied' function p e q f) a b h k = omega (arith, h, k)
+limit_size v (Absolute' p e) a b h k = omega (arith, h, k)
+limit_size v (Attribute' class field p e) a b h k = omega (arith, h, k)
+limit_size v (Made class) a b h k = omega (arith, h, k)
+
+ends_size : (e f : Expression) (a b : ℕ) → a ≤ expression_nodes e → b ≤ expression_nodes f → a + b ≤ 2 + ends_nodes e f
+ends_size (Constant v) f a b h k = limit_size v f a b h k
+ends_size (Fetch x) f a b h k = omega (arith, h, k)
+ends_size (Signed' sign p e) f a b h k = omega (arith, h, k)
+ends_size (Sum' p e q terms) f a b h k = omega (arith, h, k)
+ends_size (Product' p e q factors) f a b h k = omega (arith, h, k)
+ends_size (Applied' function p e q g) f a b h k = omega (arith, h, k)
+ends_size (Absolute' p e) f a b h k = omega (arith, h, k)
+ends_size (Attribute' class field p e) f a b h k = omega (arith, h, k)
+ends_size (Made class) f a b h k = omega (arith, h, k)
+
 module _ (l : Line) where
   mutual
-    pub expression_size : (into : Option Destination) (e : Expression) → length (expression_code l into e) ≤ expression_nodes e
-    expression_size into (Constant v) = constant_size into v
-    expression_size into (Fetch x) = fetch_size into x
+    pub expression_size : (into : Option Destination) (e : Expression) → length (expression_code l into e) ≤ expression_nodes e + length (onwards_code into)
+    expression_size into (Constant v) = omega (arith, constant_size into v)
+    expression_size into (Fetch x) = omega (arith, fetch_size into x)
     expression_size into (Signed' sign p e) = omega (arith, expression_size None e, length-append (expression_code l None e) (Calculate (operator_of sign) (Number (pos 0)) (operand_of e) (placed into) l ∷ []))
     expression_size into (Sum' p e h terms) = omega (arith, expression_size None e, sum_size into (operand_of e) terms, length-append (expression_code l None e) (sum_code l into (operand_of e) terms))
     expression_size into (Product' p e h factors) = omega (arith, expression_size None e, product_size into (operand_of e) factors, length-append (expression_code l None e) (product_code l into (operand_of e) factors))
@@ -55,6 +111,8 @@ module _ (l : Line) where
         let tail = Calculate (operator_for function) (operand_of a) (operand_of b) (placed into) l ∷ [] in
         omega (arith, expression_size None a, expression_size None b, length-append (expression_code l None a) (expression_code l None b ++ tail), length-append (expression_code l None b) tail)
     expression_size into (Absolute' p e) = omega (arith, expression_size None e, length-append (expression_code l None e) (Calculate Distance (operand_of e) (Number (pos 0)) (placed into) l ∷ []))
+    expression_size into (Attribute' class field p e) = omega (arith, plain_size e l (omega (arith, expression_size None e)), length-append (expression_code l None e) (Get class field (operand_of e) l ∷ onwards_code into))
+    expression_size into (Made class) = omega arith
 
     sum_size : {m : _} (into : Option Destination) (first : Operand) (r : Row_of-Expression-Sum-1-2 m) → length (sum_code l into first r) ≤ sum_nodes r
     sum_size into first end_of-Expression-Sum-1-2 = omega arith
@@ -71,6 +129,12 @@ module _ (l : Line) where
     factors_size : {m : _} (into : Option Destination) (left right : Operand) (r : Row_of-Expression m) → length (factors_code l into left right r) ≤ 1 + factors_nodes r
     factors_size into left right end_of-Expression = omega arith
     factors_size into left right (more_of-Expression e rest) = omega (arith, expression_size None e, factors_size into Popped (operand_of e) rest, length-append (expression_code l None e) (factors_code l into Popped (operand_of e) rest))
+
+  operand_size : (e : Expression) → length (expression_code l None e) ≤ expression_nodes e
+  operand_size e = omega (arith, expression_size None e)
+
+  value_size : (e : Expression) → length (expression_code l (Some Pushed) e) ≤ expression_nodes e
+  value_size e = omega (arith, expression_size (Some Pushed) e)
 
   values_size : (es : List Expression) → length (values_code l es) ≤ expressions_nodes es
   values_size [] = omega arith
@@ -130,10 +194,10 @@ module _ (l : Line) where
   step_size None = omega arith
   step_size (Some e) = omega (arith, expression_size (Some Pushed) e)
 
-  for_size : (r : Range) (turn : List Instruction) → length (for_code l r turn) ≤ 5 * range_nodes r + length turn
-  for_size r turn = omega (arith, expression_size (Some Pushed) r.first, expression_size (Some Pushed) r.limit, step_size r.step, length-append (bounds_code l r) (Begin (length turn + 2) l ∷ (Take r.variable ∷ (turn ++ (Next (length turn + 1) ∷ Forget ∷ [])))), length-append turn (Next (length turn + 1) ∷ Forget ∷ []), length-append (expression_code l (Some Pushed) r.first) (expression_code l (Some Pushed) r.limit ++ step_code l r.step), length-append (expression_code l (Some Pushed) r.limit) (step_code l r.step))
+  for_size : (r : Range) (turn : List Instruction) → length (for_code l r turn) ≤ 7 * range_nodes r + length turn
+  for_size r turn = omega (arith, ends_size r.first r.limit (length (expression_code l (Some Pushed) r.first)) (length (expression_code l (Some Pushed) r.limit)) (value_size r.first) (value_size r.limit), step_size r.step, length-append (bounds_code l r) (Begin (length turn + 2) l ∷ (Take r.variable ∷ (turn ++ (Next (length turn + 1) ∷ Forget ∷ [])))), length-append turn (Next (length turn + 1) ∷ Forget ∷ []), length-append (expression_code l (Some Pushed) r.first) (expression_code l (Some Pushed) r.limit ++ step_code l r.step), length-append (expression_code l (Some Pushed) r.limit) (step_code l r.step))
 
-  find_size : (r : Range) (ps : List Phrase) (a b : List Instruction) → length (find_code l r ps a b) ≤ 5 * range_nodes r + 2 * phrases_nodes ps + length a + length b + 3
+  find_size : (r : Range) (ps : List Phrase) (a b : List Instruction) → length (find_code l r ps a b) ≤ 7 * range_nodes r + 2 * phrases_nodes ps + length a + length b + 3
   find_size r ps a b =
       let case = Jump (length b + 3) ∷ [] in
       omega (arith, for_size r (phrases_code l ps case), phrases_size ps case, length-append (for_code l r (phrases_code l ps case)) (b ++ Jump (length a + 1) ∷ (Forget ∷ a)), length-append b (Jump (length a + 1) ∷ (Forget ∷ a)))
@@ -147,44 +211,82 @@ module _ (l : Line) where
       let size = length a + length again in
       omega (arith, guards_size (size + 2) gs, guards_size 1 gs, length-append (guards_code l (size + 2) gs) (Turn ∷ (a ++ (again ++ Repeat (size + 1) ∷ []))), length-append a (again ++ Repeat (size + 1) ∷ []), length-append again (Repeat (size + 1) ∷ []))
 
-  reads_size : (ts : List Target) → length (reads_code l ts) ≤ length ts
-  reads_size [] = omega arith
-  reads_size (t ∷ ts) = omega (arith, reads_size ts)
+  reference_size : (class : ℕ) (e : Expression) → length (reference_code l class e) ≤ 1 + unless_plain e (expression_nodes e)
+  reference_size class e = omega (arith, plain_size e l (operand_size e), length-append (expression_code l None e) (Look class (operand_of e) l ∷ []))
 
-assigns_size : (xs : List Variable) → length (assigns_code xs) ≤ length xs
-assigns_size [] = omega arith
-assigns_size (x ∷ xs) = omega (arith, assigns_size xs)
+  let_size : (t : Place) (e : Expression) → length (let_code l t e) ≤ 2 * place_nodes t + expression_nodes e
+  let_size (PlainVariable x) e = omega (arith, expression_size (Some (destination_of x)) e, onwards_size (Some (destination_of x)))
+  let_size (AttributePlace class field r) e =
+      let tail = Put class field (operand_of e) l ∷ [] in
+      omega (arith, reference_size class r, operand_size e, length-append (reference_code l class r) (expression_code l None e ++ tail), length-append (expression_code l None e) tail)
+  let_size (Count class number) e = omega (arith, operand_size e, length-append (expression_code l None e) (SetCount class number (operand_of e) l ∷ []))
+
+  change_size : (op : Operator) (t : Place) (right : Operand) → length (change_code l op t right) ≤ 2 * place_nodes t
+  change_size op (PlainVariable x) right = omega arith
+  change_size op (AttributePlace class field r) right =
+      omega (arith, pushed_size r (length (expression_code l (Some Pushed) r)) (value_size r), length-append (expression_code l (Some Pushed) r) (ChangeField op class field right l ∷ []))
+  change_size op (Count class number) right = omega arith
+
+  read_size : (mode : Mode) (t : Place) → length (read_code l mode t) ≤ 3 * place_nodes t
+  read_size mode (PlainVariable x) = omega arith
+  read_size mode (AttributePlace class field r) = omega (arith, reference_size class r, length-append (reference_code l class r) (ReadWord mode Pushed l ∷ Put class field Popped l ∷ []))
+  read_size mode (Count class number) = omega arith
+
+  reads_size : (ts : List Target) → length (reads_code l ts) ≤ 3 * targets_nodes ts
+  reads_size [] = omega arith
+  reads_size (t ∷ ts) = omega (arith, read_size t.mode t.place, reads_size ts, length-append (read_code l t.mode t.place) (reads_code l ts))
+
+  create_size : (class : ℕ) (t : Place) → length (create_code l class t) ≤ 3 * place_nodes t
+  create_size class (PlainVariable x) = omega arith
+  create_size class (AttributePlace owner field r) = omega (arith, reference_size owner r, length-append (reference_code l owner r) (CreateOne class Pushed l ∷ Put owner field Popped l ∷ []))
+  create_size class (Count counted number) = omega arith
+
+  creates_size : (cs : List Counted) → length (creates_code l cs) ≤ length cs
+  creates_size [] = omega arith
+  creates_size (c ∷ cs) = omega (arith, creates_size cs)
+
+  assign_size : (t : Place) → length (assign_code l t) ≤ 2 * place_nodes t
+  assign_size (PlainVariable x) = omega arith
+  assign_size (AttributePlace class field r) = omega (arith, plain_size r l (operand_size r), length-append (expression_code l None r) (Give class field (operand_of r) l ∷ []))
+  assign_size (Count class number) = omega arith
+
+  assigns_size : (ts : List Place) → length (assigns_code l ts) ≤ 2 * places_nodes ts
+  assigns_size [] = omega arith
+  assigns_size (t ∷ ts) = omega (arith, assign_size t, assigns_size ts, length-append (assign_code l t) (assigns_code l ts))
 
 mutual
-  statement_size : (first : ℕ) (s : Statement) → length (statement_code first s) ≤ 6 * statement_nodes s
-  statement_size first (Let l x e) = omega (arith, expression_size l (Some (destination_of x)) e)
-  statement_size first (Change l sign x e) = omega (arith, expression_size l None e, length-append (expression_code l None e) (Calculate (operator_of sign) (variable_operand x) (operand_of e) (destination_of x) l ∷ []))
+  statement_size : (first : ℕ) (s : Statement) → length (statement_code first s) ≤ 8 * statement_nodes s
+  statement_size first (Let l t e) = omega (arith, let_size l t e)
+  statement_size first (Change l sign t e) = omega (arith, operand_size l e, change_size l (operator_of sign) t (operand_of e), length-append (expression_code l None e) (change_code l (operator_of sign) t (operand_of e)))
   statement_size first (Print l items pictures) = omega (arith, values_size l items.items, length-append (values_code l items.items) (PrintLines first (length pictures.items) (length items.items) ∷ []))
   statement_size first (If' l c p a q b) = omega (arith, if_size l c (row_code first a) (row_code (first + length (row_pictures a)) b), row_size first a, row_size (first + length (row_pictures a)) b)
   statement_size first (While' l guards p a) = omega (arith, while_size l guards.items (row_code first a), row_size first a)
   statement_size first (For' l r ps p a) = omega (arith, for_size l r (phrases_code l ps.items (row_code first a)), phrases_size l ps.items (row_code first a), row_size first a)
   statement_size first (Find' l r ps p a q b) = omega (arith, find_size l r ps.items (row_code first a) (row_code (first + length (row_pictures a)) b), row_size first a, row_size (first + length (row_pictures a)) b)
-  statement_size first (CallRoutine l routine given yielding) = omega (arith, values_size l given.items, assigns_size yielding.items, length-append (values_code l given.items) (Call routine (length given.items) (length yielding.items) ∷ assigns_code yielding.items))
+  statement_size first (CallRoutine l routine given yielding) = omega (arith, values_size l given.items, assigns_size l yielding.items, length-append (values_code l given.items) (Call routine (length given.items) (length yielding.items) ∷ assigns_code l yielding.items))
   statement_size first Return = omega arith
   statement_size first Stop = omega arith
   statement_size first (Read l targets) = omega (arith, reads_size l targets.items)
   statement_size first (SkipLines l e) = omega (arith, expression_size l None e, length-append (expression_code l None e) (SkipThem (operand_of e) l ∷ []))
+  statement_size first (Create l class t) = omega (arith, create_size l class t)
+  statement_size first (CreateEvery l classes) = omega (arith, creates_size l classes.items)
+  statement_size first (Destroy l class e) = omega (arith, operand_size l e, length-append (expression_code l None e) (DestroyOne class (operand_of e) l ∷ []))
 
-  row_size : {m : _} (first : ℕ) (r : Row_of-Statement m) → length (row_code first r) ≤ 6 * row_nodes r
+  row_size : {m : _} (first : ℕ) (r : Row_of-Statement m) → length (row_code first r) ≤ 8 * row_nodes r
   row_size first end_of-Statement = omega arith
   row_size first (more_of-Statement s rest) = omega (arith, statement_size first s, row_size (first + length (statement_pictures s)) rest, length-append (statement_code first s) (row_code (first + length (statement_pictures s)) rest))
 
-body_size : (first : ℕ) (ss : List Statement) → length (body_code first ss) ≤ 6 * body_nodes ss
+body_size : (first : ℕ) (ss : List Statement) → length (body_code first ss) ≤ 8 * body_nodes ss
 body_size first [] = omega arith
 body_size first (s ∷ ss) = omega (arith, statement_size first s, body_size (first + length (statement_pictures s)) ss, length-append (statement_code first s) (body_code (first + length (statement_pictures s)) ss))
 
-section_size : (first : ℕ) (s : Section) → length (section_code first s) ≤ 6 * body_nodes s.body.items + 1
+section_size : (first : ℕ) (s : Section) → length (section_code first s) ≤ 8 * body_nodes s.body.items + 1
 section_size first s = omega (arith, body_size first s.body.items, length-append (body_code first s.body.items) (Leave ∷ []))
 
-routines_size : (first : ℕ) (rs : List Section) → length (routines_code first rs) ≤ 6 * sections_nodes rs
+routines_size : (first : ℕ) (rs : List Section) → length (routines_code first rs) ≤ 8 * sections_nodes rs
 routines_size first [] = omega arith
 routines_size first (r ∷ rs) = omega (arith, section_size first r, routines_size (first + length (body_pictures r.body.items)) rs, length-append (section_code first r) (routines_code (first + length (body_pictures r.body.items)) rs))
 
 -- few instructions for each node
-pub code_size : (p : Resolved) → length (code_of p).instructions ≤ 6 * nodes p
+pub code_size : (p : Resolved) → length (code_of p).instructions ≤ 8 * nodes p
 code_size p = omega (arith, section_size 0 p.main, routines_size (length (body_pictures p.main.body.items)) p.routines.items, length-append (section_code 0 p.main) (routines_code (length (body_pictures p.main.body.items)) p.routines.items))

@@ -1,4 +1,6 @@
+pub mod Layouts
 pub mod Store
+pub mod Entities
 pub mod Meaning
 pub mod Machine
 pub mod Running

@@ -1,7 +1,7 @@
 -- The text that shows a list of instructions.
 use Rattle.std.specs.Prelude.{ℕ, ◌+◌, List, [], ◌∷◌, ◌++◌, codes, decimal}
 use Rattle.ss_code.specs.declared.instruction.Instruction.{Instruction}
-use Rattle.ss_code.specs.declared.instruction.Instruction.TheVariants.{Load, Move, Calculate, Compare, TestData, Jump, Turn, Repeat, Begin, Take, Next, Forget, Call, Leave, Halt, Read, Skip, Print}
+use Rattle.ss_code.specs.declared.instruction.Instruction.TheVariants.{Load, Move, Calculate, Compare, TestData, Jump, Turn, Repeat, Begin, Take, Next, Forget, Call, Leave, Halt, Read, Skip, Print, Look, Get, Put, Give, ChangeField, SetCount, CountMade, CreateOne, CreateAll, DestroyOne}
 
 -- what an instruction is called
 abbrev pub name_of : Instruction → List ℕ
@@ -23,6 +23,16 @@ name_of Halt = codes "halt"
 name_of (Read mode into line) = codes "read"
 name_of (Skip count line) = codes "skip"
 name_of (Print first lines items) = codes "print"
+name_of (Look class from line) = codes "look"
+name_of (Get class field from line) = codes "get"
+name_of (Put class field value line) = codes "put"
+name_of (Give class field of line) = codes "give"
+name_of (ChangeField operator class field value line) = codes "change field"
+name_of (SetCount class number from line) = codes "set count"
+name_of (CountMade class into) = codes "count made"
+name_of (CreateOne class into line) = codes "create one"
+name_of (CreateAll class number line) = codes "create all"
+name_of (DestroyOne class from line) = codes "destroy one"
 
 -- a line for each instruction, the first of them with this number: the number, a blank, and what the instruction is called
 abbrev pub listed : ℕ → List Instruction → List ℕ

@@ -6,12 +6,14 @@ use Rattle.ss_base.specs.declared.value.Value.{Value}
 use Rattle.ss_base.specs.declared.value.Value.TheVariants.{Whole}
 use Rattle.ss_base.specs.declared.layout.Mode.{Mode}
 use Rattle.ss_base.specs.Layout.{first_value}
+use Rattle.ss_base.specs.declared.layout.Layout.{Layout}
 use Rattle.ss_resolved.specs.declared.resolved.Variable.{Variable}
+use Rattle.ss_resolved.specs.declared.resolved.Variable.TheVariants.{Global}
 use Rattle.ss_resolved.specs.declared.resolved.Sign.{Sign}
 use Rattle.ss_resolved.specs.declared.resolved.Sign.TheVariants.{Plus as PlusSign, Minus as MinusSign}
 use Rattle.ss_resolved.specs.declared.resolved.Function.{Function}
 use Rattle.ss_resolved.specs.declared.resolved.Function.TheVariants.{Quotient as QuotientOf, Remainder as RemainderOf, Least as LeastOf, Greatest as GreatestOf}
-use Rattle.ss_resolved.specs.declared.resolved.Expression.{Expression, Constant, Fetch, Signed', Sum', Product', Applied', Absolute', Row_of-Expression, end_of-Expression, more_of-Expression, Row_of-Expression-Sum-1-2, end_of-Expression-Sum-1-2, more_of-Expression-Sum-1-2}
+use Rattle.ss_resolved.specs.declared.resolved.Expression.{Expression, Constant, Fetch, Signed', Sum', Product', Applied', Absolute', Attribute', Made, Row_of-Expression, end_of-Expression, more_of-Expression, Row_of-Expression-Sum-1-2, end_of-Expression-Sum-1-2, more_of-Expression-Sum-1-2}
 use Rattle.ss_resolved.specs.declared.resolved.Test.{Test}
 use Rattle.ss_resolved.specs.declared.resolved.Test.TheVariants.{Compare, DataEnded}
 use Rattle.ss_resolved.specs.declared.resolved.Conjunction.{Conjunction}
@@ -23,15 +25,21 @@ use Rattle.ss_resolved.specs.declared.resolved.PhraseKind.{PhraseKind}
 use Rattle.ss_resolved.specs.declared.resolved.PhraseKind.TheVariants.{With as WithPhrase, Unless as UnlessPhrase, While as WhilePhrase, Until as UntilPhrase}
 use Rattle.ss_resolved.specs.declared.resolved.Phrase.{Phrase}
 use Rattle.ss_resolved.specs.declared.resolved.Range.{Range}
+use Rattle.ss_resolved.specs.declared.resolved.Place.{Place}
+use Rattle.ss_resolved.specs.declared.resolved.Place.TheVariants.{Variable as PlainVariable, Attribute as AttributePlace, Count}
 use Rattle.ss_resolved.specs.declared.resolved.Target.{Target}
-use Rattle.ss_resolved.specs.declared.resolved.Statement.{Statement, Let, Change, Print, If', While', For', Find', Call, Return, Stop, Read, Skip, Row_of-Statement, end_of-Statement, more_of-Statement}
+use Rattle.ss_resolved.specs.declared.resolved.Counted.{Counted}
+use Rattle.ss_resolved.specs.declared.resolved.Statement.{Statement, Let, Change, Print, If', While', For', Find', Call, Return, Stop, Read, Skip, Create, CreateEvery, Destroy, Row_of-Statement, end_of-Statement, more_of-Statement}
 use Rattle.ss_resolved.specs.declared.resolved.Section.{Section}
 use Rattle.ss_resolved.specs.declared.resolved.Resolved.{Resolved}
 use Rattle.ss_resolved.specs.Lines.{lines_of}
 use Rattle.ss_code.specs.declared.instruction.Operator.{Operator}
 use Rattle.ss_code.specs.declared.instruction.Operator.TheVariants.{Plus, Minus, Times, Quotient, Remainder, Least, Greatest, Distance}
 use Rattle.ss_input.specs.Words.{Given, is_ended, value_given}
+pub use Rattle.ss_code.specs.Store.{if_ok}
 use Rattle.ss_code.specs.Store.{Store, World, zero_value, number_of, fetched, assigned, computed, printed, related, step_of, is_within, item_after, empty_lines, fresh, yielded}
+use Rattle.ss_code.specs.Entities.{known, attribute, with_attribute, made_count, counted, made_one, made_all, without}
+use Rattle.ss_records.specs.State.{first_state}
 
 -- why a part of a program is left before its end
 pub data Exit : Type 0 where
@@ -53,11 +61,6 @@ Part A = World → Outcome A
 abbrev pub and_then : {A B : Type 0} → Outcome A → (A → Part B) → Outcome B
 and_then (WentOn a w) go = go a w
 and_then (Left e w) go = Left e w
-
--- a value, and then what is made of it; a fault stays
-abbrev pub if_ok : {A B : Type 0} → Result A FaultKind → (A → Result B FaultKind) → Result B FaultKind
-if_ok (Ok a) go = go a
-if_ok (Err k) go = Err k
 
 abbrev pub looked : {A : Type 0} → Line → Result A FaultKind → Part A
 looked l (Ok a) w = WentOn a w
@@ -95,6 +98,8 @@ abbrev mutual
   value (Product' p e h factors) s = if_ok (value e s) (λ x. product_from x factors s)
   value (Applied' function p a q b) s = if_ok (value a s) (λ x. if_ok (value b s) (computed (operator_for function) x))
   value (Absolute' p e) s = if_ok (value e s) (λ x. computed Distance x zero_value)
+  value (Attribute' class field p e) s = if_ok (value e s) (λ x. attribute class field x s)
+  value (Made class) s = Ok (made_count class s)
 
   -- the terms added to x from left to right
   pub sum_from : {m : _} → Value → Row_of-Expression-Sum-1-2 m → Store → Result Value FaultKind
@@ -244,15 +249,64 @@ given_by l (Err k) w = Left (Faulted k l) w
 abbrev pub take_word : Line → Mode → Part Value
 take_word l mode w = given_by l (value_given mode w.store.input) w
 
+-- the store that a look comes to
+abbrev pub stored : Line → Result Store FaultKind → Part (Unit {0})
+stored l (Ok s) w = WentOn tt (record w { store = s })
+stored l (Err k) w = Left (Faulted k l) w
+
+-- changes the store, at a line
+abbrev pub change : Line → (Store → Result Store FaultKind) → Part (Unit {0})
+change l f w = stored l (f w.store) w
+
+-- a target whose reference was looked at
+pub data Spot : Type 0 where
+  InVariable : Variable → Spot
+  InAttribute : (class field : ℕ) (x : Value) → Spot
+  InCount : (class number : ℕ) → Spot
+
+abbrev pub spot_of : Place → Store → Result Spot FaultKind
+spot_of (PlainVariable x) s = Ok (InVariable x)
+spot_of (AttributePlace class field e) s = if_ok (value e s) (λ x. if_ok (known class x s) (λ u. Ok (InAttribute class field x)))
+spot_of (Count class number) s = Ok (InCount class number)
+
+-- what a target holds
+abbrev pub held : Spot → Store → Result Value FaultKind
+held (InVariable x) s = Ok (fetched x s)
+held (InAttribute class field x) s = attribute class field x s
+held (InCount class number) s = Ok (fetched (Global number) s)
+
+-- the store once a target was written
+abbrev pub written : Spot → Value → Store → Result Store FaultKind
+written (InVariable x) v s = Ok (assigned x v s)
+written (InAttribute class field x) v s = with_attribute class field x v s
+written (InCount class number) v s = counted class number v s
+
+-- a value for a target that is resolved first
+abbrev pub give_to : Line → Place → Part Value → Part (Unit {0})
+give_to l t m w = and_then (look l (spot_of t) w) (λ p w. and_then (m w) (λ v. change l (written p v)))
+
 abbrev pub reads : Line → List Target → Part (Unit {0})
 reads l [] w = WentOn tt w
-reads l (t ∷ ts) w = and_then (and_then (take_word l t.mode w) (assign t.variable)) (λ _. reads l ts)
+reads l (t ∷ ts) w = and_then (give_to l t.place (take_word l t.mode) w) (λ _. reads l ts)
 
--- each variable takes a value in turn
-abbrev pub assign_each : List Variable → List Value → Part (Unit {0})
-assign_each [] vs w = WentOn tt w
-assign_each (x ∷ xs) [] w = WentOn tt w
-assign_each (x ∷ xs) (v ∷ vs) w = and_then (assign x v w) (λ _. assign_each xs vs)
+-- each target is resolved, and takes a value, in turn
+abbrev pub assign_each : Line → List Place → List Value → Part (Unit {0})
+assign_each l [] vs w = WentOn tt w
+assign_each l (t ∷ ts) [] w = WentOn tt w
+assign_each l (t ∷ ts) (v ∷ vs) w = and_then (give_to l t (WentOn v) w) (λ _. assign_each l ts vs)
+
+-- a new entity
+abbrev pub born_by : Line → Result (Value × Store) FaultKind → Part Value
+born_by l (Ok b) w = WentOn b.0 (record w { store = b.1 })
+born_by l (Err k) w = Left (Faulted k l) w
+
+abbrev pub create : Line → ℕ → Part Value
+create l class w = born_by l (made_one class w.store) w
+
+-- all entities of permanent classes, one class after the other
+abbrev pub create_every : Line → List Counted → Part (Unit {0})
+create_every l [] w = WentOn tt w
+create_every l (c ∷ cs) w = and_then (change l (made_all c.class c.number) w) (λ _. create_every l cs)
 
 -- what a call does: the routine, the values that it is given, and how many it yields
 abbrev pub Calls : Type 0
@@ -261,9 +315,10 @@ Calls = (routine : ℕ) → (given : List Value) → (count : ℕ) → Part (Lis
 abbrev mutual
   -- what a statement does, where each loop makes at most n turns, and calls do what h says
   pub effect : Calls → ℕ → Statement → Part (Unit {0})
-  effect h n (Let l x e) w = and_then (look l (value e) w) (assign x)
-  effect h n (Change l sign x e) w =
-      and_then (look l (λ s. if_ok (value e s) (computed (operator_of sign) (fetched x s))) w) (assign x)
+  effect h n (Let l t e) w = give_to l t (look l (value e)) w
+  effect h n (Change l sign t e) w =
+      and_then (look l (value e) w) (λ y w. and_then (look l (spot_of t) w) (λ p w.
+      and_then (look l (λ s. if_ok (held p s) (λ x. computed (operator_of sign) x y)) w) (λ v. change l (written p v))))
   effect h n (Print l them pictures) w =
       and_then (look l (values them.items) w) (λ vs. send (printed (lines_of pictures.items) vs))
   effect h n (If' l c p a q b) w = and_then (look l (holds c) w) (λ t. choose t (effects h n a) (effects h n b))
@@ -275,12 +330,15 @@ abbrev mutual
       and_then (over_range n l r (phrases l ps.items (WentOn IsFound)) w) (λ t. choose t (effects h n a) (effects h n b))
   effect h n (Call l routine given yielding) w =
       and_then (look l (values given.items) w) (λ vs w.
-      and_then (h routine vs (length yielding.items) w) (λ us. assign_each yielding.items us))
+      and_then (h routine vs (length yielding.items) w) (λ us. assign_each l yielding.items us))
   effect h n Return w = Left Returned w
   effect h n Stop w = Left Stopped w
   effect h n (Read l targets) w = reads l targets.items w
   effect h n (Skip l e) w =
       and_then (look l (λ s. if_ok (value e s) (λ v. empty_lines (number_of v))) w) send
+  effect h n (Create l class t) w = give_to l t (create l class) w
+  effect h n (CreateEvery l classes) w = create_every l classes.items w
+  effect h n (Destroy l class e) w = and_then (look l (value e) w) (λ x. change l (without class x))
 
   -- one statement after another
   pub effects : {m : _} → Calls → ℕ → Row_of-Statement m → Part (Unit {0})
@@ -337,11 +395,12 @@ abbrev pub run_of : Outcome (Unit {0}) → Run
 run_of (WentOn u w) = record { report = w.report; ending = Ended; ticks = w.ticks }
 run_of (Left e w) = record { report = w.report; ending = ending_of e; ticks = w.ticks }
 
-abbrev pub first_store : List Value → List Value → List ℕ → Store
-first_store globals locals input = record { globals = globals; locals = locals; input = input }
+-- with no entity
+abbrev pub first_store : Layout → List Value → List Value → List ℕ → Store
+first_store layout globals locals input = record { globals = globals; locals = locals; heap = first_state layout; input = input }
 
 abbrev pub first_world : Resolved → List ℕ → ℕ → World
-first_world p input n = record { store = first_store (firsts p.globals.items) (firsts p.main.locals.items) input; report = []; ticks = n }
+first_world p input n = record { store = first_store p.layout (firsts p.globals.items) (firsts p.main.locals.items) input; report = []; ticks = n }
 
 -- what a program does with an input and n ticks
 abbrev pub meaning : Resolved → List ℕ → ℕ → Run

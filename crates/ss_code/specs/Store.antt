@@ -15,11 +15,13 @@ use Rattle.ss_code.specs.declared.instruction.Operator.TheVariants.{Plus, Minus,
 use Rattle.ss_base.specs.Arithmetic.{plus_of, minus_of, times_of, quotient_of, remainder_of}
 use Rattle.ss_base.specs.Order.{value_cmp}
 use Rattle.ss_picture.specs.Pictures.{filled, field_count}
+use Rattle.ss_records.specs.State.{State}
 
--- the values of the global variables and of the local ones, and the input that is not yet read
+-- the values of the global variables and of the local ones, the entities, and the input that is not yet read
 pub record Store : Type 0 where
   pub globals : List Value
   pub locals : List Value
+  pub heap : State
   pub input : List ℕ
 
 -- the store, the report so far, and the ticks that are left
@@ -27,6 +29,11 @@ pub record World : Type 0 where
   pub store : Store
   pub report : List ℕ
   pub ticks : ℕ
+
+-- a value, and then what is made of it; a fault stays
+abbrev pub if_ok : {A B : Type 0} → Result A FaultKind → (A → Result B FaultKind) → Result B FaultKind
+if_ok (Ok a) go = go a
+if_ok (Err k) go = Err k
 
 -- the number 0
 abbrev pub zero_value : Value

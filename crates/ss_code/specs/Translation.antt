@@ -1,11 +1,12 @@
 -- The instructions of a program.
 use Rattle.std.specs.Prelude.{ℕ, ◌+◌, List, [], ◌∷◌, ◌++◌, length, pos, Option, Some, None}
 use Rattle.ss_base.specs.declared.line.Line.{Line}
+use Rattle.ss_base.specs.declared.layout.Mode.{Mode}
 use Rattle.ss_base.specs.declared.value.Value.{Value}
 use Rattle.ss_base.specs.declared.value.Value.TheVariants.{Whole, Text}
 use Rattle.ss_resolved.specs.declared.resolved.Variable.{Variable}
 use Rattle.ss_resolved.specs.declared.resolved.Variable.TheVariants.{Global, Local}
-use Rattle.ss_resolved.specs.declared.resolved.Expression.{Expression, Constant, Fetch, Signed', Sum', Product', Applied', Absolute', Row_of-Expression, end_of-Expression, more_of-Expression, Row_of-Expression-Sum-1-2, end_of-Expression-Sum-1-2, more_of-Expression-Sum-1-2}
+use Rattle.ss_resolved.specs.declared.resolved.Expression.{Expression, Constant, Fetch, Signed', Sum', Product', Applied', Absolute', Attribute', Made, Row_of-Expression, end_of-Expression, more_of-Expression, Row_of-Expression-Sum-1-2, end_of-Expression-Sum-1-2, more_of-Expression-Sum-1-2}
 use Rattle.ss_resolved.specs.declared.resolved.Test.{Test}
 use Rattle.ss_resolved.specs.declared.resolved.Test.TheVariants.{Compare, DataEnded}
 use Rattle.ss_resolved.specs.declared.resolved.Conjunction.{Conjunction}
@@ -17,9 +18,12 @@ use Rattle.ss_resolved.specs.declared.resolved.PhraseKind.{PhraseKind}
 use Rattle.ss_resolved.specs.declared.resolved.PhraseKind.TheVariants.{With as WithPhrase, Unless as UnlessPhrase, While as WhilePhrase, Until as UntilPhrase}
 use Rattle.ss_resolved.specs.declared.resolved.Phrase.{Phrase}
 use Rattle.ss_resolved.specs.declared.resolved.Range.{Range}
+use Rattle.ss_resolved.specs.declared.resolved.Place.{Place}
+use Rattle.ss_resolved.specs.declared.resolved.Place.TheVariants.{Variable as PlainVariable, Attribute as AttributePlace, Count}
 use Rattle.ss_resolved.specs.declared.resolved.Target.{Target}
+use Rattle.ss_resolved.specs.declared.resolved.Counted.{Counted}
 use Rattle.ss_resolved.specs.declared.resolved.Section.{Section}
-use Rattle.ss_resolved.specs.declared.resolved.Statement.{Statement, Let, Change, Print, If', While', For', Find', Call as CallRoutine, Return, Stop, Read, Skip as SkipLines, Row_of-Statement, end_of-Statement, more_of-Statement}
+use Rattle.ss_resolved.specs.declared.resolved.Statement.{Statement, Let, Change, Print, If', While', For', Find', Call as CallRoutine, Return, Stop, Read, Skip as SkipLines, Create, CreateEvery, Destroy, Row_of-Statement, end_of-Statement, more_of-Statement}
 use Rattle.ss_resolved.specs.declared.resolved.Resolved.{Resolved}
 use Rattle.ss_code.specs.declared.instruction.Operand.{Operand}
 use Rattle.ss_code.specs.declared.instruction.Operand.TheVariants.{Popped, Number, FromGlobal, FromLocal}
@@ -28,7 +32,7 @@ use Rattle.ss_code.specs.declared.instruction.Destination.TheVariants.{Pushed, T
 use Rattle.ss_code.specs.declared.instruction.Operator.{Operator}
 use Rattle.ss_code.specs.declared.instruction.Operator.TheVariants.{Times, Distance}
 use Rattle.ss_code.specs.declared.instruction.Instruction.{Instruction}
-use Rattle.ss_code.specs.declared.instruction.Instruction.TheVariants.{Load, Move, Calculate, Compare as CompareThem, TestData, Jump, Turn, Repeat, Begin, Take, Next, Forget, Call, Leave, Halt, Read as ReadWord, Skip as SkipThem, Print as PrintLines}
+use Rattle.ss_code.specs.declared.instruction.Instruction.TheVariants.{Load, Move, Calculate, Compare as CompareThem, TestData, Jump, Turn, Repeat, Begin, Take, Next, Forget, Call, Leave, Halt, Read as ReadWord, Skip as SkipThem, Print as PrintLines, Look, Get, Put, Give, ChangeField, SetCount, CountMade, CreateOne, CreateAll, DestroyOne}
 use Rattle.ss_code.specs.Meaning.{operator_of, operator_for, firsts}
 use Rattle.ss_resolved.specs.Lines.{lines_of}
 use Rattle.ss_code.specs.Machine.{Code, Entry}
@@ -54,6 +58,8 @@ operand_of (Sum' p e h terms) = Popped
 operand_of (Product' p e h factors) = Popped
 operand_of (Applied' function p a q b) = Popped
 operand_of (Absolute' p e) = Popped
+operand_of (Attribute' class field p e) = Popped
+operand_of (Made class) = Popped
 
 -- where a calculation leaves its result: as an operand it is on the stack
 abbrev pub placed : Option Destination → Destination
@@ -69,6 +75,13 @@ abbrev pub fetch_code : Option Destination → Variable → List Instruction
 fetch_code None x = []
 fetch_code (Some d) x = Move (variable_operand x) d ∷ []
 
+-- on from the top of the stack to a destination
+abbrev pub onwards_code : Option Destination → List Instruction
+onwards_code None = []
+onwards_code (Some Pushed) = []
+onwards_code (Some (ToGlobal k)) = Move Popped (ToGlobal k) ∷ []
+onwards_code (Some (ToLocal k)) = Move Popped (ToLocal k) ∷ []
+
 abbrev mutual
   -- an expression, to be an operand or to be at a destination
   pub expression_code : Line → Option Destination → Expression → List Instruction
@@ -82,6 +95,8 @@ abbrev mutual
       expression_code l None a ++ (expression_code l None b ++ Calculate (operator_for function) (operand_of a) (operand_of b) (placed into) l ∷ [])
   expression_code l into (Absolute' p e) =
       expression_code l None e ++ Calculate Distance (operand_of e) (Number (pos 0)) (placed into) l ∷ []
+  expression_code l into (Attribute' class field p e) = expression_code l None e ++ Get class field (operand_of e) l ∷ onwards_code into
+  expression_code l into (Made class) = CountMade class (placed into) ∷ []
 
   -- the terms behind the first, which is an operand
   pub sum_code : {m : _} → Line → Option Destination → Operand → Row_of-Expression-Sum-1-2 m → List Instruction
@@ -188,14 +203,53 @@ abbrev pub find_code : Line → Range → List Phrase → List Instruction → L
 find_code l r ps found none =
     for_code l r (phrases_code l ps (Jump (length none + 3) ∷ [])) ++ (none ++ Jump (length found + 1) ∷ (Forget ∷ found))
 
--- each variable takes a value off the stack
-abbrev pub assigns_code : List Variable → List Instruction
-assigns_code [] = []
-assigns_code (x ∷ xs) = Move Popped (destination_of x) ∷ assigns_code xs
+-- a reference that is looked at, on top of the stack
+abbrev pub reference_code : Line → ℕ → Expression → List Instruction
+reference_code l class e = expression_code l None e ++ Look class (operand_of e) l ∷ []
+
+-- LET
+abbrev pub let_code : Line → Place → Expression → List Instruction
+let_code l (PlainVariable x) e = expression_code l (Some (destination_of x)) e
+let_code l (AttributePlace class field r) e =
+    reference_code l class r ++ (expression_code l None e ++ Put class field (operand_of e) l ∷ [])
+let_code l (Count class number) e = expression_code l None e ++ SetCount class number (operand_of e) l ∷ []
+
+-- ADD and SUBTRACT, behind the code of what is added
+abbrev pub change_code : Line → Operator → Place → Operand → List Instruction
+change_code l op (PlainVariable x) right = Calculate op (variable_operand x) right (destination_of x) l ∷ []
+change_code l op (AttributePlace class field r) right = expression_code l (Some Pushed) r ++ ChangeField op class field right l ∷ []
+change_code l op (Count class number) right = Calculate op (FromGlobal number) right Pushed l ∷ SetCount class number Popped l ∷ []
+
+-- a word for a target
+abbrev pub read_code : Line → Mode → Place → List Instruction
+read_code l mode (PlainVariable x) = ReadWord mode (destination_of x) l ∷ []
+read_code l mode (AttributePlace class field r) = reference_code l class r ++ ReadWord mode Pushed l ∷ Put class field Popped l ∷ []
+read_code l mode (Count class number) = ReadWord mode Pushed l ∷ SetCount class number Popped l ∷ []
 
 abbrev pub reads_code : Line → List Target → List Instruction
 reads_code l [] = []
-reads_code l (t ∷ ts) = ReadWord t.mode (destination_of t.variable) l ∷ reads_code l ts
+reads_code l (t ∷ ts) = read_code l t.mode t.place ++ reads_code l ts
+
+-- a new entity of a class for a target
+abbrev pub create_code : Line → ℕ → Place → List Instruction
+create_code l class (PlainVariable x) = CreateOne class (destination_of x) l ∷ []
+create_code l class (AttributePlace owner field r) = reference_code l owner r ++ CreateOne class Pushed l ∷ Put owner field Popped l ∷ []
+create_code l class (Count counted number) = CreateOne class Pushed l ∷ SetCount counted number Popped l ∷ []
+
+abbrev pub creates_code : Line → List Counted → List Instruction
+creates_code l [] = []
+creates_code l (c ∷ cs) = CreateAll c.class c.number l ∷ creates_code l cs
+
+-- a value off the stack for a target
+abbrev pub assign_code : Line → Place → List Instruction
+assign_code l (PlainVariable x) = Move Popped (destination_of x) ∷ []
+assign_code l (AttributePlace class field r) = expression_code l None r ++ Give class field (operand_of r) l ∷ []
+assign_code l (Count class number) = SetCount class number Popped l ∷ []
+
+-- each target takes a value off the stack
+abbrev pub assigns_code : Line → List Place → List Instruction
+assigns_code l [] = []
+assigns_code l (t ∷ ts) = assign_code l t ++ assigns_code l ts
 
 abbrev mutual
   -- the pictures of a statement
@@ -212,6 +266,9 @@ abbrev mutual
   statement_pictures Stop = []
   statement_pictures (Read l targets) = []
   statement_pictures (SkipLines l e) = []
+  statement_pictures (Create l class t) = []
+  statement_pictures (CreateEvery l classes) = []
+  statement_pictures (Destroy l class e) = []
 
   pub row_pictures : {m : _} → Row_of-Statement m → List (List ℕ)
   row_pictures end_of-Statement = []
@@ -220,9 +277,8 @@ abbrev mutual
 abbrev mutual
   -- a statement, before which there are so many pictures
   pub statement_code : ℕ → Statement → List Instruction
-  statement_code first (Let l x e) = expression_code l (Some (destination_of x)) e
-  statement_code first (Change l sign x e) =
-      expression_code l None e ++ Calculate (operator_of sign) (variable_operand x) (operand_of e) (destination_of x) l ∷ []
+  statement_code first (Let l t e) = let_code l t e
+  statement_code first (Change l sign t e) = expression_code l None e ++ change_code l (operator_of sign) t (operand_of e)
   statement_code first (Print l items pictures) =
       values_code l items.items ++ PrintLines first (length pictures.items) (length items.items) ∷ []
   statement_code first (If' l c p a q b) = if_code l c (row_code first a) (row_code (first + length (row_pictures a)) b)
@@ -232,11 +288,14 @@ abbrev mutual
       find_code l r ps.items (row_code first a) (row_code (first + length (row_pictures a)) b)
   statement_code first (CallRoutine l routine given yielding) =
       values_code l given.items
-      ++ (Call routine (length given.items) (length yielding.items) ∷ assigns_code yielding.items)
+      ++ (Call routine (length given.items) (length yielding.items) ∷ assigns_code l yielding.items)
   statement_code first Return = Leave ∷ []
   statement_code first Stop = Halt ∷ []
   statement_code first (Read l targets) = reads_code l targets.items
   statement_code first (SkipLines l e) = expression_code l None e ++ SkipThem (operand_of e) l ∷ []
+  statement_code first (Create l class t) = create_code l class t
+  statement_code first (CreateEvery l classes) = creates_code l classes.items
+  statement_code first (Destroy l class e) = expression_code l None e ++ DestroyOne class (operand_of e) l ∷ []
 
   pub row_code : {m : _} → ℕ → Row_of-Statement m → List Instruction
   row_code first end_of-Statement = []
@@ -272,6 +331,7 @@ entries_from place first (r ∷ rs) =
 -- the code of a program: MAIN, and the routines behind it
 abbrev pub code_of : Resolved → Code
 code_of p = record {
+  layout = p.layout;
   instructions = section_code 0 p.main ++ routines_code (length (body_pictures p.main.body.items)) p.routines.items;
   pictures = body_pictures p.main.body.items ++ routines_pictures p.routines.items;
   entries = entries_from (length (section_code 0 p.main)) (length (body_pictures p.main.body.items)) p.routines.items;

@@ -7,18 +7,19 @@ ghost use Rattle.ss_code.specs.Running.{Sound};
 use crate::entry::Entry;
 use crate::instruction::Instruction;
 use crate::listing::listing;
-use ss_base::Value;
+use ss_base::{Layout, Value};
 use ss_picture::Picture;
 use std::alloc::{AllocError, Global};
 use std::marker::Model;
 
-/// The instructions of a program, the pictures that they print by, the routines that they call, and
-/// the first values of the global variables and of MAIN's own.
+/// The classes and sets of a program, its instructions, the pictures that they print by, the routines that
+/// they call, and the first values of the global variables and of MAIN's own.
 ///
-/// A contract sees it as a record of these lists. No run of it is ever stuck, and each jump back leads
+/// A contract sees it as a record of these. No run of it is ever stuck, and each jump back leads
 /// to an instruction that takes a tick.
 #[derive(Drop)]
 pub struct Code {
+    layout: Layout,
     instructions: Vec<Instruction>,
     pictures: Vec<Picture>,
     entries: Vec<Entry>,
@@ -33,30 +34,39 @@ impl Model for Code {
 
     ghost use Rattle.ss_code.specs.Running.{Sound};
 
-    ghost view = { λ c. record { instructions = c.instructions.items; pictures = c.pictures.items; entries = c.entries.items; globals = c.globals.items; locals = c.locals.items } };
+    ghost view = { λ c. record { layout = c.layout; instructions = c.instructions.items; pictures = c.pictures.items; entries = c.entries.items; globals = c.globals.items; locals = c.locals.items } };
 
-    ghost invariant = { λ c. Sound (record { instructions = c.instructions.items; pictures = c.pictures.items; entries = c.entries.items; globals = c.globals.items; locals = c.locals.items }) };
+    ghost invariant = { λ c. Sound (record { layout = c.layout; instructions = c.instructions.items; pictures = c.pictures.items; entries = c.entries.items; globals = c.globals.items; locals = c.locals.items }) };
 }
 
 impl Code {
     /// The code of these parts, which is never stuck.
     pub(crate) fn new(
+        layout: Layout,
         instructions: Vec<Instruction>,
         pictures: Vec<Picture>,
         entries: Vec<Entry>,
         globals: Vec<Value>,
         locals: Vec<Value>,
     ) -> Code
-        requires { Sound (record { instructions = instructions.items; pictures = pictures.items; entries = entries.items; globals = globals.items; locals = locals.items }) }
-        ensures { result ≡ record { instructions = instructions.items; pictures = pictures.items; entries = entries.items; globals = globals.items; locals = locals.items } }
+        requires { Sound (record { layout = layout; instructions = instructions.items; pictures = pictures.items; entries = entries.items; globals = globals.items; locals = locals.items }) }
+        ensures { result ≡ record { layout = layout; instructions = instructions.items; pictures = pictures.items; entries = entries.items; globals = globals.items; locals = locals.items } }
     {
         Code {
+            layout,
             instructions,
             pictures,
             entries,
             globals,
             locals,
         }
+    }
+
+    /// The classes and sets.
+    pub fn layout(&self) -> &Layout
+        ensures { result.now ≡ self.now.layout }
+    {
+        &self.layout
     }
 
     /// How many instructions there are. No run of them is ever stuck.

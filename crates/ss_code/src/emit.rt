@@ -2,7 +2,7 @@
 
 ghost use Rattle.std.specs.Prelude.{◌≡◌, [], ◌∷◌, ◌++◌, length, OnOk};
 ghost use Rattle.ss_code.specs.Meaning.{operator_of, operator_for};
-ghost use Rattle.ss_code.specs.Translation.{variable_operand, destination_of, operand_of, placed, constant_code, fetch_code, expression_code, values_code};
+ghost use Rattle.ss_code.specs.Translation.{variable_operand, destination_of, operand_of, placed, constant_code, fetch_code, onwards_code, expression_code, values_code};
 ghost use Rattle.ss_code.specs.Rows.{sum_list, product_list};
 
 use crate::instruction::{Destination, Instruction, Operand, Operator};
@@ -75,7 +75,9 @@ pub(crate) fn operand(e: &Expression) -> Operand
         | Expression::Sum { .. }
         | Expression::Product { .. }
         | Expression::Applied { .. }
-        | Expression::Absolute { .. } => Operand::Popped,
+        | Expression::Absolute { .. }
+        | Expression::Attribute { .. }
+        | Expression::Made { .. } => Operand::Popped,
     }
 }
 
@@ -131,6 +133,29 @@ fn emit_fetch(
             Instruction::Move {
                 from: from_variable(variable),
                 into,
+            },
+        ),
+    }
+}
+
+// On from the top of the stack to a destination.
+fn emit_onwards(code: &mut Vec<Instruction>, into: Option<Destination>) -> Result<(), AllocError>
+    ensures { OnOk result (code.new.items ≡ code.old.items ++ onwards_code into) }
+{
+    match into {
+        None | Some(Destination::Pushed) => Ok(()),
+        Some(Destination::ToGlobal { number }) => put(
+            code,
+            Instruction::Move {
+                from: Operand::Popped,
+                into: Destination::ToGlobal { number },
+            },
+        ),
+        Some(Destination::ToLocal { number }) => put(
+            code,
+            Instruction::Move {
+                from: Operand::Popped,
+                into: Destination::ToLocal { number },
             },
         ),
     }
@@ -202,6 +227,26 @@ pub(crate) fn emit_expression(
                 },
             )
         }
+        Expression::Attribute { class, field, of } => {
+            emit_expression(code, line, None, of)?;
+            put(
+                code,
+                Instruction::Get {
+                    class: *class,
+                    field: *field,
+                    from: operand(of),
+                    line,
+                },
+            )?;
+            emit_onwards(code, into)
+        }
+        Expression::Made { class } => put(
+            code,
+            Instruction::CountMade {
+                class: *class,
+                into: place(into),
+            },
+        ),
     }
 }
 

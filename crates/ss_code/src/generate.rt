@@ -1,7 +1,9 @@
 //! From the tree of a program to its code.
 
 ghost use Rattle.std.specs.Prelude.{◌≡◌, ◌≤◌, ◌<◌, ◌++◌, length, Err, IfOk, OnOk};
+ghost use Rattle.ss_base.specs.declared.layout.Layout.{Layout as LayoutSeen};
 ghost use Rattle.ss_resolved.specs.Nodes.{nodes};
+ghost use Rattle.ss_code.specs.Layouts.{SameLayout};
 ghost use Rattle.ss_code.specs.Running.{Behaves};
 ghost use Rattle.ss_code.specs.Translation.{code_of, routines_code, routines_pictures, entries_from};
 
@@ -9,6 +11,7 @@ use crate::code::Code;
 use crate::entry::Entry;
 use crate::error::CodeError;
 use crate::instruction::Instruction;
+use crate::layouts::copied;
 use crate::statements::{emit_section, first_values};
 use ss_picture::Picture;
 use ss_resolved::resolved::{Resolved, Section};
@@ -39,12 +42,14 @@ fn emit_routines(
 }
 
 /// The code of a program, which does for each input and each number of ticks what the program means,
-/// and nothing else.
+/// and nothing else, wherever its layout, a copy of the program's, lies in memory.
 ///
 /// `CodeTooLong` comes only where the code has more than `INSTRUCTION_LIMIT` instructions, and never
 /// for a program of at most 16,384 nodes; `Memory` where memory was refused.
 pub fn generate(alloc: Global, program: &Resolved) -> Result<Code, CodeError>
     ensures behaves { IfOk result (λ code. Behaves program.now code) }
+    ensures anywhere { IfOk result (λ code. (l : LayoutSeen) → SameLayout program.now.layout l → Behaves program.now (record code { layout = l })) }
+    ensures layout { IfOk result (λ code. SameLayout program.now.layout code.layout) }
     ensures limit { IfOk result (λ code. length code.instructions ≤ INSTRUCTION_LIMIT) }
     ensures too_long { result ≡ Err CodeError.CodeTooLong → INSTRUCTION_LIMIT < length (code_of program.now).instructions }
     ensures small { nodes program.now ≤ 16384 → result ≡ Err CodeError.CodeTooLong → ⊥ }
@@ -65,14 +70,15 @@ pub fn generate(alloc: Global, program: &Resolved) -> Result<Code, CodeError>
     }
     let globals = first_values(alloc, &program.globals)?;
     let locals = first_values(alloc, &program.main.locals)?;
-    Ok(Code::new(instructions, pictures, entries, globals, locals))
+    let layout = copied(alloc, &program.layout)?;
+    Ok(Code::new(layout, instructions, pictures, entries, globals, locals))
 }
 
 #[cfg(test)]
 mod tests {
     use super::*;
-    use ss_base::{Line, Mode, Value};
-    use ss_resolved::resolved::{Expression, Section, Statement, Variable};
+    use ss_base::{Layout, Line, Mode, Value};
+    use ss_resolved::resolved::{Expression, Place, Section, Statement, Variable};
     use std::alloc::AllocError;
 
     fn number(value: i64) -> Expression {
@@ -91,7 +97,7 @@ mod tests {
         let mut body = Vec::new(alloc);
         body.push(Statement::Let {
             line: Line(2),
-            target: x,
+            target: Place::Variable { variable: x },
             value: product,
         })?;
         let items = Vec::from_array(alloc, [Expression::Fetch { variable: x }])?;
@@ -102,6 +108,10 @@ mod tests {
             pictures: Vec::from_array(alloc, [picture])?,
         })?;
         Ok(Resolved {
+            layout: Layout {
+                classes: Vec::new(alloc),
+                sets: Vec::new(alloc),
+            },
             globals: Vec::new(alloc),
             routines: Vec::new(alloc),
             main: Section {

@@ -128,4 +128,72 @@ pub enum Instruction {
         lines: usize,
         items: usize,
     },
+    /// Looks at a reference to an entity of a class, which goes on top of the stack.
+    Look {
+        class: u32,
+        from: Operand,
+        line: Line,
+    },
+    /// The value of an attribute of the entity that an operand refers to goes on top of the stack.
+    Get {
+        class: u32,
+        field: u32,
+        from: Operand,
+        line: Line,
+    },
+    /// The value of an operand goes to an attribute of the entity that the next value of the stack refers to.
+    Put {
+        class: u32,
+        field: u32,
+        value: Operand,
+        line: Line,
+    },
+    /// The next value of the stack goes to an attribute of the entity that an operand refers to, which is taken
+    /// first.
+    Give {
+        class: u32,
+        field: u32,
+        of: Operand,
+        line: Line,
+    },
+    /// What an operator makes of an attribute and of an operand goes to the attribute. The reference to the
+    /// entity is taken off the stack first.
+    ChangeField {
+        operator: Operator,
+        class: u32,
+        field: u32,
+        value: Operand,
+        line: Line,
+    },
+    /// The value of an operand goes to the global variable that says how many entities a class gets, unless
+    /// they are made.
+    SetCount {
+        class: u32,
+        number: u32,
+        from: Operand,
+        line: Line,
+    },
+    /// How many entities a permanent class has goes to its destination.
+    CountMade {
+        class: u32,
+        into: Destination,
+    },
+    /// The number of a new entity goes to its destination.
+    CreateOne {
+        class: u32,
+        into: Destination,
+        line: Line,
+    },
+    /// All entities of a permanent class are made, as many as a global variable says.
+    CreateAll {
+        class: u32,
+        number: u32,
+        line: Line,
+    },
+    /// The entity that an operand refers to goes.
+    DestroyOne {
+        class: u32,
+        from: Operand,
+        line: Line,
+    },
 }

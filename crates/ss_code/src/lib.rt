@@ -5,13 +5,17 @@ mod backward;
 mod code;
 mod conditions;
 mod emit;
+#[cfg(test)]
+mod entity_tests;
 mod entry;
 mod error;
 pub mod generate;
 pub mod instruction;
 pub mod laws;
+pub mod layouts;
 mod listing;
 mod statements;
+mod targets;
 #[cfg(test)]
 mod tests;
 

@@ -30,6 +30,16 @@ fn name(instruction: &Instruction) -> &str
         Instruction::Read { .. } => "read",
         Instruction::Skip { .. } => "skip",
         Instruction::Print { .. } => "print",
+        Instruction::Look { .. } => "look",
+        Instruction::Get { .. } => "get",
+        Instruction::Put { .. } => "put",
+        Instruction::Give { .. } => "give",
+        Instruction::ChangeField { .. } => "change field",
+        Instruction::SetCount { .. } => "set count",
+        Instruction::CountMade { .. } => "count made",
+        Instruction::CreateOne { .. } => "create one",
+        Instruction::CreateAll { .. } => "create all",
+        Instruction::DestroyOne { .. } => "destroy one",
     }
 }
 

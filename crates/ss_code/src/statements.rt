@@ -4,16 +4,15 @@ ghost use Rattle.std.specs.Prelude.{◌≡◌, ◌∷◌, ◌++◌, [], length, 
 ghost use Rattle.ss_code.specs.Meaning.{firsts};
 ghost use Rattle.ss_resolved.specs.Lines.{lines_of};
 ghost use Rattle.ss_code.specs.declared.instruction.Instruction.TheVariants.{Jump, Forget, Leave};
-ghost use Rattle.ss_code.specs.Translation.{step_code, bounds_code, for_code, while_code, find_code, if_code, assigns_code, reads_code, statement_code, statement_pictures, body_code, body_pictures};
+ghost use Rattle.ss_code.specs.Translation.{step_code, bounds_code, for_code, while_code, find_code, if_code, statement_code, statement_pictures, body_code, body_pictures};
 
 use crate::conditions::{emit_condition, emit_guards, emit_phrases, sum};
-use crate::emit::{emit_expression, emit_values, from_variable, operand, put, signed, to_variable};
+use crate::emit::{emit_expression, emit_values, operand, put};
 use crate::instruction::{Destination, Instruction, Operand};
+use crate::targets::{emit_assigns, emit_change, emit_create, emit_creates, emit_let, emit_reads};
 use ss_base::{Line, Mode, Value};
 use ss_picture::Picture;
-use ss_resolved::resolved::{
-    Condition, Expression, Guard, Phrase, Range, Sign, Statement, Target, Variable,
-};
+use ss_resolved::resolved::{Condition, Expression, Guard, Phrase, Place, Range, Statement};
 use std::alloc::{AllocError, Global};
 
 // The pictures of these lines.
@@ -165,69 +164,13 @@ fn emit_find(
     code.append(&mut found)
 }
 
-// Each variable takes a value off the stack.
-fn emit_assigns(code: &mut Vec<Instruction>, variables: &[Variable]) -> Result<(), AllocError>
-    ensures { OnOk result (code.new.items ≡ code.old.items ++ assigns_code variables.now) }
-{
-    for variable in variables {
-        put(
-            code,
-            Instruction::Move {
-                from: Operand::Popped,
-                into: to_variable(*variable),
-            },
-        )?;
-    }
-    Ok(())
-}
-
-// Each variable takes a word of input.
-fn emit_reads(code: &mut Vec<Instruction>, line: Line, targets: &[Target]) -> Result<(), AllocError>
-    ensures { OnOk result (code.new.items ≡ code.old.items ++ reads_code line targets.now) }
-{
-    for target in targets {
-        put(
-            code,
-            Instruction::Read {
-                mode: target.mode,
-                into: to_variable(target.variable),
-                line,
-            },
-        )?;
-    }
-    Ok(())
-}
-
-// ADD and SUBTRACT.
-fn emit_change(
-    code: &mut Vec<Instruction>,
-    line: Line,
-    sign: Sign,
-    target: Variable,
-    value: &Expression,
-) -> Result<(), AllocError>
-    ensures { OnOk result (code.new.items ≡ code.old.items ++ statement_code 0 (Statement.Change line sign target value.now)) }
-{
-    emit_expression(code, line, None, value)?;
-    put(
-        code,
-        Instruction::Calculate {
-            operator: signed(sign),
-            left: from_variable(target),
-            right: operand(value),
-            into: to_variable(target),
-            line,
-        },
-    )
-}
-
 // CALL.
 fn emit_call(
     code: &mut Vec<Instruction>,
     line: Line,
     routine: u32,
     given: &Vec<Expression>,
-    yielding: &Vec<Variable>,
+    yielding: &Vec<Place>,
 ) -> Result<(), AllocError>
     ensures { OnOk result (code.new.items ≡ code.old.items ++ statement_code 0 (Statement.Call line routine given.now yielding.now)) }
 {
@@ -240,7 +183,7 @@ fn emit_call(
             count: yielding.len(),
         },
     )?;
-    emit_assigns(code, yielding)
+    emit_assigns(code, line, yielding)
 }
 
 // SKIP.
@@ -252,6 +195,26 @@ fn emit_skip(code: &mut Vec<Instruction>, line: Line, count: &Expression) -> Res
         code,
         Instruction::Skip {
             count: operand(count),
+            line,
+        },
+    )
+}
+
+// DESTROY.
+fn emit_destroy(
+    code: &mut Vec<Instruction>,
+    line: Line,
+    class: u32,
+    entity: &Expression,
+) -> Result<(), AllocError>
+    ensures { OnOk result (code.new.items ≡ code.old.items ++ statement_code 0 (Statement.Destroy line class entity.now)) }
+{
+    emit_expression(code, line, None, entity)?;
+    put(
+        code,
+        Instruction::DestroyOne {
+            class,
+            from: operand(entity),
             line,
         },
     )
@@ -298,13 +261,13 @@ fn emit_statement(
             line,
             target,
             value,
-        } => emit_expression(code, *line, Some(to_variable(*target)), value),
+        } => emit_let(code, *line, target, value),
         Statement::Change {
             line,
             sign,
             target,
             value,
-        } => emit_change(code, *line, *sign, *target, value),
+        } => emit_change(code, *line, *sign, target, value),
         Statement::Print {
             line,
             items,
@@ -355,6 +318,13 @@ fn emit_statement(
         Statement::Stop => put(code, Instruction::Halt),
         Statement::Read { line, targets } => emit_reads(code, *line, targets),
         Statement::Skip { line, count } => emit_skip(code, *line, count),
+        Statement::Create { line, class, into } => emit_create(code, *line, *class, into),
+        Statement::CreateEvery { line, classes } => emit_creates(code, *line, classes),
+        Statement::Destroy {
+            line,
+            class,
+            entity,
+        } => emit_destroy(code, *line, *class, entity),
     }
 }
 

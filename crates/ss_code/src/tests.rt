@@ -2,10 +2,10 @@
 
 use crate::CodeError;
 use crate::generate::generate;
-use ss_base::{Line, Mode, Value};
+use ss_base::{Layout, Line, Mode, Value};
 use ss_resolved::resolved::{
-    Condition, Conjunction, Expression, Guard, GuardKind, Phrase, PhraseKind, Range, Relation,
-    Resolved, Section, Sign, Statement, Target, Test, Variable,
+    Condition, Conjunction, Expression, Guard, GuardKind, Phrase, PhraseKind, Place, Range,
+    Relation, Resolved, Section, Sign, Statement, Target, Test, Variable,
 };
 use std::alloc::{AllocError, Global};
 
@@ -36,17 +36,17 @@ fn words_added(alloc: Global) -> Result<Statement, AllocError> {
     })?;
     let mut body = Vec::new(alloc);
     let target = Target {
-        variable: ITEM,
+        place: Place::Variable { variable: ITEM },
         mode: Mode::Integer,
     };
     body.push(Statement::Read {
         line: Line(3),
-        targets: Vec::from_slice(alloc, &[target])?,
+        targets: Vec::from_array(alloc, [target])?,
     })?;
     body.push(Statement::Change {
         line: Line(4),
         sign: Sign::Plus,
-        target: TOTAL,
+        target: Place::Variable { variable: TOTAL },
         value: Expression::Fetch { variable: ITEM },
     })?;
     Ok(Statement::While {
@@ -77,7 +77,7 @@ fn calls_made(alloc: Global) -> Result<Statement, AllocError> {
         line: Line(7),
         routine: 0,
         given,
-        yielding: Vec::from_slice(alloc, &[TOTAL])?,
+        yielding: Vec::from_array(alloc, [Place::Variable { variable: TOTAL }])?,
     })?;
     Ok(Statement::For {
         line: Line(6),
@@ -97,7 +97,9 @@ fn routine(alloc: Global) -> Result<Section, AllocError> {
     let mut body = Vec::new(alloc);
     body.push(Statement::Let {
         line: Line(12),
-        target: Variable::Local { number: 1 },
+        target: Place::Variable {
+            variable: Variable::Local { number: 1 },
+        },
         value: Expression::Fetch { variable: ITEM },
     })?;
     body.push(Statement::Skip {
@@ -118,6 +120,10 @@ fn program(alloc: Global) -> Result<Resolved, AllocError> {
     let mut routines = Vec::new(alloc);
     routines.push(routine(alloc)?)?;
     Ok(Resolved {
+        layout: Layout {
+            classes: Vec::new(alloc),
+            sets: Vec::new(alloc),
+        },
         globals: Vec::from_slice(alloc, &[Mode::Integer])?,
         routines,
         main: Section {

@@ -1,6 +1,5 @@
 -- From what each layer refuses to why the text is refused.
-use Rattle.std.proofs.Common.{◌≡◌, ◌≢◌, ℕ, ◌≤◌, ◌<◌, List, true, Some, refl, arith}
-use Rattle.ss_base.specs.declared.line.Line.{Line}
+use Rattle.std.proofs.Common.{◌≡◌, ◌≢◌, ℕ, ◌≤◌, ◌<◌, List, length, true, Some, refl, arith}
 use Rattle.ss_lex.specs.declared.token.Token.{Token}
 use Rattle.ss_lex.specs.declared.error.LexError.{LexError}
 use Rattle.ss_lex.specs.declared.error.LexError.TheVariants as lexical
@@ -9,6 +8,7 @@ use Rattle.ss_lex.specs.Refusals.{IsRefused}
 use Rattle.ss_parse.specs.declared.error.ParseError.{ParseError}
 use Rattle.ss_parse.specs.declared.error.ParseError.TheVariants as parsing
 use Rattle.ss_tree.specs.Tree.{ProgramTree}
+use Rattle.ss_tree.specs.Nodes as tree
 use Rattle.ss_parse.specs.Promise.{Is_refused, Has_line}
 use Rattle.ss_tables.specs.Served.{served_program}
 use Rattle.ss_tables.specs.Refusals.{refusal}
@@ -18,9 +18,10 @@ use Rattle.ss_rules.specs.declared.error.CheckError.{CheckError}
 use Rattle.ss_rules.specs.declared.error.CheckError.TheVariants as checking
 use Rattle.ss_rules.specs.Checking.{IsRefused as IsRefusedByRules}
 use Rattle.ss_resolved.specs.declared.resolved.Resolved.{Resolved}
-use Rattle.ss_resolved.specs.Nodes.{nodes}
+use Rattle.ss_resolved.specs.Nodes as resolved
 use Rattle.ss_code.specs.declared.error.CodeError.{CodeError}
 use Rattle.ss_code.specs.declared.error.CodeError.TheVariants as generating
+use Rattle.ss_code.specs.Translation.{code_of}
 use Rattle.ss_engine.specs.Refusals.{refusal_of_lexer, refusal_of_parser, refusal_of_tables, refusal_of_checker, refusal_of_generator}
 use Rattle.ss_engine.specs.Accepting.{IsTreeOf, IsDeclared, IsProgramOf, RefusedFor}
 
@@ -54,6 +55,7 @@ tables_refused text tree r s declaring.Memory h = tt
 
 pub checker_refused : (text : List ℕ) (tree : ProgramTree) → IsTreeOf text tree → IsDeclared tree → (e : CheckError) → IsRefusedByRules tree e → RefusedFor text (refusal_of_checker e)
 checker_refused text tree r d (checking.NoMain line) h = record { tree = tree; read = r; holds = (d, h) }
+checker_refused text tree r d (checking.NoEventRoutine line) h = record { tree = tree; read = r; holds = (d, h) }
 checker_refused text tree r d (checking.Mode line) h = record { tree = tree; read = r; holds = (d, h) }
 checker_refused text tree r d (checking.Arguments line) h = record { tree = tree; read = r; holds = (d, h) }
 checker_refused text tree r d (checking.Subscript line) h = record { tree = tree; read = r; holds = (d, h) }
@@ -63,9 +65,9 @@ checker_refused text tree r d (checking.StartPlace line) h = record { tree = tre
 checker_refused text tree r d (checking.Unknown line) h = record { tree = tree; read = r; holds = (d, h) }
 checker_refused text tree r d checking.Memory h = tt
 
-larger : (n : ℕ) → (n ≤ 16384 → ⊥) → 16384 < n
-larger n h = omega (arith, h)
+larger : (n m : ℕ) → n ≤ m → (n ≤ 16384 → ⊥) → 16384 < m
+larger n m k h = omega (arith, k, h)
 
-pub generator_refused : (text : List ℕ) (p : Resolved) → IsProgramOf text p → (e : CodeError) → (nodes p ≤ 16384 → e ≡ generating.CodeTooLong → ⊥) → RefusedFor text (refusal_of_generator e)
-generator_refused text p m generating.CodeTooLong h = record { program = p; meant = m; large = larger (nodes p) (λ small. h small refl) }
-generator_refused text p m generating.Memory h = tt
+pub generator_refused : (text : List ℕ) (p : Resolved) (m : IsProgramOf text p) → resolved.nodes p ≤ tree.nodes m.tree → (e : CodeError) → (resolved.nodes p ≤ 16384 → e ≡ generating.CodeTooLong → ⊥) → (e ≡ generating.CodeTooLong → 1048576 < length (code_of p).instructions) → RefusedFor text (refusal_of_generator e)
+generator_refused text p m k generating.CodeTooLong h l = record { program = p; meant = m; large = larger (resolved.nodes p) (tree.nodes m.tree) k (λ small. h small refl); long = l refl }
+generator_refused text p m k generating.Memory h l = tt

@@ -1,10 +1,11 @@
 -- What a text is a program of, and why one is refused.
-use Rattle.std.specs.Prelude.{◌≡◌, ℕ, ◌<◌, List, true, false, Some, None}
+use Rattle.std.specs.Prelude.{◌≡◌, ℕ, ◌<◌, List, length, true, false, Some, None}
 use Rattle.ss_lex.specs.declared.token.Token.{Token}
 use Rattle.ss_lex.specs.declared.error.LexError.TheVariants as lexical
 use Rattle.ss_lex.specs.Tokens.{AreTokens}
 use Rattle.ss_lex.specs.Refusals.{IsRefused}
 use Rattle.ss_tree.specs.Tree.{ProgramTree}
+use Rattle.ss_tree.specs.Nodes.{nodes}
 use Rattle.ss_parse.specs.declared.error.ParseError.{ParseError}
 use Rattle.ss_parse.specs.declared.error.ParseError.TheVariants as parsing
 use Rattle.ss_parse.specs.Promise.{Is_refused, Has_line}
@@ -18,11 +19,13 @@ use Rattle.ss_rules.specs.declared.error.CheckError.TheVariants as checking
 use Rattle.ss_rules.specs.Checking.{IsKept, IsRefused as IsRefusedByRules}
 use Rattle.ss_check.specs.Resolving.{ResolvesProgram}
 use Rattle.ss_resolved.specs.declared.resolved.Resolved.{Resolved}
-use Rattle.ss_resolved.specs.Nodes.{nodes}
 use Rattle.ss_code.specs.Machine.{Code}
+use Rattle.ss_base.specs.declared.layout.Layout.{Layout}
+use Rattle.ss_code.specs.Layouts.{SameLayout}
 use Rattle.ss_code.specs.Running.{Behaves}
+use Rattle.ss_code.specs.Translation.{code_of}
 use Rattle.ss_engine.specs.declared.refusal.Refusal.{Refusal}
-use Rattle.ss_engine.specs.declared.refusal.Refusal.TheVariants.{TooLong, NotAscii, BadNumber, OpenText, AlphaTooLong, PictureCut, NameTooLong, NotYet, Syntax, TooDeep, Twice, RealMode, UnknownClass, UnknownSet, NoOwner, NoMember, RankKey, TallyTwice, TooMany, TieKey, NoMain, Mode, Arguments, Subscript, NotAssignable, Fields, StartPlace, Unknown, CodeTooLong, Memory}
+use Rattle.ss_engine.specs.declared.refusal.Refusal.TheVariants.{TooLong, NotAscii, BadNumber, OpenText, AlphaTooLong, PictureCut, NameTooLong, NotYet, Syntax, TooDeep, Twice, RealMode, UnknownClass, UnknownSet, NoOwner, NoMember, RankKey, TallyTwice, TooMany, TieKey, NoMain, NoEventRoutine, Mode, Arguments, Subscript, NotAssignable, Fields, StartPlace, Unknown, CodeTooLong, Memory}
 
 -- how deep parentheses, IFs and loops may stand in one another
 abbrev pub nesting_limit : ℕ
@@ -47,11 +50,16 @@ pub record IsProgramOf (text : List ℕ) (p : Resolved) : Type 0 where
   pub kept : IsKept tree
   pub resolved : ResolvesProgram tree p
 
--- the code does, for every input and every number of ticks, what the text means, and nothing else
+-- the code does, for every input and every number of ticks, what the program means, and nothing else, wherever a copy of its
+-- layout lies in memory
+abbrev pub BehavesAnywhere : Resolved → Code → Type 0
+BehavesAnywhere program code = (l : Layout) → SameLayout code.layout l → Behaves program (record code { layout = l })
+
+-- the code does what the text means
 pub record Compiles (text : List ℕ) (code : Code) : Type 0 where
   pub program : Resolved
   pub meant : IsProgramOf text program
-  pub behaves : Behaves program code
+  pub behaves : BehavesAnywhere program code
 
 -- the text has tokens, and they spell no program: for syntax none of any depth; where it is too deep, none within the
 -- limit on nesting, while more than 64 tokens open a level; the line is that of a token
@@ -79,11 +87,13 @@ IsMisdeclared error tree = (served_program tree ≡ true) × (refusal tree ≡ S
 abbrev pub IsIllFormed : CheckError → ProgramTree → Type 0
 IsIllFormed error tree = IsDeclared tree × IsRefusedByRules tree error
 
--- the text is well formed, but its program has more than 16,384 nodes
+-- the text is well formed, but its tree has more than 16,384 nodes, and the code of its program more than 1,048,576
+-- instructions
 pub record IsLarge (text : List ℕ) : Type 0 where
   pub program : Resolved
   pub meant : IsProgramOf text program
-  pub large : 16384 < nodes program
+  pub large : 16384 < nodes meant.tree
+  pub long : 1048576 < length (code_of program).instructions
 
 -- when a text is refused so; want of memory says nothing of the text
 abbrev pub RefusedFor : List ℕ → Refusal → Type 0
@@ -108,6 +118,7 @@ RefusedFor text (TallyTwice line) = HasTree text (IsMisdeclared (declaring.Tally
 RefusedFor text (TooMany line) = HasTree text (IsMisdeclared (declaring.TooMany line))
 RefusedFor text (TieKey line) = HasTree text (IsMisdeclared (declaring.TieKey line))
 RefusedFor text (NoMain line) = HasTree text (IsIllFormed (checking.NoMain line))
+RefusedFor text (NoEventRoutine line) = HasTree text (IsIllFormed (checking.NoEventRoutine line))
 RefusedFor text (Mode line) = HasTree text (IsIllFormed (checking.Mode line))
 RefusedFor text (Arguments line) = HasTree text (IsIllFormed (checking.Arguments line))
 RefusedFor text (Subscript line) = HasTree text (IsIllFormed (checking.Subscript line))

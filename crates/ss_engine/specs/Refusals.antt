@@ -11,7 +11,7 @@ use Rattle.ss_rules.specs.declared.error.CheckError.TheVariants as checking
 use Rattle.ss_code.specs.declared.error.CodeError.{CodeError}
 use Rattle.ss_code.specs.declared.error.CodeError.TheVariants as generating
 use Rattle.ss_engine.specs.declared.refusal.Refusal.{Refusal}
-use Rattle.ss_engine.specs.declared.refusal.Refusal.TheVariants.{TooLong, NotAscii, BadNumber, OpenText, AlphaTooLong, PictureCut, NameTooLong, NotYet, Syntax, TooDeep, Twice, RealMode, UnknownClass, UnknownSet, NoOwner, NoMember, RankKey, TallyTwice, TooMany, TieKey, NoMain, Mode, Arguments, Subscript, NotAssignable, Fields, StartPlace, Unknown, CodeTooLong, Memory}
+use Rattle.ss_engine.specs.declared.refusal.Refusal.TheVariants.{TooLong, NotAscii, BadNumber, OpenText, AlphaTooLong, PictureCut, NameTooLong, NotYet, Syntax, TooDeep, Twice, RealMode, UnknownClass, UnknownSet, NoOwner, NoMember, RankKey, TallyTwice, TooMany, TieKey, NoMain, NoEventRoutine, Mode, Arguments, Subscript, NotAssignable, Fields, StartPlace, Unknown, CodeTooLong, Memory}
 
 -- the number of a refusal, which is 0 for memory
 abbrev pub refusal_number : Refusal → ℕ
@@ -36,6 +36,7 @@ refusal_number (TallyTwice line) = 58
 refusal_number (TooMany line) = 59
 refusal_number (TieKey line) = 60
 refusal_number (NoMain line) = 71
+refusal_number (NoEventRoutine line) = 72
 refusal_number (Mode line) = 73
 refusal_number (Arguments line) = 74
 refusal_number (Subscript line) = 75
@@ -69,6 +70,7 @@ refusal_name (TallyTwice line) = codes "TallyTwice"
 refusal_name (TooMany line) = codes "TooMany"
 refusal_name (TieKey line) = codes "TieKey"
 refusal_name (NoMain line) = codes "NoMain"
+refusal_name (NoEventRoutine line) = codes "NoEventRoutine"
 refusal_name (Mode line) = codes "Mode"
 refusal_name (Arguments line) = codes "Arguments"
 refusal_name (Subscript line) = codes "Subscript"
@@ -102,6 +104,7 @@ refusal_line (TallyTwice line) = line.0
 refusal_line (TooMany line) = line.0
 refusal_line (TieKey line) = line.0
 refusal_line (NoMain line) = line.0
+refusal_line (NoEventRoutine line) = line.0
 refusal_line (Mode line) = line.0
 refusal_line (Arguments line) = line.0
 refusal_line (Subscript line) = line.0
@@ -146,6 +149,7 @@ refusal_of_tables declaring.Memory = Memory
 -- the same of the checker
 abbrev pub refusal_of_checker : CheckError → Refusal
 refusal_of_checker (checking.NoMain line) = NoMain line
+refusal_of_checker (checking.NoEventRoutine line) = NoEventRoutine line
 refusal_of_checker (checking.Mode line) = Mode line
 refusal_of_checker (checking.Arguments line) = Arguments line
 refusal_of_checker (checking.Subscript line) = Subscript line

@@ -65,6 +65,7 @@ fn checked(error: CheckError) -> Refusal
 {
     match error {
         CheckError::NoMain(line) => Refusal::NoMain(line),
+        CheckError::NoEventRoutine(line) => Refusal::NoEventRoutine(line),
         CheckError::Mode(line) => Refusal::Mode(line),
         CheckError::Arguments(line) => Refusal::Arguments(line),
         CheckError::Subscript(line) => Refusal::Subscript(line),
@@ -92,9 +93,9 @@ fn generated(error: CodeError) -> Refusal
 /// In this order, each by the number of [`Refusal::number`]: for its tokens (31 to 37), for the place
 /// that stands first; `Syntax` or `TooDeep` where the tokens spell no program; `NotYet` where it has
 /// a form that is not served; for what it declares (51 to 60) and for its statements (71 to 79), the
-/// first rule broken in the line of the first place; `CodeTooLong` where it has more than 16,384
-/// nodes and too many instructions. `Memory` may come before any of them, and says nothing of the
-/// text.
+/// first rule broken in the line of the first place; `CodeTooLong` where its tree has more than 16,384
+/// nodes and its code more than 1,048,576 instructions. `Memory` may come before any of them, and says
+/// nothing of the text.
 pub fn compile(alloc: Global, text: &[u8]) -> Result<Model, Refusal>
     ensures accepted { IfOk result (λ model. Compiles text.now model) }
     ensures refused { IfErr result (λ refusal. RefusedFor text.now refusal) }

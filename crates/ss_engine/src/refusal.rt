@@ -48,6 +48,8 @@ pub enum Refusal {
     TieKey(Line),
     /// There is no MAIN. Its line is 0.
     NoMain(Line),
+    /// An event notice class without an EVENT section.
+    NoEventRoutine(Line),
     /// Two modes are joined, or a text stands where a number has to.
     Mode(Line),
     /// A routine or a function has another number of arguments than it takes.
@@ -62,7 +64,7 @@ pub enum Refusal {
     StartPlace(Line),
     /// A name isn't of the kind that its place needs.
     Unknown(Line),
-    /// The program has more instructions than may be.
+    /// The program has more than 1,048,576 instructions, and its tree more than 16,384 nodes.
     CodeTooLong,
     /// Memory was refused.
     Memory,
@@ -95,6 +97,7 @@ impl Refusal {
             Refusal::TooMany(_) => 59,
             Refusal::TieKey(_) => 60,
             Refusal::NoMain(_) => 71,
+            Refusal::NoEventRoutine(_) => 72,
             Refusal::Mode(_) => 73,
             Refusal::Arguments(_) => 74,
             Refusal::Subscript(_) => 75,
@@ -133,6 +136,7 @@ impl Refusal {
             Refusal::TooMany(_) => "TooMany",
             Refusal::TieKey(_) => "TieKey",
             Refusal::NoMain(_) => "NoMain",
+            Refusal::NoEventRoutine(_) => "NoEventRoutine",
             Refusal::Mode(_) => "Mode",
             Refusal::Arguments(_) => "Arguments",
             Refusal::Subscript(_) => "Subscript",
@@ -171,6 +175,7 @@ impl Refusal {
             Refusal::TooMany(line) => line.0,
             Refusal::TieKey(line) => line.0,
             Refusal::NoMain(line) => line.0,
+            Refusal::NoEventRoutine(line) => line.0,
             Refusal::Mode(line) => line.0,
             Refusal::Arguments(line) => line.0,
             Refusal::Subscript(line) => line.0,

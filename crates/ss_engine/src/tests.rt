@@ -84,6 +84,7 @@ fn refusals_have_their_numbers_names_and_lines(rt: HostRuntime) {
         (Refusal::TooMany(Line(8)), 59, "TooMany", 8),
         (Refusal::TieKey(Line(9)), 60, "TieKey", 9),
         (Refusal::NoMain(Line(0)), 71, "NoMain", 0),
+        (Refusal::NoEventRoutine(Line(5)), 72, "NoEventRoutine", 5),
         (Refusal::Mode(Line(1)), 73, "Mode", 1),
         (Refusal::Arguments(Line(2)), 74, "Arguments", 2),
         (Refusal::Subscript(Line(3)), 75, "Subscript", 3),

@@ -1,6 +1,7 @@
 pub mod Layered
 mod Stacked
 mod Alike
+mod Peopling
 mod Known
 pub mod Inputs
 pub mod Steps
@@ -10,3 +11,5 @@ mod Worded
 mod Onwards
 mod Ending
 mod Counting
+pub mod Bursting
+mod Hurrying

@@ -1,7 +1,10 @@
 pub mod Frames
+pub mod Peopled
 pub mod Holding
 pub mod Sent
 pub mod Runs
 pub mod Measure
 pub mod Held
 pub mod Unread
+pub mod Quick
+pub mod Bursts

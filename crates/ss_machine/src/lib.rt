@@ -1,13 +1,19 @@
 //! The machine that runs the code of a program.
 #![tactic(auto)]
 
+mod burst;
+pub mod entities;
+#[cfg(test)]
+mod entity_tests;
 mod frame;
 mod frames;
 mod machine;
 mod operands;
 mod printing;
+mod quick;
 mod reading;
 pub mod running;
+mod serving;
 mod stack;
 mod stop;
 #[cfg(test)]

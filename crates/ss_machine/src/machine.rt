@@ -5,8 +5,10 @@ ghost use Rattle.ss_input.specs.Inputs.{source_block, source_missed, source_read
 ghost use Rattle.ss_machine.specs.Held.{IsFirst, answer_again, kept_after};
 ghost use Rattle.ss_machine.specs.Runs.{Ran};
 
+use crate::entities::Entities;
 use crate::frames::Frames;
 use crate::operands::Operands;
+use crate::quick::{Quick, quickened};
 use crate::running::Running;
 use crate::stack::Stack;
 use crate::stop::Stop;
@@ -14,6 +16,7 @@ use crate::variables::Variables;
 use crate::working::Working;
 use ss_base::{FaultyRead, FaultyWrite};
 use ss_code::Code;
+use ss_code::layouts::copied;
 use ss_input::Source;
 use ss_picture::Sink;
 use std::alloc::{AllocError, Global};
@@ -26,18 +29,20 @@ use std::marker::Model;
 #[derive(Drop)]
 pub struct Machine {
     running: Running,
+    quick: Vec<Quick>,
     stopped: Option<Stop>,
 }
 
 impl Model for Machine {
     ghost use Rattle.ss_input.specs.Inputs.{source_missed, source_reader};
     ghost use Rattle.ss_machine.specs.Held.{Held, IsReady};
+    ghost use Rattle.ss_machine.specs.Quick.{AllStand};
 
     ghost Value = { Held };
 
     ghost view = { λ m. record { code = m.running.code; working = m.running.working; used = m.running.used; steps = m.running.steps; stopped = m.stopped } };
 
-    ghost invariant = { λ m. IsReady (record { code = m.running.code; working = m.running.working; used = m.running.used; steps = m.running.steps; stopped = m.stopped }) };
+    ghost invariant = { λ m. IsReady (record { code = m.running.code; working = m.running.working; used = m.running.used; steps = m.running.steps; stopped = m.stopped }) × AllStand m.quick.items m.running.code.instructions };
 }
 
 // The answer of a run after one that stood still.
@@ -67,13 +72,20 @@ impl Machine {
     {
         let globals = Variables::of(alloc, code.globals())?;
         let locals = Stack::of(alloc, code.locals())?;
+        let quick = quickened(alloc, &code)?;
         let _sound = code.len();
+        let layout = copied(alloc, code.layout())?;
+        if !layout.is_sound() {
+            return Err(AllocError);
+        }
+        let entities = Entities::new(alloc, layout)?;
         let working = Working {
             place: 0,
             operands: Operands::new(alloc),
             frames: Frames::new(alloc),
             globals,
             locals,
+            entities,
         };
         Ok(Machine {
             running: Running {
@@ -83,6 +95,7 @@ impl Machine {
                 used: 0,
                 steps: 0,
             },
+            quick,
             stopped: None,
         })
     }
@@ -129,7 +142,7 @@ impl Machine {
         match self.stopped {
             Some(stop) => again(stop),
             None => {
-                let stop = self.running.run(ticks, source, sink);
+                let stop = self.running.run(&self.quick, ticks, source, sink);
                 self.stopped = kept(stop);
                 stop
             }

@@ -1,12 +1,12 @@
 // A program of loops, calls and words runs in pieces; the numbers are counted by hand.
 
 use crate::{Machine, Source, Stop};
-use ss_base::{FaultKind, Line, MemoryRead, MemoryWrite, Mode, Plan, Trouble, Value};
+use ss_base::{FaultKind, Layout, Line, MemoryRead, MemoryWrite, Mode, Plan, Trouble, Value};
 use ss_code::CodeError;
 use ss_code::generate::generate;
 use ss_picture::Sink;
 use ss_resolved::resolved::{
-    Condition, Conjunction, Expression, Range, Relation, Resolved, Section, Sign, Statement,
+    Condition, Conjunction, Expression, Place, Range, Relation, Resolved, Section, Sign, Statement,
     Target, Test, Variable,
 };
 use std::alloc::{AllocError, Global};
@@ -25,6 +25,10 @@ fn number(value: i64) -> Expression {
     }
 }
 
+fn plain(variable: Variable) -> Place {
+    Place::Variable { variable }
+}
+
 fn held(variable: Variable) -> Expression {
     Expression::Fetch { variable }
 }
@@ -34,7 +38,7 @@ fn add(line: u32, variable: Variable) -> Statement {
     Statement::Change {
         line: Line(line),
         sign: Sign::Plus,
-        target: TOTAL,
+        target: plain(TOTAL),
         value: held(variable),
     }
 }
@@ -47,7 +51,7 @@ fn call(alloc: Global, line: u32, variable: Variable) -> Result<Statement, Alloc
         line: Line(line),
         routine: 0,
         given,
-        yielding: Vec::from_slice(alloc, &[PRODUCT])?,
+        yielding: Vec::from_array(alloc, [plain(PRODUCT)])?,
     })
 }
 
@@ -74,12 +78,12 @@ fn main_section(alloc: Global) -> Result<Section, AllocError> {
     let mut body = Vec::new(alloc);
     body.push(products_added(alloc)?)?;
     let target = Target {
-        variable: ITEM,
+        place: plain(ITEM),
         mode: Mode::Integer,
     };
     body.push(Statement::Read {
         line: Line(5),
-        targets: Vec::from_slice(alloc, &[target])?,
+        targets: Vec::from_array(alloc, [target])?,
     })?;
     body.push(add(6, ITEM))?;
     let mut items = Vec::new(alloc);
@@ -104,7 +108,7 @@ fn product_of_fewer(alloc: Global) -> Result<Vec<Statement>, AllocError> {
     rest.push((Sign::Minus, number(1)))?;
     body.push(Statement::Let {
         line: Line(11),
-        target: FEWER,
+        target: plain(FEWER),
         value: Expression::Sum {
             first: Box::new(alloc, held(ITEM))?,
             rest,
@@ -115,7 +119,7 @@ fn product_of_fewer(alloc: Global) -> Result<Vec<Statement>, AllocError> {
     factors.push(held(PRODUCT))?;
     body.push(Statement::Let {
         line: Line(13),
-        target: PRODUCT,
+        target: plain(PRODUCT),
         value: Expression::Product {
             first: Box::new(alloc, held(ITEM))?,
             rest: factors,
@@ -137,7 +141,7 @@ fn routine(alloc: Global) -> Result<Section, AllocError> {
     let mut otherwise = Vec::new(alloc);
     otherwise.push(Statement::Let {
         line: Line(15),
-        target: PRODUCT,
+        target: plain(PRODUCT),
         value: number(1),
     })?;
     let mut body = Vec::new(alloc);
@@ -158,6 +162,10 @@ fn program(alloc: Global) -> Result<Resolved, AllocError> {
     let mut routines = Vec::new(alloc);
     routines.push(routine(alloc)?)?;
     Ok(Resolved {
+        layout: Layout {
+            classes: Vec::new(alloc),
+            sets: Vec::new(alloc),
+        },
         globals: Vec::from_slice(alloc, &[Mode::Integer])?,
         routines,
         main: main_section(alloc)?,

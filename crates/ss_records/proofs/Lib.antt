@@ -2,6 +2,7 @@ pub mod Apart
 pub mod Assigns
 pub mod Blocks
 pub mod Calls
+pub mod Changed
 pub mod Count
 pub mod Creates
 pub mod Cuts
@@ -31,6 +32,7 @@ pub mod Numbers
 pub mod OtherSets
 pub mod Owning
 pub mod Paging
+pub mod Planning
 pub mod Puts
 pub mod ReadBack
 pub mod ReadWords

@@ -15,7 +15,7 @@ use Rattle.ss_records.proofs.Listed.{members_with, members_other}
 err_is_not_ok : {A : Type 0} {e : FaultKind} {a : A} → Err e ≡ Ok a → ⊥
 err_is_not_ok h = cc
 
-ok_is : {A : Type 0} {a b : A} → ◌≡◌ {A = Result A FaultKind} (Ok a) (Ok b) → a ≡ b
+pub ok_is : {A : Type 0} {a b : A} → ◌≡◌ {A = Result A FaultKind} (Ok a) (Ok b) → a ≡ b
 ok_is h = cc
 
 -- what went well in two steps went well in each

@@ -7,7 +7,7 @@ use Rattle.ss_base.specs.declared.layout.ClassKind.{ClassKind}
 use Rattle.ss_base.specs.declared.layout.ClassKind.TheVariants.{Permanent, Temporary, Notice}
 use Rattle.ss_records.specs.declared.commands.Command.{Command}
 use Rattle.ss_records.specs.declared.commands.Command.TheVariants.{Create, CreateAll, Destroy, SetValue, SetTime, FileFirst, FileLast, FileBefore, FileAfter, Remove}
-use Rattle.ss_records.specs.State.{State, Record, and_then, number_in, entity, notice, kind_of, is_made, is_filed, contains, members_of, in_a_set, owns_members, with_entity_of_kind, with_entity, with_value, with_time, with_created, with_made, LAST_NUMBER, MOST_ENTITIES, created, created_all, made_many, destroyed, let_go, assigned, timed}
+use Rattle.ss_records.specs.State.{State, Record, and_then, number_in, entity, notice, kind_of, is_made, is_filed, contains, members_of, in_a_set, owns_members, with_entity_of_kind, with_entity, with_value, with_time, with_created, with_made, LAST_NUMBER, MOST_ENTITIES, created_all, made_many, destroyed, let_go, assigned, timed}
 use Rattle.ss_records.specs.Sets.{joiner, owner, with_list_of, put_in, put_beside, taken_out, put_before, put_after, less, filed_first, filed_last, filed_before, filed_after, removed}
 use Rattle.ss_records.specs.Commands.{done, state_in, after_command}
 use Rattle.ss_records.specs.declared.commands.Answer.{Answer}

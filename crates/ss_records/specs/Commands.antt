@@ -10,7 +10,7 @@ use Rattle.ss_records.specs.declared.commands.Answer.{Answer}
 use Rattle.ss_records.specs.declared.commands.Answer.TheVariants.{Done, Number, Faulted}
 use Rattle.ss_records.specs.Kept.{IsPermanent}
 use Rattle.ss_records.specs.State.{State, members_of, kind_of, modes_of, and_then, created, created_all, destroyed, assigned, timed}
-use Rattle.ss_records.specs.Sets.{owner, filed_first, filed_last, filed_before, filed_after, removed}
+use Rattle.ss_records.specs.Sets.{joiner, owner, filed_first, filed_last, filed_before, filed_after, removed}
 
 -- ## What a call leaves
 
@@ -18,6 +18,21 @@ use Rattle.ss_records.specs.Sets.{owner, filed_first, filed_last, filed_before, 
 abbrev pub LeavesOthers : (State → ℕ → ℤ → ℤ → Result State FaultKind) → Type 0
 LeavesOthers call =
     (st t : State) (s : ℕ) (o x : ℤ) → call st s o x ≡ Ok t → (r m : ℕ) → ((s ≡ r) × (owner st s o ≡ Ok m) → ⊥) → members_of t.lists r m ≡ members_of st.lists r m
+
+-- a call on the set s of the owner o that goes well: x and o mean the entities n and m, and the members of the set of m are changed by `put`, with n
+abbrev pub Changes : (ℕ → List ℕ → List ℕ) → (State → ℕ → ℤ → ℤ → Result State FaultKind) → Type 0
+Changes put call =
+    (st t : State) (s : ℕ) (o x : ℤ) → call st s o x ≡ Ok t → (n : ℕ) × (m : ℕ) × (joiner st s x ≡ Ok n) × (owner st s o ≡ Ok m) × (members_of t.lists s m ≡ put n (members_of st.lists s m))
+
+-- the same where x is put beside y, which means the entity k
+abbrev pub ChangesBeside : (ℕ → ℕ → List ℕ → List ℕ) → (State → ℕ → ℤ → ℤ → ℤ → Result State FaultKind) → Type 0
+ChangesBeside put call =
+    (y : ℤ) (st t : State) (s : ℕ) (o x : ℤ) → call st s o x y ≡ Ok t → (k : ℕ) × (n : ℕ) × (m : ℕ) × (joiner st s y ≡ Ok k) × (joiner st s x ≡ Ok n) × (owner st s o ≡ Ok m) × (members_of t.lists s m ≡ put k n (members_of st.lists s m))
+
+-- a call on a set leaves everything but the members of sets: the layout, each record, and the permanent entities
+abbrev pub KeepsRecords : (State → ℕ → ℤ → ℤ → Result State FaultKind) → Type 0
+KeepsRecords call =
+    (st t : State) (s : ℕ) (o x : ℤ) → call st s o x ≡ Ok t → t ≡ record st { lists = t.lists }
 
 -- a call leaves the members of every set
 abbrev pub KeepsLists : (State → Result State FaultKind) → Type 0
@@ -71,12 +86,12 @@ commanded (FileBefore set o member beside) s = done (filed_before s set o member
 commanded (FileAfter set o member beside) s = done (filed_after s set o member beside)
 commanded (Remove set o member) s = done (removed s set o member)
 
--- its answer
+-- the answer, or the fault
 abbrev pub answer_in : Result (Answer × State) FaultKind → Answer
 answer_in (Ok p) = p.0
 answer_in (Err kind) = Faulted kind
 
--- the state that it leaves, which was s
+-- the state that is left: s where there is a fault
 abbrev pub state_in : State → Result (Answer × State) FaultKind → State
 state_in s (Ok p) = p.1
 state_in s (Err kind) = s
@@ -99,9 +114,11 @@ abbrev pub after_commands : List Command → State → State
 after_commands [] s = s
 after_commands (command ∷ commands) s = after_commands commands (after_command command s)
 
--- t is the state after the first of some commands, however many
+-- t is the state after the first k of some commands, for some k
 abbrev pub IsAfterSome : List Command → State → State → Type 0
 IsAfterSome commands s t = (k : ℕ) × (t ≡ after_commands (take k commands) s)
+
+-- ## Commands on sets of other names
 
 -- a command that isn't on a set of the name s
 abbrev pub IsOnOthers : ℕ → Command → Type 0

@@ -8,6 +8,7 @@ pub mod Ownership
 pub mod Pages
 pub mod Parts
 pub mod Places
+pub mod Plans
 pub mod Reading
 pub mod Sets
 pub mod Shape

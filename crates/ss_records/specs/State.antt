@@ -1,9 +1,11 @@
 -- What a heap holds: records by creation number, permanent entities by index, and the members of each set.
-use Rattle.std.specs.Prelude.{ℕ, zero, suc, ◌+◌, ◌-◌, nat_lt, nat_le, Bool, true, false, ◌&&◌, ◌||◌, ◌==◌, cond, if◌then◌else◌, List, [], ◌∷◌, ◌++◌, length, map, ℤ, pos, negsuc, Option, Some, None, is_some, Result, Ok, Err, slice_get, slice_index_or, slice_set, replicate}
+use Rattle.std.specs.Prelude.{◌≡◌, ℕ, zero, suc, ◌+◌, ◌-◌, nat_lt, nat_le, Bool, true, false, ◌&&◌, ◌||◌, ◌==◌, cond, if◌then◌else◌, List, [], ◌∷◌, ◌++◌, length, map, ℤ, pos, negsuc, Option, Some, None, is_some, Result, Ok, Err, IsOk, slice_get, slice_index_or, slice_set, replicate}
 use Rattle.ss_base.specs.declared.value.Value.{Value}
 use Rattle.ss_base.specs.declared.value.Value.TheVariants.{Whole}
 use Rattle.ss_base.specs.declared.fault.FaultKind.{FaultKind}
 use Rattle.ss_base.specs.declared.fault.FaultKind.TheVariants.{NoEntity, NeverCreated, DestroyedEntity, WrongClass, Index, InASet, OwnsMembers, Overflow, CreatedTwice, BadCount}
+use Rattle.ss_base.specs.declared.fault.Refused.{Refused}
+use Rattle.ss_base.specs.declared.fault.Refused.TheVariants.{Fault, Memory}
 use Rattle.ss_base.specs.declared.layout.ClassKind.{ClassKind}
 use Rattle.ss_base.specs.declared.layout.ClassKind.TheVariants.{Permanent, Temporary, Notice}
 use Rattle.ss_base.specs.declared.layout.Mode.{Mode}
@@ -163,6 +165,11 @@ abbrev pub timed : State → ℤ → ℤ → Result State FaultKind
 timed s x t = and_then (notice s x) (λ r. Ok (record s { records = slice_set s.records (number_in x - 1) (Some (with_time r t)) }))
 
 -- ## Creating
+
+-- why a call is refused: for the fault that is due, and for want of memory only where none is
+abbrev pub RefusedFor : {A : Type 0} → Result A FaultKind → Refused → Type 0
+RefusedFor r (Fault f) = r ≡ Err f
+RefusedFor r Memory = IsOk r
 
 -- how many creation numbers there are at most
 abbrev pub LAST_NUMBER : ℕ

@@ -1,10 +1,10 @@
 // Lists of calls of a heap, and what calls do to the lists of the sets.
-ghost use Rattle.std.specs.Prelude.{◌≡◌, ℕ, ℤ, List, Ok, IfOk, OnOk, OnErr, All, IsTrue, ◌↔◌};
+ghost use Rattle.std.specs.Prelude.{◌≡◌, ℕ, ℤ, List, [], ◌∷◌, ◌++◌, Ok, IfOk, OnOk, OnErr, All, IsTrue, ◌↔◌};
 ghost use Rattle.ss_base.specs.declared.value.Value.{Value};
 ghost use Rattle.ss_records.specs.declared.commands.Command.{Command};
 ghost use Rattle.ss_records.specs.State.{State, members_of, created, created_all, destroyed, assigned, timed};
-ghost use Rattle.ss_records.specs.Sets.{filed_first, filed_last, filed_before, filed_after, removed};
-ghost use Rattle.ss_records.specs.Commands.{LeavesOthers, KeepsLists, IsMadeSingly, IsMadeTogether, HasField, IsOnOthers, after_commands, told};
+ghost use Rattle.ss_records.specs.Sets.{filed_first, filed_last, filed_before, filed_after, removed, put_before, put_after, less};
+ghost use Rattle.ss_records.specs.Commands.{Changes, ChangesBeside, LeavesOthers, KeepsRecords, KeepsLists, IsMadeSingly, IsMadeTogether, HasField, IsOnOthers, after_commands, told};
 
 use crate::Heap;
 use crate::shape::kind;
@@ -19,6 +19,25 @@ pub fn filing_leaves_other_sets()
     ensures before { (y : ℤ) → LeavesOthers (λ st s o x. filed_before st s o x y) }
     ensures after { (y : ℤ) → LeavesOthers (λ st s o x. filed_after st s o x y) }
     ensures remove { LeavesOthers removed }
+{}
+
+/// A call on the set of an owner that goes well changes the members of this set as it says: by the member first, last,
+/// directly before or after another, or without it.
+pub fn filing_changes_its_set()
+    ensures first { Changes (λ x l. x ∷ l) filed_first }
+    ensures last { Changes (λ x l. l ++ x ∷ []) filed_last }
+    ensures before { ChangesBeside put_before filed_before }
+    ensures after { ChangesBeside put_after filed_after }
+    ensures remove { Changes less removed }
+{}
+
+/// A call on the set of an owner leaves every record as it is: its class, its values, its time, and whether it is living.
+pub fn filing_leaves_the_records()
+    ensures first { KeepsRecords filed_first }
+    ensures last { KeepsRecords filed_last }
+    ensures before { (y : ℤ) → KeepsRecords (λ st s o x. filed_before st s o x y) }
+    ensures after { (y : ℤ) → KeepsRecords (λ st s o x. filed_after st s o x y) }
+    ensures remove { KeepsRecords removed }
 {}
 
 /// What creates, destroys or assigns leaves the members of every set.

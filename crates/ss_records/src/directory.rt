@@ -67,6 +67,7 @@ impl Directory {
     }
 
     /// The entry i, from 0 on.
+    #[inline(always)]
     pub(crate) fn get(&self, i: usize) -> Option<Place>
         requires { i < length self.now.places }
         ensures { slice_get self.now.places i ≡ Some result }

@@ -6,7 +6,6 @@ ghost use Rattle.ss_records.specs.Parts.{IsKept, state, held, Owns, Joins, Betwe
 
 use crate::links::Entry;
 use crate::records::Records;
-use crate::shape;
 use ss_base::FaultKind;
 
 // An owner of a set, and one that may be in the set.
@@ -26,6 +25,7 @@ struct Triple {
 
 impl Records {
     // What x and then o mean.
+    #[inline(always)]
     fn pair(&self, s: usize, o: i64, x: i64) -> Result<Pair, FaultKind>
         requires kept { IsKept self.now }
         requires set { s < length self.now.layout.sets.items }
@@ -74,7 +74,7 @@ impl Records {
         if !self.is_filed(s, x) {
             return false;
         }
-        let base = shape::member_base(&self.layout, s);
+        let base = self.layout.member_base(s);
         let its_owner = self.blocks.follow(x.place, base + 2);
         its_owner.number == owner.number
     }
@@ -92,8 +92,8 @@ impl Records {
         ensures done { (xs : List ℕ) (ys : List ℕ) → Between self.old s owner.number before after xs ys → state self.new ≡ with_list_of (state self.old) s owner.number (xs ++ x.number ∷ ys) }
         ensures touches { (self.new.blocks.touches ≡ self.old.blocks.touches + 7) × (self.new.blocks.total ≡ self.old.blocks.total + 7) }
     {
-        let member = shape::member_base(&self.layout, s);
-        let set = shape::owner_base(&self.layout, s);
+        let member = self.layout.member_base(s);
+        let set = self.layout.owner_base(s);
         let count = self.blocks.count(owner.place, set + 2);
         let is_first = before.number == 0;
         let is_last = after.number == 0;
@@ -124,8 +124,8 @@ impl Records {
         ensures done { (xs : List ℕ) (ys : List ℕ) → Around self.old s owner.number x.number before after xs ys → state self.new ≡ with_list_of (state self.old) s owner.number (xs ++ ys) }
         ensures touches { (self.new.blocks.touches ≡ self.old.blocks.touches + 7) × (self.new.blocks.total ≡ self.old.blocks.total + 7) }
     {
-        let member = shape::member_base(&self.layout, s);
-        let set = shape::owner_base(&self.layout, s);
+        let member = self.layout.member_base(s);
+        let set = self.layout.owner_base(s);
         let count = self.blocks.count(owner.place, set + 2);
         let is_first = before.number == 0;
         let is_last = after.number == 0;
@@ -154,7 +154,7 @@ impl Records {
     {
         match self.pair(s, o, x) {
             Ok(pair) => {
-                let base = shape::owner_base(&self.layout, s);
+                let base = self.layout.owner_base(s);
                 let end = Entry {
                     place: self.system,
                     number: 0,
@@ -181,7 +181,7 @@ impl Records {
     {
         match self.pair(s, o, x) {
             Ok(both) => {
-                let base = shape::owner_base(&self.layout, s);
+                let base = self.layout.owner_base(s);
                 let end = Entry {
                     place: self.system,
                     number: 0,
@@ -208,7 +208,7 @@ impl Records {
     {
         match self.triple(s, o, x, y) {
             Ok(triple) => {
-                let base = shape::member_base(&self.layout, s);
+                let base = self.layout.member_base(s);
                 if self.is_filed(s, triple.x) {
                     return Err(FaultKind::FiledTwice);
                 }
@@ -234,7 +234,7 @@ impl Records {
     {
         match self.triple(s, o, x, y) {
             Ok(triple) => {
-                let base = shape::member_base(&self.layout, s);
+                let base = self.layout.member_base(s);
                 if self.is_filed(s, triple.x) {
                     return Err(FaultKind::FiledTwice);
                 }
@@ -260,7 +260,7 @@ impl Records {
     {
         match self.pair(s, o, x) {
             Ok(pair) => {
-                let base = shape::member_base(&self.layout, s);
+                let base = self.layout.member_base(s);
                 if !self.is_in(s, pair.owner, pair.x) {
                     return Err(FaultKind::NotFiled);
                 }

@@ -1,6 +1,6 @@
 ghost use Rattle.std.specs.Prelude.{◌≡◌, ◌+◌, ◌<◌, ◌≤◌, length, IsTrue, MatchResult, Ok, Err, Some, IsOk, slice_get, ⊤};
 ghost use Rattle.ss_base.specs.Layout.{mode_of, is_sound};
-ghost use Rattle.ss_records.specs.State.{State, first_state, known_in, known_notice_in, kind_of, modes_of, value_in, time_in, created, created_all, destroyed, assigned, timed, living_numbers, living_records};
+ghost use Rattle.ss_records.specs.State.{State, first_state, known_in, known_notice_in, kind_of, modes_of, value_in, time_in, created, created_all, destroyed, assigned, timed, RefusedFor, living_numbers, living_records};
 ghost use Rattle.ss_records.specs.Sets.{first_in, last_in, count_in, next_in, previous_in, owner_of_member, filed_first, filed_last, filed_before, filed_after, removed, Apart};
 ghost use Rattle.ss_records.specs.Kept.{IsPermanent};
 
@@ -112,11 +112,11 @@ impl Heap {
     }
 
     /// A new entity of a temporary class or a class of notices, with first values, in no set: its creation
-    /// number. Faults: 14 after the last creation number.
+    /// number. Faults: 14 after the last creation number. Want of memory is answered only where no fault is due.
     pub fn create(&mut self, class: usize) -> Result<i64, Refused>
         requires class { class < length self.old.state.layout.classes.items }
         requires kind { IsPermanent (kind_of self.old.state.layout class) → ⊥ }
-        ensures done { MatchResult result (λ n. created self.old.state class ≡ Ok (n, self.new.state)) (λ e. (self.new.state ≡ self.old.state) × ((f : FaultKind) → e ≡ Refused.Fault f → created self.old.state class ≡ Err f)) }
+        ensures done { MatchResult result (λ n. created self.old.state class ≡ Ok (n, self.new.state)) (λ e. (self.new.state ≡ self.old.state) × RefusedFor (created self.old.state class) e) }
         ensures touches { self.new.total ≡ self.old.total + self.new.touches }
     {
         self.records.start();
@@ -124,11 +124,12 @@ impl Heap {
     }
 
     /// All n entities of a permanent class, with first values, in no set; they are known by their indices from 1 to n.
-    /// Faults: 18 where this was done before, then 22 where n is below 0 or above 1,048,576.
+    /// Faults: 18 where this was done before, then 22 where n is below 0 or above 1,048,576. Want of memory is answered only
+    /// where no fault is due.
     pub fn create_all(&mut self, class: usize, n: i64) -> Result<(), Refused>
         requires class { class < length self.old.state.layout.classes.items }
         requires kind { IsPermanent (kind_of self.old.state.layout class) }
-        ensures done { MatchResult result (λ _. created_all self.old.state class n ≡ Ok self.new.state) (λ e. (self.new.state ≡ self.old.state) × ((f : FaultKind) → e ≡ Refused.Fault f → created_all self.old.state class n ≡ Err f)) }
+        ensures done { MatchResult result (λ _. created_all self.old.state class n ≡ Ok self.new.state) (λ e. (self.new.state ≡ self.old.state) × RefusedFor (created_all self.old.state class n) e) }
         ensures touches { self.new.total ≡ self.old.total + self.new.touches }
     {
         self.records.start();
@@ -280,7 +281,7 @@ impl Heap {
     pub fn layout(&self) -> &Layout
         ensures { result.now ≡ self.now.state.layout }
     {
-        &self.records.layout
+        self.records.layout.layout()
     }
 
     /// How many links, ends and counts of members the last call that takes `&mut self` read and wrote.

@@ -5,9 +5,10 @@ ghost use Rattle.ss_records.specs.Laid.{Filled, Laid, LaidSystem, head_word, zer
 ghost use Rattle.ss_records.specs.Shape.{links_start, block_words};
 ghost use Rattle.ss_records.specs.Kept.{Small};
 
-use crate::shape::{self, CLASS, NUMBER, VALUES};
+use crate::plan::Plan;
+use crate::shape::{CLASS, NUMBER, VALUES};
 use crate::store::{Blocks, Place};
-use ss_base::{Layout, Owner};
+use ss_base::Owner;
 
 /// Zeros.
 pub(crate) fn fill_numbers(blocks: &mut Blocks, place: Place, from: usize, to: usize)
@@ -67,7 +68,7 @@ fn lay_head(blocks: &mut Blocks, place: Place, class: u64, number: u64)
 /// Makes a blank block that of a new entity, in no set and without members.
 pub(crate) fn lay(
     blocks: &mut Blocks,
-    layout: &Layout,
+    layout: &Plan,
     place: Place,
     class: usize,
     number: u64,
@@ -82,9 +83,9 @@ pub(crate) fn lay(
     ensures touches { blocks.new.total + blocks.old.touches ≡ blocks.old.total + blocks.new.touches }
     ensures few { blocks.new.touches ≤ blocks.old.touches + 8388608 }
 {
-    let links = shape::links_start(layout, class);
-    let owned = shape::owned_start(layout, Owner::Class(class));
-    let count = shape::owned_count(layout, Owner::Class(class));
+    let links = layout.links_start(class);
+    let owned = layout.owned_start(Owner::Class(class));
+    let count = layout.owned_count(Owner::Class(class));
     lay_head(blocks, place, class as u64, number);
     fill_numbers(blocks, place, VALUES, links);
     fill_links(blocks, place, links, owned, place);
@@ -92,7 +93,7 @@ pub(crate) fn lay(
 }
 
 /// Makes a blank block that of the system, without members.
-pub(crate) fn lay_system(blocks: &mut Blocks, layout: &Layout, place: Place)
+pub(crate) fn lay_system(blocks: &mut Blocks, layout: &Plan, place: Place)
     requires small { Small layout.now }
     requires room { length (words_at blocks.old.cells place.at) ≡ block_words layout.now Owner.System }
     requires blank { (k : ℕ) → word_at blocks.old.cells place.at k ≡ blank }
@@ -100,7 +101,7 @@ pub(crate) fn lay_system(blocks: &mut Blocks, layout: &Layout, place: Place)
     ensures laid { LaidSystem layout.now blocks.old.cells blocks.new.cells place.at }
     ensures touches { blocks.new.total ≡ blocks.old.total + blocks.new.touches }
 {
-    let count = shape::owned_count(layout, Owner::System);
+    let count = layout.owned_count(Owner::System);
     lay_head(blocks, place, 0, 0);
     fill_owned(blocks, place, VALUES, count, place);
 }

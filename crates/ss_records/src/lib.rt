@@ -10,6 +10,7 @@ pub(crate) mod links;
 pub(crate) mod notes;
 pub(crate) mod page;
 pub(crate) mod placing;
+pub(crate) mod plan;
 pub(crate) mod records;
 pub(crate) mod row;
 pub(crate) mod sets;
@@ -21,7 +22,7 @@ pub(crate) mod ties;
 pub(crate) mod words;
 
 pub use commands::{
-    Answer, Command, commands_leave_other_sets, filing_leaves_other_sets,
-    other_calls_leave_the_sets,
+    Answer, Command, commands_leave_other_sets, filing_changes_its_set, filing_leaves_other_sets,
+    filing_leaves_the_records, other_calls_leave_the_sets,
 };
 pub use heap::Heap;

@@ -40,6 +40,7 @@ impl Page {
     }
 
     /// The place of the number k of the page.
+    #[inline(always)]
     pub(crate) fn get(&self, k: usize) -> Option<Place>
         requires { k < 256 }
         ensures { slice_get self.now k ≡ Some result }

@@ -9,8 +9,8 @@ ghost use Rattle.ss_records.specs.Shape.{block_words};
 ghost use Rattle.ss_records.specs.Kept.{Small};
 
 use crate::laying;
+use crate::plan::Plan;
 use crate::store::{Blocks, Place};
-use ss_base::Layout;
 use std::alloc::{AllocError, Global};
 
 /// Gives back the blocks at these places, of so many words each.
@@ -77,7 +77,7 @@ pub(crate) fn place_all(
 /// Makes the blank blocks at these places those of the entities of a class.
 pub(crate) fn lay_all(
     blocks: &mut Blocks,
-    layout: &Layout,
+    layout: &Plan,
     places: &[Place],
     class: usize,
     end: Place,

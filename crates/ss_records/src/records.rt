@@ -1,6 +1,6 @@
 // The records: where each lies, and what its block says.
 ghost use Rattle.std.specs.Prelude.{◌≡◌, ℕ, ◌+◌, ◌-◌, ◌*◌, ◌^◌, ◌<◌, ◌≤◌, length, IsTrue, MatchResult, Ok, Err, Some, None, slice_get, true, ⊤, suc};
-ghost use Rattle.ss_records.specs.State.{entity, notice, numbered, and_then, of_class, kind_of, modes_of, is_notice, first_state, living_numbers, living_records, value_in, time_in, in_a_set, owns_members, destroyed, created, created_all, with_made, assigned, timed};
+ghost use Rattle.ss_records.specs.State.{entity, notice, numbered, and_then, of_class, kind_of, modes_of, is_notice, first_state, living_numbers, living_records, value_in, time_in, in_a_set, owns_members, destroyed, created, created_all, with_made, assigned, timed, RefusedFor};
 ghost use Rattle.ss_records.specs.Cells.{words_at, number};
 ghost use Rattle.ss_records.specs.Reading.{record_of};
 ghost use Rattle.ss_base.specs.Layout.{mode_of, is_sound};
@@ -11,8 +11,9 @@ ghost use Rattle.ss_records.specs.Parts.{IsKept, state, Found, FoundNotice};
 
 use crate::directory::Directory;
 use crate::notes::Notes;
+use crate::plan::Plan;
 use crate::row::{self, Row};
-use crate::shape::{self, CLASS, NUMBER, VALUES};
+use crate::shape::{CLASS, VALUES};
 use crate::store::{Blocks, Place};
 use crate::{laying, placing, ties, words};
 use ss_base::{ClassKind, FaultKind, Layout, Owner, Refused, Value};
@@ -25,7 +26,7 @@ const LAST_NUMBER: u64 = 4611686018427387903;
 const MOST_ENTITIES: i64 = 1048576;
 
 pub(crate) struct Records {
-    pub(crate) layout: Layout,
+    pub(crate) layout: Plan,
     pub(crate) blocks: Blocks,
     pub(crate) notes: Notes,
     pub(crate) system: Place,
@@ -39,16 +40,14 @@ impl Records {
         requires sound { IsTrue (is_sound layout) }
         ensures { MatchResult result (λ r. IsKept r × (state r ≡ first_state layout)) (λ _. ⊤) }
     {
-        if !shape::is_small(&layout) {
-            return Err(AllocError);
-        }
+        let layout = Plan::new(alloc, layout)?;
         let mut blocks = Blocks::new();
-        let words = shape::block_words(&layout, Owner::System);
+        let words = layout.block_words(Owner::System);
         let Ok(directory) = Directory::new(alloc) else {
             blocks.close();
             return Err(AllocError);
         };
-        let Ok(permanents) = row::not_made(alloc, layout.classes.len()) else {
+        let Ok(permanents) = row::not_made(alloc, layout.layout().classes.len()) else {
             blocks.close();
             return Err(AllocError);
         };
@@ -119,12 +118,13 @@ impl Records {
             &notes,
             system,
         );
-        let words = shape::block_words(&layout, Owner::System);
+        let words = layout.block_words(Owner::System);
         blocks.give_back(alloc, system, words);
         blocks.close();
     }
 
     // The block of a creation number.
+    #[inline(always)]
     fn numbered(&self, r: i64) -> Result<Place, FaultKind>
         ensures { result ≡ numbered_place self.now.directory.places r }
     {
@@ -145,12 +145,13 @@ impl Records {
     }
 
     /// The block of an entity of a class.
+    #[inline(always)]
     pub(crate) fn find(&self, class: usize, r: i64) -> Result<Place, FaultKind>
         requires kept { IsKept self.now }
         requires class { class < length self.now.layout.classes.items }
         ensures found { MatchResult result (λ p. Found self.now class r p) (λ e. entity (state self.now) class r ≡ Err e) }
     {
-        match shape::kind(&self.layout, class) {
+        match self.layout.kind(class) {
             ClassKind::Permanent => self.indexed(class, r),
             ClassKind::Temporary => self.of_class(class, r),
             ClassKind::Notice => self.of_class(class, r),
@@ -158,6 +159,7 @@ impl Records {
     }
 
     // The block of an index of a permanent class.
+    #[inline(always)]
     fn indexed(&self, class: usize, r: i64) -> Result<Place, FaultKind>
         requires class { class < length self.now.permanents.items }
         ensures { result ≡ indexed_place (row_in (slice_get self.now.permanents.items class)) r }
@@ -173,6 +175,7 @@ impl Records {
     }
 
     // The block of a creation number of a class.
+    #[inline(always)]
     fn of_class(&self, class: usize, r: i64) -> Result<Place, FaultKind>
         requires kept { IsKept self.now }
         ensures found { MatchResult result (λ p. (numbered_place self.now.directory.places r ≡ Ok p) × (class_at self.now.blocks.cells p ≡ class) × (and_then (numbered (state self.now) r) (of_class class) ≡ Ok (record_of self.now.layout (words_at self.now.blocks.cells p.at)))) (λ e. and_then (numbered (state self.now) r) (of_class class) ≡ Err e) }
@@ -210,7 +213,7 @@ impl Records {
     fn is_notice(&self, class: u64) -> bool
         ensures { result ≡ is_notice (kind_of self.now.layout class) }
     {
-        match self.layout.classes.get(class as usize) {
+        match self.layout.layout().classes.get(class as usize) {
             Some(class) => matches!(class.kind, ClassKind::Notice),
             None => false,
         }
@@ -225,7 +228,7 @@ impl Records {
     {
         match self.find(class, r) {
             Ok(place) => {
-                let mode = shape::mode(&self.layout, class, field);
+                let mode = self.layout.mode(class, field);
                 Ok(words::value_in(mode, self.blocks.number(place, VALUES + field)))
             }
             Err(fault) => Err(fault),
@@ -280,7 +283,7 @@ impl Records {
         ensures { result ≡ values_end self.now.layout (class_at self.now.blocks.cells place) }
     {
         let class = self.blocks.number(place, CLASS) as usize;
-        shape::values_end(&self.layout, class)
+        self.layout.values_end(class)
     }
 
     /// Sets the time of a notice.
@@ -308,14 +311,14 @@ impl Records {
         requires kind { IsPermanent (kind_of self.old.layout class) → ⊥ }
         requires touches { self.old.blocks.touches ≡ 0 }
         ensures kept { IsKept self.new }
-        ensures done { MatchResult result (λ n. created (state self.old) class ≡ Ok (n, state self.new)) (λ e. (state self.new ≡ state self.old) × ((f : FaultKind) → e ≡ Refused.Fault f → created (state self.old) class ≡ Err f)) }
+        ensures done { MatchResult result (λ n. created (state self.old) class ≡ Ok (n, state self.new)) (λ e. (state self.new ≡ state self.old) × RefusedFor (created (state self.old) class) e) }
         ensures touches { self.new.blocks.total ≡ self.old.blocks.total + self.new.blocks.touches }
     {
         let i = self.directory.len();
         if i as u64 >= LAST_NUMBER {
             return Err(Refused::Fault(FaultKind::Overflow));
         }
-        let words = shape::block_words(&self.layout, Owner::Class(class));
+        let words = self.layout.block_words(Owner::Class(class));
         let Ok(place) = self.blocks.place(alloc, words) else {
             return Err(Refused::Memory);
         };
@@ -346,7 +349,7 @@ impl Records {
         requires kind { IsPermanent (kind_of self.old.layout class) }
         requires touches { self.old.blocks.touches ≡ 0 }
         ensures kept { IsKept self.new }
-        ensures done { MatchResult result (λ _. created_all (state self.old) class n ≡ Ok (state self.new)) (λ e. (state self.new ≡ state self.old) × ((f : FaultKind) → e ≡ Refused.Fault f → created_all (state self.old) class n ≡ Err f)) }
+        ensures done { MatchResult result (λ _. created_all (state self.old) class n ≡ Ok (state self.new)) (λ e. (state self.new ≡ state self.old) × RefusedFor (created_all (state self.old) class n) e) }
         ensures touches { self.new.blocks.total ≡ self.old.blocks.total + self.new.blocks.touches }
     {
         if self.permanents[class].is_made() {
@@ -373,7 +376,7 @@ impl Records {
         ensures done { MatchResult result (λ _. state self.new ≡ with_made (state self.old) class count) (λ _. state self.new ≡ state self.old) }
         ensures touches { self.new.blocks.total ≡ self.old.blocks.total + self.new.blocks.touches }
     {
-        let words = shape::block_words(&self.layout, Owner::Class(class));
+        let words = self.layout.block_words(Owner::Class(class));
         let Ok(places) = placing::place_all(&mut self.blocks, alloc, words, count) else {
             return Err(AllocError);
         };
@@ -449,7 +452,7 @@ impl Records {
                 if self.owns_members(class, place, number) {
                     return Err(FaultKind::OwnsMembers);
                 }
-                let words = shape::block_words(&self.layout, Owner::Class(class));
+                let words = self.layout.block_words(Owner::Class(class));
                 self.directory.clear(number as usize - 1);
                 self.blocks.give_back(alloc, place, words);
                 Ok(())
@@ -463,7 +466,7 @@ impl Records {
 fn give_all_back(
     blocks: &mut Blocks,
     alloc: &Global,
-    layout: &Layout,
+    layout: &Plan,
     directory: &Directory,
     permanents: &[Row],
     notes: &Notes,
@@ -477,7 +480,7 @@ fn give_all_back(
         match directory.get(i) {
             Some(place) => {
                 let class = blocks.number(place, CLASS) as usize;
-                let words = shape::block_words(layout, Owner::Class(class));
+                let words = layout.block_words(Owner::Class(class));
                 blocks.give_back(alloc, place, words);
             }
             None => {}
@@ -490,7 +493,7 @@ fn give_all_back(
 fn give_rows_back(
     blocks: &mut Blocks,
     alloc: &Global,
-    layout: &Layout,
+    layout: &Plan,
     permanents: &[Row],
     system: Place,
 )
@@ -500,7 +503,7 @@ fn give_rows_back(
     ensures count { length blocks.new.cells ≡ 1 }
 {
     for class in 0..permanents.len() {
-        let words = shape::block_words(layout, Owner::Class(class));
+        let words = layout.block_words(Owner::Class(class));
         let places = permanents[class].places();
         placing::give_places_back(blocks, alloc, places, words);
     }

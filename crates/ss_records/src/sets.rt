@@ -6,7 +6,7 @@ ghost use Rattle.ss_records.specs.Parts.{IsKept, state, Owns, Joins};
 
 use crate::links::Entry;
 use crate::records::Records;
-use crate::shape::{self, NUMBER};
+use crate::shape::NUMBER;
 use ss_base::{FaultKind, Owner};
 
 impl Records {
@@ -17,12 +17,13 @@ impl Records {
     {}
 
     /// What o means as an owner of a set: the system where the set is one of its own.
+    #[inline(always)]
     pub(crate) fn owner(&self, s: usize, o: i64) -> Result<Entry, FaultKind>
         requires kept { IsKept self.now }
         requires set { s < length self.now.layout.sets.items }
         ensures found { MatchResult result (λ e. Owns self.now s e × (owner (state self.now) s o ≡ Ok e.number)) (λ f. owner (state self.now) s o ≡ Err f) }
     {
-        match shape::owner_class(&self.layout, s) {
+        match self.layout.owner_class(s) {
             Owner::System => Ok(Entry {
                 place: self.system,
                 number: 0,
@@ -38,12 +39,13 @@ impl Records {
     }
 
     /// What x means as one that may be in a set.
+    #[inline(always)]
     pub(crate) fn joiner(&self, s: usize, x: i64) -> Result<Entry, FaultKind>
         requires kept { IsKept self.now }
         requires set { s < length self.now.layout.sets.items }
         ensures found { MatchResult result (λ e. Joins self.now s e × (joiner (state self.now) s x ≡ Ok e.number)) (λ f. joiner (state self.now) s x ≡ Err f) }
     {
-        match self.find(shape::member_class(&self.layout, s), x) {
+        match self.find(self.layout.member_class(s), x) {
             Ok(place) => Ok(Entry {
                 place,
                 number: self.blocks.number(place, NUMBER),
@@ -63,7 +65,7 @@ impl Records {
         ensures cells { self.new.blocks.cells ≡ self.old.blocks.cells }
         ensures touches { (self.new.blocks.touches ≡ self.old.blocks.touches + 1) × (self.new.blocks.total ≡ self.old.blocks.total + 1) }
     {
-        let base = shape::member_base(&self.layout, s);
+        let base = self.layout.member_base(s);
         let next = self.blocks.follow(x.place, base);
         next.number != x.number
     }
@@ -80,7 +82,7 @@ impl Records {
     {
         match self.owner(s, o) {
             Ok(owner) => {
-                let base = shape::owner_base(&self.layout, s);
+                let base = self.layout.owner_base(s);
                 let first = self.blocks.follow(owner.place, base);
                 Ok(first.number as i64)
             }
@@ -100,7 +102,7 @@ impl Records {
     {
         match self.owner(s, o) {
             Ok(owner) => {
-                let base = shape::owner_base(&self.layout, s);
+                let base = self.layout.owner_base(s);
                 let last = self.blocks.follow(owner.place, base + 1);
                 Ok(last.number as i64)
             }
@@ -120,7 +122,7 @@ impl Records {
     {
         match self.owner(s, o) {
             Ok(owner) => {
-                let base = shape::owner_base(&self.layout, s);
+                let base = self.layout.owner_base(s);
                 Ok(self.blocks.count(owner.place, base + 2) as i64)
             }
             Err(fault) => Err(fault),
@@ -139,7 +141,7 @@ impl Records {
     {
         match self.joiner(s, x) {
             Ok(member) => {
-                let base = shape::member_base(&self.layout, s);
+                let base = self.layout.member_base(s);
                 let next = self.blocks.follow(member.place, base);
                 Ok(other_than(next.number, member.number) as i64)
             }
@@ -159,7 +161,7 @@ impl Records {
     {
         match self.joiner(s, x) {
             Ok(member) => {
-                let base = shape::member_base(&self.layout, s);
+                let base = self.layout.member_base(s);
                 let previous = self.blocks.follow(member.place, base + 1);
                 Ok(other_than(previous.number, member.number) as i64)
             }
@@ -182,7 +184,7 @@ impl Records {
                 if !self.is_filed(s, member) {
                     return Ok(None);
                 }
-                let base = shape::member_base(&self.layout, s);
+                let base = self.layout.member_base(s);
                 let owner = self.blocks.follow(member.place, base + 2);
                 Ok(Some(owner.number as i64))
             }

@@ -1,11 +1,11 @@
-// How many words a block has, and where they stand.
-ghost use Rattle.std.specs.Prelude.{◌≡◌, ℕ, ◌+◌, ◌*◌, ◌^◌, ◌<◌, ◌≤◌, length, IsTrue, slice_get, Some};
-ghost use Rattle.ss_records.specs.State.{kind_of, modes_of, is_notice, is_owner_class};
-ghost use Rattle.ss_records.specs.Shape.{values_end, links_start, owned_start, block_words, joins, owned_by, same_owner, count_sets};
+// Where the words of a block stand, as it follows from a layout.
+ghost use Rattle.std.specs.Prelude.{◌≡◌, ℕ, ◌+◌, ◌*◌, ◌<◌, ◌≤◌, length, IsTrue, slice_get, Some};
+ghost use Rattle.ss_records.specs.State.{kind_of};
+ghost use Rattle.ss_records.specs.Shape.{values_end, links_start, owned_start, joins, owned_by, count_sets};
 ghost use Rattle.ss_records.specs.Kept.{Small};
 ghost use Rattle.ss_records.specs.Slotted.{member_base, owner_base};
 
-use ss_base::{ClassKind, Layout, Mode, Owner, SetLayout};
+use ss_base::{ClassKind, Layout, Owner, SetLayout};
 
 /// The words of every block that name its class and its number, and the first word after them.
 pub(crate) const CLASS: usize = 0;
@@ -38,15 +38,6 @@ pub(crate) fn kind(layout: &Layout, class: usize) -> ClassKind
     ensures { result ≡ kind_of layout.now class }
 {
     layout.classes[class].kind
-}
-
-/// The mode of an attribute.
-pub(crate) fn mode(layout: &Layout, class: usize, field: usize) -> Mode
-    requires class { class < length layout.now.classes.items }
-    requires field { field < length (modes_of layout.now class) }
-    ensures { slice_get (modes_of layout.now class) field ≡ Some result }
-{
-    layout.classes[class].fields[field]
 }
 
 /// Where the values of a class end: there the time of a notice stands.
@@ -86,16 +77,6 @@ pub(crate) fn owned_start(layout: &Layout, owner: Owner) -> usize
     }
 }
 
-/// How many words a block of a class has.
-pub(crate) fn block_words(layout: &Layout, owner: Owner) -> usize
-    requires small { Small layout.now }
-    requires class { (c : ℕ) → owner ≡ Owner.Class c → c < length layout.now.classes.items }
-    ensures size { result ≡ block_words layout.now owner }
-    ensures bound { (2 ≤ result) × (result < 2 ^ 32) }
-{
-    owned_start(layout, owner) + 3 * owned_count(layout, owner)
-}
-
 /// How many sets an owner has.
 pub(crate) fn owned_count(layout: &Layout, owner: Owner) -> usize
     requires small { Small layout.now }
@@ -131,14 +112,6 @@ fn owned(sets: &[SetLayout], owner: Owner) -> usize
         }
     }
     count
-}
-
-/// The layout of a set.
-pub(crate) fn set(layout: &Layout, s: usize) -> SetLayout
-    requires { s < length layout.now.sets.items }
-    ensures { slice_get layout.now.sets.items s ≡ Some result }
-{
-    layout.sets[s]
 }
 
 /// Where the words of a set stand in a member.
@@ -181,15 +154,4 @@ pub(crate) fn owner_class(layout: &Layout, s: usize) -> Owner
     ensures class { (c : ℕ) → result ≡ Owner.Class c → c < length layout.now.classes.items }
 {
     layout.sets[s].owner
-}
-
-/// Whether a class owns the sets of a name.
-pub(crate) fn is_owner(layout: &Layout, s: usize, class: usize) -> bool
-    requires set { s < length layout.now.sets.items }
-    ensures { (t : SetLayout) → slice_get layout.now.sets.items s ≡ Some t → result ≡ is_owner_class t.owner class }
-{
-    match layout.sets[s].owner {
-        Owner::System => false,
-        Owner::Class(owner) => owner == class,
-    }
 }

@@ -1,4 +1,4 @@
-use crate::Heap;
+use crate::{Answer, Command, Heap};
 use ss_base::{ClassKind, ClassLayout, FaultKind, Layout, Mode, Owner, Refused, SetLayout, Value};
 use std::alloc::{AllocError, Global};
 use std::rt::HostRuntime;
@@ -333,5 +333,113 @@ fn refused_memory_leaves_the_heap(rt: HostRuntime) -> Result<(), Fail> {
     }
     assert_eq!(rt; known(&heap, MACHINE, 5), Some(Ok(())));
     assert_eq!(rt; heap.blocks(), 606);
+    Ok(())
+}
+
+// Whether calls fit a heap and answer this.
+fn answers(
+    alloc: Global,
+    heap: &mut Heap,
+    commands: &[Command],
+    wanted: &[Answer],
+) -> Result<bool, AllocError> {
+    if !heap.fit(commands) {
+        return Ok(false);
+    }
+    let answers = heap.run(alloc, commands)?;
+    Ok(answers.as_slice() == wanted)
+}
+
+// Files a job last in the pool.
+fn pooled(member: i64) -> Command {
+    Command::FileLast {
+        set: POOL,
+        owner: 0,
+        member,
+    }
+}
+
+// Takes a job out of the pool.
+fn unpooled(member: i64) -> Command {
+    Command::Remove {
+        set: POOL,
+        owner: 0,
+        member,
+    }
+}
+
+#[test]
+fn commands_go_on_after_faults(rt: HostRuntime) -> Result<(), Fail> {
+    let mut heap = yard(rt.alloc())?;
+    let commands = [
+        Command::Create { class: JOB },
+        Command::Create { class: JOB },
+        pooled(1),
+        pooled(2),
+        pooled(2),
+        Command::Destroy { class: JOB, r: 1 },
+        unpooled(1),
+        unpooled(1),
+        Command::Destroy { class: JOB, r: 1 },
+    ];
+    let wanted = [
+        Answer::Number(1),
+        Answer::Number(2),
+        Answer::Done,
+        Answer::Done,
+        Answer::Faulted(FaultKind::FiledTwice),
+        Answer::Faulted(FaultKind::InASet),
+        Answer::Done,
+        Answer::Faulted(FaultKind::NotFiled),
+        Answer::Done,
+    ];
+    assert!(rt; answers(rt.alloc(), &mut heap, &commands, &wanted)?);
+    assert_eq!(rt; answer(&mut heap, POOL, Ask::First(0)), Some(Ok(2)));
+    assert_eq!(rt; answer(&mut heap, POOL, Ask::Count(0)), Some(Ok(1)));
+    Ok(())
+}
+
+#[test]
+fn commands_that_do_not_fit_are_told(rt: HostRuntime) -> Result<(), Fail> {
+    let heap = yard(rt.alloc())?;
+    assert!(rt; !heap.fit(&[Command::Create { class: MACHINE }]));
+    assert!(rt; !heap.fit(&[Command::CreateAll { class: JOB, n: 1 }]));
+    assert!(rt;
+        heap.fit(&[
+            Command::CreateAll {
+                class: MACHINE,
+                n: 1
+            },
+            pooled(1)
+        ])
+    );
+    Ok(())
+}
+
+// Creates tools, each with a job in its rack and in the pool.
+fn equip(heap: &mut Heap, tools: u32) -> bool {
+    for _ in 0..tools {
+        let Some(tool) = create(heap, TOOL) else {
+            return false;
+        };
+        let Some(job) = create(heap, JOB) else {
+            return false;
+        };
+        if answer(heap, RACK, Ask::FileLast(tool, job)) != Some(Ok(0))
+            || answer(heap, POOL, Ask::FileFirst(0, job)) != Some(Ok(0))
+        {
+            return false;
+        }
+    }
+    true
+}
+
+#[test]
+fn a_million_linked_records_are_let_go(rt: HostRuntime) -> Result<(), Fail> {
+    let mut heap = yard(rt.alloc())?;
+    assert!(rt; equip(&mut heap, 500_000));
+    assert_eq!(rt; heap.blocks(), 1_000_001);
+    assert_eq!(rt; answer(&mut heap, POOL, Ask::Count(0)), Some(Ok(500_000)));
+    drop(heap);
     Ok(())
 }

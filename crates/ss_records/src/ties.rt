@@ -7,15 +7,16 @@ ghost use Rattle.ss_records.specs.Places.{class_at, lying};
 
 use crate::directory::Directory;
 use crate::notes::Notes;
+use crate::plan::Plan;
 use crate::row::Row;
-use crate::shape::{self, NUMBER};
+use crate::shape::NUMBER;
 use crate::store::{Blocks, Place};
-use ss_base::{Layout, Owner};
+use ss_base::Owner;
 
 /// Whether the entity is in a set of the name s: a touch.
 pub(crate) fn filed_in(
     blocks: &mut Blocks,
-    layout: &Layout,
+    layout: &Plan,
     directory: &Directory,
     permanents: &[Row],
     notes: &Notes,
@@ -33,7 +34,7 @@ pub(crate) fn filed_in(
     ensures cells { blocks.new.cells ≡ blocks.old.cells }
     ensures touches { (blocks.new.touches ≡ blocks.old.touches + 1) × (blocks.new.total ≡ blocks.old.total + 1) }
 {
-    let base = shape::member_base(layout, s);
+    let base = layout.member_base(s);
     let next = blocks.link(place, base);
     blocks.number(next, NUMBER) != number
 }
@@ -41,7 +42,7 @@ pub(crate) fn filed_in(
 /// Whether the entity has members in its set of the name s: a touch.
 pub(crate) fn owns_in(
     blocks: &mut Blocks,
-    layout: &Layout,
+    layout: &Plan,
     directory: &Directory,
     permanents: &[Row],
     notes: &Notes,
@@ -59,14 +60,14 @@ pub(crate) fn owns_in(
     ensures cells { blocks.new.cells ≡ blocks.old.cells }
     ensures touches { (blocks.new.touches ≡ blocks.old.touches + 1) × (blocks.new.total ≡ blocks.old.total + 1) }
 {
-    let base = shape::owner_base(layout, s);
+    let base = layout.owner_base(s);
     blocks.count(place, base + 2) != 0
 }
 
 /// Whether the entity is in a set of any name: at most a touch for each name.
 pub(crate) fn in_a_set(
     blocks: &mut Blocks,
-    layout: &Layout,
+    layout: &Plan,
     directory: &Directory,
     permanents: &[Row],
     notes: &Notes,
@@ -83,8 +84,8 @@ pub(crate) fn in_a_set(
     ensures cells { blocks.new.cells ≡ blocks.old.cells }
     ensures touches { (blocks.new.touches ≤ blocks.old.touches + 1048576) × (blocks.new.total + blocks.old.touches ≡ blocks.old.total + blocks.new.touches) }
 {
-    for s in 0..layout.sets.len() {
-        if shape::member_class(layout, s) == class {
+    for s in 0..layout.names() {
+        if layout.member_class(s) == class {
             if filed_in(
                 blocks, layout, directory, permanents, notes, system, s, place, number,
             ) {
@@ -98,7 +99,7 @@ pub(crate) fn in_a_set(
 /// Whether the entity has members in a set of any name: at most a touch for each name.
 pub(crate) fn owns_members(
     blocks: &mut Blocks,
-    layout: &Layout,
+    layout: &Plan,
     directory: &Directory,
     permanents: &[Row],
     notes: &Notes,
@@ -115,8 +116,8 @@ pub(crate) fn owns_members(
     ensures cells { blocks.new.cells ≡ blocks.old.cells }
     ensures touches { (blocks.new.touches ≤ blocks.old.touches + 1048576) × (blocks.new.total + blocks.old.touches ≡ blocks.old.total + blocks.new.touches) }
 {
-    for s in 0..layout.sets.len() {
-        if shape::is_owner(layout, s, class) {
+    for s in 0..layout.names() {
+        if layout.is_owner(s, class) {
             if owns_in(
                 blocks, layout, directory, permanents, notes, system, s, place, number,
             ) {

@@ -1,6 +1,6 @@
 -- The size of a tree.
 use Rattle.std.specs.Prelude.{ℕ, ◌+◌, List, [], ◌∷◌, length, Option, Some, None}
-use Rattle.ss_resolved.specs.declared.resolved.Expression.{Expression, Constant, Fetch, Signed', Sum', Product', Applied', Absolute', Row_of-Expression, end_of-Expression, more_of-Expression, Row_of-Expression-Sum-1-2, end_of-Expression-Sum-1-2, more_of-Expression-Sum-1-2}
+use Rattle.ss_resolved.specs.declared.resolved.Expression.{Expression, Constant, Fetch, Signed', Sum', Product', Applied', Absolute', Attribute', Made, Row_of-Expression, end_of-Expression, more_of-Expression, Row_of-Expression-Sum-1-2, end_of-Expression-Sum-1-2, more_of-Expression-Sum-1-2}
 use Rattle.ss_resolved.specs.declared.resolved.Test.{Test}
 use Rattle.ss_resolved.specs.declared.resolved.Test.TheVariants.{Compare, DataEnded}
 use Rattle.ss_resolved.specs.declared.resolved.Conjunction.{Conjunction}
@@ -8,9 +8,17 @@ use Rattle.ss_resolved.specs.declared.resolved.Condition.{Condition}
 use Rattle.ss_resolved.specs.declared.resolved.Guard.{Guard}
 use Rattle.ss_resolved.specs.declared.resolved.Phrase.{Phrase}
 use Rattle.ss_resolved.specs.declared.resolved.Range.{Range}
+use Rattle.ss_resolved.specs.declared.resolved.Place.{Place}
+use Rattle.ss_resolved.specs.declared.resolved.Place.TheVariants.{Variable as PlainVariable, Attribute as AttributePlace, Count}
+use Rattle.ss_resolved.specs.declared.resolved.Target.{Target}
 use Rattle.ss_resolved.specs.declared.resolved.Section.{Section}
-use Rattle.ss_resolved.specs.declared.resolved.Statement.{Statement, Let, Change, Print, If', While', For', Find', Call, Return, Stop, Read, Skip, Row_of-Statement, end_of-Statement, more_of-Statement}
+use Rattle.ss_resolved.specs.declared.resolved.Statement.{Statement, Let, Change, Print, If', While', For', Find', Call, Return, Stop, Read, Skip, Create, CreateEvery, Destroy, Row_of-Statement, end_of-Statement, more_of-Statement}
 use Rattle.ss_resolved.specs.declared.resolved.Resolved.{Resolved}
+
+-- a variable as a subscript counts as none, since it may be meant without being written
+abbrev pub unless_plain : Expression → ℕ → ℕ
+unless_plain (Fetch x) n = 0
+unless_plain e n = n
 
 abbrev mutual
   -- one for each number, text, name, sign, operator and function in an expression
@@ -22,6 +30,8 @@ abbrev mutual
   expression_nodes (Product' p e h factors) = expression_nodes e + product_nodes factors
   expression_nodes (Applied' function p a q b) = expression_nodes a + expression_nodes b + 1
   expression_nodes (Absolute' p e) = expression_nodes e + 1
+  expression_nodes (Attribute' class field p e) = 1 + unless_plain e (expression_nodes e)
+  expression_nodes (Made class) = 1
 
   -- an operator before each further term; a sum of one term, which no text has, counts as one
   pub sum_nodes : {m : _} → Row_of-Expression-Sum-1-2 m → ℕ
@@ -78,28 +88,50 @@ abbrev pub phrases_nodes : List Phrase → ℕ
 phrases_nodes [] = 0
 phrases_nodes (p ∷ ps) = 1 + condition_nodes p.condition + phrases_nodes ps
 
+-- a target is a node
+abbrev pub place_nodes : Place → ℕ
+place_nodes (PlainVariable x) = 1
+place_nodes (AttributePlace class field e) = 1 + unless_plain e (expression_nodes e)
+place_nodes (Count class number) = 1
+
+abbrev pub places_nodes : List Place → ℕ
+places_nodes [] = 0
+places_nodes (p ∷ ps) = place_nodes p + places_nodes ps
+
+abbrev pub targets_nodes : List Target → ℕ
+targets_nodes [] = 0
+targets_nodes (t ∷ ts) = place_nodes t.place + targets_nodes ts
+
 abbrev pub step_nodes : Option Expression → ℕ
 step_nodes None = 0
 step_nodes (Some e) = expression_nodes e
 
+-- the ends of a FOR: those of one over a class are meant without being written
+abbrev pub ends_nodes : (first limit : Expression) → ℕ
+ends_nodes (Constant v) (Made class) = 0
+ends_nodes e f = expression_nodes e + expression_nodes f
+
 abbrev pub range_nodes : Range → ℕ
-range_nodes r = 1 + expression_nodes r.first + expression_nodes r.limit + step_nodes r.step
+range_nodes r = 1 + ends_nodes r.first r.limit + step_nodes r.step
 
 abbrev mutual
   -- a statement is a node, and so is each name and each picture in it
   pub statement_nodes : Statement → ℕ
-  statement_nodes (Let l x e) = 2 + expression_nodes e
-  statement_nodes (Change l sign x e) = 2 + expression_nodes e
+  statement_nodes (Let l x e) = 1 + place_nodes x + expression_nodes e
+  statement_nodes (Change l sign x e) = 1 + place_nodes x + expression_nodes e
   statement_nodes (Print l items pictures) = 1 + expressions_nodes items.items + length pictures.items
   statement_nodes (If' l c p a q b) = 1 + condition_nodes c + row_nodes a + row_nodes b
   statement_nodes (While' l guards p a) = 1 + guards_nodes guards.items + row_nodes a
   statement_nodes (For' l r ps p a) = 1 + range_nodes r + phrases_nodes ps.items + row_nodes a
   statement_nodes (Find' l r ps p a q b) = 1 + range_nodes r + phrases_nodes ps.items + row_nodes a + row_nodes b
-  statement_nodes (Call l routine given yielding) = 2 + expressions_nodes given.items + length yielding.items
+  statement_nodes (Call l routine given yielding) = 2 + expressions_nodes given.items + places_nodes yielding.items
   statement_nodes Return = 1
   statement_nodes Stop = 1
-  statement_nodes (Read l targets) = 1 + length targets.items
+  statement_nodes (Read l targets) = 1 + targets_nodes targets.items
   statement_nodes (Skip l e) = 1 + expression_nodes e
+  statement_nodes (Create l class into) = 1 + place_nodes into
+  statement_nodes (CreateEvery l classes) = 1 + length classes.items
+  statement_nodes (Destroy l class e) = 1 + expression_nodes e
 
   pub row_nodes : {m : _} → Row_of-Statement m → ℕ
   row_nodes end_of-Statement = 0

@@ -1,6 +1,6 @@
 //! The tree of a program in which each name is replaced by what it stands for.
 
-use ss_base::{Line, Mode, Value};
+use ss_base::{Layout, Line, Mode, Value};
 
 /// A variable: the place of a global one among all of them, or that of a local one in its routine.
 #[derive(Clone, Copy, PartialEq, Eq, Debug)]
@@ -52,6 +52,16 @@ pub enum Expression {
     },
     Absolute {
         argument: Box<Expression>,
+    },
+    /// The value of an attribute of an entity of a class.
+    Attribute {
+        class: u32,
+        field: u32,
+        of: Box<Expression>,
+    },
+    /// How many entities of a permanent class there are: 0 until they are made.
+    Made {
+        class: u32,
     },
 }
 
@@ -138,27 +148,54 @@ pub struct Range {
     pub step: Option<Expression>,
 }
 
-/// A variable that takes a word of input, and its mode.
-#[derive(Clone, Copy, PartialEq, Eq, Debug)]
+/// What a value is assigned to.
+#[derive(Drop)]
+pub enum Place {
+    Variable {
+        variable: Variable,
+    },
+    /// An attribute of an entity of a class.
+    Attribute {
+        class: u32,
+        field: u32,
+        of: Expression,
+    },
+    /// The global variable that says how many entities of a permanent class are to be made.
+    Count {
+        class: u32,
+        number: u32,
+    },
+}
+
+/// What takes a word of input, and its mode.
+#[derive(Drop)]
 pub struct Target {
-    pub variable: Variable,
+    pub place: Place,
     pub mode: Mode,
+}
+
+/// A permanent class, and the number of the global variable that says how many entities of it are to be
+/// made.
+#[derive(Clone, Copy, PartialEq, Eq, Debug)]
+pub struct Counted {
+    pub class: u32,
+    pub number: u32,
 }
 
 /// A statement. Its line is that of its first word.
 #[derive(Drop)]
 pub enum Statement {
-    /// LET: the value is assigned to the variable.
+    /// LET: the value is assigned to the target.
     Let {
         line: Line,
-        target: Variable,
+        target: Place,
         value: Expression,
     },
-    /// ADD and SUBTRACT: the value is added to the variable, or taken from it.
+    /// ADD and SUBTRACT: the value is added to the target, or taken from it.
     Change {
         line: Line,
         sign: Sign,
-        target: Variable,
+        target: Place,
         value: Expression,
     },
     /// PRINT: the items in the fields of the lines.
@@ -195,17 +232,17 @@ pub enum Statement {
         found: Vec<Statement>,
         none: Vec<Statement>,
     },
-    /// CALL: the number of the routine, the values that it is given, and the variables that take what
-    /// it yields.
+    /// CALL: the number of the routine, the values that it is given, and the targets that take what it
+    /// yields.
     Call {
         line: Line,
         routine: u32,
         given: Vec<Expression>,
-        yielding: Vec<Variable>,
+        yielding: Vec<Place>,
     },
     Return,
     Stop,
-    /// READ: each variable takes the next word of input.
+    /// READ: each target takes the next word of input.
     Read {
         line: Line,
         targets: Vec<Target>,
@@ -214,6 +251,23 @@ pub enum Statement {
     Skip {
         line: Line,
         count: Expression,
+    },
+    /// CREATE A: a new entity of a class with creation numbers, whose number goes to the target.
+    Create {
+        line: Line,
+        class: u32,
+        into: Place,
+    },
+    /// CREATE EVERY: all entities of permanent classes, one class after the other.
+    CreateEvery {
+        line: Line,
+        classes: Vec<Counted>,
+    },
+    /// DESTROY: an entity of a class with creation numbers goes.
+    Destroy {
+        line: Line,
+        class: u32,
+        entity: Expression,
     },
 }
 
@@ -225,9 +279,11 @@ pub struct Section {
     pub body: Vec<Statement>,
 }
 
-/// A program: its global variables and its routines in the order of their numbers, and MAIN.
+/// A program: its classes and sets, its global variables and its routines in the order of their numbers,
+/// and MAIN.
 #[derive(Drop)]
 pub struct Resolved {
+    pub layout: Layout,
     pub globals: Vec<Mode>,
     pub routines: Vec<Section>,
     pub main: Section,

@@ -2,6 +2,8 @@
 #![tactic(auto)]
 
 #[cfg(test)]
+mod entities;
+#[cfg(test)]
 mod pauses;
 #[cfg(test)]
 mod refusals;

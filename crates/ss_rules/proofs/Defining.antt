@@ -8,7 +8,8 @@ use Rattle.ss_tree.specs.declared.preamble.Mode.{Mode as Said}
 use Rattle.ss_tables.specs.Declarations.{NameBytes, same_name}
 use Rattle.ss_tables.specs.Layouts.{mode_in, mode_or, mode_beside}
 use Rattle.ss_tables.specs.Modes.{Moded, mode_among}
-use Rattle.ss_rules.specs.Scopes.{mode_of_local, mode_said}
+use Rattle.ss_rules.specs.Scopes.{mode_of_local}
+use Rattle.ss_rules.specs.Whole.{mode_said}
 use Rattle.ss_rules.specs.Defined.{first_modes, mode_found, with_first}
 
 -- the mode of one name, or else another

@@ -4,15 +4,14 @@ use Rattle.std.proofs.lemmas.Bool.{ltb-true, ltb-false}
 use Rattle.std.proofs.lemmas.List.{take_more, drop_more, map-append, flat_map_more}
 use Rattle.ss_base.specs.declared.line.Line.{Line}
 use Rattle.ss_tree.specs.declared.statement.Statement.{Statement}
-use Rattle.ss_tree.specs.declared.program.Section.{Section}
 use Rattle.ss_tree.specs.Tree.{SectionTree, StatementTree}
-use Rattle.ss_tree.specs.View.{view_section, view_statement}
+use Rattle.ss_tree.specs.View.{view_statement}
 use Rattle.ss_tables.specs.Inner.{inner_with}
 use Rattle.ss_tables.specs.Mentions.{inner_of, with_inner, statements_of}
 use Rattle.ss_tables.specs.Repeated.{earlier, earliest}
 use Rattle.ss_rules.specs.declared.rule.Rule.{Rule}
 use Rattle.ss_rules.specs.Scopes.{Scope}
-use Rattle.ss_rules.specs.Rules.{breaks, first_in, where_broken, first_among, breach, or_next}
+use Rattle.ss_rules.specs.Rules.{breaks, first_in, first_in_section, where_broken, first_among, breach, or_next}
 
 three : (a b c : Line) (x y z : Bool) → nat_lt b.0 a.0 ≡ x → nat_lt c.0 b.0 ≡ y → nat_lt c.0 a.0 ≡ z → earlier (earlier (Some a) (Some b)) (Some c) ≡ earlier (Some a) (earlier (Some b) (Some c))
 three a b c true true true p q r = simp (p, q, r)
@@ -52,15 +51,14 @@ first_of_more c rule xs i x found lt is h =
 
 -- ---- sections
 
--- one more section
-pub among_next : (scope : SectionTree → Scope) (rule : Rule) (xs : List Section) (i : ℕ) (x : Section) (found one new : Option Line) → i < length xs → x ≡ get_or xs i x → found ≡ first_among scope (map view_section (take i xs)) rule → one ≡ first_in (scope (view_section x)) rule (statements_of (map view_statement x.body.items)) → new ≡ earlier found one → new ≡ first_among scope (map view_section (take (i + 1) xs)) rule
-among_next scope rule xs i x found one new lt is h e n =
-    let f = λ (s : SectionTree). first_in (scope s) rule (statements_of s.body) in
-    let before = map view_section (take i xs) in
-    let taken : map view_section (take (i + 1) xs) ≡ before ++ view_section x ∷ [] =
-    ap (map view_section) (take_more xs i x lt) ∙ map-append view_section (take i xs) (get_or xs i x ∷ []) ∙ ap (λ y. before ++ view_section y ∷ []) (sym is) in
-    n ∙ ap (λ o. earlier o one) h ∙ ap (earlier (earliest (map f before))) (e ∙ sym (earlier_none (f (view_section x)))) ∙
-    sym (earliest_of_both (map f before) (f (view_section x) ∷ [])) ∙ ap earliest (sym (map-append f before (view_section x ∷ []))) ∙ ap (λ l. earliest (map f l)) (sym taken)
+-- one more of a list, the first of whose lines is looked for
+pub earliest_next : {X Y : Type 0} (f : Y → Option Line) (v : X → Y) (xs : List X) (i : ℕ) (x : X) (found one new : Option Line) → i < length xs → x ≡ get_or xs i x → found ≡ earliest (map f (map v (take i xs))) → one ≡ f (v x) → new ≡ earlier found one → new ≡ earliest (map f (map v (take (i + 1) xs)))
+earliest_next f v xs i x found one new lt is h e n =
+    let before = map v (take i xs) in
+    let taken : map v (take (i + 1) xs) ≡ before ++ v x ∷ [] =
+    ap (map v) (take_more xs i x lt) ∙ map-append v (take i xs) (get_or xs i x ∷ []) ∙ ap (λ y. before ++ v y ∷ []) (sym is) in
+    n ∙ ap (λ o. earlier o one) h ∙ ap (earlier (earliest (map f before))) (e ∙ sym (earlier_none (f (v x)))) ∙
+    sym (earliest_of_both (map f before) (f (v x) ∷ [])) ∙ ap earliest (sym (map-append f before (v x ∷ []))) ∙ ap (λ l. earliest (map f l)) (sym taken)
 
 -- ---- rules one after another
 
@@ -83,4 +81,4 @@ breach_same f g (r ∷ rs) h = ap (λ o. or_next r o (breach f rs)) (h r) ∙ ap
 pub among_same : (f g : SectionTree → Scope) (ss : List SectionTree) (rule : Rule) → ((s : SectionTree) → f s ≡ g s) → first_among f ss rule ≡ first_among g ss rule
 among_same f g [] rule h = refl
 among_same f g (s ∷ ss) rule h =
-    ap (λ (c : Scope). earlier (first_in c rule (statements_of s.body)) (first_among f ss rule)) (h s) ∙ ap (earlier (first_in (g s) rule (statements_of s.body))) (among_same f g ss rule h)
+    ap (λ (c : Scope). earlier (first_in_section c rule s) (first_among f ss rule)) (h s) ∙ ap (earlier (first_in_section (g s) rule s)) (among_same f g ss rule h)

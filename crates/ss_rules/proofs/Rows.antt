@@ -4,17 +4,18 @@ use Rattle.std.specs.List.{list_any}
 use Rattle.std.proofs.lemmas.List.{take_more}
 use Rattle.std.specs.Global.{Vec, Box}
 use Rattle.ss_tree.specs.declared.expression.Sign.{Sign}
+use Rattle.ss_tree.specs.declared.expression.Designator.{Designator}
 use Rattle.ss_tree.specs.declared.expression.Function.{Function}
 use Rattle.ss_tree.specs.declared.expression.Named.{Named}
 use Rattle.ss_tree.specs.declared.expression.Term.{Term}
 use Rattle.ss_tree.specs.declared.expression.Expression.{Expression}
 use Rattle.ss_tree.specs.declared.expression.Expression.TheVariants as variants
 use Rattle.ss_tree.specs.Tree.{ExpressionTree, expression_row, term_row}
-use Rattle.ss_tree.specs.View.{view_expression, view_term}
+use Rattle.ss_tree.specs.View.{view_expression, view_named, view_term}
 use Rattle.ss_tree.specs.Views.{view_named_made, view_call_made, view_product_made, view_sum_made}
 use Rattle.ss_tables.specs.Mentions.{row_length}
 use Rattle.ss_rules.specs.Scopes.{Scope}
-use Rattle.ss_rules.specs.Rules.{argument_count, miscalls, any_miscalls, any_term_miscalls, term_miscalls, is_no_number, mixes, any_mixes, any_term_mixes, term_mixes}
+use Rattle.ss_rules.specs.Rules.{argument_count, miscalls, any_miscalls, any_term_miscalls, term_miscalls, implies_text, is_no_number, mixes, any_mixes, any_term_mixes, term_mixes, target_mixes}
 
 pub row_counted : (es : List Expression) → row_length (expression_row (map view_expression es)) ≡ length es
 row_counted [] = refl
@@ -54,8 +55,17 @@ any_term_mixes_listed : (c : Scope) (ts : List (Sign × ExpressionTree)) → any
 any_term_mixes_listed c [] = refl
 any_term_mixes_listed c (t ∷ ts) = ap (λ b. term_mixes c t || b) (any_term_mixes_listed c ts)
 
-pub named_mixes_made : (c : Scope) (n : Named) → mixes c (view_expression (variants.Named n)) ≡ list_any (is_no_number c) (map view_expression n.subscripts.items)
-named_mixes_made c n = ap (mixes c) (view_named_made n) ∙ any_mixes_listed c (map view_expression n.subscripts.items)
+-- what a name has for subscripts
+subscripts_mix : (c : Scope) (d : Designator) (es : List Expression) → (implies_text c d (row_length (expression_row (map view_expression es))) || any_mixes c (expression_row (map view_expression es))) ≡ (implies_text c d (length es) || list_any (is_no_number c) (map view_expression es))
+subscripts_mix c d es =
+    ap (λ k. implies_text c d k || any_mixes c (expression_row (map view_expression es))) (row_counted es) ∙
+    ap (λ b. implies_text c d (length es) || b) (any_mixes_listed c (map view_expression es))
+
+pub named_mixes_made : (c : Scope) (n : Named) → mixes c (view_expression (variants.Named n)) ≡ (implies_text c n.designator (length n.subscripts.items) || list_any (is_no_number c) (map view_expression n.subscripts.items))
+named_mixes_made c n = ap (mixes c) (view_named_made n) ∙ subscripts_mix c n.designator n.subscripts.items
+
+pub target_mixes_listed : (c : Scope) (n : Named) → target_mixes c (view_named n) ≡ (implies_text c n.designator (length n.subscripts.items) || list_any (is_no_number c) (map view_expression n.subscripts.items))
+target_mixes_listed c n = subscripts_mix c n.designator n.subscripts.items
 
 pub call_mixes_made : (c : Scope) (f : Function) (v : Vec Expression) → mixes c (view_expression (variants.Call f v)) ≡ list_any (is_no_number c) (map view_expression v.items)
 call_mixes_made c f v = ap (mixes c) (view_call_made f v) ∙ any_mixes_listed c (map view_expression v.items)

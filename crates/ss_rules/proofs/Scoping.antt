@@ -13,7 +13,7 @@ use Rattle.ss_tables.specs.Tables.{kind_among}
 use Rattle.ss_rules.specs.Scopes.{Scope, as_list, each_once, moded_in, modes_at, locals_in, mode_of_local, is_main, is_routine_section, signature, signatures}
 use Rattle.ss_rules.specs.declared.scope.Names.{Names}
 use Rattle.ss_rules.specs.declared.scope.Locals.{Locals}
-use Rattle.ss_rules.specs.Seen.{modes_in, scope_seen, scope_in}
+use Rattle.ss_rules.specs.Seen.{modes_in, scope_seen, scope_in, whole_seen}
 
 pub once_both : (before xs ys : List NameBytes) → each_once before (xs ++ ys) ≡ each_once (each_once before xs) ys
 once_both before [] ys = refl
@@ -48,7 +48,7 @@ none_listed (Some n) h = absurd (h n refl)
 abbrev scope_made : Names → List NameBytes → List Mode → Bool → Scope
 scope_made n names modes main =
     record {
-      kind = kind_among n.tables.names;
+      whole = whole_seen n;
       global = place_among n.tables.globals;
       routine = place_among n.tables.routines;
       parameters = λ name. modes_at (slice_get (map modes_in n.signatures.items) (place_among n.tables.routines name));

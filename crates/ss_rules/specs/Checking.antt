@@ -3,7 +3,7 @@ use Rattle.std.specs.Prelude.{◌≡◌, true, false, Some, None}
 use Rattle.ss_base.specs.declared.line.Line.{Line}
 use Rattle.ss_tree.specs.Tree.{ProgramTree}
 use Rattle.ss_rules.specs.declared.rule.Rule.{Rule}
-use Rattle.ss_rules.specs.declared.rule.Rule.TheVariants.{StartPlace, Unknown, Subscript, NotAssignable, Arguments, Mode, Fields}
+use Rattle.ss_rules.specs.declared.rule.Rule.TheVariants.{NoEventRoutine, StartPlace, Unknown, Subscript, NotAssignable, Arguments, Mode, Fields}
 use Rattle.ss_rules.specs.declared.error.CheckError.{CheckError}
 use Rattle.ss_rules.specs.declared.error.CheckError.TheVariants as refused
 use Rattle.ss_rules.specs.Rules.{has_main, first_breach}
@@ -20,6 +20,7 @@ pub record IsBroken (p : ProgramTree) (rule : Rule) (line : Line) : Type 0 where
 
 -- the refusal for a rule
 abbrev pub refusal : Rule → Line → CheckError
+refusal NoEventRoutine line = refused.NoEventRoutine line
 refusal StartPlace line = refused.StartPlace line
 refusal Unknown line = refused.Unknown line
 refusal Subscript line = refused.Subscript line
@@ -31,6 +32,7 @@ refusal Fields line = refused.Fields line
 -- what a refusal says of a program; Memory says nothing
 abbrev pub IsRefused : ProgramTree → CheckError → Type 0
 IsRefused p (refused.NoMain line) = (line.0 ≡ 0) × (has_main p ≡ false)
+IsRefused p (refused.NoEventRoutine line) = IsBroken p NoEventRoutine line
 IsRefused p (refused.StartPlace line) = IsBroken p StartPlace line
 IsRefused p (refused.Unknown line) = IsBroken p Unknown line
 IsRefused p (refused.Subscript line) = IsBroken p Subscript line

@@ -1,3 +1,4 @@
+pub mod Whole
 pub mod Scopes
 pub mod Defined
 pub mod Seen

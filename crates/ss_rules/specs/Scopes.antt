@@ -3,26 +3,25 @@ use Rattle.std.specs.Prelude.{ℕ, Bool, true, false, is_some, ◌&&◌, List, [
 use Rattle.std.specs.List.{flat_map}
 use Rattle.ss_base.specs.declared.line.Line.{Line}
 use Rattle.ss_base.specs.declared.layout.Mode.{Mode}
-use Rattle.ss_base.specs.declared.layout.Mode.TheVariants.{Integer, Alpha}
+use Rattle.ss_base.specs.declared.layout.Mode.TheVariants.{Integer}
 use Rattle.ss_tree.specs.declared.preamble.Mode.{Mode as Said}
-use Rattle.ss_tree.specs.declared.preamble.Mode.TheVariants as said
 use Rattle.ss_tree.specs.declared.expression.Designator.{Designator}
 use Rattle.ss_tree.specs.declared.expression.Designator.TheVariants.{Name, TimeV, TimeA}
 use Rattle.ss_tree.specs.Tree.{DefinitionTree, SectionKindTree, main, routine, SectionTree, ProgramTree}
 use Rattle.ss_tables.specs.declared.kind.Kind.{Kind}
-use Rattle.ss_tables.specs.declared.kind.Kind.TheVariants.{Variable}
+use Rattle.ss_tables.specs.declared.kind.Kind.TheVariants.{Variable, Attribute}
 use Rattle.ss_tables.specs.declared.mentions.Mention.{Mention}
-use Rattle.ss_tables.specs.Declarations.{NameBytes, is_one_of, place_among, kind_of, globals, routines}
+use Rattle.ss_tables.specs.Declarations.{NameBytes, is_one_of, place_among, globals, routines}
 use Rattle.ss_tables.specs.Repeated.{parameters_of}
 use Rattle.ss_tables.specs.Mentions.{mentions_at, statements_of}
 use Rattle.ss_tables.specs.Modes.{is_variable_role, is_none_left, Moded, moded, mode_among, usual_mode}
+use Rattle.ss_rules.specs.Whole.{Whole, whole_of, mode_said}
 use Rattle.ss_resolved.specs.declared.resolved.Variable.{Variable as Place}
 use Rattle.ss_resolved.specs.declared.resolved.Variable.TheVariants.{Global, Local}
 
 -- what the names in a section stand for
 pub record Scope : Type 0 where
-  -- in the whole program
-  pub kind : NameBytes → Option Kind
+  pub whole : Whole
   -- the numbers of global variables and of routines
   pub global : NameBytes → ℕ
   pub routine : NameBytes → ℕ
@@ -72,11 +71,6 @@ locals_in kind s =
 
 -- ---- modes
 
--- the mode that is said; REAL is refused
-abbrev pub mode_said : Option Said → Mode
-mode_said (Some said.Alpha) = Alpha
-mode_said _ = Integer
-
 -- the names that a DEFINE gives a mode
 abbrev pub moded_in : DefinitionTree → List Moded
 moded_in d = map (moded d.mode) d.names
@@ -88,6 +82,11 @@ mode_of_local usual defined name = mode_said (mode_among usual defined name)
 abbrev pub mode_of_kind : Option Kind → Mode
 mode_of_kind (Some (Variable mode)) = mode_said (Some mode)
 mode_of_kind _ = Integer
+
+-- the mode of what a name stands for in the whole program; INTEGER where it is neither a variable nor an attribute
+abbrev pub mode_of_global : Whole → Option Kind → NameBytes → Mode
+mode_of_global w (Some (Attribute class)) name = w.mode name
+mode_of_global w kind name = mode_of_kind kind
 
 -- ---- the scope of a section
 
@@ -118,21 +117,21 @@ modes_at None = []
 modes_at (Some modes) = modes
 
 -- the scope of a section, by what stands for what in the whole program
-abbrev pub scope_by : (NameBytes → Option Kind) → List NameBytes → List NameBytes → List (List Mode) → Option Said → SectionTree → Scope
-scope_by kind variables called all usual s =
+abbrev pub scope_by : Whole → List NameBytes → List NameBytes → List (List Mode) → Option Said → SectionTree → Scope
+scope_by w variables called all usual s =
     record {
-      kind = kind;
+      whole = w;
       global = place_among variables;
       routine = place_among called;
       parameters = λ name. modes_at (slice_get all (place_among called name));
-      locals = locals_in kind s;
-      modes = map (mode_of_local usual (flat_map moded_in s.definitions)) (locals_in kind s);
+      locals = locals_in w.kind s;
+      modes = map (mode_of_local usual (flat_map moded_in s.definitions)) (locals_in w.kind s);
       in_main = is_main s.kind;
     }
 
 abbrev pub scope_of : ProgramTree → SectionTree → Scope
 scope_of p s =
-    scope_by (kind_of p) (globals p) (routines p) (signatures (usual_mode p.preamble) p.sections) (usual_mode p.preamble) s
+    scope_by (whole_of p) (globals p) (routines p) (signatures (usual_mode p.preamble) p.sections) (usual_mode p.preamble) s
 
 -- ---- what a name stands for
 
@@ -149,4 +148,4 @@ mode_at (Some mode) = mode
 
 -- the mode of a variable
 abbrev pub mode_of_name : Scope → NameBytes → Mode
-mode_of_name c name = if is_local c name then mode_at (slice_get c.modes (place_among c.locals name)) else mode_of_kind (c.kind name)
+mode_of_name c name = if is_local c name then mode_at (slice_get c.modes (place_among c.locals name)) else mode_of_global c.whole (c.whole.kind name) name

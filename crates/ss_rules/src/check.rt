@@ -1,18 +1,19 @@
 //! The rules on a whole program.
 
 ghost use Rattle.std.specs.Prelude.{◌≡◌, ◌++◌, ◌∷◌, [], map, true, if◌then◌else◌, IfOk, IfErr, OnOk};
-ghost use Rattle.ss_tables.specs.Served.{served_program};
 ghost use Rattle.ss_tree.specs.View.{view_kind, view_program, view_section};
-ghost use Rattle.ss_tables.specs.Mentions.{statements_of};
 ghost use Rattle.ss_tables.specs.Tables.{AreTablesOf};
 ghost use Rattle.ss_rules.specs.Scopes.{is_routine_section, signature, signatures};
-ghost use Rattle.ss_rules.specs.Rules.{breach, first_among, first_in, has_main_in};
+ghost use Rattle.ss_rules.specs.Rules.{breach, first_among, first_in_section, first_of_all, has_main_in};
 ghost use Rattle.ss_rules.specs.Checking.{IsKept, IsRefused, refusal};
-ghost use Rattle.ss_rules.specs.Seen.{AreNamesOf, modes_in, scope_in};
+ghost use Rattle.ss_rules.specs.Seen.{AreNamesOf, modes_in, scope_in, whole_seen};
 
+use crate::entities::entities_of;
 use crate::error::CheckError;
-use crate::finding::{earlier, first_in_body};
+use crate::finding::{earlier, first_in_body, line_if};
+use crate::heads::head_breaks;
 use crate::locals::{is_main, is_routine, locals_of, signature};
+use crate::preamble::first_told;
 use crate::rule::Rule;
 use crate::scope::Names;
 use ss_base::{Line, Mode};
@@ -22,7 +23,8 @@ use ss_tree::program::{Program, Section};
 use std::alloc::{AllocError, Global};
 
 // The rules in the order in which they are looked at.
-const RULES: [Rule; 7] = [
+const RULES: [Rule; 8] = [
+    Rule::NoEventRoutine,
     Rule::StartPlace,
     Rule::Unknown,
     Rule::Subscript,
@@ -74,21 +76,23 @@ fn signatures(
     Ok(all)
 }
 
-// The line of the first statement of a section that breaks a rule.
+// The line of the first place of a section that breaks a rule.
 fn first_in_section(
     alloc: Global,
     names: &Names,
     rule: Rule,
     section: &Section,
 ) -> Result<Option<Line>, AllocError>
-    ensures { IfOk result (λ line. line ≡ first_in (scope_in names.now (view_section section.now)) rule (statements_of (view_section section.now).body)) }
+    ensures { IfOk result (λ line. line ≡ first_in_section (scope_in names.now (view_section section.now)) rule (view_section section.now)) }
 {
     let locals = locals_of(alloc, names, section)?;
-    first_in_body(alloc, names, &locals, rule, &section.body)
+    let is_broken = head_breaks(alloc, names, &locals, rule, &section.kind)?;
+    let inner = first_in_body(alloc, names, &locals, rule, &section.body)?;
+    Ok(earlier(line_if(is_broken, section.line), inner))
 }
 
-// The line of the first statement of some sections that breaks a rule.
-fn first_broken(
+// The line of the first place of some sections that breaks a rule.
+fn first_among(
     alloc: Global,
     names: &Names,
     rule: Rule,
@@ -104,17 +108,30 @@ fn first_broken(
     Ok(found)
 }
 
+// The line of the first place of a program that breaks a rule.
+fn first_broken(
+    alloc: Global,
+    names: &Names,
+    rule: Rule,
+    program: &Program,
+) -> Result<Option<Line>, AllocError>
+    ensures { IfOk result (λ line. line ≡ first_of_all (whole_seen names.now) (scope_in names.now) (view_program program.now) rule) }
+{
+    let among = first_among(alloc, names, rule, &program.sections)?;
+    Ok(earlier(first_told(names, rule, &program.preamble), among))
+}
+
 // The first of some rules that is broken, with the line of the first place.
 fn first_breach(
     alloc: Global,
     names: &Names,
     rules: &[Rule],
-    sections: &[Section],
+    program: &Program,
 ) -> Result<Option<(Rule, Line)>, AllocError>
-    ensures { IfOk result (λ found. found ≡ breach (first_among (scope_in names.now) (map view_section sections.now)) rules.now) }
+    ensures { IfOk result (λ found. found ≡ breach (first_of_all (whole_seen names.now) (scope_in names.now) (view_program program.now)) rules.now) }
 {
     for rule in rules {
-        if let Some(line) = first_broken(alloc, names, *rule, sections)? {
+        if let Some(line) = first_broken(alloc, names, *rule, program)? {
             return Ok(Some((*rule, line)));
         }
     }
@@ -130,7 +147,12 @@ pub fn names_of(alloc: Global, program: &Program, tables: Tables) -> Result<Name
     ensures { IfOk result (AreNamesOf (view_program program.now)) }
 {
     let signatures = signatures(alloc, tables.usual(), &program.sections)?;
-    Ok(Names { tables, signatures })
+    let entities = entities_of(alloc, tables.usual(), program)?;
+    Ok(Names {
+        tables,
+        signatures,
+        entities,
+    })
 }
 
 // The refusal for a rule.
@@ -138,6 +160,7 @@ fn refusal(rule: Rule, line: Line) -> CheckError
     ensures { result ≡ refusal rule line }
 {
     match rule {
+        Rule::NoEventRoutine => CheckError::NoEventRoutine(line),
         Rule::StartPlace => CheckError::StartPlace(line),
         Rule::Unknown => CheckError::Unknown(line),
         Rule::Subscript => CheckError::Subscript(line),
@@ -151,19 +174,19 @@ fn refusal(rule: Rule, line: Line) -> CheckError
 /// Whether a program, whose names stand for this, has MAIN and keeps every rule.
 ///
 /// The errors come in this order: `NoMain`, with line 0, where there is no MAIN; then that of the
-/// first rule that a statement breaks, in the order `StartPlace`, `Unknown`, `Subscript`,
-/// `NotAssignable`, `Arguments`, `Mode`, `Fields`, with the line of the first such statement.
-/// `Memory` may come before any of them.
+/// first rule that is broken somewhere in the program, in the order `NoEventRoutine`, `StartPlace`,
+/// `Unknown`, `Subscript`, `NotAssignable`, `Arguments`, `Mode`, `Fields`, with the line of the first
+/// place that breaks it: a statement, the head of a section or a statement of the preamble. `Memory`
+/// may come before any of them.
 pub fn keeps_rules(alloc: Global, program: &Program, names: &Names) -> Result<(), CheckError>
-    requires served { served_program (view_program program.now) ≡ true }
-    requires names { AreNamesOf (view_program program.now) names.now }
+    requires { AreNamesOf (view_program program.now) names.now }
     ensures ok { OnOk result (IsKept (view_program program.now)) }
     ensures err { IfErr result (IsRefused (view_program program.now)) }
 {
     if !has_main(&program.sections) {
         return Err(CheckError::NoMain(Line(0)));
     }
-    match first_breach(alloc, names, &RULES, &program.sections)? {
+    match first_breach(alloc, names, &RULES, program)? {
         Some((rule, line)) => Err(refusal(rule, line)),
         None => Ok(()),
     }

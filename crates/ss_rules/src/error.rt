@@ -13,6 +13,9 @@ pub enum CheckError {
     /// There is no MAIN; the line is 0.
     #[error("line {}: no MAIN", .0.0)]
     NoMain(Line),
+    /// An event notice class has no EVENT section; the line is that of its declaration.
+    #[error("line {}: no event routine", .0.0)]
+    NoEventRoutine(Line),
     /// START SIMULATION stands outside MAIN.
     #[error("line {}: START SIMULATION outside MAIN", .0.0)]
     StartPlace(Line),
@@ -25,7 +28,8 @@ pub enum CheckError {
     /// Nothing can be assigned to a target.
     #[error("line {}: not assignable", .0.0)]
     NotAssignable(Line),
-    /// A routine or a function has another number of arguments than it takes.
+    /// A routine or a function has another number of arguments than it takes, or a notice more than it
+    /// has attributes.
     #[error("line {}: number of arguments", .0.0)]
     Arguments(Line),
     /// Two modes are joined, or a text stands where a number has to.

@@ -3,7 +3,8 @@
 ghost use Rattle.std.specs.Prelude.{◌≡◌, map, IfOk};
 ghost use Rattle.ss_tree.specs.View.{view_section, view_statement};
 ghost use Rattle.ss_tables.specs.Mentions.{inner_of, statements_of};
-ghost use Rattle.ss_tables.specs.Repeated.{earlier, earliest};
+ghost use Rattle.ss_tables.specs.Once.{line_if};
+ghost use Rattle.ss_tables.specs.Repeated.{earlier};
 ghost use Rattle.ss_rules.specs.Rules.{breaks, first_in, where_broken};
 ghost use Rattle.ss_rules.specs.Seen.{scope_seen};
 
@@ -30,6 +31,13 @@ pub(crate) fn earlier(one: Option<Line>, other: Option<Line>) -> Option<Line>
             }
         }
     }
+}
+
+// A line, where something is broken in it.
+pub(crate) fn line_if(is_broken: bool, line: Line) -> Option<Line>
+    ensures { result ≡ line_if is_broken line }
+{
+    if is_broken { Some(line) } else { None }
 }
 
 // The line of a statement that breaks a rule.

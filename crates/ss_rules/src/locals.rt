@@ -36,7 +36,7 @@ fn add_mode(modes: &mut IndexMap<Name, Said>, mode: Said, name: Name) -> Result<
 }
 
 // Adds the mode of those of some names that have none.
-fn add_defined(
+pub(crate) fn add_defined(
     modes: &mut IndexMap<Name, Said>,
     mode: Said,
     names: &[Name],
@@ -64,7 +64,7 @@ fn first_modes(
 }
 
 // The mode of a name that has one, or else the usual one.
-fn mode_found(usual: Option<Said>, defined: &IndexMap<Name, Said>, name: Name) -> Mode
+pub(crate) fn mode_found(usual: Option<Said>, defined: &IndexMap<Name, Said>, name: Name) -> Mode
     ensures { result ≡ mode_found usual defined.now.entries name }
 {
     match defined.get(&name) {
@@ -74,7 +74,7 @@ fn mode_found(usual: Option<Said>, defined: &IndexMap<Name, Said>, name: Name) -
 }
 
 // Adds the modes of some names.
-fn add_modes(
+pub(crate) fn add_modes(
     modes: &mut Vec<Mode>,
     usual: Option<Said>,
     defined: &IndexMap<Name, Said>,
@@ -127,7 +127,7 @@ pub(crate) fn signature(
 }
 
 // Adds a name, unless it is there.
-fn add_name(set: &mut IndexSet<Name>, name: Name) -> Result<(), AllocError>
+pub(crate) fn add_name(set: &mut IndexSet<Name>, name: Name) -> Result<(), AllocError>
     ensures { IfOk result (λ _. set.new.keys ≡ each_once set.old.keys (name ∷ [])) }
 {
     match set.insert(name) {

@@ -2,16 +2,17 @@
 
 ghost use Rattle.std.specs.Prelude.{◌≡◌, ◌==◌, not, map};
 ghost use Rattle.std.specs.List.{list_any};
-ghost use Rattle.ss_tree.specs.View.{view_expression, view_named, view_term, view_test, view_condition, view_conjunction, view_phrase, view_guard, view_head, view_statement, view_option};
-ghost use Rattle.ss_rules.specs.Rules.{argument_count, miscalls, term_miscalls, named_miscalls, in_an_option, bad_in_test, bad_in_condition, never_differ, phrase_miscalls, guard_miscalls, head_miscalls, is_other_call, statement_miscalls};
-ghost use Rattle.ss_rules.specs.Seen.{scope_seen};
+ghost use Rattle.ss_tree.specs.View.{view_expression, view_named, view_term, view_test, view_condition, view_conjunction, view_phrase, view_guard, view_start, view_head, view_position, view_when, view_statement, view_option};
+ghost use Rattle.ss_rules.specs.Rules.{argument_count, miscalls, term_miscalls, named_miscalls, in_an_option, test_miscalls, in_condition, phrase_miscalls, guard_miscalls, start_miscalls, head_miscalls, position_miscalls, when_miscalls, is_other_call, exceeds, entity_miscalls, statement_miscalls};
+ghost use Rattle.ss_rules.specs.Seen.{scope_seen, whole_seen};
 
-use crate::scope::{Locals, Names};
+use crate::scope::{Locals, Names, attributes_of};
+use ss_lex::Name;
 use ss_tables::Kind;
 use ss_tree::condition::{Condition, Conjunction, Test};
 use ss_tree::expression::{Expression, Function, Named, Term};
-use ss_tree::head::{Guard, Head, Phrase};
-use ss_tree::statement::Statement;
+use ss_tree::head::{Guard, Head, MemberStart, Phrase};
+use ss_tree::statement::{Position, Statement, When};
 
 // How many arguments a function takes.
 fn argument_count(function: Function) -> usize
@@ -95,17 +96,18 @@ fn any_named_miscalls(all: &[Named]) -> bool
 
 // The same of a condition.
 fn test_miscalls(test: &Test) -> bool
-    ensures { result ≡ bad_in_test miscalls never_differ (view_test test.now) }
+    ensures { result ≡ test_miscalls (view_test test.now) }
 {
     match test {
         Test::Compare { left, right, .. } => miscalls(left) || miscalls(right),
-        Test::Member { member, .. } => miscalls(member),
-        Test::Empty { .. } | Test::DataEnded { .. } => false,
+        Test::Empty { set, .. } => named_miscalls(set),
+        Test::Member { member, set, .. } => miscalls(member) || named_miscalls(set),
+        Test::DataEnded { .. } => false,
     }
 }
 
 fn conjunction_miscalls(tests: &[Test]) -> bool
-    ensures { result ≡ list_any (bad_in_test miscalls never_differ) (map view_test tests.now) }
+    ensures { result ≡ list_any test_miscalls (map view_test tests.now) }
 {
     for test in tests {
         if test_miscalls(test) {
@@ -116,7 +118,7 @@ fn conjunction_miscalls(tests: &[Test]) -> bool
 }
 
 fn any_conjunction_miscalls(conjunctions: &[Conjunction]) -> bool
-    ensures { result ≡ list_any (list_any (bad_in_test miscalls never_differ)) (map view_conjunction conjunctions.now) }
+    ensures { result ≡ list_any (list_any test_miscalls) (map view_conjunction conjunctions.now) }
 {
     for conjunction in conjunctions {
         if conjunction_miscalls(&conjunction.tests) {
@@ -127,7 +129,7 @@ fn any_conjunction_miscalls(conjunctions: &[Conjunction]) -> bool
 }
 
 fn condition_miscalls(condition: &Condition) -> bool
-    ensures { result ≡ bad_in_condition miscalls never_differ (view_condition condition.now) }
+    ensures { result ≡ in_condition test_miscalls (view_condition condition.now) }
 {
     any_conjunction_miscalls(&condition.alternatives)
 }
@@ -164,6 +166,24 @@ fn maybe_miscalls(expression: &Option<Expression>) -> bool
     }
 }
 
+fn maybe_named_miscalls(named: &Option<Named>) -> bool
+    ensures { result ≡ in_an_option named_miscalls (view_option view_named named.now) }
+{
+    match named {
+        Some(named) => named_miscalls(named),
+        None => false,
+    }
+}
+
+fn start_miscalls(start: &MemberStart) -> bool
+    ensures { result ≡ start_miscalls (view_start start.now) }
+{
+    match start {
+        MemberStart::End => false,
+        MemberStart::From(member) | MemberStart::After(member) => miscalls(member),
+    }
+}
+
 fn head_miscalls(head: &Head) -> bool
     ensures { result ≡ head_miscalls (view_head head.now) }
 {
@@ -175,7 +195,13 @@ fn head_miscalls(head: &Head) -> bool
             phrases,
             ..
         } => miscalls(from) || miscalls(to) || maybe_miscalls(step) || any_phrase_miscalls(phrases),
-        Head::Members { .. } | Head::Class { .. } => false,
+        Head::Members {
+            set,
+            start,
+            phrases,
+            ..
+        } => named_miscalls(set) || start_miscalls(start) || any_phrase_miscalls(phrases),
+        Head::Class { phrases, .. } => any_phrase_miscalls(phrases),
         Head::Guards { guards } => any_guard_miscalls(guards),
     }
 }
@@ -191,6 +217,77 @@ fn is_other_call(kind: Option<Kind>, given: usize, yielding: usize) -> bool
                 yielding: yielded,
             },
         ) => given != wanted || yielding != yielded,
+        _ => false,
+    }
+}
+
+// Whether so many values are more than a class has attributes.
+pub(crate) fn exceeds(names: &Names, class: Name, count: usize) -> bool
+    ensures { result ≡ exceeds (whole_seen names.now) class count }
+{
+    attributes_of(names, class).len() < count
+}
+
+fn position_miscalls(position: &Position) -> bool
+    ensures { result ≡ position_miscalls (view_position position.now) }
+{
+    match position {
+        Position::Discipline | Position::First | Position::Last => false,
+        Position::Before(member) | Position::After(member) => miscalls(member),
+    }
+}
+
+fn when_miscalls(when: &When) -> bool
+    ensures { result ≡ when_miscalls (view_when when.now) }
+{
+    match when {
+        When::At(time) | When::In(time) => miscalls(time),
+        When::Now => false,
+    }
+}
+
+// The same of a statement on entities, sets or notices.
+#[tactic(auto, unfolding(ss_tree::specs::View::view_statement))]
+fn entity_miscalls(names: &Names, statement: &Statement) -> bool
+    ensures { result ≡ entity_miscalls (whole_seen names.now) (view_statement statement.now) }
+{
+    match statement {
+        Statement::Create { called, .. } => maybe_named_miscalls(called),
+        Statement::Destroy { called, .. } | Statement::Cancel { called, .. } => {
+            maybe_miscalls(called)
+        }
+        Statement::File {
+            member,
+            position,
+            set,
+            ..
+        } => miscalls(member) || position_miscalls(position) || named_miscalls(set),
+        Statement::RemoveEnd { target, set, .. } => named_miscalls(target) || named_miscalls(set),
+        Statement::Remove { member, set, .. } => miscalls(member) || named_miscalls(set),
+        Statement::ScheduleNew {
+            class,
+            called,
+            given,
+            when,
+            ..
+        } => {
+            exceeds(names, *class, given.len())
+                || maybe_named_miscalls(called)
+                || any_miscalls(given)
+                || when_miscalls(when)
+        }
+        Statement::Schedule {
+            class,
+            called,
+            given,
+            when,
+            ..
+        } => {
+            exceeds(names, *class, given.len())
+                || maybe_miscalls(called)
+                || any_miscalls(given)
+                || when_miscalls(when)
+        }
         _ => false,
     }
 }
@@ -220,8 +317,20 @@ pub(crate) fn statement_miscalls(names: &Names, locals: &Locals, statement: &Sta
         Statement::Loop { head, .. }
         | Statement::Find { head, .. }
         | Statement::FindIf { head, .. } => head_miscalls(head),
+        Statement::Reset { targets, .. } => any_named_miscalls(targets),
         Statement::Print { items, .. } => any_miscalls(items),
         Statement::Skip { count, .. } => miscalls(count),
-        _ => false,
+        Statement::Return { .. }
+        | Statement::Stop { .. }
+        | Statement::StartSimulation { .. }
+        | Statement::Create { .. }
+        | Statement::CreateEvery { .. }
+        | Statement::Destroy { .. }
+        | Statement::File { .. }
+        | Statement::RemoveEnd { .. }
+        | Statement::Remove { .. }
+        | Statement::ScheduleNew { .. }
+        | Statement::Schedule { .. }
+        | Statement::Cancel { .. } => entity_miscalls(names, statement),
     }
 }

@@ -1,16 +1,18 @@
 //! Values of two modes, and texts where numbers have to stand.
 
-ghost use Rattle.std.specs.Prelude.{◌≡◌, map};
+ghost use Rattle.std.specs.Prelude.{◌≡◌, map, length};
 ghost use Rattle.std.specs.List.{list_any};
-ghost use Rattle.ss_tree.specs.View.{view_expression, view_named, view_term, view_test, view_condition, view_conjunction, view_phrase, view_guard, view_head, view_option};
-ghost use Rattle.ss_rules.specs.Rules.{same_mode, mode_of_designator, mode_of_expression, is_text, mixes, is_no_number, term_mixes, target_mode, target_mixes, modes_differ, in_an_option, bad_in_test, condition_mixes, phrase_mixes, guard_mixes, head_mixes, lists_differ};
+ghost use Rattle.ss_tree.specs.View.{view_expression, view_named, view_term, view_test, view_condition, view_conjunction, view_phrase, view_guard, view_start, view_head, view_position, view_when, view_option};
+ghost use Rattle.ss_rules.specs.Rules.{same_mode, mode_of_designator, mode_of_expression, is_text, is_text_name, implies_text, mixes, is_no_number, term_mixes, target_mode, target_mixes, is_no_number_target, modes_differ, in_an_option, test_mixes, condition_mixes, phrase_mixes, guard_mixes, start_mixes, loop_name, head_mixes, lists_differ, new_mixes, old_mixes, position_mixes, when_mixes};
 ghost use Rattle.ss_rules.specs.Seen.{scope_seen};
 
-use crate::scope::{Locals, Names, mode_of_name};
+use crate::scope::{Locals, Names, class_implied, mode_of_name};
 use ss_base::Mode;
+use ss_lex::Name;
 use ss_tree::condition::{Condition, Conjunction, Test};
 use ss_tree::expression::{Designator, Expression, Named, Term};
-use ss_tree::head::{Guard, Head, Phrase};
+use ss_tree::head::{Guard, Head, MemberStart, Phrase};
+use ss_tree::statement::{Position, When};
 
 // The mode of what is named.
 pub(crate) fn mode_of_designator(names: &Names, locals: &Locals, designator: Designator) -> Mode
@@ -59,6 +61,26 @@ pub(crate) fn same_mode(one: Mode, other: Mode) -> bool
     }
 }
 
+// Whether a variable, by its name, is no number.
+pub(crate) fn is_text_name(names: &Names, locals: &Locals, name: Name) -> bool
+    ensures { result ≡ is_text_name (scope_seen names.now locals.now) name }
+{
+    is_alpha(mode_of_name(names, locals, name))
+}
+
+// Whether no subscript is written, and the variable that is meant in its place is no number.
+fn implies_text(names: &Names, locals: &Locals, designator: Designator, count: usize) -> bool
+    ensures { result ≡ implies_text (scope_seen names.now locals.now) designator count }
+{
+    if count > 0 {
+        return false;
+    }
+    match class_implied(names, locals, designator) {
+        Some(class) => is_text_name(names, locals, class),
+        None => false,
+    }
+}
+
 // Whether a text stands where a number has to.
 #[cycle(mixing)]
 #[tactic(auto, unfolding(ss_tree::specs::View::view_expression), using(crate::proofs::Rows::named_mixes_made, crate::proofs::Rows::call_mixes_made, crate::proofs::Rows::product_mixes_made, crate::proofs::Rows::sum_mixes_made))]
@@ -67,7 +89,10 @@ pub(crate) fn mixes(names: &Names, locals: &Locals, expression: &Expression) -> 
 {
     match expression {
         Expression::Number(_) | Expression::Text(_) => false,
-        Expression::Named(named) => any_no_number(names, locals, &named.subscripts),
+        Expression::Named(named) => {
+            implies_text(names, locals, named.designator, named.subscripts.len())
+                || any_no_number(names, locals, &named.subscripts)
+        }
         Expression::Call { arguments, .. } => any_no_number(names, locals, arguments),
         Expression::Parenthesised(inner) => mixes(names, locals, inner),
         Expression::Product { first, further } => {
@@ -133,12 +158,20 @@ pub(crate) fn target_mode(names: &Names, locals: &Locals, target: &Named) -> Mod
     mode_of_designator(names, locals, target.designator)
 }
 
-// Whether a text stands in a target where a number has to.
-#[tactic(auto, using(crate::proofs::Rows::any_mixes_listed))]
+// Whether a text stands where a number has to in the subscripts of a target or a set, written or not.
+#[tactic(auto, using(crate::proofs::Rows::target_mixes_listed))]
 pub(crate) fn target_mixes(names: &Names, locals: &Locals, target: &Named) -> bool
     ensures { result ≡ target_mixes (scope_seen names.now locals.now) (view_named target.now) }
 {
-    any_no_number(names, locals, &target.subscripts)
+    implies_text(names, locals, target.designator, target.subscripts.len())
+        || any_no_number(names, locals, &target.subscripts)
+}
+
+// Whether a target that has to be a number is none, or has a text in its subscripts.
+pub(crate) fn is_no_number_target(names: &Names, locals: &Locals, target: &Named) -> bool
+    ensures { result ≡ is_no_number_target (scope_seen names.now locals.now) (view_named target.now) }
+{
+    target_mixes(names, locals, target) || is_alpha(target_mode(names, locals, target))
 }
 
 pub(crate) fn any_target_mixes(names: &Names, locals: &Locals, targets: &[Named]) -> bool
@@ -164,7 +197,7 @@ fn modes_differ(names: &Names, locals: &Locals, left: &Expression, right: &Expre
 
 // The rule on modes in a condition.
 fn test_mixes(names: &Names, locals: &Locals, test: &Test) -> bool
-    ensures { result ≡ bad_in_test (mixes (scope_seen names.now locals.now)) (modes_differ (scope_seen names.now locals.now)) (view_test test.now) }
+    ensures { result ≡ test_mixes (scope_seen names.now locals.now) (view_test test.now) }
 {
     match test {
         Test::Compare { left, right, .. } => {
@@ -172,13 +205,16 @@ fn test_mixes(names: &Names, locals: &Locals, test: &Test) -> bool
                 || mixes(names, locals, right)
                 || modes_differ(names, locals, left, right)
         }
-        Test::Member { member, .. } => mixes(names, locals, member),
-        Test::Empty { .. } | Test::DataEnded { .. } => false,
+        Test::Empty { set, .. } => target_mixes(names, locals, set),
+        Test::Member { member, set, .. } => {
+            is_no_number(names, locals, member) || target_mixes(names, locals, set)
+        }
+        Test::DataEnded { .. } => false,
     }
 }
 
 fn conjunction_mixes(names: &Names, locals: &Locals, tests: &[Test]) -> bool
-    ensures { result ≡ list_any (bad_in_test (mixes (scope_seen names.now locals.now)) (modes_differ (scope_seen names.now locals.now))) (map view_test tests.now) }
+    ensures { result ≡ list_any (test_mixes (scope_seen names.now locals.now)) (map view_test tests.now) }
 {
     for test in tests {
         if test_mixes(names, locals, test) {
@@ -189,7 +225,7 @@ fn conjunction_mixes(names: &Names, locals: &Locals, tests: &[Test]) -> bool
 }
 
 fn any_conjunction_mixes(names: &Names, locals: &Locals, conjunctions: &[Conjunction]) -> bool
-    ensures { result ≡ list_any (list_any (bad_in_test (mixes (scope_seen names.now locals.now)) (modes_differ (scope_seen names.now locals.now)))) (map view_conjunction conjunctions.now) }
+    ensures { result ≡ list_any (list_any (test_mixes (scope_seen names.now locals.now))) (map view_conjunction conjunctions.now) }
 {
     for conjunction in conjunctions {
         if conjunction_mixes(names, locals, &conjunction.tests) {
@@ -237,6 +273,27 @@ fn maybe_no_number(names: &Names, locals: &Locals, expression: &Option<Expressio
     }
 }
 
+fn start_mixes(names: &Names, locals: &Locals, start: &MemberStart) -> bool
+    ensures { result ≡ start_mixes (scope_seen names.now locals.now) (view_start start.now) }
+{
+    match start {
+        MemberStart::End => false,
+        MemberStart::From(member) | MemberStart::After(member) => {
+            is_no_number(names, locals, member)
+        }
+    }
+}
+
+// The variable of a loop over a class: that of CALLED, or else that of the class.
+fn loop_name(class: Name, called: Option<Name>) -> Name
+    ensures { result ≡ loop_name class called }
+{
+    match called {
+        Some(name) => name,
+        None => class,
+    }
+}
+
 pub(crate) fn head_mixes(names: &Names, locals: &Locals, head: &Head) -> bool
     ensures { result ≡ head_mixes (scope_seen names.now locals.now) (view_head head.now) }
 {
@@ -248,13 +305,32 @@ pub(crate) fn head_mixes(names: &Names, locals: &Locals, head: &Head) -> bool
             step,
             phrases,
         } => {
-            is_alpha(mode_of_name(names, locals, *variable))
+            is_text_name(names, locals, *variable)
                 || is_no_number(names, locals, from)
                 || is_no_number(names, locals, to)
                 || maybe_no_number(names, locals, step)
                 || any_phrase_mixes(names, locals, phrases)
         }
-        Head::Members { .. } | Head::Class { .. } => false,
+        Head::Members {
+            variable,
+            set,
+            start,
+            phrases,
+            ..
+        } => {
+            is_text_name(names, locals, *variable)
+                || target_mixes(names, locals, set)
+                || start_mixes(names, locals, start)
+                || any_phrase_mixes(names, locals, phrases)
+        }
+        Head::Class {
+            class,
+            called,
+            phrases,
+        } => {
+            is_text_name(names, locals, loop_name(*class, *called))
+                || any_phrase_mixes(names, locals, phrases)
+        }
         Head::Guards { guards } => any_guard_mixes(names, locals, guards),
     }
 }
@@ -274,4 +350,47 @@ pub(crate) fn lists_differ(modes: &[Mode], others: &[Mode]) -> bool
         }
     }
     false
+}
+
+// The same of what CALLED names as a target, or else of the variable of a class.
+pub(crate) fn new_mixes(names: &Names, locals: &Locals, class: Name, called: &Option<Named>) -> bool
+    ensures { result ≡ new_mixes (scope_seen names.now locals.now) class (view_option view_named called.now) }
+{
+    match called {
+        Some(target) => is_no_number_target(names, locals, target),
+        None => is_text_name(names, locals, class),
+    }
+}
+
+// The same of the reference that CALLED names, or else of the variable of a class.
+pub(crate) fn old_mixes(
+    names: &Names,
+    locals: &Locals,
+    class: Name,
+    called: &Option<Expression>,
+) -> bool
+    ensures { result ≡ old_mixes (scope_seen names.now locals.now) class (view_option view_expression called.now) }
+{
+    match called {
+        Some(reference) => is_no_number(names, locals, reference),
+        None => is_text_name(names, locals, class),
+    }
+}
+
+pub(crate) fn position_mixes(names: &Names, locals: &Locals, position: &Position) -> bool
+    ensures { result ≡ position_mixes (scope_seen names.now locals.now) (view_position position.now) }
+{
+    match position {
+        Position::Discipline | Position::First | Position::Last => false,
+        Position::Before(member) | Position::After(member) => is_no_number(names, locals, member),
+    }
+}
+
+pub(crate) fn when_mixes(names: &Names, locals: &Locals, when: &When) -> bool
+    ensures { result ≡ when_mixes (scope_seen names.now locals.now) (view_when when.now) }
+{
+    match when {
+        When::At(time) | When::In(time) => is_no_number(names, locals, time),
+        When::Now => false,
+    }
 }

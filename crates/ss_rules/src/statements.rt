@@ -2,18 +2,18 @@
 
 ghost use Rattle.std.specs.Prelude.{◌≡◌, ◌==◌, ◌++◌, map, not, IfOk};
 ghost use Rattle.ss_tree.specs.View.{view_expression, view_named, view_statement};
-ghost use Rattle.ss_rules.specs.Rules.{breaks, call_differs, fields_of, is_start, lists_differ, misfits, mode_of_expression, statement_mixes, target_mode};
+ghost use Rattle.ss_rules.specs.Rules.{breaks, call_differs, entity_mixes, fields_of, given_mixes, is_start, misfits, statement_mixes};
 ghost use Rattle.ss_rules.specs.Seen.{scope_seen};
 
 use crate::miscalls::statement_miscalls;
 use crate::mixes::{
-    any_mixes, any_target_mixes, condition_mixes, head_mixes, is_alpha, is_no_number, lists_differ,
-    mixes, mode_of_expression, same_mode, target_mixes, target_mode,
+    any_mixes, any_target_mixes, condition_mixes, head_mixes, is_no_number, is_no_number_target,
+    lists_differ, mixes, mode_of_expression, new_mixes, old_mixes, position_mixes, same_mode,
+    target_mixes, target_mode, when_mixes,
 };
 use crate::names::any_mention_breaks;
 use crate::rule::Rule;
-use crate::scope::{Locals, Names, parameters_of};
-use ss_base::Mode;
+use crate::scope::{Locals, Names, attributes_of, parameters_of};
 use ss_lex::{Name, PictureLine};
 use ss_picture::Picture;
 use ss_tables::mentions_of;
@@ -42,6 +42,82 @@ fn call_differs(
     Ok(lists_differ(&modes, parameters_of(names, routine)))
 }
 
+// Whether the values that are given to the attributes of a class have other modes, or a text stands in
+// them where a number has to.
+fn given_mixes(
+    alloc: Global,
+    names: &Names,
+    locals: &Locals,
+    class: Name,
+    given: &[Expression],
+) -> Result<bool, AllocError>
+    ensures { IfOk result (λ found. found ≡ given_mixes (scope_seen names.now locals.now) class (map view_expression given.now)) }
+{
+    if any_mixes(names, locals, given) {
+        return Ok(true);
+    }
+    let mut modes = Vec::new(alloc);
+    for value in given {
+        modes.push(mode_of_expression(names, locals, value))?;
+    }
+    Ok(lists_differ(&modes, attributes_of(names, class)))
+}
+
+// The rule on modes in a statement on entities, sets or notices.
+#[tactic(auto, unfolding(ss_tree::specs::View::view_statement))]
+fn entity_mixes(
+    alloc: Global,
+    names: &Names,
+    locals: &Locals,
+    statement: &Statement,
+) -> Result<bool, AllocError>
+    ensures { IfOk result (λ found. found ≡ entity_mixes (scope_seen names.now locals.now) (view_statement statement.now)) }
+{
+    match statement {
+        Statement::Create { class, called, .. } => Ok(new_mixes(names, locals, *class, called)),
+        Statement::Destroy { class, called, .. } | Statement::Cancel { class, called, .. } => {
+            Ok(old_mixes(names, locals, *class, called))
+        }
+        Statement::File {
+            member,
+            position,
+            set,
+            ..
+        } => Ok(
+            is_no_number(names, locals, member)
+                || position_mixes(names, locals, position)
+                || target_mixes(names, locals, set),
+        ),
+        Statement::RemoveEnd { target, set, .. } => {
+            Ok(is_no_number_target(names, locals, target) || target_mixes(names, locals, set))
+        }
+        Statement::Remove { member, set, .. } => {
+            Ok(is_no_number(names, locals, member) || target_mixes(names, locals, set))
+        }
+        Statement::ScheduleNew {
+            class,
+            called,
+            given,
+            when,
+            ..
+        } => {
+            let given = given_mixes(alloc, names, locals, *class, given)?;
+            Ok(new_mixes(names, locals, *class, called) || given || when_mixes(names, locals, when))
+        }
+        Statement::Schedule {
+            class,
+            called,
+            given,
+            when,
+            ..
+        } => {
+            let given = given_mixes(alloc, names, locals, *class, given)?;
+            Ok(old_mixes(names, locals, *class, called) || given || when_mixes(names, locals, when))
+        }
+        _ => Ok(false),
+    }
+}
+
 // Whether a text stands in a statement where a number has to, or two modes are joined.
 #[tactic(auto, unfolding(ss_tree::specs::View::view_statement))]
 fn statement_mixes(
@@ -62,9 +138,7 @@ fn statement_mixes(
                 ),
         ),
         Statement::Add { amount, target, .. } | Statement::Subtract { amount, target, .. } => Ok(
-            is_no_number(names, locals, amount)
-                || target_mixes(names, locals, target)
-                || is_alpha(target_mode(names, locals, target)),
+            is_no_number(names, locals, amount) || is_no_number_target(names, locals, target),
         ),
         Statement::Call {
             routine,
@@ -82,9 +156,10 @@ fn statement_mixes(
         Statement::Loop { head, .. }
         | Statement::Find { head, .. }
         | Statement::FindIf { head, .. } => Ok(head_mixes(names, locals, head)),
+        Statement::Reset { targets, .. } => Ok(any_target_mixes(names, locals, targets)),
         Statement::Print { items, .. } => Ok(any_mixes(names, locals, items)),
         Statement::Skip { count, .. } => Ok(is_no_number(names, locals, count)),
-        _ => Ok(false),
+        _ => entity_mixes(alloc, names, locals, statement),
     }
 }
 
@@ -140,6 +215,7 @@ pub(crate) fn breaks(
     ensures { IfOk result (λ broken. broken ≡ breaks (scope_seen names.now locals.now) rule (view_statement statement.now)) }
 {
     match rule {
+        Rule::NoEventRoutine => Ok(false),
         Rule::StartPlace => Ok(is_start(statement) && !locals.in_main),
         Rule::Unknown | Rule::Subscript | Rule::NotAssignable => {
             let mentions = mentions_of(alloc, statement)?;

@@ -48,11 +48,12 @@ pub fn remove_last(heap: &mut Heap, set: usize, o: i64) -> Result<i64, FaultKind
     }
 }
 
-/// Whether x is in the set of an owner. Faults: those of x (1 to 5), then those of the owner.
+/// Whether x is in the set of an owner, in at most four touches. Faults: those of x (1 to 5), then those of the owner.
 pub fn is_in(heap: &mut Heap, set: usize, o: i64, x: i64) -> Result<bool, FaultKind>
     requires set { set < length heap.old.state.layout.sets.items }
     ensures value { result ≡ member_test heap.old.state set o x }
     ensures same { heap.new.state ≡ heap.old.state }
+    ensures touches { (heap.old.total ≤ heap.new.total) × (heap.new.total ≤ heap.old.total + 4) }
 {
     heap.sets_are_apart();
     match heap.owner_in(set, x) {

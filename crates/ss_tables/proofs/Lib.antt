@@ -5,3 +5,4 @@ pub mod Rows
 pub mod Known
 pub mod Serves
 pub mod Parts
+mod Numbered

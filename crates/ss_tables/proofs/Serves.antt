@@ -1,12 +1,12 @@
 -- The two ways to say which forms are served agree.
-use Rattle.std.proofs.Common.{◌≡◌, Bool, true, false, List, [], ◌∷◌, ◌++◌, Option, Some, None, refl, sym, ap, ◌∙◌}
+use Rattle.std.proofs.Common.{◌≡◌, ℕ, Bool, true, false, List, [], ◌∷◌, ◌++◌, map, Option, Some, None, refl, sym, ap, ◌∙◌}
 use Rattle.std.specs.Prelude.{◌&&◌}
 use Rattle.std.specs.List.{list_all, flat_map}
 use Rattle.ss_tree.specs.Tree.{ExpressionTree, number, text, named, call, parenthesised, product, signed, sum, ExpressionRow, no_expression, and_expression, TermRow, no_term, and_term, NamedTree, TestTree, compare, empty, member, data_ended, ConditionTree, PhraseTree, GuardTree, over_range, over_members, over_class, guarded, StatementTree, let_statement, add_statement, subtract_statement, call_statement, return_statement, stop_statement, read_statement, start_simulation, if_statement, loop_statement, find_statement, find_if_statement, create_statement, create_every, destroy_statement, file_statement, remove_end, remove_statement, schedule_new, schedule_statement, cancel_statement, reset_statement, print_statement, skip_statement, StatementRow, no_statement, and_statement, SectionTree, ProgramTree}
-use Rattle.ss_tables.specs.declared.mentions.Role.TheVariants.{Target}
-use Rattle.ss_tables.specs.Mentions.{in_expression, in_expressions, in_terms, in_named, in_option, in_test, in_condition, in_phrases, in_guards, in_head, in_all, in_targets, with_inner, with_inner_row}
+use Rattle.ss_tables.specs.declared.mentions.Role.TheVariants.{Target, AllOfClass}
+use Rattle.ss_tables.specs.Mentions.{mention_of, in_expression, in_expressions, in_terms, in_named, in_option, in_test, in_condition, in_phrases, in_guards, in_head, in_all, in_targets, with_inner, with_inner_row}
 use Rattle.ss_tables.specs.Served.{served_name, served_mention, served_statement, served_section, served_preamble, served_kind, served_program}
-use Rattle.ss_tables.specs.Serving.{served_expression, served_row, served_terms, served_target, served_test, served_conjunction, served_condition, served_phrase, served_guard, served_step, served_finding, served_itself, served_statements, served_whole, serves_section, serves_program}
+use Rattle.ss_tables.specs.Serving.{served_expression, served_row, served_terms, served_target, served_test, served_conjunction, served_condition, served_phrase, served_guard, served_called, served_step, served_finding, served_itself, served_statements, served_whole, serves_section, serves_program}
 
 -- ---- all of some lists
 
@@ -99,6 +99,18 @@ range_is v f t s ps =
     ∙ and_assoc (served_expression f && served_expression t) (served_step s) (list_all served_phrase ps)
     ∙ and_assoc (served_expression f) (served_expression t) (served_step s && list_all served_phrase ps)
 
+class_is : (n : List ℕ) (c : Option (List ℕ)) (ps : List PhraseTree) → list_all served_mention (in_head (over_class n c ps)) ≡ list_all served_phrase ps
+class_is n None ps = phrases_is ps
+class_is n (Some v) ps = phrases_is ps
+
+called_is : (o : Option NamedTree) → list_all served_mention (in_option (in_named Target) o) ≡ served_called o
+called_is None = refl
+called_is (Some n) = target_is n
+
+classes_are : (ns : List (List ℕ)) → list_all served_mention (map (mention_of AllOfClass) ns) ≡ true
+classes_are [] = refl
+classes_are (n ∷ ns) = classes_are ns
+
 -- ---- statements
 
 itself_is : (s : StatementTree) → served_statement s ≡ served_itself s
@@ -113,19 +125,19 @@ itself_is (start_simulation l) = refl
 itself_is (if_statement l c a b) = condition_is c
 itself_is (loop_statement l (over_range v f t s ps) b) = range_is v f t s ps
 itself_is (loop_statement l (over_members v s st r ps) b) = refl
-itself_is (loop_statement l (over_class n c ps) b) = refl
+itself_is (loop_statement l (over_class n c ps) b) = class_is n c ps
 itself_is (loop_statement l (guarded gs) b) = guards_is gs
 itself_is (find_statement l (over_range v f t s ps)) = range_is v f t s ps
 itself_is (find_statement l (over_members v s st r ps)) = refl
-itself_is (find_statement l (over_class n c ps)) = refl
+itself_is (find_statement l (over_class n c ps)) = class_is n c ps
 itself_is (find_statement l (guarded gs)) = refl
 itself_is (find_if_statement l (over_range v f t s ps) o a b) = range_is v f t s ps
 itself_is (find_if_statement l (over_members v s st r ps) o a b) = refl
-itself_is (find_if_statement l (over_class n c ps) o a b) = refl
+itself_is (find_if_statement l (over_class n c ps) o a b) = class_is n c ps
 itself_is (find_if_statement l (guarded gs) o a b) = refl
-itself_is (create_statement l n c) = refl
-itself_is (create_every l ns) = refl
-itself_is (destroy_statement l n c) = refl
+itself_is (create_statement l n c) = called_is c
+itself_is (create_every l ns) = classes_are ns
+itself_is (destroy_statement l n c) = step_is c
 itself_is (file_statement l x p s) = refl
 itself_is (remove_end l e t s) = refl
 itself_is (remove_statement l x s) = refl
@@ -157,9 +169,9 @@ mutual
   whole_is (read_statement l ts) = alone (read_statement l ts)
   whole_is (start_simulation l) = refl
   whole_is (find_statement l h) = alone (find_statement l h)
-  whole_is (create_statement l n c) = refl
-  whole_is (create_every l ns) = refl
-  whole_is (destroy_statement l n c) = refl
+  whole_is (create_statement l n c) = alone (create_statement l n c)
+  whole_is (create_every l ns) = alone (create_every l ns)
+  whole_is (destroy_statement l n c) = alone (destroy_statement l n c)
   whole_is (file_statement l x p s) = refl
   whole_is (remove_end l e t s) = refl
   whole_is (remove_statement l x s) = refl

@@ -1,7 +1,9 @@
 -- What a program declares: what its names stand for, its global variables and its routines.
-use Rattle.std.specs.Prelude.{ℕ, Bool, true, false, not, nat_eq, List, [], ◌∷◌, ◌++◌, Option, if◌then◌else◌}
+use Rattle.std.specs.Prelude.{ℕ, Bool, nat_eq, List, [], ◌∷◌, ◌++◌, Option, Some, None, if◌then◌else◌}
 use Rattle.std.specs.List.{list_any, position_or_len, fold}
 use Rattle.std.specs.Cmp.Lexicographic.{pointwise}
+use Rattle.ss_tree.specs.declared.preamble.ClassKind.{ClassKind}
+use Rattle.ss_tree.specs.declared.preamble.ClassKind.TheVariants as class_kinds
 use Rattle.ss_tree.specs.Tree.{ProgramTree}
 use Rattle.ss_tables.specs.declared.keep.Kept.{Kept}
 use Rattle.ss_tables.specs.declared.keep.Kept.TheVariants as kept
@@ -10,8 +12,8 @@ use Rattle.ss_tables.specs.declared.saying.Said.{Said}
 use Rattle.ss_tables.specs.declared.saying.Said.TheVariants as said
 use Rattle.ss_tables.specs.declared.saying.Saying.{Saying}
 use Rattle.ss_tables.specs.Sayings.{sayings}
-use Rattle.ss_tables.specs.Marks.{Mark, marks_of, name_or_none, is_attribute}
-use Rattle.ss_tables.specs.Names.{Declared, declared, kind_in}
+use Rattle.ss_tables.specs.Marks.{Mark, marks_of, is_attribute}
+use Rattle.ss_tables.specs.Names.{Declared, declared, count_name, kind_in}
 
 -- a name, as the list of its bytes, in capitals
 abbrev pub NameBytes : Type 0
@@ -45,23 +47,37 @@ kind_of p name = kind_in (declarations p).names name
 
 -- ---- variables and routines
 
--- a DEFINE of what is no attribute, or a routine
-abbrev pub is_kept : Kept → List Mark → Said → NameBytes → Bool
-is_kept kept.Variables ms (said.Variable mode) name = not (is_attribute ms name)
-is_kept kept.Routines ms (said.Routine given yielding) name = true
-is_kept _ ms _ name = false
+-- the variables of a class: that of its name, and N. of it where it is permanent
+abbrev pub class_variables : ClassKind → NameBytes → List NameBytes
+class_variables class_kinds.Permanent class = class ∷ count_name class ∷ []
+class_variables class_kinds.Temporary class = class ∷ []
+class_variables class_kinds.EventNotice class = class ∷ []
 
-abbrev pub keeping : Bool → List NameBytes → NameBytes → List NameBytes
-keeping keeps names name = if keeps then with_name names name else names
+-- the names that are kept of what is said of a name: variables of a DEFINE, unless it is of an attribute, and of a
+-- class; or a routine
+abbrev pub kept_of : Kept → List Mark → Said → NameBytes → List NameBytes
+kept_of kept.Variables ms (said.Variable mode) name = if is_attribute ms name then [] else name ∷ []
+kept_of kept.Variables ms (said.Class kind) name = class_variables kind name
+kept_of kept.Routines ms (said.Routine given yielding) name = name ∷ []
+kept_of _ ms _ name = []
+
+abbrev pub kept_by : Kept → List Mark → Said → Option NameBytes → List NameBytes
+kept_by kept ms what None = []
+kept_by kept ms what (Some name) = kept_of kept ms what name
+
+-- the names, and some more, each unless it is among them
+abbrev pub with_names : List NameBytes → List NameBytes → List NameBytes
+with_names names [] = names
+with_names names (n ∷ ns) = with_names (with_name names n) ns
 
 abbrev pub with_kept : Kept → List Mark → List NameBytes → Saying → List NameBytes
-with_kept kept ms names s = keeping (is_kept kept ms s.said (name_or_none s.name)) names (name_or_none s.name)
+with_kept kept ms names s = with_names names (kept_by kept ms s.said s.name)
 
 -- the names that are kept, each once, in the order of the text
 abbrev pub kept_names : Kept → List Mark → List Saying → List NameBytes
 kept_names kept ms says = fold (with_kept kept ms) [] says
 
--- the global variables, and the routines
+-- the global variables: those of DEFINE, the variable of each class, and N. of each permanent class; and the routines
 abbrev pub globals : ProgramTree → List NameBytes
 globals p = kept_names kept.Variables (marks p) (sayings p)
 

@@ -1,6 +1,6 @@
 -- The classes and the sets of a program, as numbers.
-use Rattle.std.specs.Prelude.{ℕ, nat_eq, List, [], ◌∷◌, ◌++◌, Option, Some, None, if◌then◌else◌}
-use Rattle.std.specs.List.{fold, position_or_len}
+use Rattle.std.specs.Prelude.{ℕ, nat_eq, List, [], ◌∷◌, ◌++◌, map, slice_get, Option, Some, None, if◌then◌else◌}
+use Rattle.std.specs.List.{flat_map, fold, position_or_len}
 use Rattle.std.specs.Map.{lookup}
 use Rattle.std.specs.Cmp.Lexicographic.{pointwise}
 use Rattle.ss_base.specs.declared.layout.ClassKind.{ClassKind}
@@ -14,10 +14,12 @@ use Rattle.ss_tree.specs.declared.preamble.ClassKind.{ClassKind as KindSaid}
 use Rattle.ss_tree.specs.declared.preamble.ClassKind.TheVariants as kinds_said
 use Rattle.ss_tree.specs.declared.preamble.Mode.{Mode as ModeSaid}
 use Rattle.ss_tree.specs.declared.preamble.Mode.TheVariants as modes_said
+use Rattle.ss_tables.specs.declared.kind.Kind.{Kind}
+use Rattle.ss_tables.specs.declared.kind.Kind.TheVariants as kinds
 use Rattle.ss_tables.specs.declared.saying.Said.{Said}
 use Rattle.ss_tables.specs.declared.saying.Said.TheVariants as said
 use Rattle.ss_tables.specs.declared.saying.Saying.{Saying}
-use Rattle.ss_tables.specs.Declarations.{with_name}
+use Rattle.ss_tables.specs.Declarations.{place_among, with_name}
 use Rattle.ss_tables.specs.Ranks.{Member, member_class, members_of}
 
 -- ---- modes and kinds
@@ -74,22 +76,56 @@ with_class_name names s = with_class_said names s.said s.name
 abbrev pub class_names : List Saying → List (List ℕ)
 class_names says = fold with_class_name [] says
 
--- the number of a class
+-- the number of a class; as many as there are classes where it is none
 abbrev pub class_number : List (List ℕ) → List ℕ → ℕ
 class_number names name = position_or_len (pointwise nat_eq name) names
 
--- the modes of the fields so far, and that of an attribute of the class
-abbrev pub with_field_said : List Moded → Option ModeSaid → List ℕ → List Mode → Said → Option (List ℕ) → List Mode
-with_field_said modes usual class fields (said.Attribute other) (Some name) =
-    if pointwise nat_eq class other then fields ++ layout_mode (mode_or (mode_in modes name) usual) ∷ [] else fields
-with_field_said modes usual class fields _ _ = fields
+-- ---- the attributes of classes, which are their fields
 
-abbrev pub with_field : List Moded → Option ModeSaid → List ℕ → List Mode → Saying → List Mode
-with_field modes usual class fields s = with_field_said modes usual class fields s.said s.name
+-- an attribute behind its class
+abbrev pub Owned : Type 0
+Owned = List ℕ × List ℕ
 
--- the modes of the attributes of a class, which are its fields
-abbrev pub fields_of : List Moded → Option ModeSaid → List Saying → List ℕ → List Mode
-fields_of modes usual says class = fold (with_field modes usual class) [] says
+abbrev pub attribute_said : Said → Option (List ℕ) → List Owned
+attribute_said (said.Attribute class) (Some name) = (class, name) ∷ []
+attribute_said _ _ = []
+
+abbrev pub attribute_in : Saying → List Owned
+attribute_in s = attribute_said s.said s.name
+
+-- the attributes that are declared, each behind its class
+abbrev pub attributes_in : List Saying → List Owned
+attributes_in says = flat_map attribute_in says
+
+-- the names so far, and that of an attribute of the class
+abbrev pub with_attribute : List ℕ → List (List ℕ) → Owned → List (List ℕ)
+with_attribute class names a = if pointwise nat_eq class a.0 then with_name names a.1 else names
+
+-- the attributes of a class, in the order of the text
+abbrev pub attributes_of : List Owned → List ℕ → List (List ℕ)
+attributes_of owned class = fold (with_attribute class) [] owned
+
+-- the same of each class, in the order of their numbers
+abbrev pub class_attributes : List Saying → List (List (List ℕ))
+class_attributes says = map (attributes_of (attributes_in says)) (class_names says)
+
+abbrev pub place_at : Option (List (List ℕ)) → List ℕ → ℕ
+place_at None name = 0
+place_at (Some names) name = place_among names name
+
+-- the number of an attribute among the fields of a class; 0 where that is no class
+abbrev pub field_number : List Saying → List ℕ → List ℕ → ℕ
+field_number says class name = place_at (slice_get (class_attributes says) (class_number (class_names says) class)) name
+
+-- the mode of an attribute
+abbrev pub field_mode : List Moded → Option ModeSaid → List ℕ → Mode
+field_mode modes usual name = layout_mode (mode_or (mode_in modes name) usual)
+
+-- the modes of the fields of a class
+abbrev pub fields_of : List Moded → Option ModeSaid → List Owned → List ℕ → List Mode
+fields_of modes usual owned class = map (field_mode modes usual) (attributes_of owned class)
+
+-- ---- the layout of each class
 
 -- the kind of a class and the modes of its fields
 abbrev pub ClassShape : Type 0
@@ -98,16 +134,13 @@ ClassShape = ClassKind × List Mode
 abbrev pub shape_of : ClassLayout → ClassShape
 shape_of c = (c.kind, c.fields.items)
 
-abbrev pub with_shape_said : List Moded → Option ModeSaid → List Saying → List ClassShape → Said → Option (List ℕ) → List ClassShape
-with_shape_said modes usual says shapes (said.Class kind) (Some name) = shapes ++ (layout_kind kind, fields_of modes usual says name) ∷ []
-with_shape_said modes usual says shapes _ _ = shapes
+-- how the entities of a class come and go, by what its name stands for
+abbrev pub class_kind : Option Kind → ClassKind
+class_kind (Some (kinds.Class kind)) = layout_kind kind
+class_kind _ = class_kinds.Permanent
 
-abbrev pub with_shape : List Moded → Option ModeSaid → List Saying → List ClassShape → Saying → List ClassShape
-with_shape modes usual says shapes s = with_shape_said modes usual says shapes s.said s.name
-
--- the classes, in the order of their numbers
-abbrev pub class_shapes : List Moded → Option ModeSaid → List Saying → List ClassShape
-class_shapes modes usual says = fold (with_shape modes usual says) [] says
+abbrev pub class_shape : (List ℕ → Option Kind) → List Moded → Option ModeSaid → List Owned → List ℕ → ClassShape
+class_shape kind modes usual owned class = (class_kind (kind class), fields_of modes usual owned class)
 
 -- ---- sets
 
@@ -136,10 +169,11 @@ with_set_layout names members sets s = with_set_said names members sets s.said s
 abbrev pub set_layouts : List (List ℕ) → List Member → List Saying → List SetLayout
 set_layouts names members says = fold (with_set_layout names members) [] says
 
--- ---- the layout of a program that says this, where NORMALLY gives this mode
+-- ---- the layout of a program that says this, where names stand for this and NORMALLY gives this mode
 
-abbrev pub classes_laid : Option ModeSaid → List Saying → List ClassShape
-classes_laid usual says = class_shapes (modes_of says) usual says
+-- the classes, in the order of their numbers
+abbrev pub classes_laid : (List ℕ → Option Kind) → Option ModeSaid → List Saying → List ClassShape
+classes_laid kind usual says = map (class_shape kind (modes_of says) usual (attributes_in says)) (class_names says)
 
 abbrev pub sets_laid : List Saying → List SetLayout
 sets_laid says = set_layouts (class_names says) (members_of says) says

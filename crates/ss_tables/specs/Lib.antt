@@ -16,3 +16,5 @@ pub mod Served
 pub mod Serving
 pub mod Tables
 pub mod Inner
+pub mod Numbers
+pub mod Examples

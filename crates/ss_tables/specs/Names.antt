@@ -35,6 +35,10 @@ letter_of Membership = 77
 abbrev pub derived_name : ℕ → List ℕ → List ℕ
 derived_name letter name = letter ∷ 46 ∷ name
 
+-- N. of a class
+abbrev pub count_name : List ℕ → List ℕ
+count_name class = derived_name 78 class
+
 abbrev pub derived_entry : List ℕ → Derived → Entry
 derived_entry set d = entry (derived_name (letter_of d) set) (kinds.DerivedName d set)
 
@@ -53,7 +57,7 @@ set_entries set =
 -- a class, and N. of it where it is permanent
 abbrev pub class_entries : ClassKind → List ℕ → List Entry
 class_entries class_kinds.Permanent name =
-    entry name (kinds.Class class_kinds.Permanent) ∷ entry (derived_name 78 name) (kinds.Count name) ∷ []
+    entry name (kinds.Class class_kinds.Permanent) ∷ entry (count_name name) (kinds.Count name) ∷ []
 class_entries class_kinds.Temporary name = entry name (kinds.Class class_kinds.Temporary) ∷ []
 class_entries class_kinds.EventNotice name = entry name (kinds.Class class_kinds.EventNotice) ∷ []
 

@@ -2,7 +2,7 @@
 use Rattle.std.specs.Prelude.{Bool, true, false, ◌&&◌, List, Option, Some, None}
 use Rattle.std.specs.List.{list_all}
 use Rattle.ss_tree.specs.declared.expression.Sign.{Sign}
-use Rattle.ss_tree.specs.Tree.{ExpressionTree, number, text, named, call, parenthesised, product, signed, sum, ExpressionRow, no_expression, and_expression, TermRow, no_term, and_term, NamedTree, TestTree, compare, empty, member, data_ended, ConditionTree, PhraseTree, GuardTree, HeadTree, over_range, guarded, StatementTree, let_statement, add_statement, subtract_statement, call_statement, return_statement, stop_statement, read_statement, if_statement, loop_statement, find_statement, find_if_statement, print_statement, skip_statement, StatementRow, no_statement, and_statement, SectionTree, ProgramTree}
+use Rattle.ss_tree.specs.Tree.{ExpressionTree, number, text, named, call, parenthesised, product, signed, sum, ExpressionRow, no_expression, and_expression, TermRow, no_term, and_term, NamedTree, TestTree, compare, empty, member, data_ended, ConditionTree, PhraseTree, GuardTree, HeadTree, over_range, over_class, guarded, StatementTree, let_statement, add_statement, subtract_statement, call_statement, return_statement, stop_statement, read_statement, if_statement, loop_statement, find_statement, find_if_statement, create_statement, create_every, destroy_statement, print_statement, skip_statement, StatementRow, no_statement, and_statement, SectionTree, ProgramTree}
 use Rattle.ss_tables.specs.Served.{served_name, served_preamble, served_kind}
 
 abbrev mutual
@@ -52,14 +52,21 @@ abbrev pub served_step : Option ExpressionTree → Bool
 served_step None = true
 served_step (Some e) = served_expression e
 
+-- the target behind CALLED
+abbrev pub served_called : Option NamedTree → Bool
+served_called None = true
+served_called (Some n) = served_target n
+
 -- the head of a loop that FIND may stand behind
 abbrev pub served_finding : HeadTree → Bool
 served_finding (over_range variable from to step phrases) =
     served_expression from && (served_expression to && (served_step step && list_all served_phrase phrases))
+served_finding (over_class class called phrases) = list_all served_phrase phrases
 served_finding _ = false
 
 abbrev pub served_loop : HeadTree → Bool
 served_loop (over_range variable from to step phrases) = served_finding (over_range variable from to step phrases)
+served_loop (over_class class called phrases) = served_finding (over_class class called phrases)
 served_loop (guarded guards) = list_all served_guard guards
 served_loop _ = false
 
@@ -76,6 +83,9 @@ served_itself (if_statement line condition first second) = served_condition cond
 served_itself (loop_statement line head body) = served_loop head
 served_itself (find_statement line head) = served_finding head
 served_itself (find_if_statement line head outcome first second) = served_finding head
+served_itself (create_statement line class called) = served_called called
+served_itself (create_every line classes) = true
+served_itself (destroy_statement line class called) = served_step called
 served_itself (print_statement line items pictures) = list_all served_expression items
 served_itself (skip_statement line count) = served_expression count
 served_itself _ = false

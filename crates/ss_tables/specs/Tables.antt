@@ -8,6 +8,7 @@ use Rattle.ss_tables.specs.declared.kind.Kind.{Kind}
 use Rattle.ss_tables.specs.declared.spelling.TheConstants.{SPELLING_LIMIT}
 use Rattle.ss_tables.specs.Declarations.{NameBytes, same_name, kind_of, globals, routines}
 use Rattle.ss_tables.specs.declared.saying.Saying.{Saying}
+use Rattle.ss_tables.specs.Layouts.{class_attributes, class_names}
 use Rattle.ss_tables.specs.Modes.{usual_mode}
 use Rattle.ss_tables.specs.Sayings.{sayings}
 
@@ -35,3 +36,8 @@ pub record AreTablesOf (p : ProgramTree) (t : TablesSeen) : Type 0 where
   pub routines_are : t.routines ≡ routines p
   pub usual_is : t.usual ≡ usual_mode p.preamble
   pub says_is : t.says ≡ sayings p
+
+-- the classes of a program that says this, and the attributes of each
+pub record AreClassesOf (says : List Saying) (classes : List NameBytes) (attributes : List (List NameBytes)) : Type 0 where
+  pub names_are : classes ≡ class_names says
+  pub attributes_are : attributes ≡ class_attributes says

@@ -1,13 +1,15 @@
 //! The global variables and the routines of a program.
 
-ghost use Rattle.std.specs.Prelude.{◌≡◌, OnOk, IfOk};
-ghost use Rattle.ss_tables.specs.Marks.{name_or_none};
-ghost use Rattle.ss_tables.specs.Declarations.{is_kept, keeping, kept_names};
+ghost use Rattle.std.specs.Prelude.{◌≡◌, [], ◌∷◌, if◌then◌else◌, OnOk, IfOk};
+ghost use Rattle.ss_tables.specs.Marks.{is_attribute};
+ghost use Rattle.ss_tables.specs.Declarations.{class_variables, kept_of, kept_names, with_kept, with_name, with_names};
 
-use crate::mark::{Marks, spelled};
+use crate::mark::Marks;
 use crate::saying::{Said, Saying};
 use crate::spelling::Spelling;
 use indexmap::IndexSet;
+use ss_lex::Name;
+use ss_tree::preamble::ClassKind;
 use std::alloc::{AllocError, Global};
 
 /// Which names are kept.
@@ -17,26 +19,81 @@ pub enum Kept {
     Routines,
 }
 
-fn is_kept(kept: Kept, marks: &Marks, said: &Said, name: Spelling) -> bool
-    ensures { result ≡ is_kept kept marks.now said.now name }
+/// Keeps a spelling.
+fn keep_spelling(names: &mut IndexSet<Spelling>, spelling: Spelling) -> Result<(), AllocError>
+    ensures { OnOk result (names.new.keys ≡ with_name names.old.keys spelling) }
 {
-    match kept {
-        Kept::Variables => match said {
-            Said::Variable { .. } => !marks.is_attribute(name),
-            _ => false,
-        },
-        Kept::Routines => matches!(said, Said::Routine { .. }),
+    names.insert_full(spelling)?;
+    Ok(())
+}
+
+/// Keeps the variables of a class: that of its name, and N. of it where it is permanent.
+fn keep_class(
+    names: &mut IndexSet<Spelling>,
+    kind: ClassKind,
+    class: &Name,
+) -> Result<(), AllocError>
+    ensures { OnOk result (names.new.keys ≡ with_names names.old.keys (class_variables kind class.now)) }
+{
+    keep_spelling(names, Spelling::of_name(class))?;
+    match kind {
+        ClassKind::Permanent => keep_spelling(names, Spelling::count_of(class)),
+        ClassKind::Temporary => Ok(()),
+        ClassKind::EventNotice => Ok(()),
     }
 }
 
-/// Keeps a name.
-fn keep(names: &mut IndexSet<Spelling>, keeps: bool, name: Spelling) -> Result<(), AllocError>
-    ensures { OnOk result (names.new.keys ≡ keeping keeps names.old.keys name) }
+/// Keeps a variable, unless it is an attribute.
+fn keep_variable(
+    names: &mut IndexSet<Spelling>,
+    marks: &Marks,
+    name: &Name,
+) -> Result<(), AllocError>
+    ensures { OnOk result (names.new.keys ≡ with_names names.old.keys (if is_attribute marks.now name.now then [] else name.now ∷ [])) }
 {
-    if keeps {
-        names.insert_full(name)?;
+    let name = Spelling::of_name(name);
+    if !marks.is_attribute(name) {
+        keep_spelling(names, name)?;
     }
     Ok(())
+}
+
+/// Keeps what is to be kept of what is said of a name.
+fn keep_of(
+    names: &mut IndexSet<Spelling>,
+    kept: Kept,
+    marks: &Marks,
+    said: &Said,
+    name: &Name,
+) -> Result<(), AllocError>
+    ensures { OnOk result (names.new.keys ≡ with_names names.old.keys (kept_of kept marks.now said.now name.now)) }
+{
+    match kept {
+        Kept::Variables => match said {
+            Said::Variable { .. } => keep_variable(names, marks, name),
+            Said::Class { kind } => keep_class(names, *kind, name),
+            _ => Ok(()),
+        },
+        Kept::Routines => match said {
+            Said::Routine { .. } => keep_spelling(names, Spelling::of_name(name)),
+            _ => Ok(()),
+        },
+    }
+}
+
+/// The same of a saying.
+fn keep_said(
+    names: &mut IndexSet<Spelling>,
+    kept: Kept,
+    marks: &Marks,
+    saying: &Saying,
+) -> Result<(), AllocError>
+    ensures { OnOk result (names.new.keys ≡ with_kept kept marks.now names.old.keys saying.now) }
+{
+    match &saying.name {
+        None => Ok(()),
+        Some(name) => keep_of(names, kept, marks, &saying.said, name),
+    }
 }
 
 /// The names that are kept, each once, in the order of the text.
@@ -50,9 +107,7 @@ pub fn kept_names(
 {
     let mut names = IndexSet::new(alloc);
     for saying in sayings {
-        let name = spelled(&saying.name);
-        let keeps = is_kept(kept, marks, &saying.said, name);
-        keep(&mut names, keeps, name)?;
+        keep_said(&mut names, kept, marks, saying)?;
     }
     Ok(names)
 }

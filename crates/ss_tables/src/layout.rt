@@ -1,10 +1,15 @@
 //! The classes and the sets of a program, as numbers.
 
 ghost use Rattle.std.specs.Prelude.{◌≡◌, [], ◌∷◌, ◌++◌, map, OnOk, IfOk};
-ghost use Rattle.ss_tables.specs.Layouts.{layout_mode, layout_kind, mode_in, with_mode, with_mode_said, modes_of, mode_or, with_class_said, class_names, class_number, with_field_said, fields_of, shape_of, with_shape_said, class_shapes, number_of, member_number, with_set_said, set_layouts};
+ghost use Rattle.ss_tables.specs.Names.{kind_in};
+ghost use Rattle.ss_tables.specs.Layouts.{layout_mode, layout_kind, mode_in, with_mode, with_mode_said, modes_of, mode_or, with_class_said, class_names, class_number, field_mode, fields_of, shape_of, class_kind, class_shape, number_of, member_number, with_set_said, set_layouts};
 
+use crate::attributes::{Owned, attributes_of, place_of};
+use crate::kind::Kind;
+use crate::names::Names;
 use crate::rank::Members;
 use crate::saying::{Said, Saying};
+use crate::spelling::Spelling;
 use indexmap::{IndexMap, IndexSet};
 use ss_base::{ClassKind, ClassLayout, Mode, Owner, SetLayout};
 use ss_lex::Name;
@@ -138,37 +143,34 @@ pub fn class_names(alloc: Global, sayings: &[Saying]) -> Result<IndexSet<Name>, 
     Ok(names)
 }
 
-fn class_number(names: &IndexSet<Name>, name: Name) -> usize
+/// The number of a class, or how many there are where it is none.
+pub fn class_number(names: &IndexSet<Name>, name: Name) -> usize
     ensures { result ≡ class_number names.now.keys name }
 {
-    match names.get_index_of(&name) {
-        Some(place) => place,
-        None => names.len(),
-    }
+    place_of(names, name)
 }
 
-/// Adds the mode of an attribute, where it is one of the class.
-fn add_field(
-    fields: &mut Vec<Mode>,
+/// The mode of an attribute.
+fn field_mode(modes: &Modes, usual: Option<ModeSaid>, name: Name) -> Mode
+    ensures { result ≡ field_mode modes.now usual name }
+{
+    layout_mode(mode_or(modes.mode(name), usual))
+}
+
+/// The modes of some attributes.
+fn field_modes(
+    alloc: Global,
     modes: &Modes,
     usual: Option<ModeSaid>,
-    class: &Name,
-    saying: &Saying,
-) -> Result<(), AllocError>
-    ensures { OnOk result (fields.new.items ≡ with_field_said modes.now usual class.now fields.old.items saying.now.said saying.now.name) }
+    names: &[Name],
+) -> Result<Vec<Mode>, AllocError>
+    ensures { IfOk result (λ fields. fields.items ≡ map (field_mode modes.now usual) names.now) }
 {
-    match &saying.said {
-        Said::Attribute { class: other } => match &saying.name {
-            Some(name) => {
-                if class.bytes() == other.bytes() {
-                    fields.push(layout_mode(mode_or(modes.mode(*name), usual)))?;
-                }
-                Ok(())
-            }
-            None => Ok(()),
-        },
-        _ => Ok(()),
+    let mut fields = Vec::new(alloc);
+    for name in names {
+        fields.push(field_mode(modes, usual, *name))?;
     }
+    Ok(fields)
 }
 
 /// The modes of the fields of a class.
@@ -176,67 +178,58 @@ fn fields_of(
     alloc: Global,
     modes: &Modes,
     usual: Option<ModeSaid>,
-    sayings: &[Saying],
+    owned: &[Owned],
     class: &Name,
 ) -> Result<Vec<Mode>, AllocError>
-    ensures { IfOk result (λ fields. fields.items ≡ fields_of modes.now usual sayings.now class.now) }
+    ensures { IfOk result (λ fields. fields.items ≡ fields_of modes.now usual owned.now class.now) }
 {
-    let mut fields = Vec::new(alloc);
-    for saying in sayings {
-        add_field(&mut fields, modes, usual, class, saying)?;
+    let attributes = attributes_of(alloc, owned, *class)?;
+    field_modes(alloc, modes, usual, attributes.names())
+}
+
+/// How the entities of a class come and go, by what its name stands for.
+fn class_kind(kind: Option<Kind>) -> ClassKind
+    ensures { result ≡ class_kind kind }
+{
+    match kind {
+        Some(Kind::Class { kind }) => layout_kind(kind),
+        _ => ClassKind::Permanent,
     }
-    Ok(fields)
 }
 
-fn add_class(
-    classes: &mut Vec<ClassLayout>,
-    kind: KindSaid,
-    fields: Vec<Mode>,
-) -> Result<(), AllocError>
-    ensures { OnOk result (map shape_of classes.new.items ≡ map shape_of classes.old.items ++ (layout_kind kind, fields.items) ∷ []) }
-{
-    let kind = layout_kind(kind);
-    classes.push(ClassLayout { kind, fields })?;
-    Ok(())
-}
-
-/// Adds a class, where a saying declares one.
-fn add_class_said(
+/// The layout of a class.
+fn class_layout(
     alloc: Global,
-    classes: &mut Vec<ClassLayout>,
+    names: &Names,
     modes: &Modes,
     usual: Option<ModeSaid>,
-    sayings: &[Saying],
-    saying: &Saying,
-) -> Result<(), AllocError>
-    ensures { OnOk result (map shape_of classes.new.items ≡ with_shape_said modes.now usual sayings.now (map shape_of classes.old.items) saying.now.said saying.now.name) }
+    owned: &[Owned],
+    class: &Name,
+) -> Result<ClassLayout, AllocError>
+    ensures { IfOk result (λ layout. shape_of layout ≡ class_shape (kind_in names.now.names) modes.now usual owned.now class.now) }
 {
-    match &saying.said {
-        Said::Class { kind } => match &saying.name {
-            Some(name) => {
-                let fields = fields_of(alloc, modes, usual, sayings, name)?;
-                add_class(classes, *kind, fields)
-            }
-            None => Ok(()),
-        },
-        _ => Ok(()),
-    }
+    let fields = fields_of(alloc, modes, usual, owned, class)?;
+    let kind = class_kind(names.kind(Spelling::of_name(class)));
+    Ok(ClassLayout { kind, fields })
 }
 
-/// The classes, in the order of their numbers.
+/// The layouts of some classes.
 pub fn class_layouts(
     alloc: Global,
+    names: &Names,
     modes: &Modes,
     usual: Option<ModeSaid>,
-    sayings: &[Saying],
+    owned: &[Owned],
+    classes: &[Name],
 ) -> Result<Vec<ClassLayout>, AllocError>
-    ensures { IfOk result (λ classes. map shape_of classes.items ≡ class_shapes modes.now usual sayings.now) }
+    ensures { IfOk result (λ layouts. map shape_of layouts.items ≡ map (class_shape (kind_in names.now.names) modes.now usual owned.now) classes.now) }
 {
-    let mut classes = Vec::new(alloc);
-    for saying in sayings {
-        add_class_said(alloc, &mut classes, modes, usual, sayings, saying)?;
+    let mut layouts = Vec::new(alloc);
+    for class in classes {
+        let layout = class_layout(alloc, names, modes, usual, owned, class)?;
+        layouts.push(layout)?;
     }
-    Ok(classes)
+    Ok(layouts)
 }
 
 fn number_of(names: &IndexSet<Name>, class: &Option<Name>) -> usize

@@ -1,10 +1,12 @@
 //! What a program declares.
 #![tactic(auto)]
 
+mod attributes;
 mod count;
 mod error;
 mod keep;
 mod kind;
+pub mod laws;
 mod layout;
 mod mark;
 mod mentions;

@@ -156,7 +156,7 @@ impl Names {
         self.declare(line, Spelling::of_name(&name), Kind::Class { kind })?;
         match kind {
             ClassKind::Permanent => {
-                let count = Spelling::derived(b'N', &name);
+                let count = Spelling::count_of(&name);
                 self.declare(line, count, Kind::Count { class: name })
             }
             ClassKind::Temporary => Ok(()),

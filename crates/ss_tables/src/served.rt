@@ -2,14 +2,14 @@
 
 ghost use Rattle.std.specs.Prelude.{◌≡◌, map};
 ghost use Rattle.std.specs.List.{list_all};
-ghost use Rattle.ss_tree.specs.View.{view_expression, view_term, view_named, view_test, view_conjunction, view_condition, view_phrase, view_guard, view_option, view_head, view_statement, view_preamble, view_kind, view_section, view_program};
-ghost use Rattle.ss_tables.specs.Served.{served_name, served_preamble, served_kind, served_program};
-ghost use Rattle.ss_tables.specs.Serving.{served_expression, served_term, served_target, served_test, served_conjunction, served_condition, served_phrase, served_guard, served_step, served_loop, served_finding, served_itself, served_inner, served_whole, serves_section, serves_program};
+ghost use Rattle.ss_tree.specs.View.{view_expression, view_term, view_named, view_test, view_conjunction, view_condition, view_phrase, view_guard, view_option, view_head, view_statement, view_clause, view_preamble, view_kind, view_section, view_program};
+ghost use Rattle.ss_tables.specs.Served.{served_class, served_clause, served_name, served_preamble, served_kind, served_program};
+ghost use Rattle.ss_tables.specs.Serving.{served_expression, served_term, served_target, served_test, served_conjunction, served_condition, served_phrase, served_guard, served_called, served_step, served_loop, served_finding, served_itself, served_inner, served_whole, serves_section, serves_program};
 
 use ss_tree::condition::{Condition, Conjunction, Test};
 use ss_tree::expression::{Designator, Expression, Named, Term};
 use ss_tree::head::{Guard, Head, Phrase};
-use ss_tree::preamble::PreambleStatement;
+use ss_tree::preamble::{ClassKind, Clause, PreambleStatement};
 use ss_tree::program::{Program, Section, SectionKind};
 use ss_tree::statement::Statement;
 
@@ -143,6 +143,16 @@ fn serves_step(step: &Option<Expression>) -> bool
     }
 }
 
+/// Whether the target behind CALLED is served.
+fn serves_called(called: &Option<Named>) -> bool
+    ensures { result ≡ served_called (view_option view_named called.now) }
+{
+    match called {
+        None => true,
+        Some(target) => serves_target(target),
+    }
+}
+
 /// Whether this is the head of a loop that FIND may stand behind.
 fn serves_finding(head: &Head) -> bool
     ensures { result ≡ served_finding (view_head head.now) }
@@ -160,8 +170,8 @@ fn serves_finding(head: &Head) -> bool
                 && serves_step(step)
                 && serves_phrases(phrases)
         }
+        Head::Class { phrases, .. } => serves_phrases(phrases),
         Head::Members { .. } => false,
-        Head::Class { .. } => false,
         Head::Guards { .. } => false,
     }
 }
@@ -171,8 +181,8 @@ fn serves_loop(head: &Head) -> bool
 {
     match head {
         Head::Range { .. } => serves_finding(head),
+        Head::Class { .. } => serves_finding(head),
         Head::Members { .. } => false,
-        Head::Class { .. } => false,
         Head::Guards { guards } => serves_guards(guards),
     }
 }
@@ -200,12 +210,12 @@ fn serves_itself(statement: &Statement) -> bool
         Statement::Loop { head, .. } => serves_loop(head),
         Statement::Find { head, .. } => serves_finding(head),
         Statement::FindIf { head, .. } => serves_finding(head),
+        Statement::Create { called, .. } => serves_called(called),
+        Statement::CreateEvery { .. } => true,
+        Statement::Destroy { called, .. } => serves_step(called),
         Statement::Print { items, .. } => serves_expressions(items),
         Statement::Skip { count, .. } => serves_expression(count),
         Statement::StartSimulation { .. }
-        | Statement::Create { .. }
-        | Statement::CreateEvery { .. }
-        | Statement::Destroy { .. }
         | Statement::File { .. }
         | Statement::RemoveEnd { .. }
         | Statement::Remove { .. }
@@ -276,12 +286,47 @@ fn serves_body(body: &[Statement]) -> bool
     all
 }
 
+fn serves_class(kind: ClassKind) -> bool
+    ensures { result ≡ served_class kind }
+{
+    match kind {
+        ClassKind::Permanent => true,
+        ClassKind::Temporary => true,
+        ClassKind::EventNotice => false,
+    }
+}
+
+fn serves_clause(clause: &Clause) -> bool
+    ensures { result ≡ served_clause (view_clause clause.now) }
+{
+    match clause {
+        Clause::Has(_) => true,
+        Clause::Owns(_) => false,
+        Clause::BelongsTo(_) => false,
+    }
+}
+
+fn serves_clauses(clauses: &[Clause]) -> bool
+    ensures { result ≡ list_all served_clause (map view_clause clauses.now) }
+{
+    let mut all = true;
+    for clause in clauses {
+        all = all && serves_clause(clause);
+    }
+    all
+}
+
 fn serves_declaration(statement: &PreambleStatement) -> bool
     ensures { result ≡ served_preamble (view_preamble statement.now) }
 {
     match statement {
         PreambleStatement::Normally { .. } => true,
         PreambleStatement::DefineVariables { .. } => true,
+        PreambleStatement::PermanentEntities { .. } => true,
+        PreambleStatement::TemporaryEntities { .. } => true,
+        PreambleStatement::Every { kind, clauses, .. } => {
+            serves_class(*kind) && serves_clauses(clauses)
+        }
         _ => false,
     }
 }

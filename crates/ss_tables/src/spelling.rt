@@ -40,6 +40,7 @@ impl Model for Spelling {
 
 impl Spelling {
     ghost use Rattle.std.specs.Prelude.{◌≡◌, ◌≤◌, [], ◌∷◌, length};
+    ghost use Rattle.ss_tables.specs.Names.{count_name};
     ghost use Rattle.ss_tables.specs.Spellings.{spelling_of};
 
     /// The spelling of no characters.
@@ -87,6 +88,13 @@ impl Spelling {
         room[1] = b'.';
         room[2..len].copy_from_slice(bytes);
         Spelling { room, len }
+    }
+
+    /// The spelling of N. of a class.
+    pub fn count_of(class: &Name) -> Spelling
+        ensures { result ≡ count_name class.now }
+    {
+        Spelling::derived(b'N', class)
     }
 
     /// Its bytes.

@@ -4,17 +4,18 @@ ghost use Rattle.std.specs.Prelude.{◌≡◌, ◌≢◌, ◌<◌, length, map, 
 ghost use Rattle.std.specs.Map.{keys_of};
 ghost use Rattle.ss_tree.specs.View.{view_program};
 ghost use Rattle.ss_tables.specs.Declarations.{place_among, kept_names};
-ghost use Rattle.ss_tables.specs.Layouts.{shape_of, classes_laid, sets_laid};
+ghost use Rattle.ss_tables.specs.Layouts.{shape_of, class_names, class_number, classes_laid, field_number, sets_laid};
 ghost use Rattle.ss_tables.specs.Marks.{marks_of};
-ghost use Rattle.ss_tables.specs.Names.{declared};
+ghost use Rattle.ss_tables.specs.Names.{count_name, declared};
 ghost use Rattle.ss_tables.specs.Refusals.{refusal};
 ghost use Rattle.ss_tables.specs.Served.{served_program};
 ghost use Rattle.ss_tables.specs.Tables.{kind_among, found_among, AreTablesOf};
 
+use crate::attributes::{Attributes, attributes_in, attributes_of_all};
 use crate::error::TableError;
 use crate::keep::{Kept, kept_names};
 use crate::kind::Kind;
-use crate::layout::{class_layouts, class_names, modes_of, set_layouts};
+use crate::layout::{class_layouts, class_names, class_number, modes_of, set_layouts};
 use crate::mark::marks_of;
 use crate::mode::usual_mode;
 use crate::names::{Names, names_of};
@@ -41,14 +42,18 @@ pub struct Tables {
     routines: IndexSet<Spelling>,
     usual: Option<Mode>,
     sayings: Vec<Saying>,
+    classes: IndexSet<Name>,
+    attributes: Vec<Attributes>,
 }
 
 impl Model for Tables {
-    ghost use Rattle.ss_tables.specs.Tables.{TablesSeen};
+    ghost use Rattle.ss_tables.specs.Tables.{AreClassesOf, TablesSeen};
 
     ghost Value = { TablesSeen };
 
     ghost view = { λ t. record { names = t.names.names; globals = t.globals.keys; routines = t.routines.keys; usual = t.usual; says = t.sayings.items } };
+
+    ghost invariant = { λ t. AreClassesOf t.sayings.items t.classes.keys t.attributes.items };
 }
 
 // The place of a name among some, or how many there are where it is none of them.
@@ -105,12 +110,17 @@ fn made(alloc: Global, facts: Facts, sayings: Vec<Saying>) -> Result<Tables, All
 {
     let globals = kept_names(alloc, Kept::Variables, &facts.marks, &sayings)?;
     let routines = kept_names(alloc, Kept::Routines, &facts.marks, &sayings)?;
+    let classes = class_names(alloc, &sayings)?;
+    let owned = attributes_in(alloc, &sayings)?;
+    let attributes = attributes_of_all(alloc, &owned, classes.as_slice())?;
     Ok(Tables {
         names: facts.names,
         globals,
         routines,
         usual: facts.usual,
         sayings,
+        classes,
+        attributes,
     })
 }
 
@@ -134,9 +144,9 @@ impl Tables {
         Ok(made(alloc, facts, sayings)?)
     }
 
-    /// Whether all forms of a program are served: a preamble of NORMALLY and DEFINE of variables, MAIN and
-    /// routines, and in them no statement, test or loop on entities, sets or notices, and neither TIME.V nor
-    /// TIME.A.
+    /// Whether all forms of a program are served: a preamble of NORMALLY, of DEFINE of variables, and of permanent
+    /// and temporary entities with attributes; MAIN and routines, and in them no statement, test or loop on
+    /// sets or notices, no RESET, and neither TIME.V nor TIME.A.
     pub fn served(program: &Program) -> bool
         ensures { result ≡ served_program (view_program program.now) }
     {
@@ -173,14 +183,15 @@ impl Tables {
     /// # Errors
     /// `AllocError` where memory is refused.
     pub fn layout(&self, alloc: Global) -> Result<Layout, AllocError>
-        ensures classes { IfOk result (λ l. map shape_of l.classes.items ≡ classes_laid self.now.usual self.now.says) }
+        ensures classes { IfOk result (λ l. map shape_of l.classes.items ≡ classes_laid (kind_among self.now.names) self.now.usual self.now.says) }
         ensures sets { IfOk result (λ l. l.sets.items ≡ sets_laid self.now.says) }
     {
         let modes = modes_of(alloc, &self.sayings)?;
-        let names = class_names(alloc, &self.sayings)?;
         let members = members_of(alloc, &self.sayings)?;
-        let classes = class_layouts(alloc, &modes, self.usual, &self.sayings)?;
-        let sets = set_layouts(alloc, &names, &members, &self.sayings)?;
+        let owned = attributes_in(alloc, &self.sayings)?;
+        let named = self.classes.as_slice();
+        let classes = class_layouts(alloc, &self.names, &modes, self.usual, &owned, named)?;
+        let sets = set_layouts(alloc, &self.classes, &members, &self.sayings)?;
         Ok(Layout { classes, sets })
     }
 
@@ -192,11 +203,38 @@ impl Tables {
     }
 
     /// The number of a global variable among all of them, from 0; as many as there are where it is
-    /// none.
+    /// none. The global variables are those of DEFINE, the variable of each class, which has its name, and
+    /// N. of each permanent class.
     pub fn global(&self, name: Name) -> usize
         ensures { result ≡ place_among self.now.globals name }
     {
         place_in(&self.globals, Spelling::of_name(&name))
+    }
+
+    /// The number of N. of a permanent class among the global variables; as many as there are where it
+    /// is none.
+    pub fn count(&self, class: Name) -> usize
+        ensures { result ≡ place_among self.now.globals (count_name class) }
+    {
+        place_in(&self.globals, Spelling::count_of(&class))
+    }
+
+    /// The number of a class among all of them, from 0; as many as there are where it is none.
+    pub fn class(&self, name: Name) -> usize
+        ensures { result ≡ class_number (class_names self.now.says) name }
+    {
+        class_number(&self.classes, name)
+    }
+
+    /// The number of an attribute among the fields of its class, from 0. As many as the class has where it is
+    /// none of them, and 0 where that is no class.
+    pub fn field(&self, class: Name, attribute: Name) -> usize
+        ensures { result ≡ field_number self.now.says class attribute }
+    {
+        match self.attributes.get(class_number(&self.classes, class)) {
+            Some(attributes) => attributes.place(attribute),
+            None => 0,
+        }
     }
 
     /// What each global variable stands for, in the order of their numbers.

@@ -2,3 +2,4 @@ pub mod Tree
 pub mod View
 pub mod Views
 pub mod Nodes
+pub mod Examples

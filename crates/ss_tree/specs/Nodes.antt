@@ -1,6 +1,8 @@
 -- How many nodes a tree has: one for each section, statement of a preamble, statement, phrase, test, operator, sign,
--- function, name, number, text and picture in it.
-use Rattle.std.specs.Prelude.{ℕ, ◌+◌, List, length, Option, Some, None, sum_by}
+-- function, name, number, text and picture in it. In four places that are empty in no text's tree an empty one counts as
+-- one, so that the nodes bound the code of every tree: the further factors of a product, the further terms of a sum, the
+-- tests of an alternative, and the alternatives of a condition.
+use Rattle.std.specs.Prelude.{ℕ, ◌+◌, List, [], ◌∷◌, length, Option, Some, None, sum_by}
 use Rattle.ss_tree.specs.Tree.{ExpressionTree, number, text, named, call, parenthesised, product, signed, sum, ExpressionRow, no_expression, and_expression, TermRow, no_term, and_term, NamedTree, TestTree, compare, empty, member, data_ended, ConditionTree, PhraseTree, GuardTree, StartTree, from_end, from_member, after_member, HeadTree, over_range, over_members, over_class, guarded, PositionTree, by_discipline, at_first, at_last, before, after, WhenTree, at_time, in_units, now, StatementTree, let_statement, add_statement, subtract_statement, call_statement, return_statement, stop_statement, read_statement, start_simulation, if_statement, loop_statement, find_statement, find_if_statement, create_statement, create_every, destroy_statement, file_statement, remove_end, remove_statement, schedule_new, schedule_statement, cancel_statement, reset_statement, print_statement, skip_statement, StatementRow, no_statement, and_statement, ClauseTree, has, owns, belongs_to, OrderTree, fifo, lifo, ranked, PreambleTree, permanent_entities, temporary_entities, event_notices, every, normally, system_owns, define_variables, define_sets, priority_order, break_ties, statistics, DefinitionTree, SectionKindTree, main, routine, event, SectionTree, ProgramTree}
 
 -- a function and an operator are a node each; parentheses are none
@@ -11,18 +13,28 @@ abbrev mutual
   expression_nodes (named designator subscripts) = 1 + row_nodes subscripts
   expression_nodes (call function arguments) = 1 + row_nodes arguments
   expression_nodes (parenthesised inner) = expression_nodes inner
-  expression_nodes (product first further) = expression_nodes first + factor_nodes further
+  expression_nodes (product first further) = expression_nodes first + product_nodes further
   expression_nodes (signed sign term) = 1 + expression_nodes term
-  expression_nodes (sum first further) = expression_nodes first + term_nodes further
+  expression_nodes (sum first further) = expression_nodes first + sum_nodes further
 
   pub row_nodes : ExpressionRow → ℕ
   row_nodes no_expression = 0
   row_nodes (and_expression e es) = expression_nodes e + row_nodes es
 
+  -- what stands behind the first factor of a product: a factor at least in the tree of a text
+  pub product_nodes : ExpressionRow → ℕ
+  product_nodes no_expression = 1
+  product_nodes (and_expression e es) = 1 + expression_nodes e + factor_nodes es
+
   -- each further factor stands behind an operator
   pub factor_nodes : ExpressionRow → ℕ
   factor_nodes no_expression = 0
   factor_nodes (and_expression e es) = 1 + expression_nodes e + factor_nodes es
+
+  -- what stands behind the first term of a sum: a term at least in the tree of a text
+  pub sum_nodes : TermRow → ℕ
+  sum_nodes no_term = 1
+  sum_nodes (and_term sign e es) = 1 + expression_nodes e + term_nodes es
 
   -- each further term stands behind an operator
   pub term_nodes : TermRow → ℕ
@@ -43,9 +55,15 @@ test_nodes (empty set negated) = 1 + named_nodes set
 test_nodes (member x set negated) = 1 + expression_nodes x + named_nodes set
 test_nodes (data_ended negated) = 1
 
--- AND and OR are none
+-- AND is none; in the tree of a text there is a test at least
+abbrev pub alternative_nodes : List TestTree → ℕ
+alternative_nodes [] = 1
+alternative_nodes (t ∷ ts) = sum_by test_nodes (t ∷ ts)
+
+-- OR is none; in the tree of a text there is an alternative at least
 abbrev pub condition_nodes : ConditionTree → ℕ
-condition_nodes = sum_by (sum_by test_nodes)
+condition_nodes [] = 1
+condition_nodes (c ∷ cs) = sum_by alternative_nodes (c ∷ cs)
 
 abbrev pub phrase_nodes : PhraseTree → ℕ
 phrase_nodes p = 1 + condition_nodes p.condition

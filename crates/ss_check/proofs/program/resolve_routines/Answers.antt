@@ -1,12 +1,12 @@
 use Rattle.std.proofs.Common.{sym, ◌∙◌}
-use Rattle.ss_rules.specs.Seen.{scope_in}
+use Rattle.ss_check.specs.Seen.{context_in}
 use Rattle.ss_check.proofs.Sections.{routine_next, other_next}
 use Rattle.ss_check.proofs.program.resolve_routines.Goals as goal
 use Rattle.ss_check.proofs.program.resolve_routines.Goals.{then-is_routine+in_ok-one+in_ok-push, else-is_routine}
 
 pub loop-section-preserved : goal.loop-section-preserved
 loop-section-preserved c =
-    let s = scope_in c.args.names.now in
+    let s = context_in c.args.names.now in
     let xs = c.args.sections.now in
     let i = c.loop-section.section-index in
     let x = c.section-item.result in

@@ -1,4 +1,4 @@
-use Rattle.std.proofs.Common.{rules, ◌≡◌, ap, sym, ◌∙◌, Err, subst, true, false, None}
+use Rattle.std.proofs.Common.{rules, ◌≡◌, ap, sym, ◌∙◌, Err, subst, true, false}
 use Rattle.ss_tree.specs.View.{view_program}
 use Rattle.ss_tables.specs.Served.{served_program}
 use Rattle.ss_engine.specs.Accepting.{IsTreeOf, IsDeclared, IsProgramOf, Compiles, RefusedFor}
@@ -40,7 +40,7 @@ returns-in-Ok-generate-clause-accepted c =
     let declared : IsDeclared tree = record { served = served; declared = c.in-Ok-of.ensures.kept } in
     let meant : IsProgramOf c.args.text.now c.in-Ok-check.resolved = record { tree = tree; read = read; declared = declared; kept = c.in-Ok-check.ensures.kept; resolved = c.in-Ok-check.ensures.resolved } in
     subst (Compiles c.args.text.now) (sym c.new.ensures)
-    (record { program = c.in-Ok-check.resolved; meant = meant; behaves = c.in-Ok-generate.ensures.behaves })
+    (record { program = c.in-Ok-check.resolved; meant = meant; behaves = λ l same. c.in-Ok-generate.ensures.anywhere l (c.in-Ok-generate.ensures.layout ∙ same) })
 
 pub returns-clause-refused : goal.returns-clause-refused
 returns-clause-refused c =
@@ -50,5 +50,6 @@ returns-clause-refused c =
     let declared : IsDeclared tree = record { served = served; declared = c.in-Ok-of.ensures.kept } in
     let meant : IsProgramOf c.args.text.now c.in-Ok-check.resolved = record { tree = tree; read = read; declared = declared; kept = c.in-Ok-check.ensures.kept; resolved = c.in-Ok-check.ensures.resolved } in
     subst (RefusedFor c.args.text.now) (sym c.generated.ensures)
-    (generator_refused c.args.text.now c.in-Ok-check.resolved meant c.in-Err-generate.error
-    (λ small e. c.generate.ensures.small small (c.in-Err-generate.is ∙ ap Err e)))
+    (generator_refused c.args.text.now c.in-Ok-check.resolved meant c.in-Ok-check.ensures.nodes c.in-Err-generate.error
+    (λ small e. c.generate.ensures.small small (c.in-Err-generate.is ∙ ap Err e))
+    (λ e. c.generate.ensures.too_long (c.in-Err-generate.is ∙ ap Err e)))

@@ -15,8 +15,8 @@ number-class-requires c =
     let K = c.requires.kept in let h = c.loop-i.invariant in
     subst IsNumber (sym (ap (λ us. word_of us 0) (h.kept c.loop-i.i c.in-Some.place (omega arith) c.in-Some.ensures) ∙ (K.formed c.loop-i.i c.in-Some.place (inl c.in-Some.ensures)).class)) tt
 
-pub block_words-words-requires-clause-class : goal.block_words-words-requires-clause-class
-block_words-words-requires-clause-class c = λ k e.
+pub block_words-words-requires : goal.block_words-words-requires
+block_words-words-requires c = λ k e.
     let same : c.number-class.result ≡ k = class_is e in
     let is : c.number-class.result ≡ class_at c.args.blocks.now.cells c.in-Some.place = sym (ap plain c.number-class.ensures) ∙ ap class_of (c.loop-i.invariant.kept c.loop-i.i c.in-Some.place (omega arith) c.in-Some.ensures) in
     subst (λ n. n < length c.args.layout.now.classes.items) (sym is ∙ same) (c.requires.kept.classes c.loop-i.i c.in-Some.place (inl c.in-Some.ensures))

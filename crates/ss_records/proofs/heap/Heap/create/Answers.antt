@@ -1,12 +1,10 @@
 use Rattle.std.proofs.Common.{◌≡◌, ap, subst, ◌∙◌}
 use Rattle.std.specs.Prelude.{MatchResult, Ok, Err}
-use Rattle.ss_base.specs.declared.fault.FaultKind.{FaultKind}
-use Rattle.ss_base.specs.declared.fault.Refused.TheVariants.{Fault}
-use Rattle.ss_records.specs.State.{Heaped, State, created}
+use Rattle.ss_records.specs.State.{Heaped, State, RefusedFor, created}
 use Rattle.ss_records.specs.Parts.{state}
 use Rattle.ss_records.proofs.heap.Heap.create.Goals as goal
 
 pub returns-clause-done : goal.returns-clause-done
 returns-clause-done c =
     let e : state c.start.new.self ≡ c.args.self.now.state = ap state c.start.ensures ∙ ap (λ (w : Heaped). w.state) c.self.view_is in
-    subst (λ (s : State). MatchResult c.create.result (λ n. created s c.args.class ≡ Ok (n, state c.create.new.self)) (λ r. (state c.create.new.self ≡ s) × ((f : FaultKind) → r ≡ Fault f → created s c.args.class ≡ Err f))) e c.create.ensures.done
+    subst (λ (s : State). MatchResult c.create.result (λ n. created s c.args.class ≡ Ok (n, state c.create.new.self)) (λ r. (state c.create.new.self ≡ s) × RefusedFor (created s c.args.class) r)) e c.create.ensures.done

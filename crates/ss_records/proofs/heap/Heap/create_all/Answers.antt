@@ -1,9 +1,7 @@
 use Rattle.std.proofs.Common.{◌≡◌, ap, subst, ◌∙◌}
 use Rattle.std.specs.Prelude.{MatchResult, Ok, Err}
 use Rattle.std.proofs.lemmas.Int.{to_z-of_z}
-use Rattle.ss_base.specs.declared.fault.FaultKind.{FaultKind}
-use Rattle.ss_base.specs.declared.fault.Refused.TheVariants.{Fault}
-use Rattle.ss_records.specs.State.{Heaped, State, created_all}
+use Rattle.ss_records.specs.State.{Heaped, State, RefusedFor, created_all}
 use Rattle.ss_records.specs.Parts.{state}
 use Rattle.ss_records.proofs.heap.Heap.create_all.Goals as goal
 
@@ -11,4 +9,4 @@ pub returns-clause-done : goal.returns-clause-done
 returns-clause-done c =
     let e : state c.start.new.self ≡ c.args.self.now.state = ap state c.start.ensures ∙ ap (λ (w : Heaped). w.state) c.self.view_is in
     let fits = c.ranges.n in let h = simp to_z-of_z at c.create_all.ensures.done in
-    subst (λ (s : State). MatchResult c.create_all.result (λ _. created_all s c.args.class c.args.n ≡ Ok (state c.create_all.new.self)) (λ r. (state c.create_all.new.self ≡ s) × ((f : FaultKind) → r ≡ Fault f → created_all s c.args.class c.args.n ≡ Err f))) e h
+    subst (λ (s : State). MatchResult c.create_all.result (λ _. created_all s c.args.class c.args.n ≡ Ok (state c.create_all.new.self)) (λ r. (state c.create_all.new.self ≡ s) × RefusedFor (created_all s c.args.class c.args.n) r)) e h

@@ -1,4 +1,4 @@
-use Rattle.std.proofs.Common.{◌≡◌, ◌∷◌, [], ◌++◌, drop, ◌+◌, sym, ap, ◌∙◌, rules}
+use Rattle.std.proofs.Common.{◌∷◌, [], ◌++◌, drop, ◌+◌, ap, ◌∙◌}
 use Rattle.ss_records.specs.State.{State}
 use Rattle.ss_records.specs.Commands.{answers_of, after_commands}
 use Rattle.ss_records.proofs.SameLayout.{same_layout}

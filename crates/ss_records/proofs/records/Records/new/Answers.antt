@@ -1,6 +1,8 @@
-use Rattle.std.proofs.Common.{◌≡◌, rules, IsTrue, true, [], ◌∷◌, length, None, ap, subst, ◌∙◌}
+use Rattle.std.proofs.Common.{◌≡◌, rules, [], ◌∷◌, length, None, sym, ap, subst, ◌∙◌}
 use Rattle.std.specs.Prelude.{replicate}
 use Rattle.ss_records.specs.Cells.{blanks}
+use Rattle.ss_records.specs.State.{first_state}
+use Rattle.ss_records.specs.Kept.{Small}
 use Rattle.ss_records.specs.Laid.{LaidSystem}
 use Rattle.ss_records.proofs.Puts.{words_new}
 use Rattle.ss_records.proofs.Creates.{word_blank, length-blanks}
@@ -15,11 +17,13 @@ lay_system-requires-clause-blank c = λ k. rw (c.in-Ok-place.ensures.placed.1, w
 
 pub returns : goal.returns
 returns c =
-    let laid = subst (λ bs. LaidSystem c.args.layout bs c.lay_system.new.blocks.cells c.in-Ok-place.system.at) (c.in-Ok-place.ensures.placed.1 ∙ ap (λ bs. (c.in-Ok-place.system.at, blanks c.block_words-words.result) ∷ bs) c.new-blocks.ensures.cells) c.lay_system.ensures.laid in
-    let yes : IsTrue true = search rules in
-    let many : c.len.result ≡ length c.args.layout.classes.items = search rules in
-    let rows : c.in-Ok-not_made.permanents.items ≡ replicate (length c.args.layout.classes.items) None = c.in-Ok-not_made.ensures ∙ ap (λ n. replicate n None) many in
-    rw (c.in-Ok.ensures, c.new-2.ensures, rows) (
-      kept_first c.args.layout c.lay_system.new.blocks.cells c.in-Ok-place.system c.block_words-words.result (c.if-not-is_small.ensures yes) c.block_words-words.ensures.size laid,
-      ap (λ rs. record { layout = c.args.layout; records = []; permanents = rs; lists = [] }) (none_made c.args.layout c.lay_system.new.blocks.cells c.args.layout.classes.items),
+    let l = c.in_ok-layout.layout in
+    let e : l ≡ c.args.layout = c.in_ok-layout.ensures.0 in
+    let small : Small l = subst Small (sym e) c.in_ok-layout.ensures.1 in
+    let laid = subst (λ bs. LaidSystem l bs c.lay_system.new.blocks.cells c.in-Ok-place.system.at) (c.in-Ok-place.ensures.placed.1 ∙ ap (λ bs. (c.in-Ok-place.system.at, blanks c.block_words-words.result) ∷ bs) c.new-blocks.ensures.cells) c.lay_system.ensures.laid in
+    let many : c.len.result ≡ length l.classes.items = search rules in
+    let rows : c.in-Ok-not_made.permanents.items ≡ replicate (length l.classes.items) None = c.in-Ok-not_made.ensures ∙ ap (λ n. replicate n None) many in
+    rw (c.in-Ok.ensures, c.new-3.ensures, rows) (
+      kept_first l c.lay_system.new.blocks.cells c.in-Ok-place.system c.block_words-words.result small c.block_words-words.ensures.size laid,
+      ap (λ rs. record { layout = l; records = []; permanents = rs; lists = [] }) (none_made l c.lay_system.new.blocks.cells l.classes.items) ∙ ap first_state e,
     )

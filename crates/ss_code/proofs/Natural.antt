@@ -1,0 +1,441 @@
+-- What a program means does not depend on where its layout lies in memory: l is another one that says the same.
+use Rattle.std.proofs.Common.{◌≡◌, ℕ, zero, suc, Bool, true, false, List, [], ◌∷◌, length, map, Option, Some, None, Ok, Err, refl, sym, ap, ◌∙◌, subst}
+use Rattle.std.specs.Prelude.{ℤ, is_some, slice_get, Result as OkOr}
+use Rattle.ss_base.specs.declared.line.Line.{Line}
+use Rattle.ss_base.specs.declared.fault.FaultKind.{FaultKind}
+use Rattle.ss_base.specs.declared.value.Value.{Value}
+use Rattle.ss_base.specs.declared.layout.Mode.{Mode}
+use Rattle.ss_base.specs.declared.layout.Layout.{Layout}
+use Rattle.ss_input.specs.Words.{Given, value_given}
+use Rattle.ss_records.specs.State.{State, value_in, known_in, created, is_made, not_made}
+use Rattle.ss_resolved.specs.declared.resolved.Variable.{Variable}
+use Rattle.ss_resolved.specs.declared.resolved.Variable.TheVariants.{Global, Local}
+use Rattle.ss_resolved.specs.declared.resolved.Expression.{Expression, Constant, Fetch, Signed', Sum', Product', Applied', Absolute', Attribute', Made, Row_of-Expression, end_of-Expression, more_of-Expression, Row_of-Expression-Sum-1-2, end_of-Expression-Sum-1-2, more_of-Expression-Sum-1-2}
+use Rattle.ss_resolved.specs.declared.resolved.Test.{Test}
+use Rattle.ss_resolved.specs.declared.resolved.Test.TheVariants.{Compare, DataEnded}
+use Rattle.ss_resolved.specs.declared.resolved.Conjunction.{Conjunction}
+use Rattle.ss_resolved.specs.declared.resolved.Guard.{Guard}
+use Rattle.ss_resolved.specs.declared.resolved.PhraseKind.{PhraseKind}
+use Rattle.ss_resolved.specs.declared.resolved.PhraseKind.TheVariants.{With as WithPhrase, Unless as UnlessPhrase, While as WhilePhrase, Until as UntilPhrase}
+use Rattle.ss_resolved.specs.declared.resolved.Phrase.{Phrase}
+use Rattle.ss_resolved.specs.declared.resolved.Range.{Range}
+use Rattle.ss_resolved.specs.declared.resolved.Place.{Place}
+use Rattle.ss_resolved.specs.declared.resolved.Place.TheVariants.{Variable as PlainVariable, Attribute as AttributePlace, Count}
+use Rattle.ss_resolved.specs.declared.resolved.Target.{Target}
+use Rattle.ss_resolved.specs.declared.resolved.Counted.{Counted}
+use Rattle.ss_resolved.specs.declared.resolved.Section.{Section}
+use Rattle.ss_resolved.specs.declared.resolved.Statement.{Statement, Let, Change, Print, If', While', For', Find', Call, Return, Stop, Read, Skip, Create, CreateEvery, Destroy, Row_of-Statement, end_of-Statement, more_of-Statement}
+use Rattle.ss_resolved.specs.declared.resolved.Resolved.{Resolved}
+use Rattle.ss_resolved.specs.Lines.{lines_of}
+use Rattle.ss_code.specs.declared.instruction.Operator.TheVariants.{Times, Distance}
+use Rattle.ss_code.specs.Layouts.{SameLayout, Said}
+use Rattle.ss_code.specs.Store.{Store, World, if_ok, zero_value, number_of, fetched, assigned, computed, printed, related, step_of, is_within, item_after, empty_lines, fresh, yielded}
+use Rattle.ss_code.specs.Entities.{class_at, field_at, has_numbers, has_indices, if_so, turned, with_heap, born, known, attribute, fitted, if_field, with_attribute, unless_made, counted, made_all, without}
+use Rattle.ss_code.specs.Meaning.{Exit, Returned, Stopped, Faulted, OutOfTicks, Outcome, WentOn, Left, Part, and_then, look, looked, assign, send, operator_of, operator_for, value, sum_from, product_from, values, firsts, both, either, test_holds, all_hold, some_hold, holds, passes, all_pass, tick_from, take_tick, choose, turns, Turn, GoesOn, EndsLoop, IsFound, phrase, phrases, after_turn, items, step_value, bounds, over_range, given_by, take_word, stored, change, Spot, InVariable, InAttribute, InCount, spot_of, held, written, give_to, reads, assign_each, born_by, create, create_every, Calls, effect, effects, body, with_locals, come_back, routine_body, calls, run_of, first_world, meaning}
+use Rattle.ss_code.specs.Machine.{Code}
+use Rattle.ss_code.specs.Translation.{code_of}
+use Rattle.ss_code.specs.Running.{Ends, Behaves}
+use Rattle.ss_code.proofs.Whole.{behaves_so}
+use Rattle.ss_code.proofs.Alike.{nones, moved_state, Carried, there_same, numbers_same, indices_same, field_same, known_same, value_same, assigned_same, CarriedPair, created_same, created_all_same, destroyed_same}
+
+module _ (l : Layout) where
+  -- with the other layout
+  abbrev moved : Store → Store
+  moved s = record s { heap = moved_state l s.heap }
+
+  abbrev moved_world : World → World
+  moved_world w = record w { store = moved w.store }
+
+  abbrev Fits : Store → Type 0
+  Fits s = SameLayout s.heap.layout l
+
+  -- a look that finds the same
+  record Looks {A : Type 0} (f : Store → OkOr A FaultKind) : Type 0 where
+    pub by : (s : Store) → Fits s → f (moved s) ≡ f s
+
+  abbrev CarriedStore : OkOr Store FaultKind → OkOr Store FaultKind → Type 0
+  CarriedStore (Ok a) (Ok b) = (b ≡ moved a) × Fits a
+  CarriedStore (Ok a) (Err k) = ⊥
+  CarriedStore (Err j) (Ok b) = ⊥
+  CarriedStore (Err j) (Err k) = k ≡ j
+
+  -- a change that makes the same
+  record Changes (f : Store → OkOr Store FaultKind) : Type 0 where
+    pub by : (s : Store) → Fits s → CarriedStore (f s) (f (moved s))
+
+  -- two outcomes, the second with the other layout
+  abbrev CarriedOutcome : {A : Type 0} → Outcome A → Outcome A → Type 0
+  CarriedOutcome (WentOn a w) (WentOn b v) = (b ≡ a) × ((v ≡ moved_world w) × Fits w.store)
+  CarriedOutcome (WentOn a w) (Left e v) = ⊥
+  CarriedOutcome (Left e w) (WentOn b v) = ⊥
+  CarriedOutcome (Left e w) (Left f v) = (f ≡ e) × ((v ≡ moved_world w) × Fits w.store)
+
+  record Natural {A : Type 0} (m : Part A) : Type 0 where
+    pub by : (w : World) → Fits w.store → CarriedOutcome (m w) (m (moved_world w))
+
+  went : {A : Type 0} (a : A) → Natural (WentOn a)
+  went a = record { by = λ w fit. (refl, (refl, fit)) }
+
+  leaves : {A : Type 0} (e : Exit) → Natural {A = A} (Left e)
+  leaves e = record { by = λ w fit. (refl, (refl, fit)) }
+
+  outcomes : {A B : Type 0} (o o' : Outcome A) (f : A → Part B) → CarriedOutcome o o' → ((a : A) → Natural (f a)) → CarriedOutcome (and_then o f) (and_then o' f)
+  outcomes (WentOn a w) (WentOn b v) f c h =
+      subst (λ b. CarriedOutcome (f a w) (f b v)) (sym c.0) (subst (λ v. CarriedOutcome (f a w) (f a v)) (sym c.1.0) ((h a).by w c.1.1))
+  outcomes (WentOn a w) (Left e v) f c h = absurd c
+  outcomes (Left e w) (WentOn b v) f c h = absurd c
+  outcomes (Left e w) (Left g v) f c h = c
+
+  then_so : {A B : Type 0} {m : Part A} {f : A → Part B} → Natural m → ((a : A) → Natural (f a)) → Natural (λ w. and_then (m w) f)
+  then_so {m = m} {f = f} n h = record { by = λ w fit. outcomes (m w) (m (moved_world w)) f (n.by w fit) h }
+
+  look_so : {A : Type 0} (line : Line) {f : Store → OkOr A FaultKind} → Looks f → Natural (look line f)
+  look_so {A} line {f} h = record { by = λ w fit. subst (λ r. CarriedOutcome (looked line (f w.store) w) (looked line r (moved_world w))) (sym (h.by w.store fit)) (sides (f w.store) w fit) }
+    where
+      sides : (r : OkOr A FaultKind) (w : World) → Fits w.store → CarriedOutcome (looked line r w) (looked line r (moved_world w))
+      sides (Ok a) w fit = (refl, (refl, fit))
+      sides (Err k) w fit = (refl, (refl, fit))
+
+  change_so : (line : Line) {f : Store → OkOr Store FaultKind} → Changes f → Natural (change line f)
+  change_so line {f} h = record { by = λ w fit. sides (f w.store) (f (moved w.store)) w fit (h.by w.store fit) }
+    where
+      sides : (r q : OkOr Store FaultKind) (w : World) → Fits w.store → CarriedStore r q → CarriedOutcome (stored line r w) (stored line q (moved_world w))
+      sides (Ok a) (Ok b) w fit c = (refl, (ap (λ (s : Store). let v : World = record { store = s; report = w.report; ticks = w.ticks } in v) c.0, c.1))
+      sides (Ok a) (Err k) w fit c = absurd c
+      sides (Err j) (Ok b) w fit c = absurd c
+      sides (Err j) (Err k) w fit c = (ap (λ k. Faulted k line) c, (refl, fit))
+
+  assign_so : (x : Variable) (v : Value) → Natural (assign x v)
+  assign_so (Global k) v = record { by = λ w fit. (refl, (refl, fit)) }
+  assign_so (Local k) v = record { by = λ w fit. (refl, (refl, fit)) }
+
+  send_so : (bytes : List ℕ) → Natural (send bytes)
+  send_so bytes = record { by = λ w fit. (refl, (refl, fit)) }
+
+  choose_so : {A : Type 0} (b : Bool) {m n : Part A} → Natural m → Natural n → Natural (choose b m n)
+  choose_so true h k = record { by = λ w fit. h.by w fit }
+  choose_so false h k = record { by = λ w fit. k.by w fit }
+
+  tick_so : {A : Type 0} {go : Part A} → Natural go → Natural (take_tick go)
+  tick_so {A} {go} h = record { by = λ w fit. sides w.ticks w fit }
+    where
+      sides : (t : ℕ) (w : World) → Fits w.store → CarriedOutcome (tick_from t go w) (tick_from t go (moved_world w))
+      sides zero w fit = (refl, (refl, fit))
+      sides (suc t) w fit = h.by (record w { ticks = t }) fit
+
+  -- one look after another
+  ok_same : {A B : Type 0} (r q : OkOr A FaultKind) (f g : A → OkOr B FaultKind) → q ≡ r → ((a : A) → g a ≡ f a) → if_ok q g ≡ if_ok r f
+  ok_same {A} {B} r q f g e h = subst (λ q. if_ok q g ≡ if_ok r f) (sym e) (sides r)
+    where
+      sides : (r : OkOr A FaultKind) → if_ok r g ≡ if_ok r f
+      sides (Ok a) = h a
+      sides (Err k) = refl
+
+  -- ## Entities
+
+  known_so : (class : ℕ) (x : Value) (s : Store) → Fits s → known class x (moved s) ≡ known class x s
+  known_so class x s fit = ap (λ b. if_so b (known_in (moved_state l s.heap) class (number_of x))) (there_same l s.heap fit class) ∙ ap (if_so (is_some (class_at s.heap class))) (known_same l s.heap fit class (number_of x))
+
+  attribute_so : (class field : ℕ) (x : Value) (s : Store) → Fits s → attribute class field x (moved s) ≡ attribute class field x s
+  attribute_so class field x s fit = ok_same (known class x s) (known class x (moved s)) _ _ (known_so class x s fit)
+      (λ u. ap (λ o. if_so (is_some o) (value_in (moved_state l s.heap) class field (number_of x))) (field_same l s.heap fit class field) ∙ ap (if_so (is_some (field_at s.heap class field))) (value_same l s.heap fit class field (number_of x)))
+
+  heap_so : (s : Store) (r q : OkOr State FaultKind) → Carried l r q → CarriedStore (turned (with_heap s) r) (turned (with_heap (moved s)) q)
+  heap_so s (Ok a) (Ok b) c = (ap (with_heap s) c.0, c.1)
+  heap_so s (Ok a) (Err k) c = absurd c
+  heap_so s (Err j) (Ok b) c = absurd c
+  heap_so s (Err j) (Err k) c = c
+
+  -- a change behind a look
+  ok_carried : {A : Type 0} (r q : OkOr A FaultKind) (f g : A → OkOr Store FaultKind) → q ≡ r → ((a : A) → CarriedStore (f a) (g a)) → CarriedStore (if_ok r f) (if_ok q g)
+  ok_carried {A} r q f g e h = subst (λ q. CarriedStore (if_ok r f) (if_ok q g)) (sym e) (sides r)
+    where
+      sides : (r : OkOr A FaultKind) → CarriedStore (if_ok r f) (if_ok r g)
+      sides (Ok a) = h a
+      sides (Err k) = refl
+
+  if_carried : (b : Bool) (r q : OkOr Store FaultKind) → CarriedStore r q → CarriedStore (if_so b r) (if_so b q)
+  if_carried true r q c = c
+  if_carried false r q c = refl
+
+  field_carried : (o : Option Mode) (f g : Mode → OkOr Store FaultKind) → ((m : Mode) → CarriedStore (f m) (g m)) → CarriedStore (if_field o f) (if_field o g)
+  field_carried None f g h = refl
+  field_carried (Some m) f g h = h m
+
+  with_attribute_so : (class field : ℕ) (x v : Value) → Changes (with_attribute class field x v)
+  with_attribute_so class field x v = record {
+    by = λ s fit. ok_carried (known class x s) (known class x (moved s)) _ _ (known_so class x s fit) (λ u.
+        let f = λ (mode : Mode). turned (with_heap s) (Rattle.ss_records.specs.State.assigned s.heap class field (number_of x) (fitted mode v)) in
+        let g = λ (mode : Mode). turned (with_heap (moved s)) (Rattle.ss_records.specs.State.assigned (moved_state l s.heap) class field (number_of x) (fitted mode v)) in
+        subst (λ o. CarriedStore (if_field (field_at s.heap class field) f) (if_field o g)) (sym (field_same l s.heap fit class field))
+        (field_carried (field_at s.heap class field) f g (λ mode. heap_so s _ _ (assigned_same l s.heap fit class field (number_of x) (fitted mode v)))));
+  }
+
+  counted_so : (class number : ℕ) (v : Value) → Changes (counted class number v)
+  counted_so class number v = record { by = λ s fit. sides (is_made s.heap class) (assigned (Global number) v s) fit }
+    where
+      sides : (b : Bool) (s : Store) → Fits s → CarriedStore (unless_made b s) (unless_made b (moved s))
+      sides true s fit = refl
+      sides false s fit = (refl, fit)
+
+  made_all_so : (class number : ℕ) → Changes (made_all class number)
+  made_all_so class number = record {
+    by = λ s fit.
+        let n = number_of (fetched (Global number) s) in
+        let q = turned (with_heap (moved s)) (Rattle.ss_records.specs.State.created_all (moved_state l s.heap) class n) in
+        subst (λ b. CarriedStore (made_all class number s) (if_so b q)) (sym (indices_same l s.heap fit class))
+        (if_carried (has_indices (class_at s.heap class)) _ q (heap_so s _ _ (created_all_same l s.heap fit class n)));
+  }
+
+  without_so : (class : ℕ) (x : Value) → Changes (without class x)
+  without_so class x = record {
+    by = λ s fit.
+        let q = turned (with_heap (moved s)) (Rattle.ss_records.specs.State.destroyed (moved_state l s.heap) class (number_of x)) in
+        subst (λ b. CarriedStore (without class x s) (if_so b q)) (sym (numbers_same l s.heap fit class))
+        (if_carried (has_numbers (class_at s.heap class)) _ q (heap_so s _ _ (destroyed_same l s.heap fit class (number_of x))));
+  }
+
+  create_so : (line : Line) (class : ℕ) → Natural (create line class)
+  create_so line class = record {
+    by = λ w fit.
+        let h = w.store.heap in
+        subst (λ b. CarriedOutcome (create line class w) (born_by line (if_so b (turned (born (moved w.store)) (created (moved_state l h) class))) (moved_world w))) (sym (numbers_same l h fit class))
+        (sides (has_numbers (class_at h class)) (created h class) (created (moved_state l h) class) w fit (created_same l h fit class));
+  }
+    where
+      sides : (b : Bool) (r q : OkOr (ℤ × State) FaultKind) (w : World) (fit : Fits w.store) → CarriedPair l w.store.heap fit r q → CarriedOutcome (born_by line (if_so b (turned (born w.store) r)) w) (born_by line (if_so b (turned (born (moved w.store)) q)) (moved_world w))
+      sides false r q w fit c = (refl, (refl, fit))
+      sides true (Ok a) (Ok b) w fit c = (ap Rattle.ss_base.specs.declared.value.Value.TheVariants.Whole c.0, (ap (λ (h : State). let v : World = record { store = with_heap w.store h; report = w.report; ticks = w.ticks } in v) c.1.0, c.1.1))
+      sides true (Ok a) (Err k) w fit c = absurd c
+      sides true (Err j) (Ok b) w fit c = absurd c
+      sides true (Err j) (Err k) w fit c = (ap (λ k. Faulted k line) c, (refl, fit))
+
+  -- ## Values
+
+  fetched_so : (x : Variable) (s : Store) → fetched x (moved s) ≡ fetched x s
+  fetched_so (Global k) s = refl
+  fetched_so (Local k) s = refl
+
+  mutual
+    value_so : (e : Expression) (s : Store) → Fits s → value e (moved s) ≡ value e s
+    value_so (Constant v) s fit = refl
+    value_so (Fetch x) s fit = ap Ok (fetched_so x s)
+    value_so (Signed' sign p e) s fit = ap (λ r. if_ok r (computed (operator_of sign) zero_value)) (value_so e s fit)
+    value_so (Sum' p e h terms) s fit = ok_same (value e s) (value e (moved s)) _ _ (value_so e s fit) (λ x. sum_so terms x s fit)
+    value_so (Product' p e h factors) s fit = ok_same (value e s) (value e (moved s)) _ _ (value_so e s fit) (λ x. product_so factors x s fit)
+    value_so (Applied' function p a q b) s fit = ok_same (value a s) (value a (moved s)) _ _ (value_so a s fit) (λ x. ap (λ r. if_ok r (computed (operator_for function) x)) (value_so b s fit))
+    value_so (Absolute' p e) s fit = ap (λ r. if_ok r (λ x. computed Distance x zero_value)) (value_so e s fit)
+    value_so (Attribute' class field p e) s fit = ok_same (value e s) (value e (moved s)) _ _ (value_so e s fit) (λ x. attribute_so class field x s fit)
+    value_so (Made class) s fit = refl
+
+    sum_so : {m : _} (terms : Row_of-Expression-Sum-1-2 m) (x : Value) (s : Store) → Fits s → sum_from x terms (moved s) ≡ sum_from x terms s
+    sum_so end_of-Expression-Sum-1-2 x s fit = refl
+    sum_so (more_of-Expression-Sum-1-2 sign e rest) x s fit =
+        ok_same (value e s) (value e (moved s)) _ _ (value_so e s fit) (λ y. ok_same (computed (operator_of sign) x y) (computed (operator_of sign) x y) _ _ refl (λ z. sum_so rest z s fit))
+
+    product_so : {m : _} (factors : Row_of-Expression m) (x : Value) (s : Store) → Fits s → product_from x factors (moved s) ≡ product_from x factors s
+    product_so end_of-Expression x s fit = refl
+    product_so (more_of-Expression e rest) x s fit =
+        ok_same (value e s) (value e (moved s)) _ _ (value_so e s fit) (λ y. ok_same (computed Times x y) (computed Times x y) _ _ refl (λ z. product_so rest z s fit))
+
+  values_so : (es : List Expression) (s : Store) → Fits s → values es (moved s) ≡ values es s
+  values_so [] s fit = refl
+  values_so (e ∷ es) s fit =
+      ok_same (value e s) (value e (moved s)) _ _ (value_so e s fit) (λ v. ap (λ r. if_ok r (λ vs. Ok (v ∷ vs))) (values_so es s fit))
+
+  test_so : (t : Test) (s : Store) → Fits s → test_holds t (moved s) ≡ test_holds t s
+  test_so (Compare left relation right) s fit =
+      ok_same (value left s) (value left (moved s)) _ _ (value_so left s fit) (λ x. ap (λ r. if_ok r (λ y. Ok (related relation x y))) (value_so right s fit))
+  test_so (DataEnded negated) s fit = refl
+
+  tests_so : (ts : List Test) (s : Store) → Fits s → all_hold ts (moved s) ≡ all_hold ts s
+  tests_so [] s fit = refl
+  tests_so (t ∷ ts) s fit = ok_same (test_holds t s) (test_holds t (moved s)) _ _ (test_so t s fit) (λ b. ap (both b) (tests_so ts s fit))
+
+  some_so : (cs : List Conjunction) (s : Store) → Fits s → some_hold cs (moved s) ≡ some_hold cs s
+  some_so [] s fit = refl
+  some_so (c ∷ cs) s fit = ok_same (all_hold c.tests.items s) (all_hold c.tests.items (moved s)) _ _ (tests_so c.tests.items s fit) (λ b. ap (either b) (some_so cs s fit))
+
+  guards_so : (gs : List Guard) (s : Store) → Fits s → all_pass gs (moved s) ≡ all_pass gs s
+  guards_so [] s fit = refl
+  guards_so (g ∷ gs) s fit = ok_same (holds g.condition s) (holds g.condition (moved s)) _ _ (some_so g.condition.alternatives.items s fit) (λ b. ap (both (passes g.kind b)) (guards_so gs s fit))
+
+  step_so : (e : Option Expression) (s : Store) → Fits s → step_value e (moved s) ≡ step_value e s
+  step_so None s fit = refl
+  step_so (Some e) s fit = value_so e s fit
+
+  bounds_so : (r : Range) (s : Store) → Fits s → bounds r (moved s) ≡ bounds r s
+  bounds_so r s fit =
+      ok_same (value r.first s) (value r.first (moved s)) _ _ (value_so r.first s fit) (λ x.
+      ok_same (value r.limit s) (value r.limit (moved s)) _ _ (value_so r.limit s fit) (λ y.
+      ap (λ o. if_ok o (λ z. if_ok (step_of z) (λ z. Ok (record { first = x; limit = y; step = z })))) (step_so r.step s fit)))
+
+  -- ## Loops
+
+  turns_so : (n : ℕ) (line : Line) (gs : List Guard) (m : Part (Unit {0})) → Natural m → Natural (turns n line gs m)
+  turns_so zero line gs m h = leaves OutOfTicks
+  turns_so (suc n) line gs m h =
+      tick_so (then_so h (λ u. then_so (look_so line (record { by = λ s fit. guards_so gs s fit })) (λ b. choose_so b (turns_so n line gs m h) (went tt))))
+
+  phrase_so : (kind : PhraseKind) (b : Bool) (more : Part Turn) → Natural more → Natural (phrase kind b more)
+  phrase_so WithPhrase b more h = choose_so b h (went GoesOn)
+  phrase_so UnlessPhrase b more h = choose_so b (went GoesOn) h
+  phrase_so WhilePhrase b more h = choose_so b h (went EndsLoop)
+  phrase_so UntilPhrase b more h = choose_so b (went EndsLoop) h
+
+  phrases_so : (line : Line) (ps : List Phrase) (m : Part Turn) → Natural m → Natural (phrases line ps m)
+  phrases_so line [] m h = record { by = λ w fit. h.by w fit }
+  phrases_so line (p ∷ ps) m h =
+      then_so (look_so line (record { by = λ s fit. some_so p.condition.alternatives.items s fit })) (λ b. phrase_so p.kind b (phrases line ps m) (phrases_so line ps m h))
+
+  after_so : (t : Turn) (next : Option Value) (more : Value → Part Bool) → ((v : Value) → Natural (more v)) → Natural (after_turn t next more)
+  after_so GoesOn None more h = went false
+  after_so GoesOn (Some v) more h = h v
+  after_so EndsLoop next more h = went false
+  after_so IsFound next more h = went true
+
+  items_so : (n : ℕ) (x : Variable) (limit step : Value) (m : Part Turn) → Natural m → (v : Value) → Natural (items n x limit step m v)
+  items_so zero x limit step m h v = leaves OutOfTicks
+  items_so (suc n) x limit step m h v =
+      tick_so (then_so (assign_so x v) (λ u. then_so h (λ t. after_so t (item_after limit step v) (items n x limit step m) (λ d. items_so n x limit step m h d))))
+
+  range_so : (n : ℕ) (line : Line) (r : Range) (m : Part Turn) → Natural m → Natural (over_range n line r m)
+  range_so n line r m h =
+      then_so (look_so line (record { by = λ s fit. bounds_so r s fit })) (λ b. choose_so (is_within b.first b.limit) (items_so n r.variable b.limit b.step m h b.first) (went false))
+
+  -- ## Targets
+
+  word_so : (line : Line) (mode : Mode) → Natural (take_word line mode)
+  word_so line mode = record { by = λ w fit. sides (value_given mode w.store.input) w fit }
+    where
+      sides : (r : OkOr (Given Value) FaultKind) (w : World) → Fits w.store → CarriedOutcome (given_by line r w) (given_by line r (moved_world w))
+      sides (Ok g) w fit = (refl, (refl, fit))
+      sides (Err k) w fit = (refl, (refl, fit))
+
+  spot_so : (t : Place) → Looks (spot_of t)
+  spot_so (PlainVariable x) = record { by = λ s fit. refl }
+  spot_so (AttributePlace class field e) = record {
+    by = λ s fit. ok_same (value e s) (value e (moved s)) _ _ (value_so e s fit) (λ x. ap (λ r. if_ok r (λ u. Ok (InAttribute class field x))) (known_so class x s fit));
+  }
+  spot_so (Count class number) = record { by = λ s fit. refl }
+
+  held_so : (p : Spot) (s : Store) → Fits s → held p (moved s) ≡ held p s
+  held_so (InVariable x) s fit = ap Ok (fetched_so x s)
+  held_so (InAttribute class field x) s fit = attribute_so class field x s fit
+  held_so (InCount class number) s fit = refl
+
+  set_so : (x : Variable) (v : Value) → Changes (λ s. Ok (assigned x v s))
+  set_so (Global k) v = record { by = λ s fit. (refl, fit) }
+  set_so (Local k) v = record { by = λ s fit. (refl, fit) }
+
+  written_so : (p : Spot) (v : Value) → Changes (written p v)
+  written_so (InVariable x) v = set_so x v
+  written_so (InAttribute class field x) v = with_attribute_so class field x v
+  written_so (InCount class number) v = counted_so class number v
+
+  give_so : (line : Line) (t : Place) (m : Part Value) → Natural m → Natural (give_to line t m)
+  give_so line t m h = then_so (look_so line (spot_so t)) (λ p. then_so h (λ v. change_so line (written_so p v)))
+
+  reads_so : (line : Line) (ts : List Target) → Natural (reads line ts)
+  reads_so line [] = went tt
+  reads_so line (t ∷ ts) = then_so (give_so line t.place (take_word line t.mode) (word_so line t.mode)) (λ u. reads_so line ts)
+
+  each_so : (line : Line) (ts : List Place) (vs : List Value) → Natural (assign_each line ts vs)
+  each_so line [] vs = went tt
+  each_so line (t ∷ ts) [] = went tt
+  each_so line (t ∷ ts) (v ∷ vs) = then_so (give_so line t (WentOn v) (went v)) (λ u. each_so line ts vs)
+
+  every_so : (line : Line) (cs : List Counted) → Natural (create_every line cs)
+  every_so line [] = went tt
+  every_so line (c ∷ cs) = then_so (change_so line (made_all_so c.class c.number)) (λ u. every_so line cs)
+
+  -- ## Statements
+
+  record NaturalCalls (h : Calls) : Type 0 where
+    pub by : (r : ℕ) (vs : List Value) (count : ℕ) → Natural (h r vs count)
+
+  module _ (h : Calls) (n : ℕ) (hs : NaturalCalls h) where
+    mutual
+      effect_so : (s : Statement) → Natural (effect h n s)
+      effect_so (Let line t e) = give_so line t (look line (value e)) (look_so line (record { by = λ s fit. value_so e s fit }))
+      effect_so (Change line sign t e) =
+          then_so (look_so line (record { by = λ s fit. value_so e s fit })) (λ y. then_so (look_so line (spot_so t)) (λ p.
+          then_so (look_so line (record { by = λ s fit. ap (λ r. if_ok r (λ x. computed (operator_of sign) x y)) (held_so p s fit) })) (λ v. change_so line (written_so p v))))
+      effect_so (Print line them pictures) = then_so (look_so line (record { by = λ s fit. values_so them.items s fit })) (λ vs. send_so (printed (lines_of pictures.items) vs))
+      effect_so (If' line c p a q b) = then_so (look_so line (record { by = λ s fit. some_so c.alternatives.items s fit })) (λ t. choose_so t (effects_so a) (effects_so b))
+      effect_so (While' line guards p a) =
+          then_so (look_so line (record { by = λ s fit. guards_so guards.items s fit })) (λ t. choose_so t (turns_so n line guards.items (effects h n a) (effects_so a)) (went tt))
+      effect_so (For' line r ps p a) =
+          then_so (range_so n line r _ (phrases_so line ps.items _ (then_so (effects_so a) (λ u. went GoesOn)))) (λ b. went tt)
+      effect_so (Find' line r ps p a q b) =
+          then_so (range_so n line r _ (phrases_so line ps.items _ (went IsFound))) (λ t. choose_so t (effects_so a) (effects_so b))
+      effect_so (Call line routine given yielding) =
+          then_so (look_so line (record { by = λ s fit. values_so given.items s fit })) (λ vs. then_so (hs.by routine vs (length yielding.items)) (λ us. each_so line yielding.items us))
+      effect_so Return = leaves Returned
+      effect_so Stop = leaves Stopped
+      effect_so (Read line targets) = reads_so line targets.items
+      effect_so (Skip line e) = then_so (look_so line (record { by = λ s fit. ap (λ r. if_ok r (λ v. empty_lines (number_of v))) (value_so e s fit) })) send_so
+      effect_so (Create line class t) = give_so line t (create line class) (create_so line class)
+      effect_so (CreateEvery line classes) = every_so line classes.items
+      effect_so (Destroy line class e) = then_so (look_so line (record { by = λ s fit. value_so e s fit })) (λ x. change_so line (without_so class x))
+
+      effects_so : {m : _} (r : Row_of-Statement m) → Natural (effects h n r)
+      effects_so end_of-Statement = went tt
+      effects_so (more_of-Statement s rest) = then_so (effect_so s) (λ u. effects_so rest)
+
+    body_so : (ss : List Statement) → Natural (body h n ss)
+    body_so [] = went tt
+    body_so (s ∷ ss) = then_so (effect_so s) (λ u. body_so ss)
+
+  -- ## Calls
+
+  back_so : (given count : ℕ) (ls : List Value) (o q : Outcome (Unit {0})) → CarriedOutcome o q → CarriedOutcome (come_back given count ls o) (come_back given count ls q)
+  back_so given count ls (WentOn u w) (WentOn v x) c = (ap (λ (y : World). yielded given count y.store.locals) c.1.0, (ap (with_locals ls) c.1.0, c.1.1))
+  back_so given count ls (WentOn u w) (Left e x) c = absurd c
+  back_so given count ls (Left e w) (WentOn v x) c = absurd c
+  back_so given count ls (Left e w) (Left f x) c =
+      subst (λ f. CarriedOutcome (come_back given count ls (Left e w)) (come_back given count ls (Left f x))) (sym c.0) (same e)
+    where
+      same : (e : Exit) → CarriedOutcome (come_back given count ls (Left e w)) (come_back given count ls (Left e x))
+      same Returned = (ap (λ (y : World). yielded given count y.store.locals) c.1.0, (ap (with_locals ls) c.1.0, c.1.1))
+      same Stopped = (refl, c.1)
+      same (Faulted kind line) = (refl, c.1)
+      same OutOfTicks = (refl, c.1)
+
+  routine_so : (o : Option Section) (h : Calls) (n : ℕ) → NaturalCalls h → (vs : List Value) (count : ℕ) → Natural (routine_body o h n vs count)
+  routine_so None h n hs vs count = went (yielded 0 count [])
+  routine_so (Some r) h n hs vs count = record {
+    by = λ w fit.
+        let u = with_locals (fresh (firsts r.locals.items) vs) w in
+        back_so (length vs) count w.store.locals (body h n r.body.items u) (body h n r.body.items (moved_world u)) ((body_so h n hs r.body.items).by u fit);
+  }
+
+  calls_so : (rs : List Section) (n : ℕ) → NaturalCalls (calls rs n)
+  calls_so rs zero = record { by = λ r vs count. leaves OutOfTicks }
+  calls_so rs (suc n) = record { by = λ r vs count. tick_so (routine_so (slice_get rs r) (calls rs n) n (calls_so rs n) vs count) }
+
+  run_so : (o q : Outcome (Unit {0})) → CarriedOutcome o q → run_of q ≡ run_of o
+  run_so (WentOn u w) (WentOn v x) c = ap (λ (y : World). run_of (WentOn tt y)) c.1.0
+  run_so (WentOn u w) (Left e x) c = absurd c
+  run_so (Left e w) (WentOn v x) c = absurd c
+  run_so (Left e w) (Left f x) c = ap (λ f. run_of (Left f x)) c.0 ∙ ap (λ (y : World). run_of (Left e y)) c.1.0
+
+  -- a program with the other layout means the same
+  pub meaning_so : (p : Resolved) (input : List ℕ) (n : ℕ) → SameLayout p.layout l → meaning (record p { layout = l }) input n ≡ meaning p input n
+  meaning_so p input n e =
+      let w = first_world p input n in
+      let m = body (calls p.routines.items n) n p.main.body.items in
+      let none : map not_made l.classes.items ≡ map not_made p.layout.classes.items = nones l.classes.items p.layout.classes.items (sym (ap (λ (s : Said). s.classes) e)) in
+      let first : first_world (record p { layout = l }) input n ≡ moved_world w =
+      ap (λ ps. let h : State = record { layout = l; records = []; permanents = ps; lists = [] } in let v : World = record w { store = record w.store { heap = h } } in v) none in
+      ap (λ w. run_of (m w)) first ∙ run_so (m w) (m (moved_world w)) ((body_so (calls p.routines.items n) n (calls_so p.routines.items n) p.main.body.items).by w e)
+
+-- code with a copy of the program's layout
+pub behaves_alike : (p : Resolved) (code : Code) (l : Layout) → SameLayout p.layout l → code ≡ code_of (record p { layout = l }) → Behaves p code
+behaves_alike p code l e q =
+    let b = behaves_so (record p { layout = l }) code q in
+    record {
+      ends = λ input n. let x = b.ends input n in (x.0, x.1 ∙ ap Ends (meaning_so l p input n e));
+      only = λ input n m r g. b.only input n m r g ∙ meaning_so l p input n e;
+      never_stuck = b.never_stuck;
+    }

@@ -1,0 +1,39 @@
+//! Layouts that say the same.
+
+ghost use Rattle.std.specs.Prelude.{◌≡◌, map, IfOk};
+ghost use Rattle.ss_code.specs.Layouts.{class_said, SameLayout};
+
+use ss_base::{ClassLayout, Layout};
+use std::alloc::{AllocError, Global};
+
+// The same class.
+fn copied_class(alloc: Global, class: &ClassLayout) -> Result<ClassLayout, AllocError>
+    ensures { IfOk result (λ c. class_said c ≡ class_said class.now) }
+{
+    let fields = Vec::from_slice(alloc, &class.fields)?;
+    Ok(ClassLayout {
+        kind: class.kind,
+        fields,
+    })
+}
+
+// The same classes.
+fn copied_classes(alloc: Global, classes: &[ClassLayout]) -> Result<Vec<ClassLayout>, AllocError>
+    ensures { IfOk result (λ cs. map class_said cs.items ≡ map class_said classes.now) }
+{
+    let mut copies = Vec::new(alloc);
+    for class in classes {
+        let copy = copied_class(alloc, class)?;
+        copies.push(copy)?;
+    }
+    Ok(copies)
+}
+
+/// A layout that says the same, in memory of its own. The error comes where memory was refused.
+pub fn copied(alloc: Global, layout: &Layout) -> Result<Layout, AllocError>
+    ensures { IfOk result (λ l. SameLayout layout.now l) }
+{
+    let classes = copied_classes(alloc, &layout.classes)?;
+    let sets = Vec::from_slice(alloc, &layout.sets)?;
+    Ok(Layout { classes, sets })
+}

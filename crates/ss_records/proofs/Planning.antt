@@ -1,0 +1,66 @@
+-- What a plan holds, and how far the words of a layout reach.
+use Rattle.std.proofs.Common.{◌≡◌, ℕ, zero, suc, ◌+◌, ◌*◌, ◌<◌, ◌≤◌, Bool, true, false, List, [], ◌∷◌, ◌++◌, length, Some, slice_get, refl, ap, ◌∙◌, arith}
+use Rattle.std.specs.Prelude.{cond, slice_index_or}
+use Rattle.std.proofs.lemmas.Option.{slice_get_within, get_or_from_slice_get}
+use Rattle.ss_base.specs.declared.layout.Owner.{Owner}
+use Rattle.ss_base.specs.declared.layout.Owner.TheVariants.{System, Class}
+use Rattle.ss_base.specs.declared.layout.SetLayout.{SetLayout}
+use Rattle.ss_base.specs.declared.layout.Layout.{Layout}
+use Rattle.ss_records.specs.declared.plan.Extent.{Extent}
+use Rattle.ss_records.specs.declared.plan.Bases.{Bases}
+use Rattle.ss_records.specs.State.{kind_of, is_notice}
+use Rattle.ss_records.specs.Shape.{links_start, owned_start, block_words, joins, owned_by, count_before, count_sets}
+use Rattle.ss_records.specs.Kept.{Small}
+use Rattle.ss_records.specs.Slotted.{member_base, owner_base}
+use Rattle.ss_records.specs.Plans.{extent_of, bases_of, IsPlan}
+use Rattle.ss_records.proofs.Filed.{get_there}
+
+one : (b : Bool) → cond b 1 0 ≤ 1
+one true = omega arith
+one false = omega arith
+
+pub few_sets : (p : SetLayout → Bool) (ts : List SetLayout) → count_sets p ts ≤ length ts
+few_sets p [] = omega arith
+few_sets p (t ∷ ts) = omega (arith, few_sets p ts, one (p t))
+
+few_before : (p : SetLayout → Bool) (ts : List SetLayout) (s : ℕ) → count_before p ts s ≤ length ts
+few_before p [] s = omega arith
+few_before p (t ∷ ts) zero = omega arith
+few_before p (t ∷ ts) (suc s) = omega (arith, few_before p ts s, one (p t))
+
+pub links_reach : (l : Layout) → Small l → (c : ℕ) → links_start l c ≤ 1048579
+links_reach l h c = omega (arith, h.fields c, one (is_notice (kind_of l c)))
+
+pub owned_reach : (l : Layout) → Small l → (o : Owner) → owned_start l o ≤ 4194307
+owned_reach l h System = omega arith
+owned_reach l h (Class c) = omega (arith, links_reach l h c, few_sets (joins c) l.sets.items, h.sets)
+
+pub member_reach : (l : Layout) → Small l → (s : ℕ) (t : SetLayout) → member_base l s t ≤ 4194307
+member_reach l h s t = omega (arith, links_reach l h t.member, few_before (joins t.member) l.sets.items s, h.sets)
+
+pub owner_reach : (l : Layout) → Small l → (s : ℕ) (t : SetLayout) → owner_base l s t ≤ 8388614
+owner_reach l h s t = omega (arith, owned_reach l h t.owner, few_before (owned_by t.owner) l.sets.items s, h.sets)
+
+pub get_front : {A : Type 0} (xs : List A) (x : A) (k : ℕ) → k < length xs → slice_get (xs ++ x ∷ []) k ≡ slice_get xs k
+get_front [] x k h = absurd (omega (arith, h))
+get_front (y ∷ ys) x zero h = refl
+get_front (y ∷ ys) x (suc k) h = get_front ys x k (omega (arith, h))
+
+pub get_behind : {A : Type 0} (xs : List A) (x : A) (k : ℕ) → k ≡ length xs → slice_get (xs ++ x ∷ []) k ≡ Some x
+get_behind [] x zero h = refl
+get_behind [] x (suc k) h = absurd (omega (arith, h))
+get_behind (y ∷ ys) x zero h = absurd (omega (arith, h))
+get_behind (y ∷ ys) x (suc k) h = get_behind ys x k (omega (arith, h))
+
+module _ (l : Layout) (cs : List Extent) (ss : List Bases) (n : ℕ) (P : IsPlan l cs ss n) where
+  pub class_within : (c : ℕ) → c < length l.classes.items → c < length cs
+  class_within c h = slice_get_within cs c (extent_of l c) (P.classes c h)
+
+  pub extent_is : (c : ℕ) (x : Extent) → c < length l.classes.items → x ≡ slice_index_or cs c x → x ≡ extent_of l c
+  extent_is c x h e = e ∙ get_or_from_slice_get cs c (extent_of l c) x (P.classes c h)
+
+  pub set_within : (s : ℕ) → s < length l.sets.items → s < length ss
+  set_within s h = let y = get_there l.sets.items s h in slice_get_within ss s (bases_of l s y.0) (P.sets s y.0 y.1)
+
+  pub bases_are : (s : ℕ) (t : SetLayout) (x : Bases) → slice_get l.sets.items s ≡ Some t → x ≡ slice_index_or ss s x → x ≡ bases_of l s t
+  bases_are s t x g e = e ∙ get_or_from_slice_get ss s (bases_of l s t) x (P.sets s t g)

@@ -1,0 +1,230 @@
+// Where the words of the blocks stand, worked out once.
+ghost use Rattle.std.specs.Prelude.{◌≡◌, ℕ, ◌+◌, ◌^◌, ◌<◌, ◌≤◌, length, slice_get, Some, MatchResult, ⊤};
+ghost use Rattle.ss_base.specs.declared.layout.SetLayout.{SetLayout};
+ghost use Rattle.ss_records.specs.State.{kind_of, modes_of, is_owner_class};
+ghost use Rattle.ss_records.specs.Shape.{values_end, links_start, owned_start, block_words, owned_by, count_sets};
+ghost use Rattle.ss_records.specs.Kept.{Small};
+ghost use Rattle.ss_records.specs.Slotted.{member_base, owner_base};
+ghost use Rattle.ss_records.specs.Plans.{AreExtents, AreBases};
+
+use crate::shape::{self, VALUES};
+use ss_base::{ClassKind, Layout, Mode, Owner};
+use std::alloc::{AllocError, Global};
+use std::marker::Model;
+
+/// A layout, with the places that follow from it for the words of each class and of each set, so that a call looks
+/// them up. A contract sees the layout.
+#[derive(Drop)]
+pub(crate) struct Plan {
+    layout: Layout,
+    classes: Vec<Extent>,
+    sets: Vec<Bases>,
+    system_sets: usize,
+}
+
+/// Where the links of a class and the words of the sets that it owns begin, and how many sets it owns.
+#[derive(Clone, Copy)]
+struct Extent {
+    links: usize,
+    owned: usize,
+    sets: usize,
+}
+
+/// Where the words of a set stand in a member, and in an owner.
+#[derive(Clone, Copy)]
+struct Bases {
+    member: usize,
+    owner: usize,
+}
+
+impl Model for Plan {
+    ghost use Rattle.ss_base.specs.declared.layout.Layout.{Layout};
+    ghost use Rattle.ss_records.specs.Plans.{IsPlan};
+
+    ghost Value = { Layout };
+
+    ghost view = { λ p. p.layout };
+
+    ghost invariant = { λ p. IsPlan p.layout p.classes.items p.sets.items p.system_sets };
+}
+
+impl Plan {
+    /// The plan of a layout that a heap can serve; of another one none, which is answered as want of memory.
+    pub(crate) fn new(alloc: Global, layout: Layout) -> Result<Plan, AllocError>
+        ensures { MatchResult result (λ plan. (plan ≡ layout) × Small layout) (λ _. ⊤) }
+    {
+        if !shape::is_small(&layout) {
+            return Err(AllocError);
+        }
+        let classes = all_extents(alloc, &layout)?;
+        let sets = all_bases(alloc, &layout)?;
+        let system_sets = shape::owned_count(&layout, Owner::System);
+        Ok(Plan {
+            layout,
+            classes,
+            sets,
+            system_sets,
+        })
+    }
+
+    /// The layout by itself.
+    pub(crate) fn layout(&self) -> &Layout
+        ensures { result.now ≡ self.now }
+    {
+        &self.layout
+    }
+
+    /// How many names of sets there are.
+    pub(crate) fn names(&self) -> usize
+        ensures { result ≡ length self.now.sets.items }
+    {
+        self.layout.sets.len()
+    }
+
+    /// The kind of a class.
+    pub(crate) fn kind(&self, class: usize) -> ClassKind
+        requires { class < length self.now.classes.items }
+        ensures { result ≡ kind_of self.now class }
+    {
+        self.layout.classes[class].kind
+    }
+
+    /// The mode of an attribute.
+    pub(crate) fn mode(&self, class: usize, field: usize) -> Mode
+        requires class { class < length self.now.classes.items }
+        requires field { field < length (modes_of self.now class) }
+        ensures { slice_get (modes_of self.now class) field ≡ Some result }
+    {
+        self.layout.classes[class].fields[field]
+    }
+
+    /// Where the values of a class end: there the time of a notice stands.
+    pub(crate) fn values_end(&self, class: usize) -> usize
+        requires { class < length self.now.classes.items }
+        ensures at { result ≡ values_end self.now class }
+        ensures bound { result ≤ 1048578 }
+    {
+        VALUES + self.layout.classes[class].fields.len()
+    }
+
+    /// Where the links of a class begin.
+    pub(crate) fn links_start(&self, class: usize) -> usize
+        requires { class < length self.now.classes.items }
+        ensures at { result ≡ links_start self.now class }
+        ensures bound { result ≤ 1048579 }
+    {
+        self.classes[class].links
+    }
+
+    /// Where the words of the sets that a class owns begin.
+    pub(crate) fn owned_start(&self, owner: Owner) -> usize
+        requires { (c : ℕ) → owner ≡ Owner.Class c → c < length self.now.classes.items }
+        ensures at { result ≡ owned_start self.now owner }
+        ensures bound { result ≤ 4194307 }
+    {
+        match owner {
+            Owner::System => VALUES,
+            Owner::Class(class) => self.classes[class].owned,
+        }
+    }
+
+    /// How many sets an owner has.
+    pub(crate) fn owned_count(&self, owner: Owner) -> usize
+        requires { (c : ℕ) → owner ≡ Owner.Class c → c < length self.now.classes.items }
+        ensures value { result ≡ count_sets (owned_by owner) self.now.sets.items }
+        ensures bound { result ≤ 1048576 }
+    {
+        match owner {
+            Owner::System => self.system_sets,
+            Owner::Class(class) => self.classes[class].sets,
+        }
+    }
+
+    /// How many words a block of a class has.
+    pub(crate) fn block_words(&self, owner: Owner) -> usize
+        requires { (c : ℕ) → owner ≡ Owner.Class c → c < length self.now.classes.items }
+        ensures size { result ≡ block_words self.now owner }
+        ensures bound { (2 ≤ result) × (result < 2 ^ 32) }
+    {
+        self.owned_start(owner) + 3 * self.owned_count(owner)
+    }
+
+    /// Where the words of a set stand in a member.
+    pub(crate) fn member_base(&self, s: usize) -> usize
+        requires { s < length self.now.sets.items }
+        ensures at { (t : SetLayout) → slice_get self.now.sets.items s ≡ Some t → result ≡ member_base self.now s t }
+        ensures bound { result ≤ 4194307 }
+    {
+        self.sets[s].member
+    }
+
+    /// Where the words of a set stand in an owner.
+    pub(crate) fn owner_base(&self, s: usize) -> usize
+        requires { s < length self.now.sets.items }
+        ensures at { (t : SetLayout) → slice_get self.now.sets.items s ≡ Some t → result ≡ owner_base self.now s t }
+        ensures bound { result ≤ 8388614 }
+    {
+        self.sets[s].owner
+    }
+
+    /// The class of the members of a set.
+    pub(crate) fn member_class(&self, s: usize) -> usize
+        requires { s < length self.now.sets.items }
+        ensures is { (t : SetLayout) → slice_get self.now.sets.items s ≡ Some t → result ≡ t.member }
+        ensures class { result < length self.now.classes.items }
+    {
+        shape::member_class(&self.layout, s)
+    }
+
+    /// The owner of a set.
+    pub(crate) fn owner_class(&self, s: usize) -> Owner
+        requires { s < length self.now.sets.items }
+        ensures is { (t : SetLayout) → slice_get self.now.sets.items s ≡ Some t → result ≡ t.owner }
+        ensures class { (c : ℕ) → result ≡ Owner.Class c → c < length self.now.classes.items }
+    {
+        shape::owner_class(&self.layout, s)
+    }
+
+    /// Whether a class owns the sets of a name.
+    pub(crate) fn is_owner(&self, s: usize, class: usize) -> bool
+        requires { s < length self.now.sets.items }
+        ensures { (t : SetLayout) → slice_get self.now.sets.items s ≡ Some t → result ≡ is_owner_class t.owner class }
+    {
+        match self.layout.sets[s].owner {
+            Owner::System => false,
+            Owner::Class(owner) => owner == class,
+        }
+    }
+}
+
+// The places of the words of each class.
+fn all_extents(alloc: Global, layout: &Layout) -> Result<Vec<Extent>, AllocError>
+    requires { Small layout.now }
+    ensures { MatchResult result (λ xs. AreExtents layout.now xs.items) (λ _. ⊤) }
+{
+    let mut extents = Vec::with_capacity(alloc, layout.classes.len())?;
+    for class in 0..layout.classes.len() {
+        let owner = Owner::Class(class);
+        extents.push(Extent {
+            links: shape::links_start(layout, class),
+            owned: shape::owned_start(layout, owner),
+            sets: shape::owned_count(layout, owner),
+        })?;
+    }
+    Ok(extents)
+}
+
+// The places of the words of each set.
+fn all_bases(alloc: Global, layout: &Layout) -> Result<Vec<Bases>, AllocError>
+    requires { Small layout.now }
+    ensures { MatchResult result (λ xs. AreBases layout.now xs.items) (λ _. ⊤) }
+{
+    let mut bases = Vec::with_capacity(alloc, layout.sets.len())?;
+    for s in 0..layout.sets.len() {
+        bases.push(Bases {
+            member: shape::member_base(layout, s),
+            owner: shape::owner_base(layout, s),
+        })?;
+    }
+    Ok(bases)
+}
