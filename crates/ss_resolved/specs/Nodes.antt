@@ -1,24 +1,37 @@
 -- The size of a tree.
 use Rattle.std.specs.Prelude.{ℕ, ◌+◌, List, [], ◌∷◌, length, Option, Some, None}
-use Rattle.ss_resolved.specs.declared.resolved.Expression.{Expression, Constant, Fetch, Signed', Sum', Product', Applied', Absolute', Attribute', Made, Row_of-Expression, end_of-Expression, more_of-Expression, Row_of-Expression-Sum-1-2, end_of-Expression-Sum-1-2, more_of-Expression-Sum-1-2}
+use Rattle.ss_resolved.specs.declared.resolved.Expression.{Expression, Constant, Fetch, Signed', Sum', Product', Applied', Absolute', Attribute', Made, Derived', Row_of-Expression, end_of-Expression, more_of-Expression, Row_of-Expression-Sum-1-2, end_of-Expression-Sum-1-2, more_of-Expression-Sum-1-2}
 use Rattle.ss_resolved.specs.declared.resolved.Test.{Test}
-use Rattle.ss_resolved.specs.declared.resolved.Test.TheVariants.{Compare, DataEnded}
+use Rattle.ss_resolved.specs.declared.resolved.Test.TheVariants.{Compare, DataEnded, Empty, Member}
 use Rattle.ss_resolved.specs.declared.resolved.Conjunction.{Conjunction}
 use Rattle.ss_resolved.specs.declared.resolved.Condition.{Condition}
 use Rattle.ss_resolved.specs.declared.resolved.Guard.{Guard}
 use Rattle.ss_resolved.specs.declared.resolved.Phrase.{Phrase}
 use Rattle.ss_resolved.specs.declared.resolved.Range.{Range}
+use Rattle.ss_resolved.specs.declared.resolved.Start.{Start}
+use Rattle.ss_resolved.specs.declared.resolved.Start.TheVariants as starts
+use Rattle.ss_resolved.specs.declared.resolved.Members.{Members}
+use Rattle.ss_resolved.specs.declared.resolved.Head.{Head}
+use Rattle.ss_resolved.specs.declared.resolved.Head.TheVariants as heads
+use Rattle.ss_resolved.specs.declared.resolved.Position.{Position}
+use Rattle.ss_resolved.specs.declared.resolved.Position.TheVariants as positions
 use Rattle.ss_resolved.specs.declared.resolved.Place.{Place}
 use Rattle.ss_resolved.specs.declared.resolved.Place.TheVariants.{Variable as PlainVariable, Attribute as AttributePlace, Count}
 use Rattle.ss_resolved.specs.declared.resolved.Target.{Target}
 use Rattle.ss_resolved.specs.declared.resolved.Section.{Section}
-use Rattle.ss_resolved.specs.declared.resolved.Statement.{Statement, Let, Change, Print, If', While', For', Find', Call, Return, Stop, Read, Skip, Create, CreateEvery, Destroy, Row_of-Statement, end_of-Statement, more_of-Statement}
+use Rattle.ss_resolved.specs.declared.resolved.Statement.{Statement, Let, Change, Print, If', While', For', Find', Call, Return, Stop, Read, Skip, Create, CreateEvery, Destroy, File, RemoveEnd, Remove, Row_of-Statement, end_of-Statement, more_of-Statement}
 use Rattle.ss_resolved.specs.declared.resolved.Resolved.{Resolved}
 
 -- a variable as a subscript counts as none, since it may be meant without being written
 abbrev pub unless_plain : Expression → ℕ → ℕ
 unless_plain (Fetch x) n = 0
 unless_plain e n = n
+
+-- the owner of a set counts as none where it may be meant without being written: by a variable, or as THE SYSTEM, which is 0
+abbrev pub unless_meant : Expression → ℕ → ℕ
+unless_meant (Fetch x) n = 0
+unless_meant (Constant v) n = 0
+unless_meant e n = n
 
 abbrev mutual
   -- one for each number, text, name, sign, operator and function in an expression
@@ -32,6 +45,7 @@ abbrev mutual
   expression_nodes (Absolute' p e) = expression_nodes e + 1
   expression_nodes (Attribute' class field p e) = 1 + unless_plain e (expression_nodes e)
   expression_nodes (Made class) = 1
+  expression_nodes (Derived' derived set p e) = 1 + unless_meant e (expression_nodes e)
 
   -- an operator before each further term; a sum of one term, which no text has, counts as one
   pub sum_nodes : {m : _} → Row_of-Expression-Sum-1-2 m → ℕ
@@ -54,10 +68,16 @@ abbrev pub expressions_nodes : List Expression → ℕ
 expressions_nodes [] = 0
 expressions_nodes (e ∷ es) = expression_nodes e + expressions_nodes es
 
+-- a set is a node, and so is what its owner is written with
+abbrev pub set_nodes : Expression → ℕ
+set_nodes owner = 1 + unless_meant owner (expression_nodes owner)
+
 -- a test is a node
 abbrev pub test_nodes : Test → ℕ
 test_nodes (Compare left relation right) = 1 + expression_nodes left + expression_nodes right
 test_nodes (DataEnded negated) = 1
+test_nodes (Empty negated set owner) = 1 + set_nodes owner
+test_nodes (Member negated set e owner) = 1 + expression_nodes e + set_nodes owner
 
 abbrev pub tests_nodes : List Test → ℕ
 tests_nodes [] = 0
@@ -114,6 +134,25 @@ ends_nodes e f = expression_nodes e + expression_nodes f
 abbrev pub range_nodes : Range → ℕ
 range_nodes r = 1 + ends_nodes r.first r.limit + step_nodes r.step
 
+abbrev pub start_nodes : Start → ℕ
+start_nodes starts.End = 0
+start_nodes (starts.From e) = expression_nodes e
+start_nodes (starts.After e) = expression_nodes e
+
+abbrev pub members_nodes : Members → ℕ
+members_nodes m = 1 + set_nodes m.owner + start_nodes m.start
+
+abbrev pub head_nodes : Head → ℕ
+head_nodes (heads.Numbers r) = range_nodes r
+head_nodes (heads.Members m) = members_nodes m
+
+abbrev pub position_nodes : Position → ℕ
+position_nodes positions.ByDiscipline = 0
+position_nodes positions.First = 0
+position_nodes positions.Last = 0
+position_nodes (positions.Before e) = expression_nodes e
+position_nodes (positions.After e) = expression_nodes e
+
 abbrev mutual
   -- a statement is a node, and so is each name and each picture in it
   pub statement_nodes : Statement → ℕ
@@ -122,8 +161,8 @@ abbrev mutual
   statement_nodes (Print l items pictures) = 1 + expressions_nodes items.items + length pictures.items
   statement_nodes (If' l c p a q b) = 1 + condition_nodes c + row_nodes a + row_nodes b
   statement_nodes (While' l guards p a) = 1 + guards_nodes guards.items + row_nodes a
-  statement_nodes (For' l r ps p a) = 1 + range_nodes r + phrases_nodes ps.items + row_nodes a
-  statement_nodes (Find' l r ps p a q b) = 1 + range_nodes r + phrases_nodes ps.items + row_nodes a + row_nodes b
+  statement_nodes (For' l h ps p a) = 1 + head_nodes h + phrases_nodes ps.items + row_nodes a
+  statement_nodes (Find' l h ps p a q b) = 1 + head_nodes h + phrases_nodes ps.items + row_nodes a + row_nodes b
   statement_nodes (Call l routine given yielding) = 2 + expressions_nodes given.items + places_nodes yielding.items
   statement_nodes Return = 1
   statement_nodes Stop = 1
@@ -132,6 +171,9 @@ abbrev mutual
   statement_nodes (Create l class into) = 1 + place_nodes into
   statement_nodes (CreateEvery l classes) = 1 + length classes.items
   statement_nodes (Destroy l class e) = 1 + expression_nodes e
+  statement_nodes (File l set e position owner) = 1 + expression_nodes e + position_nodes position + set_nodes owner
+  statement_nodes (RemoveEnd l set end target owner) = 1 + place_nodes target + set_nodes owner
+  statement_nodes (Remove l set e owner) = 1 + expression_nodes e + set_nodes owner
 
   pub row_nodes : {m : _} → Row_of-Statement m → ℕ
   row_nodes end_of-Statement = 0

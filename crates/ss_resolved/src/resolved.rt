@@ -1,6 +1,6 @@
 //! The tree of a program in which each name is replaced by what it stands for.
 
-use ss_base::{Layout, Line, Mode, Value};
+use ss_base::{Discipline, Layout, Line, Mode, Value};
 
 /// A variable: the place of a global one among all of them, or that of a local one in its routine.
 #[derive(Clone, Copy, PartialEq, Eq, Debug)]
@@ -22,6 +22,23 @@ pub enum Function {
     Remainder,
     Least,
     Greatest,
+}
+
+/// What is asked of the set that an entity owns, or of a member about the set of a name that it is in.
+#[derive(Clone, Copy, PartialEq, Eq, Debug)]
+pub enum Derived {
+    /// F.: the first member; 0 where there is none.
+    First,
+    /// L.: the last member; 0 where there is none.
+    Last,
+    /// N.: how many members there are.
+    Count,
+    /// P.: the member before this one; 0 where there is none.
+    Predecessor,
+    /// S.: the member behind this one; 0 where there is none.
+    Successor,
+    /// M.: 1 for a member of any set of the name, and 0 for none.
+    Membership,
 }
 
 /// What gives a value.
@@ -63,6 +80,12 @@ pub enum Expression {
     Made {
         class: u32,
     },
+    /// What is asked of the set of an owner, or of a member. The owner of a set of THE SYSTEM is 0.
+    Derived {
+        derived: Derived,
+        set: u32,
+        of: Box<Expression>,
+    },
 }
 
 /// How two values compare: numbers by their size, texts by their bytes.
@@ -87,6 +110,19 @@ pub enum Test {
     /// Whether no word of input is left or, if negated, whether one is.
     DataEnded {
         negated: bool,
+    },
+    /// Whether the set of an owner has no member or, if negated, whether it has one.
+    Empty {
+        negated: bool,
+        set: u32,
+        owner: Expression,
+    },
+    /// Whether an entity is in the set of an owner or, if negated, whether it is not.
+    Member {
+        negated: bool,
+        set: u32,
+        member: Expression,
+        owner: Expression,
     },
 }
 
@@ -146,6 +182,57 @@ pub struct Range {
     pub limit: Expression,
     /// What stands behind BY; 1 where nothing does.
     pub step: Option<Expression>,
+}
+
+/// Where a FOR over the members of a set begins.
+#[derive(Drop)]
+pub enum Start {
+    /// With the member that comes first.
+    End,
+    /// With this member.
+    From { member: Expression },
+    /// With the member that comes after this one.
+    After { member: Expression },
+}
+
+/// The members of a set that a FOR goes over, from the first one on or, in reverse, from the last one
+/// backwards.
+#[derive(Drop)]
+pub struct Members {
+    pub variable: Variable,
+    pub set: u32,
+    pub owner: Expression,
+    pub start: Start,
+    pub reverse: bool,
+}
+
+/// What a FOR goes over.
+#[derive(Drop)]
+pub enum Head {
+    /// Numbers.
+    Numbers { range: Range },
+    /// The members of a set.
+    Members { members: Members },
+}
+
+/// An end of a set.
+#[derive(Clone, Copy, PartialEq, Eq, Debug)]
+pub enum End {
+    First,
+    Last,
+}
+
+/// Where FILE puts a member.
+#[derive(Drop)]
+pub enum Position {
+    /// Where the discipline of the set says.
+    ByDiscipline,
+    First,
+    Last,
+    /// Directly before a member.
+    Before { member: Expression },
+    /// Directly behind a member.
+    After { member: Expression },
 }
 
 /// What a value is assigned to.
@@ -217,17 +304,17 @@ pub enum Statement {
         guards: Vec<Guard>,
         body: Vec<Statement>,
     },
-    /// A FOR over numbers.
+    /// A FOR.
     For {
         line: Line,
-        range: Range,
+        head: Head,
         phrases: Vec<Phrase>,
         body: Vec<Statement>,
     },
-    /// FIND THE FIRST CASE of a FOR over numbers: what follows where one was found, and where none was.
+    /// FIND THE FIRST CASE of a FOR: what follows where one was found, and where none was.
     Find {
         line: Line,
-        range: Range,
+        head: Head,
         phrases: Vec<Phrase>,
         found: Vec<Statement>,
         none: Vec<Statement>,
@@ -269,6 +356,29 @@ pub enum Statement {
         class: u32,
         entity: Expression,
     },
+    /// FILE: an entity becomes a member of the set of an owner.
+    File {
+        line: Line,
+        set: u32,
+        member: Expression,
+        position: Position,
+        owner: Expression,
+    },
+    /// REMOVE FIRST and REMOVE LAST: the member at an end of the set goes out of it and to the target.
+    RemoveEnd {
+        line: Line,
+        set: u32,
+        end: End,
+        into: Place,
+        owner: Expression,
+    },
+    /// REMOVE: a member goes out of the set.
+    Remove {
+        line: Line,
+        set: u32,
+        member: Expression,
+        owner: Expression,
+    },
 }
 
 /// MAIN or a routine: its variables in the order of their numbers, and its statements. The first
@@ -279,11 +389,12 @@ pub struct Section {
     pub body: Vec<Statement>,
 }
 
-/// A program: its classes and sets, its global variables and its routines in the order of their numbers,
-/// and MAIN.
+/// A program: its classes and sets, the discipline of each set, its global variables and its routines,
+/// all in the order of their numbers, and MAIN.
 #[derive(Drop)]
 pub struct Resolved {
     pub layout: Layout,
+    pub disciplines: Vec<Discipline>,
     pub globals: Vec<Mode>,
     pub routines: Vec<Section>,
     pub main: Section,
