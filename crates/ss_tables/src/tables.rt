@@ -153,9 +153,9 @@ impl Tables {
         Ok(made(alloc, facts, sayings, &program.preamble)?)
     }
 
-    /// Whether all forms of a program are served: a preamble of NORMALLY, of DEFINE of variables, and of permanent
-    /// and temporary entities with attributes; MAIN and routines, and in them no statement, test or loop on
-    /// sets or notices, no RESET, and neither TIME.V nor TIME.A.
+    /// Whether all forms of a program are served: a preamble of NORMALLY, of DEFINE, and of permanent and temporary
+    /// entities with attributes and sets; MAIN and routines, and in them no statement on notices, no RESET, and
+    /// neither TIME.V nor TIME.A.
     pub fn served(program: &Program) -> bool
         ensures { result ≡ served_program (view_program program.now) }
     {
