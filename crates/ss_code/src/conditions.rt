@@ -6,6 +6,7 @@ ghost use Rattle.ss_code.specs.Translation.{test_code, tests_code, some_code, co
 use crate::backward::Backward;
 use crate::emit::{emit_expression, operand, put};
 use crate::instruction::Instruction;
+use crate::members::emit_member;
 use ss_base::Line;
 use ss_resolved::resolved::{Condition, Conjunction, Guard, GuardKind, Phrase, PhraseKind, Test};
 use std::alloc::{AllocError, Global};
@@ -55,6 +56,42 @@ fn emit_test(
                 line,
             },
         ),
+        Test::Empty {
+            negated,
+            set,
+            owner,
+        } => {
+            emit_expression(code, line, None, owner)?;
+            put(
+                code,
+                Instruction::TestEmpty {
+                    negated: *negated,
+                    set: *set,
+                    owner: operand(owner),
+                    skip,
+                    line,
+                },
+            )
+        }
+        Test::Member {
+            negated,
+            set,
+            member,
+            owner,
+        } => {
+            emit_member(code, line, *set, member)?;
+            emit_expression(code, line, None, owner)?;
+            put(
+                code,
+                Instruction::TestMember {
+                    negated: *negated,
+                    set: *set,
+                    owner: operand(owner),
+                    skip,
+                    line,
+                },
+            )
+        }
     }
 }
 

@@ -14,6 +14,7 @@ pub mod instruction;
 pub mod laws;
 pub mod layouts;
 mod listing;
+mod members;
 mod statements;
 mod targets;
 #[cfg(test)]
