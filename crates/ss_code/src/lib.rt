@@ -15,6 +15,8 @@ pub mod laws;
 pub mod layouts;
 mod listing;
 mod members;
+#[cfg(test)]
+mod set_tests;
 mod statements;
 mod targets;
 #[cfg(test)]

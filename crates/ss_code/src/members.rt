@@ -1,7 +1,7 @@
 //! The instructions that work on sets.
 
 ghost use Rattle.std.specs.Prelude.{◌≡◌, ◌∷◌, ◌++◌, [], Bool, true, false, None, IsTrue, OnOk};
-ghost use Rattle.ss_code.specs.declared.instruction.Instruction.TheVariants.{FileOne, RemoveOne};
+ghost use Rattle.ss_code.specs.declared.instruction.Instruction.TheVariants.{FileOne, RemoveOne, TakeMember};
 ghost use Rattle.ss_code.specs.Translation.{operand_of, expression_code, is_plain, early_code, early_operand, member_code, owner_code, outset_code, pair_code, beside_code, file_code, end_code};
 
 use crate::emit::{emit_expression, operand, put};
@@ -280,5 +280,17 @@ pub(crate) fn emit_outset(
         }
         Start::From { member } => emit_begin_at(code, line, skip, members, false, member),
         Start::After { member } => emit_begin_at(code, line, skip, members, true, member),
+    }
+}
+
+/// The taking of a member.
+pub(crate) fn take_member(members: &Members) -> Instruction
+    ensures { result ≡ TakeMember members.now.reverse members.now.set members.now.variable }
+{
+    let reverse = members.reverse;
+    Instruction::TakeMember {
+        reverse,
+        set: members.set,
+        variable: members.variable,
     }
 }

@@ -9,7 +9,7 @@ ghost use Rattle.ss_code.specs.Translation.{step_code, bounds_code, range_code, 
 use crate::conditions::{emit_condition, emit_guards, emit_phrases, sum};
 use crate::emit::{emit_expression, emit_values, operand, put};
 use crate::instruction::{Destination, Instruction, Operand};
-use crate::members::{emit_file, emit_outset, emit_remove};
+use crate::members::{emit_file, emit_outset, emit_remove, take_member};
 use crate::targets::{
     emit_assigns, emit_change, emit_create, emit_creates, emit_let, emit_reads, emit_remove_end,
 };
@@ -146,25 +146,12 @@ fn emit_members(
 ) -> Result<(), AllocError>
     ensures { OnOk result (code.new.items ≡ code.old.items ++ members_code line members.now turn.items) }
 {
-    let length = turn.len();
-    emit_outset(code, line, length + 2, members)?;
-    put(
-        code,
-        Instruction::TakeMember {
-            reverse: members.reverse,
-            set: members.set,
-            variable: members.variable,
-        },
-    )?;
+    let set = members.set;
+    let back = turn.len() + 1;
+    emit_outset(code, line, back + 1, members)?;
+    put(code, take_member(members))?;
     code.append(&mut turn)?;
-    put(
-        code,
-        Instruction::NextMember {
-            set: members.set,
-            back: length + 1,
-            line,
-        },
-    )?;
+    put(code, Instruction::NextMember { set, back, line })?;
     put(code, Instruction::Forget)
 }
 
