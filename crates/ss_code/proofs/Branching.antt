@@ -6,23 +6,26 @@ use Rattle.ss_base.specs.declared.fault.FaultKind.{FaultKind}
 use Rattle.ss_base.specs.declared.value.Value.{Value}
 use Rattle.ss_resolved.specs.declared.resolved.Relation.{Relation}
 use Rattle.ss_resolved.specs.declared.resolved.Test.{Test}
-use Rattle.ss_resolved.specs.declared.resolved.Test.TheVariants.{Compare, DataEnded}
+use Rattle.ss_resolved.specs.declared.resolved.Test.TheVariants.{Compare, DataEnded, Empty, Member}
 use Rattle.ss_resolved.specs.declared.resolved.Conjunction.{Conjunction}
 use Rattle.ss_resolved.specs.declared.resolved.Condition.{Condition}
 use Rattle.ss_resolved.specs.declared.resolved.GuardKind.{GuardKind}
 use Rattle.ss_resolved.specs.declared.resolved.GuardKind.TheVariants.{While, Until}
 use Rattle.ss_resolved.specs.declared.resolved.Guard.{Guard}
 use Rattle.ss_code.specs.declared.instruction.Operand.{Operand}
-use Rattle.ss_code.specs.declared.instruction.Instruction.TheVariants.{Compare as CompareThem, TestData, Jump}
+use Rattle.ss_code.specs.declared.instruction.Instruction.TheVariants.{Compare as CompareThem, TestData, TestEmpty, TestMember, Jump}
 use Rattle.ss_input.specs.Words.{is_ended}
+use Rattle.ss_code.specs.declared.instruction.Instruction.{Instruction}
+use Rattle.ss_code.specs.Sets.{is_empty, is_in}
 use Rattle.ss_code.specs.Store.{World, related}
-use Rattle.ss_code.specs.Meaning.{Fault, if_ok, value, both, either, unless, test_holds, all_hold, some_hold, holds, passes, all_pass}
-use Rattle.ss_code.specs.Machine.{Frame, State, Code, To, Goes, with_operand, with_rest, branch, did}
-use Rattle.ss_code.specs.Translation.{operand_of, expression_code, test_code, tests_code, alternatives_code, some_code, condition_code, negated_code, guard_code, guards_code}
+use Rattle.ss_code.specs.Meaning.{Fault, if_ok, value, both, either, unless, member_value, test_holds, all_hold, some_hold, holds, passes, all_pass}
+use Rattle.ss_code.specs.Machine.{Frame, State, Code, To, Goes, act, is_due, with_top, with_operand, with_rest, branch, did}
+use Rattle.ss_code.specs.Translation.{operand_of, expression_code, member_code, test_code, tests_code, alternatives_code, some_code, condition_code, negated_code, guard_code, guards_code}
 use Rattle.ss_code.specs.Running.{Underway}
 use Rattle.ss_code.proofs.Steps.{HasAt, has_front, has_back, Reaches, here, reaches_on, core_of, at}
 use Rattle.ss_code.proofs.Parts.{told, told_join, told_moved, goes, rests}
-use Rattle.ss_code.proofs.Expressions.{Holds, shelved, holds as holds_value, expression_run}
+use Rattle.ss_code.proofs.Expressions.{Holds, shelved, holds as holds_value, untimed, expression_run}
+use Rattle.ss_code.proofs.Looking.{member_run}
 
 -- the end of a test's code, or past so many instructions where it does not hold
 abbrev pub aim : Bool → ℕ → ℕ → ℕ
@@ -56,15 +59,13 @@ module _ (code : Code) (l : Line) (frames : List Frame) (w : World) where
       ∙ branches (related relation x y) skip place stack above)
       here
 
-  looks_run : (negated : Bool) (skip place : ℕ) (stack : List Value) (r : OkOr Bool FaultKind) → is_ended w.store.input ≡ r → slice_get code.instructions place ≡ Some (TestData negated skip l) → Reaches code (at place stack frames w) (told l w (aimed (place + 1) skip stack) (if_ok r (λ b. Ok (unless negated b))))
-  looks_run negated skip place stack (Ok b) e has =
-      goes code (at place stack frames w) (aimed (place + 1) skip stack (unless negated b)) (TestData negated skip l) _ has
-      (ap (λ r. with_rest w.report w.ticks (did l r (λ b. branch (unless negated b) skip stack (core_of place stack frames w.store)))) e
-      ∙ branches (unless negated b) skip place stack stack)
-      here
-  looks_run negated skip place stack (Err kind) e has =
-      rests code (at place stack frames w) (TestData negated skip l) (Fault kind l) has
-      (ap (λ r. with_rest w.report w.ticks (did l r (λ b. branch (unless negated b) skip stack (core_of place stack frames w.store)))) e)
+  -- an instruction that looks whether something holds
+  tells : (i : Instruction) (negated : Bool) (skip place : ℕ) (stack above : List Value) (r : OkOr Bool FaultKind) → slice_get code.instructions place ≡ Some i → is_due i ≡ false → act code i (core_of place above frames w.store) ≡ did l r (λ b. branch (unless negated b) skip stack (core_of place above frames w.store)) → Reaches code (at place above frames w) (told l w (aimed (place + 1) skip stack) (if_ok r (λ b. Ok (unless negated b))))
+  tells i negated skip place stack above (Ok b) has free e =
+      goes code (at place above frames w) (aimed (place + 1) skip stack (unless negated b)) i _ has
+      (untimed code l frames w i (core_of place above frames w.store) _ _ free e (branches (unless negated b) skip place stack above)) here
+  tells i negated skip place stack above (Err kind) has free e =
+      rests code (at place above frames w) i (Fault kind l) has (untimed code l frames w i (core_of place above frames w.store) _ _ free e refl)
 
   pub test_run : (t : Test) (skip place end : ℕ) (stack : List Value) → HasAt code.instructions place (test_code l skip t) → place + length (test_code l skip t) ≡ end → Reaches code (at place stack frames w) (told l w (aimed end skip stack) (test_holds t w.store))
   test_run (Compare left relation right) skip place end stack has len =
@@ -80,7 +81,37 @@ module _ (code : Code) (l : Line) (frames : List Frame) (w : World) where
       (λ y q'. subst (λ k. Reaches code (at (place + length ca + length cb) (shelved (operand_of right) y (shelved (operand_of left) x stack)) frames w) (Underway (aimed k skip stack (related relation x y)))) len'
       (compares relation (operand_of left) (operand_of right) skip x y (place + length ca + length cb) stack (holds_value left x w.store q) (holds_value right y w.store q') (has_back code.instructions (place + length ca) cb tail has').0)))
   test_run (DataEnded negated) skip place end stack has len =
-      renamed (at place stack frames w) (place + 1) end skip stack (test_holds (DataEnded negated) w.store) len (looks_run negated skip place stack (is_ended w.store.input) refl has.0)
+      renamed (at place stack frames w) (place + 1) end skip stack (test_holds (DataEnded negated) w.store) len
+      (tells (TestData negated skip l) negated skip place stack stack (is_ended w.store.input) has.0 refl refl)
+  test_run (Empty negated set owner) skip place end stack has len =
+      let c = expression_code l None owner in
+      let tail = TestEmpty negated set (operand_of owner) skip l ∷ [] in
+      let mid = place + length c in
+      let len' : mid + 1 ≡ end = omega (arith, len, length-append c tail) in
+      told_join l w (at place stack frames w) (λ v. at mid (shelved (operand_of owner) v stack) frames w) (aimed end skip stack) (value owner w.store) (λ o. if_ok (is_empty set o w.store) (λ b. Ok (unless negated b)))
+      (expression_run code l frames w owner None place stack (has_front code.instructions place c tail has))
+      (λ o q.
+      let over = shelved (operand_of owner) o stack in
+      renamed (at mid over frames w) (mid + 1) end skip stack (if_ok (is_empty set o w.store) (λ b. Ok (unless negated b))) len'
+      (tells (TestEmpty negated set (operand_of owner) skip l) negated skip mid stack over (is_empty set o w.store) (has_back code.instructions place c tail has).0 refl
+      ((holds_value owner o w.store q).by stack (λ o rest. did l (is_empty set o w.store) (λ b. branch (unless negated b) skip rest (core_of mid over frames w.store))))))
+  test_run (Member negated set e owner) skip place end stack has len =
+      let front = member_code l set e in
+      let c = expression_code l None owner in
+      let tail = TestMember negated set (operand_of owner) skip l ∷ [] in
+      let p1 = place + length front in
+      let mid = p1 + length c in
+      let len' : mid + 1 ≡ end = omega (arith, len, length-append front (c ++ tail), length-append c tail) in
+      let has' = has_back code.instructions place front (c ++ tail) has in
+      told_join l w (at place stack frames w) (λ x. at p1 (x ∷ stack) frames w) (aimed end skip stack) (member_value set e w.store) (λ x. if_ok (value owner w.store) (λ o. if_ok (is_in set x o w.store) (λ b. Ok (unless negated b))))
+      (member_run code l frames w set e place p1 stack (has_front code.instructions place front (c ++ tail) has) refl)
+      (λ x q. told_join l w (at p1 (x ∷ stack) frames w) (λ v. at mid (shelved (operand_of owner) v (x ∷ stack)) frames w) (aimed end skip stack) (value owner w.store) (λ o. if_ok (is_in set x o w.store) (λ b. Ok (unless negated b)))
+      (expression_run code l frames w owner None p1 (x ∷ stack) (has_front code.instructions p1 c tail has'))
+      (λ o q'.
+      let over = shelved (operand_of owner) o (x ∷ stack) in
+      renamed (at mid over frames w) (mid + 1) end skip stack (if_ok (is_in set x o w.store) (λ b. Ok (unless negated b))) len'
+      (tells (TestMember negated set (operand_of owner) skip l) negated skip mid stack over (is_in set x o w.store) (has_back code.instructions p1 c tail has').0 refl
+      ((holds_value owner o w.store q').by (x ∷ stack) (λ o above. with_top above (λ x rest. did l (is_in set x o w.store) (λ b. branch (unless negated b) skip rest (core_of mid over frames w.store))))))))
 
   -- a second condition, which the first leads to where it holds, and past which it leads where it does not
   second : (b : Bool) (mid end size skip : ℕ) (stack : List Value) (r : OkOr Bool FaultKind) → mid + size ≡ end → Reaches code (at mid stack frames w) (told l w (aimed end skip stack) r) → Reaches code (aimed mid (size + skip) stack b) (told l w (aimed end skip stack) (both b r))

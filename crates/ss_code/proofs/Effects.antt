@@ -9,23 +9,26 @@ use Rattle.ss_base.specs.declared.value.Value.{Value}
 use Rattle.ss_resolved.specs.declared.resolved.Expression.{Expression}
 use Rattle.ss_resolved.specs.declared.resolved.Condition.{Condition}
 use Rattle.ss_resolved.specs.declared.resolved.Phrase.{Phrase}
-use Rattle.ss_resolved.specs.declared.resolved.Range.{Range}
-use Rattle.ss_resolved.specs.declared.resolved.Statement.{Statement, Let, Change, Print, If', While', For', Find', Call as CallRoutine, Return, Stop, Read, Skip as SkipLines, Create, CreateEvery, Destroy, Row_of-Statement, end_of-Statement, more_of-Statement}
+use Rattle.ss_resolved.specs.declared.resolved.Head.{Head}
+use Rattle.ss_resolved.specs.declared.resolved.Head.TheVariants as heads
+use Rattle.ss_resolved.specs.declared.resolved.Statement.{Statement, Let, Change, Print, If', While', For', Find', Call as CallRoutine, Return, Stop, Read, Skip as SkipLines, Create, CreateEvery, Destroy, File, RemoveEnd, Remove, Row_of-Statement, end_of-Statement, more_of-Statement}
 use Rattle.ss_code.specs.declared.instruction.Instruction.{Instruction}
-use Rattle.ss_code.specs.declared.instruction.Instruction.TheVariants.{Jump, Begin, Take, Next, Forget, Call, Leave, Halt, Skip as SkipThem, Print as PrintLines}
+use Rattle.ss_code.specs.declared.instruction.Instruction.TheVariants.{Jump, Begin, Take, Next, TakeMember, NextMember, Forget, Call, Leave, Halt, Skip as SkipThem, Print as PrintLines}
 use Rattle.ss_code.specs.Store.{Store, World, number_of, printed, empty_lines, yielded}
-use Rattle.ss_code.specs.Meaning.{Turn, Returned, Stopped, Fault, Ended, Outcome, WentOn, Left, Part, and_then, if_ok, look, looked, send, value, values, holds as condition_holds, choose, GoesOn, IsFound, phrases, over_range, then_nothing, Calls, with_locals, effect, effects, body}
+use Rattle.ss_code.specs.Meaning.{Turn, Returned, Stopped, Fault, Ended, Outcome, WentOn, Left, Part, and_then, if_ok, look, looked, send, value, values, holds as condition_holds, choose, GoesOn, IsFound, phrases, over, then_nothing, Calls, with_locals, effect, effects, body}
 use Rattle.ss_resolved.specs.Lines.{lines_of}
 use Rattle.ss_code.specs.Machine.{Frame, State, Code, sent, with_taken, Sends, next, with_rest}
-use Rattle.ss_code.specs.Translation.{operand_of, expression_code, values_code, condition_code, phrases_code, bounds_code, if_code, for_code, find_code, statement_code, statement_pictures, row_code, row_pictures, body_code, body_pictures}
+use Rattle.ss_code.specs.Translation.{operand_of, expression_code, values_code, condition_code, phrases_code, bounds_code, outset_code, if_code, for_code, find_code, statement_code, statement_pictures, row_code, row_pictures, body_code, body_pictures}
 use Rattle.ss_code.specs.Running.{Underway}
 use Rattle.ss_code.proofs.Steps.{HasAt, has_front, has_back, Reaches, here, reaches_on, core_of, at, left_to, arrive, join}
 use Rattle.ss_code.proofs.Parts.{Runs, same, done, onto, take_them, told, told_part, goes, rests, moved, IfWentOn, seq, seq_such, none}
 use Rattle.std.proofs.lemmas.List.{length-map}
 use Rattle.ss_code.specs.declared.instruction.Operand.{Operand}
 use Rattle.ss_code.proofs.Writing.{look_on, let_run, change_run, reads_run, create_run, creates_run, assigns_run, destroy_run}
+use Rattle.ss_code.proofs.Filing.{file_run, remove_run, remove_end_run}
 use Rattle.ss_code.proofs.Branching.{aimed, condition_run}
-use Rattle.ss_code.proofs.Looping.{Turns, leads, phrases_run, range_run, behind, while_run}
+use Rattle.ss_code.proofs.Walking.{over_run}
+use Rattle.ss_code.proofs.Looping.{Turns, leads, phrases_run, behind, while_run}
 use Rattle.ss_code.proofs.Expressions.{Holds, same_ok, shelved, holds, expression_run, values_run}
 
 drop_at : {A : Type 0} (all : List A) (place : ℕ) (i : A) → slice_get all place ≡ Some i → drop place all ≡ i ∷ drop (place + 1) all
@@ -140,28 +143,39 @@ module _ (code : Code) (n : ℕ) where
   }
 
   -- where the next item of a FOR is found, and the ends behind it
-  abbrev next_at : Line → Range → List Instruction → ℕ → ℕ
-  next_at l f turn place = place + length (bounds_code l f) + 1 + 1 + length turn
+  abbrev pub head_size : Line → Head → List Instruction → ℕ
+  head_size l (heads.Numbers f) turn = length (bounds_code l f) + 1
+  head_size l (heads.Members m) turn = length (outset_code l (length turn + 2) m m.start)
 
-  for_length : (l : Line) (f : Range) (turn : List Instruction) (place : ℕ) → place + length (for_code l f turn) ≡ next_at l f turn place + 2
-  for_length l f turn place = omega (arith, length-append (bounds_code l f) (Begin (length turn + 2) l ∷ (Take f.variable ∷ (turn ++ (Next (length turn + 1) ∷ Forget ∷ [])))), length-append turn (Next (length turn + 1) ∷ Forget ∷ []))
+  abbrev pub next_at : Line → Head → List Instruction → ℕ → ℕ
+  next_at l f turn place = place + head_size l f turn + 1 + length turn
 
-  forgets : (l : Line) (f : Range) (turn : List Instruction) (place : ℕ) → HasAt code.instructions place (for_code l f turn) → slice_get code.instructions (next_at l f turn place + 1) ≡ Some Forget
-  forgets l f turn place has =
+  pub for_length : (l : Line) (f : Head) (turn : List Instruction) (place : ℕ) → place + length (for_code l f turn) ≡ next_at l f turn place + 2
+  for_length l (heads.Numbers f) turn place = omega (arith, length-append (bounds_code l f) (Begin (length turn + 2) l ∷ (Take f.variable ∷ (turn ++ (Next (length turn + 1) ∷ Forget ∷ [])))), length-append turn (Next (length turn + 1) ∷ Forget ∷ []))
+  for_length l (heads.Members m) turn place = omega (arith, length-append (outset_code l (length turn + 2) m m.start) (TakeMember m.reverse m.set m.variable ∷ (turn ++ (NextMember m.set (length turn + 1) l ∷ Forget ∷ []))), length-append turn (NextMember m.set (length turn + 1) l ∷ Forget ∷ []))
+
+  pub forgets : (l : Line) (f : Head) (turn : List Instruction) (place : ℕ) → HasAt code.instructions place (for_code l f turn) → slice_get code.instructions (next_at l f turn place + 1) ≡ Some Forget
+  forgets l (heads.Numbers f) turn place has =
       let h = has_back code.instructions place (bounds_code l f) (Begin (length turn + 2) l ∷ (Take f.variable ∷ (turn ++ (Next (length turn + 1) ∷ Forget ∷ [])))) has in
+      let e : place + length (bounds_code l f) + 1 + 1 + length turn + 1 ≡ place + (length (bounds_code l f) + 1) + 1 + length turn + 1 = omega arith in
+      subst (λ p. slice_get code.instructions p ≡ Some Forget) e
       (has_back code.instructions (place + length (bounds_code l f) + 1 + 1) turn (Next (length turn + 1) ∷ Forget ∷ []) h.1.1).1.0
+  forgets l (heads.Members m) turn place has =
+      let front = outset_code l (length turn + 2) m m.start in
+      let h = has_back code.instructions place front (TakeMember m.reverse m.set m.variable ∷ (turn ++ (NextMember m.set (length turn + 1) l ∷ Forget ∷ []))) has in
+      (has_back code.instructions (place + length front + 1) turn (NextMember m.set (length turn + 1) l ∷ Forget ∷ []) h.1).1.0
 
-  for_run : (l : Line) (f : Range) (turn : List Instruction) (m : Part Turn) → Turns code n 1 turn m → Runs code n same (for_code l f turn) done (λ w. then_nothing (over_range n l f m w))
+  for_run : (l : Line) (f : Head) (turn : List Instruction) (m : Part Turn) → Turns code n 1 turn m → Runs code n same (for_code l f turn) done (λ w. then_nothing (over n l f m w))
   for_run l f turn m rt = record {
     by = λ place stack frames w has le.
         let end = next_at l f turn place in
         let e = for_length l f turn place in
-        join (at place stack frames w) (λ b w'. at (behind code n 1 l f.variable turn m rt b end) stack frames w') (λ u w'. at (place + length (for_code l f turn)) stack frames w') frames (over_range n l f m w) (λ b. WentOn tt)
-        (range_run code n 1 l f turn m rt place end stack frames w has e (forgets l f turn place has) le)
+        join (at place stack frames w) (λ b w'. at (behind 1 b end) stack frames w') (λ u w'. at (place + length (for_code l f turn)) stack frames w') frames (over n l f m w) (λ b. WentOn tt)
+        (over_run code n 1 l f turn m rt place end stack frames w has e (forgets l f turn place has) le)
         (λ b w' fewer. ends b place end stack frames w' e);
   }
     where
-      ends : (b : Bool) (place end : ℕ) (stack : List Value) (frames : List Frame) (w : World) → place + length (for_code l f turn) ≡ end + 2 → Reaches code (at (behind code n 1 l f.variable turn m rt b end) stack frames w) (Underway (at (place + length (for_code l f turn)) stack frames w))
+      ends : (b : Bool) (place end : ℕ) (stack : List Value) (frames : List Frame) (w : World) → place + length (for_code l f turn) ≡ end + 2 → Reaches code (at (behind 1 b end) stack frames w) (Underway (at (place + length (for_code l f turn)) stack frames w))
       ends false place end stack frames w e =
           let k : end + 1 + 1 ≡ place + length (for_code l f turn) = omega (arith, e) in
           subst (λ p. Reaches code (at (end + 1 + 1) stack frames w) (Underway (at p stack frames w))) k here
@@ -175,7 +189,7 @@ module _ (code : Code) (n : ℕ) where
     by = λ place stack frames w has le. goes code (at place stack frames w) (at (place + 1 + found) stack frames w) (Jump found) _ has.0 refl here;
   }
 
-  find_run : (l : Line) (f : Range) (ps : List Phrase) (ca cb : List Instruction) (ma mb : Part (Unit {0})) → Runs code n same ca done ma → Runs code n same cb done mb → Runs code n same (find_code l f ps ca cb) done (λ w. and_then (over_range n l f (phrases l ps (WentOn IsFound)) w) (λ t. choose t ma mb))
+  find_run : (l : Line) (f : Head) (ps : List Phrase) (ca cb : List Instruction) (ma mb : Part (Unit {0})) → Runs code n same ca done ma → Runs code n same cb done mb → Runs code n same (find_code l f ps ca cb) done (λ w. and_then (over n l f (phrases l ps (WentOn IsFound)) w) (λ t. choose t ma mb))
   find_run l f ps ca cb ma mb ra rb = record {
     by = λ place stack frames w has le.
         let turn = phrases_code l ps (Jump (length cb + 3) ∷ []) in
@@ -190,12 +204,12 @@ module _ (code : Code) (n : ℕ) where
         let h = subst (λ p. HasAt code.instructions p tail) e (has_back code.instructions place front tail has) in
         let h2 = has_back code.instructions (end + 2) cb (Jump (length ca + 1) ∷ (Forget ∷ ca)) h in
         let e2 : end + 2 + length cb + 1 ≡ end + (length cb + 3) = omega arith in
-        join (at place stack frames w) (λ b w'. at (behind code n (length cb + 3) l f.variable turn m rt b end) stack frames w') (λ u w'. at last stack frames w') frames (over_range n l f m w) (λ t. choose t ma mb)
-        (range_run code n (length cb + 3) l f turn m rt place end stack frames w (has_front code.instructions place front tail has) e (subst (λ p. slice_get code.instructions p ≡ Some Forget) e2 h2.1.0) le)
+        join (at place stack frames w) (λ b w'. at (behind (length cb + 3) b end) stack frames w') (λ u w'. at last stack frames w') frames (over n l f m w) (λ t. choose t ma mb)
+        (over_run code n (length cb + 3) l f turn m rt place end stack frames w (has_front code.instructions place front tail has) e (subst (λ p. slice_get code.instructions p ≡ Some Forget) e2 h2.1.0) le)
         (λ b w' fewer. sides b turn m rt end last stack frames w' h len (omega arith));
   }
     where
-      sides : (b : Bool) (turn : List Instruction) (m : Part Turn) (rt : Turns code n (length cb + 3) turn m) (end last : ℕ) (stack : List Value) (frames : List Frame) (w : World) → HasAt code.instructions (end + 2) (cb ++ Jump (length ca + 1) ∷ (Forget ∷ ca)) → end + 2 + length cb + 1 + 1 + length ca ≡ last → w.ticks ≤ n → Reaches code (at (behind code n (length cb + 3) l f.variable turn m rt b end) stack frames w) (arrive (λ u w'. at last stack frames w') frames (choose b ma mb w))
+      sides : (b : Bool) (turn : List Instruction) (m : Part Turn) (rt : Turns code n (length cb + 3) turn m) (end last : ℕ) (stack : List Value) (frames : List Frame) (w : World) → HasAt code.instructions (end + 2) (cb ++ Jump (length ca + 1) ∷ (Forget ∷ ca)) → end + 2 + length cb + 1 + 1 + length ca ≡ last → w.ticks ≤ n → Reaches code (at (behind (length cb + 3) b end) stack frames w) (arrive (λ u w'. at last stack frames w') frames (choose b ma mb w))
       sides true turn m rt end last stack frames w h len le =
           let e : end + 2 + length cb + 1 + 1 ≡ end + (length cb + 3) + 1 = omega arith in
           let h2 = (has_back code.instructions (end + 2) cb (Jump (length ca + 1) ∷ (Forget ∷ ca)) h).1.1 in
@@ -273,6 +287,9 @@ module _ (code : Code) (n : ℕ) (h : Calls) (ok : CallsRun code n h) where
     statement_run first (Create l class t) p = create_run code n l class t
     statement_run first (CreateEvery l classes) p = creates_run code n l classes.items
     statement_run first (Destroy l class e) p = destroy_run code n l class e
+    statement_run first (File l set e position owner) p = file_run code n l position set e owner
+    statement_run first (RemoveEnd l set end t owner) p = remove_end_run code n l set end t owner
+    statement_run first (Remove l set e owner) p = remove_run code n l set e owner
 
     row_run : {m : _} (first : ℕ) (r : Row_of-Statement m) → HasAt code.pictures first (row_pictures r) → Runs code n same (row_code first r) done (effects h n r)
     row_run first end_of-Statement p = none code n tt

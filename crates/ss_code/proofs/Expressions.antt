@@ -7,7 +7,7 @@ use Rattle.ss_base.specs.declared.value.Value.{Value}
 use Rattle.ss_base.specs.declared.value.Value.TheVariants.{Whole, Text}
 use Rattle.ss_resolved.specs.declared.resolved.Variable.{Variable}
 use Rattle.ss_resolved.specs.declared.resolved.Variable.TheVariants.{Global, Local}
-use Rattle.ss_resolved.specs.declared.resolved.Expression.{Expression, Constant, Fetch, Signed', Sum', Product', Applied', Absolute', Attribute', Made, Row_of-Expression, end_of-Expression, more_of-Expression, Row_of-Expression-Sum-1-2, end_of-Expression-Sum-1-2, more_of-Expression-Sum-1-2}
+use Rattle.ss_resolved.specs.declared.resolved.Expression.{Expression, Constant, Fetch, Signed', Sum', Product', Applied', Absolute', Attribute', Made, Derived', Row_of-Expression, end_of-Expression, more_of-Expression, Row_of-Expression-Sum-1-2, end_of-Expression-Sum-1-2, more_of-Expression-Sum-1-2}
 use Rattle.ss_code.specs.declared.instruction.Operand.{Operand}
 use Rattle.ss_code.specs.declared.instruction.Operand.TheVariants.{Popped, Number, FromGlobal, FromLocal}
 use Rattle.ss_code.specs.declared.instruction.Destination.{Destination}
@@ -15,8 +15,10 @@ use Rattle.ss_code.specs.declared.instruction.Destination.TheVariants.{Pushed, T
 use Rattle.ss_code.specs.declared.instruction.Operator.{Operator}
 use Rattle.ss_code.specs.declared.instruction.Operator.TheVariants.{Times, Distance}
 use Rattle.ss_code.specs.declared.instruction.Instruction.{Instruction}
-use Rattle.ss_code.specs.declared.instruction.Instruction.TheVariants.{Load, Move, Calculate, Get, CountMade}
+use Rattle.ss_code.specs.declared.instruction.Instruction.TheVariants.{Load, Move, Calculate, Get, CountMade, Ask}
 use Rattle.ss_code.specs.Store.{Store, World, fetched, assigned, computed, zero_value}
+use Rattle.ss_resolved.specs.declared.resolved.Derived.{Derived}
+use Rattle.ss_code.specs.Sets.{asked}
 use Rattle.ss_code.specs.Entities.{attribute, made_count}
 use Rattle.ss_code.specs.Meaning.{Fault, if_ok, operator_of, operator_for, value, sum_from, product_from, values}
 use Rattle.ss_code.specs.Machine.{Frame, Core, State, Code, Moved, To, Stepped, Goes, act, is_due, next, did, with_operand, delivered, with_rest, when_due}
@@ -64,6 +66,7 @@ holds (Applied' function p a r b) v s q = holds_popped v s
 holds (Absolute' p e) v s q = holds_popped v s
 holds (Attribute' class field p e) v s q = holds_popped v s
 holds (Made class) v s q = holds_popped v s
+holds (Derived' derived set p e) v s q = holds_popped v s
 
 -- the state after a value came to its destination
 abbrev pub at_destination : Destination → Value → ℕ → List Value → List Frame → World → State
@@ -146,6 +149,13 @@ module _ (code : Code) (l : Line) (frames : List Frame) (w : World) where
       did_told (Get class field o l) Pushed place stack (shelved o x stack) (attribute class field x w.store) has refl
       (hx.by stack (λ x rest. did l (attribute class field x w.store) (λ v. next (v ∷ rest) c)))
 
+  -- what is asked of a set, on top of the stack
+  asks : (derived : Derived) (set : ℕ) (o : Operand) (x : Value) (place : ℕ) (stack : List Value) → Holds o x w.store → slice_get code.instructions place ≡ Some (Ask derived set o l) → Reaches code (at place (shelved o x stack) frames w) (told l w (λ v. at (place + 1) (v ∷ stack) frames w) (asked derived set x w.store))
+  asks derived set o x place stack hx has =
+      let c = core_of place (shelved o x stack) frames w.store in
+      did_told (Ask derived set o l) Pushed place stack (shelved o x stack) (asked derived set x w.store) has refl
+      (hx.by stack (λ x rest. did l (asked derived set x w.store) (λ v. next (v ∷ rest) c)))
+
   -- on from the top of the stack
   onwards_run : (into : Option Destination) (v : Value) (place end : ℕ) (stack : List Value) → HasAt code.instructions place (onwards_code into) → place + length (onwards_code into) ≡ end → Reaches code (at place (v ∷ stack) frames w) (Underway (landed into Popped v end stack frames w))
   onwards_run None v place end stack has len = let e : place ≡ end = omega (arith, len) in moved_to _ _ _ (ap (λ p. at p (v ∷ stack) frames w) e) here
@@ -164,6 +174,12 @@ module _ (code : Code) (l : Line) (frames : List Frame) (w : World) where
   attribute_run class field o into x place end stack hx has len =
       told_on (at place (shelved o x stack) frames w) (λ v. at (place + 1) (v ∷ stack) frames w) (λ v. landed into Popped v end stack frames w) (attribute class field x w.store)
       (gets class field o x place stack hx has.0)
+      (λ v. onwards_run into v (place + 1) end stack has.1 len)
+
+  asked_run : (derived : Derived) (set : ℕ) (o : Operand) (into : Option Destination) (x : Value) (place end : ℕ) (stack : List Value) → Holds o x w.store → HasAt code.instructions place (Ask derived set o l ∷ onwards_code into) → place + 1 + length (onwards_code into) ≡ end → Reaches code (at place (shelved o x stack) frames w) (told l w (λ v. landed into Popped v end stack frames w) (asked derived set x w.store))
+  asked_run derived set o into x place end stack hx has len =
+      told_on (at place (shelved o x stack) frames w) (λ v. at (place + 1) (v ∷ stack) frames w) (λ v. landed into Popped v end stack frames w) (asked derived set x w.store)
+      (asks derived set o x place stack hx has.0)
       (λ v. onwards_run into v (place + 1) end stack has.1 len)
 
   made_run : (class : ℕ) (into : Option Destination) (place end : ℕ) (stack : List Value) → slice_get code.instructions place ≡ Some (CountMade class (placed into)) → place + 1 ≡ end → Reaches code (at place stack frames w) (Underway (landed into Popped (made_count class w.store) end stack frames w))
@@ -224,6 +240,13 @@ module _ (code : Code) (l : Line) (frames : List Frame) (w : World) where
         (expression_run e None place stack (has_front code.instructions place c tail has))
         (λ x q. attribute_run class field (operand_of e) into x (place + length c) (place + length (c ++ tail)) stack (holds e x w.store q) (has_back code.instructions place c tail has) len)
     expression_run (Made class) into place stack has = made_run class into place (place + 1) stack has.0 refl
+    expression_run (Derived' derived set p e) into place stack has =
+        let c = expression_code l None e in
+        let tail = Ask derived set (operand_of e) l ∷ onwards_code into in
+        let len : place + length c + 1 + length (onwards_code into) ≡ place + length (c ++ tail) = omega (arith, length-append c tail) in
+        told_join l w (at place stack frames w) (λ v. at (place + length c) (shelved (operand_of e) v stack) frames w) _ (value e w.store) (λ x. asked derived set x w.store)
+        (expression_run e None place stack (has_front code.instructions place c tail has))
+        (λ x q. asked_run derived set (operand_of e) into x (place + length c) (place + length (c ++ tail)) stack (holds e x w.store q) (has_back code.instructions place c tail has) len)
 
     sum_run : {m : _} (terms : Row_of-Expression-Sum-1-2 m) (into : Option Destination) (first : Operand) (x : Value) (place end : ℕ) (stack : List Value) → Holds first x w.store → HasAt code.instructions place (sum_code l into first terms) → place + length (sum_code l into first terms) ≡ end → Reaches code (at place (shelved first x stack) frames w) (told l w (λ v. landed into Popped v end stack frames w) (sum_from x terms w.store))
     sum_run end_of-Expression-Sum-1-2 into first x place end stack hx has len =

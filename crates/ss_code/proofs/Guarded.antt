@@ -1,5 +1,5 @@
 -- The code that writes to targets, and that of entities, finds its operands.
-use Rattle.std.proofs.Common.{◌≡◌, ℕ, suc, ◌+◌, List, [], ◌∷◌, ◌++◌, length, Some, None, refl, sym, ap, subst, arith, length-append}
+use Rattle.std.proofs.Common.{◌≡◌, ℕ, suc, ◌+◌, Bool, true, false, List, [], ◌∷◌, ◌++◌, length, Some, None, refl, sym, ap, subst, arith, length-append}
 use Rattle.std.specs.Prelude.{slice_get, Result as OkOr}
 use Rattle.ss_base.specs.declared.line.Line.{Line}
 use Rattle.ss_base.specs.declared.fault.FaultKind.{FaultKind}
@@ -17,14 +17,22 @@ use Rattle.ss_code.specs.declared.instruction.Destination.{Destination}
 use Rattle.ss_code.specs.declared.instruction.Destination.TheVariants.{Pushed}
 use Rattle.ss_code.specs.declared.instruction.Operator.{Operator}
 use Rattle.ss_code.specs.declared.instruction.Instruction.{Instruction}
-use Rattle.ss_code.specs.declared.instruction.Instruction.TheVariants.{Read as ReadWord, Look, Put, Give, ChangeField, SetCount, CreateOne, CreateAll, DestroyOne}
+use Rattle.ss_code.specs.declared.instruction.Instruction.TheVariants.{Read as ReadWord, Look, Put, Give, ChangeField, SetCount, CreateOne, CreateAll, DestroyOne, FileOne, FileBeside, RemoveAt, RemoveOne}
 use Rattle.ss_input.specs.Words.{value_given}
 use Rattle.ss_code.specs.Store.{Store}
 use Rattle.ss_code.specs.Entities.{known, with_attribute, changed, counted, made_one, made_all, without}
-use Rattle.ss_code.specs.Machine.{Frame, Code, settled}
-use Rattle.ss_code.specs.Translation.{variable_operand, destination_of, operand_of, expression_code, reference_code, let_code, change_code, read_code, reads_code, create_code, creates_code, assign_code, assigns_code}
+use Rattle.ss_resolved.specs.declared.resolved.End.{End}
+use Rattle.ss_resolved.specs.declared.resolved.Position.{Position}
+use Rattle.ss_resolved.specs.declared.resolved.Position.TheVariants as positions
+use Rattle.ss_code.specs.declared.instruction.Filing.{Filing}
+use Rattle.ss_code.specs.declared.instruction.Filing.TheVariants as filings
+use Rattle.ss_code.specs.declared.instruction.Side.{Side}
+use Rattle.ss_code.specs.declared.instruction.Side.TheVariants as sides
+use Rattle.ss_code.specs.Sets.{filed, filed_beside, removed_one, removed_at}
+use Rattle.ss_code.specs.Machine.{Frame, Core, Code, act, with_operand, settled}
+use Rattle.ss_code.specs.Translation.{variable_operand, destination_of, operand_of, expression_code, reference_code, let_code, change_code, read_code, reads_code, create_code, creates_code, assign_code, assigns_code, member_code, is_plain, early_code, early_operand, pair_code, beside_code, file_code, end_code, remove_end_code}
 use Rattle.ss_code.proofs.Steps.{HasAt, has_front, has_back, core_of}
-use Rattle.ss_code.proofs.Safety.{Safe, Now, ActSafe, one, up, down, variable_up, variable_down, moved_now, top_safe, operand_safe, deliver_safe, did_safe, calculate_safe, move_safe, expression_safe}
+use Rattle.ss_code.proofs.Safety.{Safe, Now, ActSafe, one, up, down, variable_up, variable_down, moved_now, top_safe, operand_safe, deliver_safe, did_safe, calculate_safe, move_safe, expression_safe, look_member_safe, member_safe}
 
 module _ (code : Code) (k : ℕ) (frames : List Frame) where
   settled_safe : (j : ℕ) (l : Line) (r : OkOr Store FaultKind) (rest above : List Value) (place h : ℕ) (s : Store) → length rest ≡ h → Safe code j (place + 1) h frames → ActSafe code (Safe code j) (settled l r rest (core_of place above frames s))
@@ -130,30 +138,38 @@ module _ (code : Code) (k : ℕ) (frames : List Frame) where
         expression_safe code k frames l e None place mid h (has_front code.instructions place c tail has) refl
         (changes_safe op t (operand_of e) mid end h (has_back code.instructions place c tail has) q n)
 
-    -- a value that an instruction leaves at a destination, for a target
-    module _ (i : Destination → Instruction) (leaves : (into : Destination) (place h : ℕ) → slice_get code.instructions place ≡ Some (i into) → Now code k (place + 1) (down code into h) frames → Now code k place h frames) where
-      to_variable_safe : (x : Variable) (place end h : ℕ) → slice_get code.instructions place ≡ Some (i (destination_of x)) → place + 1 ≡ end → Now code k end h frames → Now code k place h frames
-      to_variable_safe x place end h has len n = leaves (destination_of x) place h has (moved_now code (sym len) (sym (variable_down code x h)) n)
+    -- a value that code leaves at a destination, for a target
+    module _ (c : Destination → List Instruction) (leaves : (into : Destination) (place end h : ℕ) → HasAt code.instructions place (c into) → place + length (c into) ≡ end → Now code k end (down code into h) frames → Now code k place h frames) where
+      to_variable_safe : (x : Variable) (place end h : ℕ) → HasAt code.instructions place (c (destination_of x)) → place + length (c (destination_of x)) ≡ end → Now code k end h frames → Now code k place h frames
+      to_variable_safe x place end h has len n = leaves (destination_of x) place end h has len (moved_now code refl (sym (variable_down code x h)) n)
 
-      to_attribute_safe : (class field : ℕ) (e : Expression) (place end h : ℕ) → HasAt code.instructions place (reference_code l class e ++ i Pushed ∷ Put class field Popped l ∷ []) → place + length (reference_code l class e ++ i Pushed ∷ Put class field Popped l ∷ []) ≡ end → Now code k end h frames → Now code k place h frames
+      to_attribute_safe : (class field : ℕ) (e : Expression) (place end h : ℕ) → HasAt code.instructions place (reference_code l class e ++ (c Pushed ++ Put class field Popped l ∷ [])) → place + length (reference_code l class e ++ (c Pushed ++ Put class field Popped l ∷ [])) ≡ end → Now code k end h frames → Now code k place h frames
       to_attribute_safe class field e place end h has len n =
           let front = reference_code l class e in
-          let tail = i Pushed ∷ Put class field Popped l ∷ [] in
+          let last = Put class field Popped l ∷ [] in
+          let tail = c Pushed ++ last in
           let mid = place + length front in
-          let q : mid + 1 + 1 ≡ end = omega (arith, len, length-append front tail) in
+          let p2 = mid + length (c Pushed) in
+          let q : p2 + 1 ≡ end = omega (arith, len, length-append front tail, length-append (c Pushed) last) in
           let hh = has_back code.instructions place front tail has in
           reference_safe class e place mid h (has_front code.instructions place front tail has) refl
-          (leaves Pushed mid (suc h) hh.0 (put_safe class field Popped l (mid + 1) h hh.1.0 (moved_now code (sym q) refl n)))
+          (leaves Pushed mid p2 (suc h) (has_front code.instructions mid (c Pushed) last hh) refl (put_safe class field Popped l p2 h (has_back code.instructions mid (c Pushed) last hh).0 (moved_now code (sym q) refl n)))
 
-      to_count_safe : (class number : ℕ) (place end h : ℕ) → HasAt code.instructions place (i Pushed ∷ SetCount class number Popped l ∷ []) → place + 2 ≡ end → Now code k end h frames → Now code k place h frames
+      to_count_safe : (class number : ℕ) (place end h : ℕ) → HasAt code.instructions place (c Pushed ++ SetCount class number Popped l ∷ []) → place + length (c Pushed ++ SetCount class number Popped l ∷ []) ≡ end → Now code k end h frames → Now code k place h frames
       to_count_safe class number place end h has len n =
-          let q : place + 1 + 1 ≡ end = omega (arith, len) in
-          leaves Pushed place h has.0 (set_count_safe class number Popped l (place + 1) h has.1.0 (moved_now code (sym q) refl n))
+          let last = SetCount class number Popped l ∷ [] in
+          let p2 = place + length (c Pushed) in
+          let q : p2 + 1 ≡ end = omega (arith, len, length-append (c Pushed) last) in
+          leaves Pushed place p2 h (has_front code.instructions place (c Pushed) last has) refl (set_count_safe class number Popped l p2 h (has_back code.instructions place (c Pushed) last has).0 (moved_now code (sym q) refl n))
+
+    -- one instruction that leaves a value
+    one_leaves : (i : Destination → Instruction) → ((into : Destination) (place h : ℕ) → slice_get code.instructions place ≡ Some (i into) → Now code k (place + 1) (down code into h) frames → Now code k place h frames) → (into : Destination) (place end h : ℕ) → HasAt code.instructions place (i into ∷ []) → place + length (i into ∷ []) ≡ end → Now code k end (down code into h) frames → Now code k place h frames
+    one_leaves i leaves into place end h has len n = leaves into place h has.0 (moved_now code (sym len) refl n)
 
     read_safe : (mode : Mode) (t : Place) (place end h : ℕ) → HasAt code.instructions place (read_code l mode t) → place + length (read_code l mode t) ≡ end → Now code k end h frames → Now code k place h frames
-    read_safe mode (PlainVariable x) place end h has len n = to_variable_safe (λ d. ReadWord mode d l) (word_safe l mode) x place end h has.0 len n
-    read_safe mode (AttributePlace class field e) place end h has len n = to_attribute_safe (λ d. ReadWord mode d l) (word_safe l mode) class field e place end h has len n
-    read_safe mode (Count class number) place end h has len n = to_count_safe (λ d. ReadWord mode d l) (word_safe l mode) class number place end h has len n
+    read_safe mode (PlainVariable x) place end h has len n = to_variable_safe (λ d. ReadWord mode d l ∷ []) (one_leaves (λ d. ReadWord mode d l) (word_safe l mode)) x place end h has len n
+    read_safe mode (AttributePlace class field e) place end h has len n = to_attribute_safe (λ d. ReadWord mode d l ∷ []) (one_leaves (λ d. ReadWord mode d l) (word_safe l mode)) class field e place end h has len n
+    read_safe mode (Count class number) place end h has len n = to_count_safe (λ d. ReadWord mode d l ∷ []) (one_leaves (λ d. ReadWord mode d l) (word_safe l mode)) class number place end h has len n
 
     pub reads_safe : (ts : List Target) (place end h : ℕ) → HasAt code.instructions place (reads_code l ts) → place + length (reads_code l ts) ≡ end → Now code k end h frames → Now code k place h frames
     reads_safe [] place end h has len n = moved_now code (omega (arith, len)) refl n
@@ -165,9 +181,9 @@ module _ (code : Code) (k : ℕ) (frames : List Frame) where
         read_safe t.mode t.place place mid h (has_front code.instructions place c tail has) refl (reads_safe ts mid end h (has_back code.instructions place c tail has) q n)
 
     pub create_safe : (class : ℕ) (t : Place) (place end h : ℕ) → HasAt code.instructions place (create_code l class t) → place + length (create_code l class t) ≡ end → Now code k end h frames → Now code k place h frames
-    create_safe class (PlainVariable x) place end h has len n = to_variable_safe (λ d. CreateOne class d l) (λ d. create_one_safe class d l) x place end h has.0 len n
-    create_safe class (AttributePlace owner field e) place end h has len n = to_attribute_safe (λ d. CreateOne class d l) (λ d. create_one_safe class d l) owner field e place end h has len n
-    create_safe class (Count counted number) place end h has len n = to_count_safe (λ d. CreateOne class d l) (λ d. create_one_safe class d l) counted number place end h has len n
+    create_safe class (PlainVariable x) place end h has len n = to_variable_safe (λ d. CreateOne class d l ∷ []) (one_leaves (λ d. CreateOne class d l) (λ d. create_one_safe class d l)) x place end h has len n
+    create_safe class (AttributePlace owner field e) place end h has len n = to_attribute_safe (λ d. CreateOne class d l ∷ []) (one_leaves (λ d. CreateOne class d l) (λ d. create_one_safe class d l)) owner field e place end h has len n
+    create_safe class (Count counted number) place end h has len n = to_count_safe (λ d. CreateOne class d l ∷ []) (one_leaves (λ d. CreateOne class d l) (λ d. create_one_safe class d l)) counted number place end h has len n
 
     pub creates_safe : (cs : List Counted) (place end h : ℕ) → HasAt code.instructions place (creates_code l cs) → place + length (creates_code l cs) ≡ end → Now code k end h frames → Now code k place h frames
     creates_safe [] place end h has len n = moved_now code (omega (arith, len)) refl n
@@ -181,6 +197,88 @@ module _ (code : Code) (k : ℕ) (frames : List Frame) where
         let q : mid + 1 ≡ end = omega (arith, len, length-append c tail) in
         expression_safe code k frames l e None place mid h (has_front code.instructions place c tail has) refl
         (destroy_one_safe class (operand_of e) l mid h (has_back code.instructions place c tail has).0 (moved_now code (sym q) refl n))
+
+    -- members and owners
+    filing_safe : (i : Operand → Operand → Instruction) (f : Value → Value → Store → OkOr Store FaultKind) → ((m o : Operand) (c : Core) → act code (i m o) c ≡ with_operand o c.operands c.store (λ y above. with_operand m above c.store (λ x rest. settled l (f x y c.store) rest c))) → (m o : Operand) (place h : ℕ) → slice_get code.instructions place ≡ Some (i m o) → Now code k (place + 1) h frames → Now code k place (up code o (up code m h)) frames
+    filing_safe i f acts m o place h has n = one code (i m o) k place _ frames has (λ j lt stack s len.
+        subst (ActSafe code (Safe code j)) (sym (acts m o (core_of place stack frames s)))
+        (operand_safe code (Safe code j) o stack (up code m h) s _ len (λ y above la. operand_safe code (Safe code j) m above h s _ la (λ x rest lr.
+        settled_safe j l (f x y s) rest stack place h s lr (n.upto j (omega (arith, lt)))))))
+
+    early_safe : (set : ℕ) (m : Operand) (b : Bool) (place end h : ℕ) → HasAt code.instructions place (early_code l set m b) → place + length (early_code l set m b) ≡ end → Now code k end (up code (early_operand m b) h) frames → Now code k place (up code m h) frames
+    early_safe set m true place end h has len n = moved_now code (omega (arith, len)) refl n
+    early_safe set m false place end h has len n = look_member_safe code k frames set m l place h has.0 (moved_now code (sym len) refl n)
+
+    pair_safe : (set : ℕ) (i : Operand → Operand → Instruction) (f : Value → Value → Store → OkOr Store FaultKind) → ((m o : Operand) (c : Core) → act code (i m o) c ≡ with_operand o c.operands c.store (λ y above. with_operand m above c.store (λ x rest. settled l (f x y c.store) rest c))) → (e owner : Expression) (place end h : ℕ) → HasAt code.instructions place (pair_code l set e owner i) → place + length (pair_code l set e owner i) ≡ end → Now code k end h frames → Now code k place h frames
+    pair_safe set i f acts e owner place end h has len n =
+        let m = operand_of e in
+        let b = is_plain owner in
+        let m' = early_operand m b in
+        let ce = expression_code l None e in
+        let cl = early_code l set m b in
+        let co = expression_code l None owner in
+        let last = i m' (operand_of owner) ∷ [] in
+        let p1 = place + length ce in
+        let p2 = p1 + length cl in
+        let p3 = p2 + length co in
+        let q : p3 + 1 ≡ end = omega (arith, len, length-append ce (cl ++ (co ++ last)), length-append cl (co ++ last), length-append co last) in
+        let h1 = has_back code.instructions place ce (cl ++ (co ++ last)) has in
+        let h2 = has_back code.instructions p1 cl (co ++ last) h1 in
+        expression_safe code k frames l e None place p1 h (has_front code.instructions place ce _ has) refl
+        (early_safe set m b p1 p2 h (has_front code.instructions p1 cl _ h1) refl
+        (expression_safe code k frames l owner None p2 p3 (up code m' h) (has_front code.instructions p2 co last h2) refl
+        (filing_safe i f acts m' (operand_of owner) p3 h (has_back code.instructions p2 co last h2).0 (moved_now code (sym q) refl n))))
+
+    pub remove_safe : (set : ℕ) (e owner : Expression) (place end h : ℕ) → HasAt code.instructions place (pair_code l set e owner (λ m o. RemoveOne set m o l)) → place + length (pair_code l set e owner (λ m o. RemoveOne set m o l)) ≡ end → Now code k end h frames → Now code k place h frames
+    remove_safe set e owner place end h has len n = pair_safe set (λ m o. RemoveOne set m o l) (removed_one set) (λ m o c. refl) e owner place end h has len n
+
+    one_filed_safe : (f : Filing) (set : ℕ) (e owner : Expression) (place end h : ℕ) → HasAt code.instructions place (pair_code l set e owner (λ m o. FileOne f set m o l)) → place + length (pair_code l set e owner (λ m o. FileOne f set m o l)) ≡ end → Now code k end h frames → Now code k place h frames
+    one_filed_safe f set e owner place end h has len n = pair_safe set (λ m o. FileOne f set m o l) (filed f set) (λ m o c. refl) e owner place end h has len n
+
+    beside_safe : (side : Side) (set : ℕ) (e f owner : Expression) (place end h : ℕ) → HasAt code.instructions place (beside_code l side set e f owner) → place + length (beside_code l side set e f owner) ≡ end → Now code k end h frames → Now code k place h frames
+    beside_safe side set e f owner place end h has len n =
+        let ce = member_code l set e in
+        let cf = member_code l set f in
+        let co = expression_code l None owner in
+        let i = FileBeside side set (operand_of owner) l in
+        let p1 = place + length ce in
+        let p2 = p1 + length cf in
+        let p3 = p2 + length co in
+        let q : p3 + 1 ≡ end = omega (arith, len, length-append ce (cf ++ (co ++ i ∷ [])), length-append cf (co ++ i ∷ []), length-append co (i ∷ [])) in
+        let h1 = has_back code.instructions place ce (cf ++ (co ++ i ∷ [])) has in
+        let h2 = has_back code.instructions p1 cf (co ++ i ∷ []) h1 in
+        let n' = moved_now code (sym q) refl n in
+        member_safe code k frames l set e place p1 h (has_front code.instructions place ce _ has) refl
+        (member_safe code k frames l set f p1 p2 (suc h) (has_front code.instructions p1 cf _ h1) refl
+        (expression_safe code k frames l owner None p2 p3 (suc (suc h)) (has_front code.instructions p2 co (i ∷ []) h2) refl
+        (one code i k p3 _ frames (has_back code.instructions p2 co (i ∷ []) h2).0 (λ j lt stack s ls.
+        operand_safe code (Safe code j) (operand_of owner) stack (suc (suc h)) s _ ls (λ o above la. top_safe code (Safe code j) above (suc h) _ la (λ y over lo. top_safe code (Safe code j) over h _ lo (λ x rest lr.
+        settled_safe j l (filed_beside side set x y o s) rest stack p3 h s lr (n'.upto j (omega (arith, lt))))))))))
+
+    pub file_safe : (position : Position) (set : ℕ) (e owner : Expression) (place end h : ℕ) → HasAt code.instructions place (file_code l position set e owner) → place + length (file_code l position set e owner) ≡ end → Now code k end h frames → Now code k place h frames
+    file_safe positions.ByDiscipline set e owner place end h has len n = one_filed_safe filings.ByDiscipline set e owner place end h has len n
+    file_safe positions.First set e owner place end h has len n = one_filed_safe filings.First set e owner place end h has len n
+    file_safe positions.Last set e owner place end h has len n = one_filed_safe filings.Last set e owner place end h has len n
+    file_safe (positions.Before f) set e owner place end h has len n = beside_safe sides.Before set e f owner place end h has len n
+    file_safe (positions.After f) set e owner place end h has len n = beside_safe sides.After set e f owner place end h has len n
+
+    end_leaves : (set : ℕ) (e : End) (owner : Expression) (into : Destination) (place end h : ℕ) → HasAt code.instructions place (end_code l set e owner into) → place + length (end_code l set e owner into) ≡ end → Now code k end (down code into h) frames → Now code k place h frames
+    end_leaves set e owner into place end h has len n =
+        let c = expression_code l None owner in
+        let i = RemoveAt e set (operand_of owner) into l in
+        let mid = place + length c in
+        let q : mid + 1 ≡ end = omega (arith, len, length-append c (i ∷ [])) in
+        let n' = moved_now code (sym q) refl n in
+        expression_safe code k frames l owner None place mid h (has_front code.instructions place c (i ∷ []) has) refl
+        (one code i k mid _ frames (has_back code.instructions place c (i ∷ []) has).0 (λ j lt stack s ls.
+        operand_safe code (Safe code j) (operand_of owner) stack h s _ ls (λ o rest lr.
+        did_safe code (Safe code j) l (removed_at e set o s) _ (λ b.
+        deliver_safe code (Safe code j) into b.0 rest (record (core_of mid stack frames s) { store = b.1 }) h lr (n'.upto j (omega (arith, lt)))))))
+
+    pub remove_end_safe : (set : ℕ) (e : End) (t : Place) (owner : Expression) (place end h : ℕ) → HasAt code.instructions place (remove_end_code l set e t owner) → place + length (remove_end_code l set e t owner) ≡ end → Now code k end h frames → Now code k place h frames
+    remove_end_safe set e (PlainVariable x) owner place end h has len n = to_variable_safe (end_code l set e owner) (end_leaves set e owner) x place end h has len n
+    remove_end_safe set e (AttributePlace class field r) owner place end h has len n = to_attribute_safe (end_code l set e owner) (end_leaves set e owner) class field r place end h has len n
+    remove_end_safe set e (Count class number) owner place end h has len n = to_count_safe (end_code l set e owner) (end_leaves set e owner) class number place end h has len n
 
     assign_safe : (t : Place) (place end h : ℕ) → HasAt code.instructions place (assign_code l t) → place + length (assign_code l t) ≡ end → Now code k end h frames → Now code k place (suc h) frames
     assign_safe (PlainVariable x) place end h has len n = move_safe code k frames Popped (destination_of x) place h has.0 (moved_now code (sym len) (sym (variable_down code x h)) n)

@@ -1,13 +1,13 @@
 -- Each jump back leads to an instruction that takes a tick.
-use Rattle.std.proofs.Common.{◌≡◌, ℕ, zero, suc, ◌+◌, ◌-◌, true, List, [], ◌∷◌, ◌++◌, length, Option, Some, None, refl, sym, subst, arith}
+use Rattle.std.proofs.Common.{◌≡◌, ℕ, zero, suc, ◌+◌, ◌-◌, Bool, true, false, List, [], ◌∷◌, ◌++◌, length, Option, Some, None, refl, sym, subst, arith}
 use Rattle.std.specs.Prelude.{slice_get}
 use Rattle.ss_base.specs.declared.line.Line.{Line}
 use Rattle.ss_base.specs.declared.value.Value.{Value}
 use Rattle.ss_base.specs.declared.value.Value.TheVariants.{Whole, Text}
 use Rattle.ss_resolved.specs.declared.resolved.Variable.{Variable}
-use Rattle.ss_resolved.specs.declared.resolved.Expression.{Expression, Constant, Fetch, Signed', Sum', Product', Applied', Absolute', Attribute', Made, Row_of-Expression, end_of-Expression, more_of-Expression, Row_of-Expression-Sum-1-2, end_of-Expression-Sum-1-2, more_of-Expression-Sum-1-2}
+use Rattle.ss_resolved.specs.declared.resolved.Expression.{Expression, Constant, Fetch, Signed', Sum', Product', Applied', Absolute', Attribute', Made, Derived', Row_of-Expression, end_of-Expression, more_of-Expression, Row_of-Expression-Sum-1-2, end_of-Expression-Sum-1-2, more_of-Expression-Sum-1-2}
 use Rattle.ss_resolved.specs.declared.resolved.Test.{Test}
-use Rattle.ss_resolved.specs.declared.resolved.Test.TheVariants.{Compare, DataEnded}
+use Rattle.ss_resolved.specs.declared.resolved.Test.TheVariants.{Compare, DataEnded, Empty, Member}
 use Rattle.ss_resolved.specs.declared.resolved.Conjunction.{Conjunction}
 use Rattle.ss_resolved.specs.declared.resolved.Condition.{Condition}
 use Rattle.ss_resolved.specs.declared.resolved.GuardKind.{GuardKind}
@@ -17,6 +17,16 @@ use Rattle.ss_resolved.specs.declared.resolved.PhraseKind.{PhraseKind}
 use Rattle.ss_resolved.specs.declared.resolved.PhraseKind.TheVariants.{With as WithPhrase, Unless as UnlessPhrase, While as WhilePhrase, Until as UntilPhrase}
 use Rattle.ss_resolved.specs.declared.resolved.Phrase.{Phrase}
 use Rattle.ss_resolved.specs.declared.resolved.Range.{Range}
+use Rattle.ss_resolved.specs.declared.resolved.Start.{Start}
+use Rattle.ss_resolved.specs.declared.resolved.Start.TheVariants as starts
+use Rattle.ss_resolved.specs.declared.resolved.Members.{Members}
+use Rattle.ss_resolved.specs.declared.resolved.Head.{Head}
+use Rattle.ss_resolved.specs.declared.resolved.Head.TheVariants as heads
+use Rattle.ss_resolved.specs.declared.resolved.End.{End}
+use Rattle.ss_resolved.specs.declared.resolved.Position.{Position}
+use Rattle.ss_resolved.specs.declared.resolved.Position.TheVariants as positions
+use Rattle.ss_code.specs.declared.instruction.Filing.{Filing}
+use Rattle.ss_code.specs.declared.instruction.Side.{Side}
 use Rattle.ss_resolved.specs.declared.resolved.Place.{Place}
 use Rattle.ss_resolved.specs.declared.resolved.Place.TheVariants.{Variable as PlainVariable, Attribute as AttributePlace, Count}
 use Rattle.ss_resolved.specs.declared.resolved.Target.{Target}
@@ -24,16 +34,16 @@ use Rattle.ss_resolved.specs.declared.resolved.Counted.{Counted}
 use Rattle.ss_base.specs.declared.layout.Mode.{Mode}
 use Rattle.ss_code.specs.declared.instruction.Destination.TheVariants.{Pushed, ToGlobal, ToLocal}
 use Rattle.ss_resolved.specs.declared.resolved.Section.{Section}
-use Rattle.ss_resolved.specs.declared.resolved.Statement.{Statement, Let, Change, Print, If', While', For', Find', Call as CallRoutine, Return, Stop, Read, Skip as SkipLines, Create, CreateEvery, Destroy, Row_of-Statement, end_of-Statement, more_of-Statement}
+use Rattle.ss_resolved.specs.declared.resolved.Statement.{Statement, Let, Change, Print, If', While', For', Find', Call as CallRoutine, Return, Stop, Read, Skip as SkipLines, Create, CreateEvery, Destroy, File, RemoveEnd, Remove, Row_of-Statement, end_of-Statement, more_of-Statement}
 use Rattle.ss_resolved.specs.declared.resolved.Resolved.{Resolved}
 use Rattle.ss_code.specs.declared.instruction.Operand.{Operand}
 use Rattle.ss_code.specs.declared.instruction.Destination.{Destination}
 use Rattle.ss_code.specs.declared.instruction.Operator.{Operator}
 use Rattle.ss_code.specs.declared.instruction.Instruction.{Instruction}
-use Rattle.ss_code.specs.declared.instruction.Instruction.TheVariants.{Turn, Next, Jump, Begin, Take, Forget, Leave}
+use Rattle.ss_code.specs.declared.instruction.Instruction.TheVariants.{Turn, Next, Jump, Begin, Take, TakeMember, NextMember, FileOne, RemoveOne, Forget, Leave}
 use Rattle.ss_code.specs.Machine.{Code, is_due}
 use Rattle.ss_code.specs.Running.{TicksAt, goes_back, Sound}
-use Rattle.ss_code.specs.Translation.{operand_of, constant_code, fetch_code, onwards_code, expression_code, sum_code, terms_code, product_code, factors_code, values_code, test_code, tests_code, alternatives_code, some_code, condition_code, negated_code, guard_code, guards_code, phrase_code, phrases_code, if_code, while_code, step_code, bounds_code, for_code, find_code, reference_code, let_code, change_code, read_code, reads_code, create_code, creates_code, assign_code, assigns_code, statement_code, statement_pictures, row_code, row_pictures, body_code, body_pictures, section_code, routines_code, code_of}
+use Rattle.ss_code.specs.Translation.{operand_of, constant_code, fetch_code, onwards_code, expression_code, sum_code, terms_code, product_code, factors_code, values_code, test_code, tests_code, alternatives_code, some_code, condition_code, negated_code, guard_code, guards_code, phrase_code, phrases_code, if_code, while_code, step_code, bounds_code, range_code, member_code, owner_code, outset_code, members_code, is_plain, early_code, pair_code, beside_code, file_code, end_code, remove_end_code, for_code, find_code, reference_code, let_code, change_code, read_code, reads_code, create_code, creates_code, assign_code, assigns_code, statement_code, statement_pictures, row_code, row_pictures, body_code, body_pictures, section_code, routines_code, code_of}
 use Rattle.ss_code.specs.Meaning.{operator_of}
 use Rattle.ss_code.proofs.Steps.{HasAt, has_front, has_back, has_all}
 use Rattle.ss_code.proofs.Secure.{never_stuck}
@@ -76,6 +86,7 @@ module _ (l : Line) where
     expression_straight into (Absolute' p e) = straight_both (expression_code l None e) _ (expression_straight None e) (refl, tt)
     expression_straight into (Attribute' class field p e) = straight_both (expression_code l None e) _ (expression_straight None e) (refl, onwards_straight into)
     expression_straight into (Made class) = (refl, tt)
+    expression_straight into (Derived' derived set p e) = straight_both (expression_code l None e) _ (expression_straight None e) (refl, onwards_straight into)
 
     sum_straight : {m : _} (into : Option Destination) (first : Operand) (r : Row_of-Expression-Sum-1-2 m) → Straight (sum_code l into first r)
     sum_straight into first end_of-Expression-Sum-1-2 = (refl, tt)
@@ -99,10 +110,19 @@ module _ (l : Line) where
   values_straight [] = tt
   values_straight (e ∷ es) = straight_both (expression_code l _ e) _ (expression_straight _ e) (values_straight es)
 
+  member_straight : (set : ℕ) (e : Expression) → Straight (member_code l set e)
+  member_straight set e = straight_both (expression_code l None e) _ (expression_straight None e) (refl, tt)
+
+  owner_straight : (set : ℕ) (e : Expression) → Straight (owner_code l set e)
+  owner_straight set e = straight_both (expression_code l None e) _ (expression_straight None e) (refl, tt)
+
   test_straight : (skip : ℕ) (t : Test) → Straight (test_code l skip t)
   test_straight skip (Compare left relation right) =
       straight_both (expression_code l None left) _ (expression_straight None left) (straight_both (expression_code l None right) _ (expression_straight None right) (refl, tt))
   test_straight skip (DataEnded negated) = (refl, tt)
+  test_straight skip (Empty negated set owner) = straight_both (expression_code l None owner) _ (expression_straight None owner) (refl, tt)
+  test_straight skip (Member negated set e owner) =
+      straight_both (member_code l set e) _ (member_straight set e) (straight_both (expression_code l None owner) _ (expression_straight None owner) (refl, tt))
 
   tests_straight : (skip : ℕ) (ts : List Test) → Straight (tests_code l skip ts)
   tests_straight skip [] = tt
@@ -143,6 +163,11 @@ module _ (l : Line) where
   bounds_straight : (r : Range) → Straight (bounds_code l r)
   bounds_straight r = straight_both (expression_code l _ r.first) _ (expression_straight _ r.first) (straight_both (expression_code l _ r.limit) _ (expression_straight _ r.limit) (step_straight r.step))
 
+  outset_straight : (skip : ℕ) (m : Members) (t : Start) → Straight (outset_code l skip m t)
+  outset_straight skip m starts.End = straight_both (expression_code l None m.owner) _ (expression_straight None m.owner) (refl, tt)
+  outset_straight skip m (starts.From e) = straight_both (owner_code l m.set m.owner) _ (owner_straight m.set m.owner) (straight_both (expression_code l None e) _ (expression_straight None e) (refl, tt))
+  outset_straight skip m (starts.After e) = straight_both (owner_code l m.set m.owner) _ (owner_straight m.set m.owner) (straight_both (expression_code l None e) _ (expression_straight None e) (refl, tt))
+
   reference_straight : (class : ℕ) (e : Expression) → Straight (reference_code l class e)
   reference_straight class e = straight_both (expression_code l None e) _ (expression_straight None e) (refl, tt)
 
@@ -174,6 +199,40 @@ module _ (l : Line) where
   creates_straight : (cs : List Counted) → Straight (creates_code l cs)
   creates_straight [] = tt
   creates_straight (c ∷ cs) = (refl, creates_straight cs)
+
+  early_straight : (set : ℕ) (m : Operand) (b : Bool) → Straight (early_code l set m b)
+  early_straight set m true = tt
+  early_straight set m false = (refl, tt)
+
+  filing_straight : (f : Filing) (set : ℕ) (e owner : Expression) → Straight (pair_code l set e owner (λ m o. FileOne f set m o l))
+  filing_straight f set e owner =
+      straight_both (expression_code l None e) _ (expression_straight None e) (straight_both (early_code l set (operand_of e) (is_plain owner)) _ (early_straight set (operand_of e) (is_plain owner))
+      (straight_both (expression_code l None owner) _ (expression_straight None owner) (refl, tt)))
+
+  remove_straight : (set : ℕ) (e owner : Expression) → Straight (pair_code l set e owner (λ m o. RemoveOne set m o l))
+  remove_straight set e owner =
+      straight_both (expression_code l None e) _ (expression_straight None e) (straight_both (early_code l set (operand_of e) (is_plain owner)) _ (early_straight set (operand_of e) (is_plain owner))
+      (straight_both (expression_code l None owner) _ (expression_straight None owner) (refl, tt)))
+
+  beside_straight : (side : Side) (set : ℕ) (e f owner : Expression) → Straight (beside_code l side set e f owner)
+  beside_straight side set e f owner =
+      straight_both (member_code l set e) _ (member_straight set e) (straight_both (member_code l set f) _ (member_straight set f) (straight_both (expression_code l None owner) _ (expression_straight None owner) (refl, tt)))
+
+  file_straight : (position : Position) (set : ℕ) (e owner : Expression) → Straight (file_code l position set e owner)
+  file_straight positions.ByDiscipline set e owner = filing_straight _ set e owner
+  file_straight positions.First set e owner = filing_straight _ set e owner
+  file_straight positions.Last set e owner = filing_straight _ set e owner
+  file_straight (positions.Before f) set e owner = beside_straight _ set e f owner
+  file_straight (positions.After f) set e owner = beside_straight _ set e f owner
+
+  end_straight : (set : ℕ) (end : End) (owner : Expression) (into : Destination) → Straight (end_code l set end owner into)
+  end_straight set end owner into = straight_both (expression_code l None owner) _ (expression_straight None owner) (refl, tt)
+
+  remove_end_straight : (set : ℕ) (end : End) (t : Place) (owner : Expression) → Straight (remove_end_code l set end t owner)
+  remove_end_straight set end (PlainVariable x) owner = end_straight set end owner _
+  remove_end_straight set end (AttributePlace class field r) owner =
+      straight_both (reference_code l class r) _ (reference_straight class r) (straight_both (end_code l set end owner _) _ (end_straight set end owner _) (refl, tt))
+  remove_end_straight set end (Count class number) owner = straight_both (end_code l set end owner _) _ (end_straight set end owner _) (refl, tt)
 
   assign_straight : (t : Place) → Straight (assign_code l t)
   assign_straight (PlainVariable x) = (refl, tt)
@@ -234,8 +293,8 @@ module _ (all : List Instruction) where
       (lands_both (p + 1 + length a) again _ (lands_straight (p + 1 + length a) again (guards_straight l 1 gs))
       (record { lands = λ back q. let k : size + 1 ≡ back = cc in subst (λ j. TicksAt all (p + 1 + length a + length again - j)) k (ticks_at p _ Turn h.0 refl e) }, tt))))
 
-  for_lands : (l : Line) (r : Range) (turn : List Instruction) (place : ℕ) → HasAt all place (for_code l r turn) → ((p : ℕ) → HasAt all p turn → Lands all p turn) → Lands all place (for_code l r turn)
-  for_lands l r turn place has ft =
+  range_lands : (l : Line) (r : Range) (turn : List Instruction) (place : ℕ) → HasAt all place (range_code l r turn) → ((p : ℕ) → HasAt all p turn → Lands all p turn) → Lands all place (range_code l r turn)
+  range_lands l r turn place has ft =
       let front = bounds_code l r in
       let p = place + length front in
       let h = has_back all place front _ has in
@@ -248,6 +307,25 @@ module _ (all : List Instruction) where
       (one_straight (p + 1) (Take r.variable) (turn ++ (Next (length turn + 1) ∷ Forget ∷ [])) refl
       (lands_both (p + 1 + 1) turn (Next (length turn + 1) ∷ Forget ∷ []) (ft (p + 1 + 1) (has_front all (p + 1 + 1) turn _ h.1.1)) last)))
 
+  members_lands : (l : Line) (m : Members) (turn : List Instruction) (place : ℕ) → HasAt all place (members_code l m turn) → ((p : ℕ) → HasAt all p turn → Lands all p turn) → Lands all place (members_code l m turn)
+  members_lands l m turn place has ft =
+      let front = outset_code l (length turn + 2) m m.start in
+      let take = TakeMember m.reverse m.set m.variable in
+      let more = NextMember m.set (length turn + 1) l in
+      let p = place + length front in
+      let h = has_back all place front _ has in
+      let e : p ≡ p + 1 + length turn - (length turn + 1) = omega arith in
+      let next : LandsAt all (p + 1 + length turn) more =
+      record { lands = λ back q. let k : length turn + 1 ≡ back = cc in subst (λ j. TicksAt all (p + 1 + length turn - j)) k (ticks_at p _ take h.0 refl e) } in
+      let last : Lands all (p + 1 + length turn) (more ∷ Forget ∷ []) = (next, (goes_none (p + 1 + length turn + 1) Forget refl, tt)) in
+      lands_both place front _ (lands_straight place front (outset_straight l (length turn + 2) m m.start))
+      (one_straight p take (turn ++ (more ∷ Forget ∷ [])) refl
+      (lands_both (p + 1) turn (more ∷ Forget ∷ []) (ft (p + 1) (has_front all (p + 1) turn _ h.1)) last))
+
+  for_lands : (l : Line) (r : Head) (turn : List Instruction) (place : ℕ) → HasAt all place (for_code l r turn) → ((p : ℕ) → HasAt all p turn → Lands all p turn) → Lands all place (for_code l r turn)
+  for_lands l (heads.Numbers r) turn place has ft = range_lands l r turn place has ft
+  for_lands l (heads.Members m) turn place has ft = members_lands l m turn place has ft
+
   phrases_lands : (l : Line) (ps : List Phrase) (turn : List Instruction) → ((p : ℕ) → HasAt all p turn → Lands all p turn) → (place : ℕ) → HasAt all place (phrases_code l ps turn) → Lands all place (phrases_code l ps turn)
   phrases_lands l [] turn ft place has = ft place has
   phrases_lands l (x ∷ ps) turn ft place has =
@@ -255,7 +333,7 @@ module _ (all : List Instruction) where
       lands_both place front _ (lands_straight place front (phrase_straight l (length (phrases_code l ps turn)) x.kind x.condition))
       (phrases_lands l ps turn ft (place + length front) (has_back all place front _ has))
 
-  find_lands : (l : Line) (r : Range) (ps : List Phrase) (a b : List Instruction) (place : ℕ) → HasAt all place (find_code l r ps a b) → ((p : ℕ) → HasAt all p a → Lands all p a) → ((p : ℕ) → HasAt all p b → Lands all p b) → Lands all place (find_code l r ps a b)
+  find_lands : (l : Line) (r : Head) (ps : List Phrase) (a b : List Instruction) (place : ℕ) → HasAt all place (find_code l r ps a b) → ((p : ℕ) → HasAt all p a → Lands all p a) → ((p : ℕ) → HasAt all p b → Lands all p b) → Lands all place (find_code l r ps a b)
   find_lands l r ps a b place has fa fb =
       let case = Jump (length b + 3) ∷ [] in
       let turn = phrases_code l ps case in
@@ -284,6 +362,9 @@ module _ (all : List Instruction) where
     statement_lands first (Create l class t) place has = lands_straight place (statement_code first (Create l class t)) (create_straight l class t)
     statement_lands first (CreateEvery l classes) place has = lands_straight place (statement_code first (CreateEvery l classes)) (creates_straight l classes.items)
     statement_lands first (Destroy l class e) place has = lands_straight place (statement_code first (Destroy l class e)) (straight_both (expression_code l None e) _ (expression_straight l None e) (refl, tt))
+    statement_lands first (File l set e position owner) place has = lands_straight place (statement_code first (File l set e position owner)) (file_straight l position set e owner)
+    statement_lands first (RemoveEnd l set end t owner) place has = lands_straight place (statement_code first (RemoveEnd l set end t owner)) (remove_end_straight l set end t owner)
+    statement_lands first (Remove l set e owner) place has = lands_straight place (statement_code first (Remove l set e owner)) (remove_straight l set e owner)
 
     row_lands : {m : _} (first : ℕ) (r : Row_of-Statement m) (place : ℕ) → HasAt all place (row_code first r) → Lands all place (row_code first r)
     row_lands first end_of-Statement place has = tt

@@ -1,9 +1,12 @@
 pub mod Steps
 pub mod Parts
 pub mod Expressions
+pub mod Looking
 pub mod Branching
 pub mod Looping
+pub mod Walking
 pub mod Writing
+pub mod Filing
 pub mod Effects
 pub mod Calling
 pub mod Whole

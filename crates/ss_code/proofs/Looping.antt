@@ -17,7 +17,7 @@ use Rattle.ss_code.specs.declared.instruction.Instruction.TheVariants.{Turn as T
 use Rattle.ss_code.specs.Store.{Store, World, assigned, step_of, is_within, item_after}
 use Rattle.ss_code.specs.Meaning.{OutOfTicks, Fault, Paused, WentOn, Left, Part, and_then, if_ok, look, assign, value, holds, all_pass, tick_from, choose, turns, Turn, GoesOn, EndsLoop, IsFound, phrase, phrases, after_turn, items, step_value, Bounds, bounds, over_range}
 use Rattle.ss_code.specs.Machine.{Frame, State, Code, To, act, is_due, with_rest, when_due, branch, did, where_next}
-use Rattle.ss_code.specs.Translation.{expression_code, condition_code, negated_code, guards_code, phrase_code, phrases_code, while_code, step_code, bounds_code, for_code}
+use Rattle.ss_code.specs.Translation.{expression_code, condition_code, negated_code, guards_code, phrase_code, phrases_code, while_code, step_code, bounds_code, range_code}
 use Rattle.ss_code.specs.Running.{Underway}
 use Rattle.ss_code.proofs.Steps.{HasAt, has_front, has_back, Reaches, here, core_of, at, arrive, join}
 use Rattle.ss_code.proofs.Parts.{Runs, same, done, told, told_join, told_part, goes, rests}
@@ -36,6 +36,15 @@ module _ (code : Code) where
   tick_run i place place' stack stack' frames g k go has due e s r (suc t) next =
       goes code (at place stack frames (world s r (suc t))) (at place' stack' frames (world (g s) r t)) i _ has
       (ap (λ b. when_due b r (suc t) (act code i (core_of place stack frames s))) due ∙ ap (with_rest r t) (e s))
+      (next t (omega arith))
+
+  -- the same where what is put on the stack comes from the store
+  pub tick_at : {A : Type 0} (i : Instruction) (place place' : ℕ) (stack stack' : List Value) (frames : List Frame) (k : A → World → State) (go : Part A) (s s' : Store) → slice_get code.instructions place ≡ Some i → is_due i ≡ true → act code i (core_of place stack frames s) ≡ To (core_of place' stack' frames s') → (r : List ℕ) (t : ℕ) → ((t' : ℕ) → t' < t → Reaches code (at place' stack' frames (world s' r t')) (arrive k frames (go (world s r t')))) → Reaches code (at place stack frames (world s r t)) (arrive k frames (tick_from t go (world s r t)))
+  tick_at i place place' stack stack' frames k go s s' has due e r zero next =
+      rests code (at place stack frames (world s r 0)) i Paused has (ap (λ b. when_due b r 0 (act code i (core_of place stack frames s))) due)
+  tick_at i place place' stack stack' frames k go s s' has due e r (suc t) next =
+      goes code (at place stack frames (world s r (suc t))) (at place' stack' frames (world s' r t)) i _ has
+      (ap (λ b. when_due b r (suc t) (act code i (core_of place stack frames s))) due ∙ ap (with_rest r t) e)
       (next t (omega arith))
 
   -- where no tick is left
@@ -99,6 +108,11 @@ abbrev pub leads : Turn → ℕ → ℕ → ℕ
 leads GoesOn end found = end
 leads EndsLoop end found = end + 1
 leads IsFound end found = end + found
+
+-- behind a FOR: where no case was found, and where one was
+abbrev pub behind : (found : ℕ) → Bool → ℕ → ℕ
+behind found false end = end + 1 + 1
+behind found true end = end + found + 1
 
 -- code for a turn of a FOR
 pub record Turns (code : Code) (n found : ℕ) (c : List Instruction) (m : Part Turn) : Type 0 where
@@ -168,22 +182,18 @@ module _ (code : Code) (n found : ℕ) where
       let next = phrases_run l ps turn m r in
       record { by = λ place stack frames w has le. phrase_run l (phrases_code l ps turn) (phrases l ps m) next p place stack frames w has le p.kind refl }
 
+  -- what a FOR keeps on the stack goes
+  pub forget : (place place' : ℕ) (a b c : Value) (stack : List Value) (frames : List Frame) (w : World) → slice_get code.instructions place ≡ Some Forget → place + 1 ≡ place' → Reaches code (at place (a ∷ b ∷ c ∷ stack) frames w) (Underway (at place' stack frames w))
+  forget place place' a b c stack frames w has e =
+      goes code (at place (a ∷ b ∷ c ∷ stack) frames w) (at (place + 1) stack frames w) Forget _ has refl
+      (subst (λ p. Reaches code (at (place + 1) stack frames w) (Underway (at p stack frames w))) e here)
+
   module _ (l : Line) (x : Variable) (turn : List Instruction) (m : Part Turn) (r : Turns code n found turn m) where
     abbrev pub items_code : List Instruction
     items_code = Take x ∷ (turn ++ (Next (length turn + 1) ∷ Forget ∷ []))
 
-    -- behind a FOR: where no case was found, and where one was
-    abbrev pub behind : Bool → ℕ → ℕ
-    behind false end = end + 1 + 1
-    behind true end = end + found + 1
-
-    forget : (place place' : ℕ) (a b c : Value) (stack : List Value) (frames : List Frame) (w : World) → slice_get code.instructions place ≡ Some Forget → place + 1 ≡ place' → Reaches code (at place (a ∷ b ∷ c ∷ stack) frames w) (Underway (at place' stack frames w))
-    forget place place' a b c stack frames w has e =
-        goes code (at place (a ∷ b ∷ c ∷ stack) frames w) (at (place + 1) stack frames w) Forget _ has refl
-        (subst (λ p. Reaches code (at (place + 1) stack frames w) (Underway (at p stack frames w))) e here)
-
     module _ (y z : Value) where
-      next_run : (k : ℕ) (v : Value) (o : Option Value) → item_after y z v ≡ o → (place end : ℕ) (stack : List Value) (frames : List Frame) (w : World) → slice_get code.instructions end ≡ Some (Next (length turn + 1)) → slice_get code.instructions (end + 1) ≡ Some Forget → end - (length turn + 1) ≡ place → ((d : Value) → Reaches code (at place (d ∷ z ∷ y ∷ stack) frames w) (arrive (λ b w'. at (behind b end) stack frames w') frames (items k x y z m d w))) → Reaches code (at end (v ∷ z ∷ y ∷ stack) frames w) (arrive (λ b w'. at (behind b end) stack frames w') frames (after_turn GoesOn o (items k x y z m) w))
+      next_run : (k : ℕ) (v : Value) (o : Option Value) → item_after y z v ≡ o → (place end : ℕ) (stack : List Value) (frames : List Frame) (w : World) → slice_get code.instructions end ≡ Some (Next (length turn + 1)) → slice_get code.instructions (end + 1) ≡ Some Forget → end - (length turn + 1) ≡ place → ((d : Value) → Reaches code (at place (d ∷ z ∷ y ∷ stack) frames w) (arrive (λ b w'. at (behind found b end) stack frames w') frames (items k x y z m d w))) → Reaches code (at end (v ∷ z ∷ y ∷ stack) frames w) (arrive (λ b w'. at (behind found b end) stack frames w') frames (after_turn GoesOn o (items k x y z m) w))
       next_run k v None q place end stack frames w has has2 back next =
           goes code (at end (v ∷ z ∷ y ∷ stack) frames w) (at (end + 1) (v ∷ z ∷ y ∷ stack) frames w) (Next (length turn + 1)) _ has
           (ap (λ o. with_rest w.report w.ticks (To (where_next o (length turn + 1) z y v stack (core_of end (v ∷ z ∷ y ∷ stack) frames w.store)))) q)
@@ -191,20 +201,20 @@ module _ (code : Code) (n found : ℕ) where
       next_run k v (Some d) q place end stack frames w has has2 back next =
           goes code (at end (v ∷ z ∷ y ∷ stack) frames w) (at (end - (length turn + 1)) (d ∷ z ∷ y ∷ stack) frames w) (Next (length turn + 1)) _ has
           (ap (λ o. with_rest w.report w.ticks (To (where_next o (length turn + 1) z y v stack (core_of end (v ∷ z ∷ y ∷ stack) frames w.store)))) q)
-          (subst (λ p. Reaches code (at p (d ∷ z ∷ y ∷ stack) frames w) (arrive (λ b w'. at (behind b end) stack frames w') frames (items k x y z m d w))) (sym back) (next d))
+          (subst (λ p. Reaches code (at p (d ∷ z ∷ y ∷ stack) frames w) (arrive (λ b w'. at (behind found b end) stack frames w') frames (items k x y z m d w))) (sym back) (next d))
 
       -- behind a turn
-      after_run : (k : ℕ) (t : Turn) (v : Value) (place end : ℕ) (stack : List Value) (frames : List Frame) (w : World) → slice_get code.instructions end ≡ Some (Next (length turn + 1)) → slice_get code.instructions (end + 1) ≡ Some Forget → slice_get code.instructions (end + found) ≡ Some Forget → end - (length turn + 1) ≡ place → ((d : Value) → Reaches code (at place (d ∷ z ∷ y ∷ stack) frames w) (arrive (λ b w'. at (behind b end) stack frames w') frames (items k x y z m d w))) → Reaches code (at (leads t end found) (v ∷ z ∷ y ∷ stack) frames w) (arrive (λ b w'. at (behind b end) stack frames w') frames (after_turn t (item_after y z v) (items k x y z m) w))
+      after_run : (k : ℕ) (t : Turn) (v : Value) (place end : ℕ) (stack : List Value) (frames : List Frame) (w : World) → slice_get code.instructions end ≡ Some (Next (length turn + 1)) → slice_get code.instructions (end + 1) ≡ Some Forget → slice_get code.instructions (end + found) ≡ Some Forget → end - (length turn + 1) ≡ place → ((d : Value) → Reaches code (at place (d ∷ z ∷ y ∷ stack) frames w) (arrive (λ b w'. at (behind found b end) stack frames w') frames (items k x y z m d w))) → Reaches code (at (leads t end found) (v ∷ z ∷ y ∷ stack) frames w) (arrive (λ b w'. at (behind found b end) stack frames w') frames (after_turn t (item_after y z v) (items k x y z m) w))
       after_run k GoesOn v place end stack frames w h h1 hf back next = next_run k v (item_after y z v) refl place end stack frames w h h1 back next
       after_run k EndsLoop v place end stack frames w h h1 hf back next = forget (end + 1) (end + 1 + 1) v z y stack frames w h1 refl
       after_run k IsFound v place end stack frames w h h1 hf back next = forget (end + found) (end + found + 1) v z y stack frames w hf refl
 
       -- the items from v on
-      items_run : (k : ℕ) → k ≤ n → (place end : ℕ) (stack : List Value) (frames : List Frame) → HasAt code.instructions place items_code → place + 1 + length turn ≡ end → slice_get code.instructions (end + found) ≡ Some Forget → (v : Value) (w : World) → w.ticks ≤ k → Reaches code (at place (v ∷ z ∷ y ∷ stack) frames w) (arrive (λ b w'. at (behind b end) stack frames w') frames (items k x y z m v w))
+      items_run : (k : ℕ) → k ≤ n → (place end : ℕ) (stack : List Value) (frames : List Frame) → HasAt code.instructions place items_code → place + 1 + length turn ≡ end → slice_get code.instructions (end + found) ≡ Some Forget → (v : Value) (w : World) → w.ticks ≤ k → Reaches code (at place (v ∷ z ∷ y ∷ stack) frames w) (arrive (λ b w'. at (behind found b end) stack frames w') frames (items k x y z m v w))
       items_run zero lek place end stack frames has len hf v w le =
-          out_run code {A = Bool} (Take x) place (v ∷ z ∷ y ∷ stack) frames (λ b w'. at (behind b end) stack frames w') has.0 refl w.store w.report w.ticks le
+          out_run code {A = Bool} (Take x) place (v ∷ z ∷ y ∷ stack) frames (λ b w'. at (behind found b end) stack frames w') has.0 refl w.store w.report w.ticks le
       items_run (suc k) lek place end stack frames has len hf v w le =
-          let k' = λ (b : Bool) (w' : World). at (behind b end) stack frames w' in
+          let k' = λ (b : Bool) (w' : World). at (behind found b end) stack frames w' in
           let h = has_back code.instructions (place + 1) turn _ has.1 in
           let h0 = subst (λ p. slice_get code.instructions p ≡ Some (Next (length turn + 1))) len h.0 in
           let h1 = subst (λ p. slice_get code.instructions (p + 1) ≡ Some Forget) len h.1.0 in
@@ -265,20 +275,20 @@ module _ (code : Code) (n found : ℕ) where
         (step_run f.step p2 p3 (b ∷ a ∷ stack) frames w (has_back code.instructions p1 cb cc' hb) len)
         (λ c q''. begin_run a b c (step_of c) refl p3 stack frames w begins)))
 
-  pub range_run : (l : Line) (f : Range) (turn : List Instruction) (m : Part Turn) (r : Turns code n found turn m) (place end : ℕ) (stack : List Value) (frames : List Frame) (w : World) → HasAt code.instructions place (for_code l f turn) → place + length (for_code l f turn) ≡ end + 2 → slice_get code.instructions (end + found) ≡ Some Forget → w.ticks ≤ n → Reaches code (at place stack frames w) (arrive (λ b w'. at (behind l f.variable turn m r b end) stack frames w') frames (over_range n l f m w))
+  pub range_run : (l : Line) (f : Range) (turn : List Instruction) (m : Part Turn) (r : Turns code n found turn m) (place end : ℕ) (stack : List Value) (frames : List Frame) (w : World) → HasAt code.instructions place (range_code l f turn) → place + length (range_code l f turn) ≡ end + 2 → slice_get code.instructions (end + found) ≡ Some Forget → w.ticks ≤ n → Reaches code (at place stack frames w) (arrive (λ b w'. at (behind found b end) stack frames w') frames (over_range n l f m w))
   range_run l f turn m r place end stack frames w has len hf le =
       let all = bounds_code l f in
       let tail = Begin (length turn + 2) l ∷ items_code l f.variable turn m r in
       let p3 = place + length all in
       let size : p3 + 1 + 1 + length turn ≡ end = omega (arith, len, length-append all tail, length-append turn (Next (length turn + 1) ∷ Forget ∷ [])) in
-      told_part l w (at place stack frames w) (begun l f.variable turn m r (p3 + 1) stack frames w) (λ b w'. at (behind l f.variable turn m r b end) stack frames w') frames (bounds f w.store) (λ b. choose (is_within b.first b.limit) (items n f.variable b.limit b.step m b.first) (WentOn false))
+      told_part l w (at place stack frames w) (begun l f.variable turn m r (p3 + 1) stack frames w) (λ b w'. at (behind found b end) stack frames w') frames (bounds f w.store) (λ b. choose (is_within b.first b.limit) (items n f.variable b.limit b.step m b.first) (WentOn false))
       (bounds_run l f.variable turn m r f place stack frames w has)
       (λ b q. sides (is_within b.first b.limit) b p3 (has_back code.instructions place all tail has).1 size)
     where
-      sides : (t : Bool) (b : Bounds) (p3 : ℕ) → HasAt code.instructions (p3 + 1) (items_code l f.variable turn m r) → p3 + 1 + 1 + length turn ≡ end → Reaches code (at (aim t (p3 + 1) (length turn + 2)) (b.first ∷ b.step ∷ b.limit ∷ stack) frames w) (arrive (λ b w'. at (behind l f.variable turn m r b end) stack frames w') frames (choose t (items n f.variable b.limit b.step m b.first) (WentOn false) w))
+      sides : (t : Bool) (b : Bounds) (p3 : ℕ) → HasAt code.instructions (p3 + 1) (items_code l f.variable turn m r) → p3 + 1 + 1 + length turn ≡ end → Reaches code (at (aim t (p3 + 1) (length turn + 2)) (b.first ∷ b.step ∷ b.limit ∷ stack) frames w) (arrive (λ b w'. at (behind found b end) stack frames w') frames (choose t (items n f.variable b.limit b.step m b.first) (WentOn false) w))
       sides true b p3 h e = items_run l f.variable turn m r b.limit b.step n (omega arith) (p3 + 1) end stack frames h e hf b.first w le
       sides false b p3 h e =
           let e' : p3 + 1 + (length turn + 2) ≡ end + 1 = omega (arith, e) in
           let hx = (has_back code.instructions (p3 + 1 + 1) turn (Next (length turn + 1) ∷ Forget ∷ []) h.1).1.0 in
           let e2 : p3 + 1 + 1 + length turn + 1 ≡ p3 + 1 + (length turn + 2) = omega arith in
-          forget l f.variable turn m r (p3 + 1 + (length turn + 2)) (end + 1 + 1) b.first b.step b.limit stack frames w (subst (λ p. slice_get code.instructions p ≡ Some Forget) e2 hx) (omega (arith, e))
+          forget (p3 + 1 + (length turn + 2)) (end + 1 + 1) b.first b.step b.limit stack frames w (subst (λ p. slice_get code.instructions p ≡ Some Forget) e2 hx) (omega (arith, e))

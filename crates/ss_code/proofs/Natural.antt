@@ -1,6 +1,9 @@
 -- What a program means does not depend on where its layout lies in memory: l is another one that says the same.
 use Rattle.std.proofs.Common.{◌≡◌, ℕ, zero, suc, Bool, true, false, List, [], ◌∷◌, length, map, Option, Some, None, Ok, Err, refl, sym, ap, ◌∙◌, subst}
-use Rattle.std.specs.Prelude.{ℤ, is_some, slice_get, Result as OkOr}
+use Rattle.std.specs.Prelude.{ℤ, nat_lt, ◌&&◌, is_some, slice_get, Result as OkOr}
+use Rattle.std.specs.List.{list_all}
+use Rattle.ss_base.specs.declared.layout.RankKey.{RankKey}
+use Rattle.ss_base.specs.declared.value.Value.TheVariants.{Whole}
 use Rattle.ss_base.specs.declared.line.Line.{Line}
 use Rattle.ss_base.specs.declared.fault.FaultKind.{FaultKind}
 use Rattle.ss_base.specs.declared.value.Value.{Value}
@@ -10,33 +13,50 @@ use Rattle.ss_input.specs.Words.{Given, value_given}
 use Rattle.ss_records.specs.State.{State, value_in, known_in, created, is_made, not_made}
 use Rattle.ss_resolved.specs.declared.resolved.Variable.{Variable}
 use Rattle.ss_resolved.specs.declared.resolved.Variable.TheVariants.{Global, Local}
-use Rattle.ss_resolved.specs.declared.resolved.Expression.{Expression, Constant, Fetch, Signed', Sum', Product', Applied', Absolute', Attribute', Made, Row_of-Expression, end_of-Expression, more_of-Expression, Row_of-Expression-Sum-1-2, end_of-Expression-Sum-1-2, more_of-Expression-Sum-1-2}
+use Rattle.ss_resolved.specs.declared.resolved.Expression.{Expression, Constant, Fetch, Signed', Sum', Product', Applied', Absolute', Attribute', Made, Derived', Row_of-Expression, end_of-Expression, more_of-Expression, Row_of-Expression-Sum-1-2, end_of-Expression-Sum-1-2, more_of-Expression-Sum-1-2}
 use Rattle.ss_resolved.specs.declared.resolved.Test.{Test}
-use Rattle.ss_resolved.specs.declared.resolved.Test.TheVariants.{Compare, DataEnded}
+use Rattle.ss_resolved.specs.declared.resolved.Test.TheVariants.{Compare, DataEnded, Empty, Member}
 use Rattle.ss_resolved.specs.declared.resolved.Conjunction.{Conjunction}
 use Rattle.ss_resolved.specs.declared.resolved.Guard.{Guard}
 use Rattle.ss_resolved.specs.declared.resolved.PhraseKind.{PhraseKind}
 use Rattle.ss_resolved.specs.declared.resolved.PhraseKind.TheVariants.{With as WithPhrase, Unless as UnlessPhrase, While as WhilePhrase, Until as UntilPhrase}
 use Rattle.ss_resolved.specs.declared.resolved.Phrase.{Phrase}
 use Rattle.ss_resolved.specs.declared.resolved.Range.{Range}
+use Rattle.ss_resolved.specs.declared.resolved.Start.{Start}
+use Rattle.ss_resolved.specs.declared.resolved.Start.TheVariants as starts
+use Rattle.ss_resolved.specs.declared.resolved.Members.{Members}
+use Rattle.ss_resolved.specs.declared.resolved.Head.{Head}
+use Rattle.ss_resolved.specs.declared.resolved.Head.TheVariants as heads
+use Rattle.ss_resolved.specs.declared.resolved.Derived.{Derived}
+use Rattle.ss_resolved.specs.declared.resolved.Derived.TheVariants.{First, Last, Count as CountOf, Predecessor, Successor, Membership}
+use Rattle.ss_resolved.specs.declared.resolved.End.{End}
+use Rattle.ss_resolved.specs.declared.resolved.End.TheVariants as ends
+use Rattle.ss_resolved.specs.declared.resolved.Position.{Position}
+use Rattle.ss_resolved.specs.declared.resolved.Position.TheVariants as positions
 use Rattle.ss_resolved.specs.declared.resolved.Place.{Place}
 use Rattle.ss_resolved.specs.declared.resolved.Place.TheVariants.{Variable as PlainVariable, Attribute as AttributePlace, Count}
 use Rattle.ss_resolved.specs.declared.resolved.Target.{Target}
 use Rattle.ss_resolved.specs.declared.resolved.Counted.{Counted}
 use Rattle.ss_resolved.specs.declared.resolved.Section.{Section}
-use Rattle.ss_resolved.specs.declared.resolved.Statement.{Statement, Let, Change, Print, If', While', For', Find', Call, Return, Stop, Read, Skip, Create, CreateEvery, Destroy, Row_of-Statement, end_of-Statement, more_of-Statement}
+use Rattle.ss_resolved.specs.declared.resolved.Statement.{Statement, Let, Change, Print, If', While', For', Find', Call, Return, Stop, Read, Skip, Create, CreateEvery, Destroy, File, RemoveEnd, Remove, Row_of-Statement, end_of-Statement, more_of-Statement}
 use Rattle.ss_resolved.specs.declared.resolved.Resolved.{Resolved}
 use Rattle.ss_resolved.specs.Lines.{lines_of}
 use Rattle.ss_code.specs.declared.instruction.Operator.TheVariants.{Times, Distance}
+use Rattle.ss_code.specs.declared.instruction.Filing.{Filing}
+use Rattle.ss_code.specs.declared.instruction.Filing.TheVariants as filings
+use Rattle.ss_code.specs.declared.instruction.Side.{Side}
+use Rattle.ss_code.specs.declared.instruction.Side.TheVariants as sides_of
+use Rattle.ss_code.specs.Orders.{Order, Queue, Stack, ByRank}
+use Rattle.ss_code.specs.Sets.{set_at, about, known_owner, known_member, membership, answered, asked, is_none, is_empty, is_in, is_field, are_fields, settle, filed_at_first, filed_at_last, filed_in_order, filed, filed_beside, removed_one, end_removed, removed_at, outset, beside, or_none, coming, begun, if_filed, from_or_after, begun_at, is_member, if_still, if_any, goes_on}
 use Rattle.ss_code.specs.Layouts.{SameLayout, Said}
 use Rattle.ss_code.specs.Store.{Store, World, if_ok, zero_value, number_of, fetched, assigned, computed, printed, related, step_of, is_within, item_after, empty_lines, fresh, yielded}
 use Rattle.ss_code.specs.Entities.{class_at, field_at, has_numbers, has_indices, if_so, turned, with_heap, born, known, attribute, fitted, if_field, with_attribute, unless_made, counted, made_all, without}
-use Rattle.ss_code.specs.Meaning.{Exit, Returned, Stopped, Faulted, OutOfTicks, Outcome, WentOn, Left, Part, and_then, look, looked, assign, send, operator_of, operator_for, value, sum_from, product_from, values, firsts, both, either, test_holds, all_hold, some_hold, holds, passes, all_pass, tick_from, take_tick, choose, turns, Turn, GoesOn, EndsLoop, IsFound, phrase, phrases, after_turn, items, step_value, bounds, over_range, given_by, take_word, stored, change, Spot, InVariable, InAttribute, InCount, spot_of, held, written, give_to, reads, assign_each, born_by, create, create_every, Calls, effect, effects, body, with_locals, come_back, routine_body, calls, run_of, first_world, meaning}
+use Rattle.ss_code.specs.Meaning.{Exit, Returned, Stopped, Faulted, OutOfTicks, Outcome, WentOn, Left, Part, and_then, look, looked, assign, send, operator_of, operator_for, value, sum_from, product_from, values, firsts, both, either, test_holds, all_hold, some_hold, holds, unless, passes, all_pass, tick_from, take_tick, choose, turns, Turn, GoesOn, EndsLoop, IsFound, phrase, phrases, after_turn, items, step_value, bounds, over_range, looked_as, member_value, owner_value, outset_at, outset_by, after_member, next_member, members, over_members, over, file, file_beside, file_by, remove, remove_end, given_by, take_word, stored, change, Spot, InVariable, InAttribute, InCount, spot_of, held, written, give_to, reads, assign_each, born_by, create, create_every, Calls, effect, effects, body, with_locals, come_back, routine_body, calls, run_of, first_world, meaning}
 use Rattle.ss_code.specs.Machine.{Code}
 use Rattle.ss_code.specs.Translation.{code_of}
 use Rattle.ss_code.specs.Running.{Ends, Behaves}
 use Rattle.ss_code.proofs.Whole.{behaves_so}
-use Rattle.ss_code.proofs.Alike.{nones, moved_state, Carried, there_same, numbers_same, indices_same, field_same, known_same, value_same, assigned_same, CarriedPair, created_same, created_all_same, destroyed_same}
+use Rattle.ss_code.proofs.Alike.{set_same, member_class_same, modes_same, joiner_same, owner_same, first_in_same, last_in_same, count_in_same, next_in_same, previous_in_same, owner_of_member_same, member_test_same, filed_first_same, filed_last_same, filed_before_same, filed_after_same, removed_same, filed_ranked_same, first_removed_same, last_removed_same, nones, moved_state, Carried, there_same, numbers_same, indices_same, field_same, known_same, value_same, assigned_same, CarriedPair, created_same, created_all_same, destroyed_same}
 
 module _ (l : Layout) where
   -- with the other layout
@@ -195,20 +215,133 @@ module _ (l : Layout) where
         (if_carried (has_numbers (class_at s.heap class)) _ q (heap_so s _ _ (destroyed_same l s.heap fit class (number_of x))));
   }
 
+  -- ## Sets
+
+  about_so : {A : Type 0} (set : ℕ) (s : Store) → Fits s → (a b : OkOr A FaultKind) → b ≡ a → about set (moved s) b ≡ about set s a
+  about_so set s fit a b q = ap (λ o. if_so (is_some o) b) (set_same l s.heap fit set) ∙ ap (if_so (is_some (set_at s.heap set))) q
+
+  known_owner_so : (set : ℕ) (o : Value) (s : Store) → Fits s → known_owner set o (moved s) ≡ known_owner set o s
+  known_owner_so set o s fit = about_so set s fit _ _ (ap Rattle.ss_records.specs.State.no_value (owner_same l s.heap fit set (number_of o)))
+
+  known_member_so : (set : ℕ) (x : Value) (s : Store) → Fits s → known_member set x (moved s) ≡ known_member set x s
+  known_member_so set x s fit = about_so set s fit _ _ (ap Rattle.ss_records.specs.State.no_value (joiner_same l s.heap fit set (number_of x)))
+
+  answered_so : (d : Derived) (set : ℕ) (x : ℤ) (s : Store) → Fits s → answered d (moved_state l s.heap) set x ≡ answered d s.heap set x
+  answered_so First set x s fit = ap (turned Whole) (first_in_same l s.heap fit set x)
+  answered_so Last set x s fit = ap (turned Whole) (last_in_same l s.heap fit set x)
+  answered_so CountOf set x s fit = ap (turned Whole) (count_in_same l s.heap fit set x)
+  answered_so Predecessor set x s fit = ap (turned Whole) (previous_in_same l s.heap fit set x)
+  answered_so Successor set x s fit = ap (turned Whole) (next_in_same l s.heap fit set x)
+  answered_so Membership set x s fit = ap (turned membership) (owner_of_member_same l s.heap fit set x)
+
+  asked_so : (d : Derived) (set : ℕ) (x : Value) (s : Store) → Fits s → asked d set x (moved s) ≡ asked d set x s
+  asked_so d set x s fit = about_so set s fit _ _ (answered_so d set (number_of x) s fit)
+
+  is_empty_so : (set : ℕ) (o : Value) (s : Store) → Fits s → is_empty set o (moved s) ≡ is_empty set o s
+  is_empty_so set o s fit = about_so set s fit _ _ (ap (turned is_none) (count_in_same l s.heap fit set (number_of o)))
+
+  is_in_so : (set : ℕ) (x o : Value) (s : Store) → Fits s → is_in set x o (moved s) ≡ is_in set x o s
+  is_in_so set x o s fit = about_so set s fit _ _ (member_test_same l s.heap fit set (number_of o) (number_of x))
+
+  outset_so : (b : Bool) (set : ℕ) (o : ℤ) (s : Store) → Fits s → outset b (moved_state l s.heap) set o ≡ outset b s.heap set o
+  outset_so false set o s fit = first_in_same l s.heap fit set o
+  outset_so true set o s fit = last_in_same l s.heap fit set o
+
+  begun_so : (b : Bool) (set : ℕ) (o : Value) (s : Store) → Fits s → begun b set o (moved s) ≡ begun b set o s
+  begun_so b set o s fit = about_so set s fit _ _ (ap (turned Whole) (outset_so b set (number_of o) s fit))
+
+  beside_so : (b : Bool) (set : ℕ) (x : ℤ) (s : Store) → Fits s → beside b (moved_state l s.heap) set x ≡ beside b s.heap set x
+  beside_so false set x s fit = next_in_same l s.heap fit set x
+  beside_so true set x s fit = previous_in_same l s.heap fit set x
+
+  coming_so : (b : Bool) (set : ℕ) (x : Value) (s : Store) → Fits s → coming b set x (moved s) ≡ coming b set x s
+  coming_so b set x s fit = ap or_none (about_so set s fit _ _ (beside_so b set (number_of x) s fit))
+
+  from_so : (b after : Bool) (set : ℕ) (x : Value) (s : Store) → Fits s → from_or_after b after set x (moved s) ≡ from_or_after b after set x s
+  from_so b false set x s fit = refl
+  from_so b true set x s fit = coming_so b set x s fit
+
+  begun_at_so : (b after : Bool) (set : ℕ) (x o : Value) (s : Store) → Fits s → begun_at b after set x o (moved s) ≡ begun_at b after set x o s
+  begun_at_so b after set x o s fit =
+      ok_same (is_in set x o s) (is_in set x o (moved s)) _ _ (is_in_so set x o s fit) (λ t. ap (if_filed t) (from_so b after set x s fit))
+
+  goes_on_so : (set : ℕ) (x o : Value) (s : Store) → Fits s → goes_on set x o (moved s) ≡ goes_on set x o s
+  goes_on_so set x o s fit = ap (λ r. if_any (is_member x) (if_still r)) (is_in_so set x o s fit)
+
+  -- a change of a set
+  about_carried : (set : ℕ) (s : Store) → Fits s → (r q : OkOr Store FaultKind) → CarriedStore r q → CarriedStore (about set s r) (about set (moved s) q)
+  about_carried set s fit r q c =
+      subst (λ o. CarriedStore (about set s r) (if_so (is_some o) q)) (sym (set_same l s.heap fit set)) (if_carried (is_some (set_at s.heap set)) r q c)
+
+  filed_at_first_so : (set : ℕ) (x o : Value) → Changes (filed_at_first set x o)
+  filed_at_first_so set x o = record { by = λ s fit. about_carried set s fit _ _ (heap_so s _ _ (filed_first_same l s.heap fit set (number_of o) (number_of x))) }
+
+  filed_at_last_so : (set : ℕ) (x o : Value) → Changes (filed_at_last set x o)
+  filed_at_last_so set x o = record { by = λ s fit. about_carried set s fit _ _ (heap_so s _ _ (filed_last_same l s.heap fit set (number_of o) (number_of x))) }
+
+  field_so : (h : State) (keys : List RankKey) (c : ℕ) → SameLayout h.layout l → list_all (is_field l c) keys ≡ list_all (is_field h.layout c) keys
+  field_so h [] c fit = refl
+  field_so h (k ∷ ks) c fit =
+      ap (λ ms. nat_lt k.field (length ms) && list_all (is_field l c) ks) (modes_same l h fit c)
+      ∙ ap (λ b. is_field h.layout c k && b) (field_so h ks c fit)
+
+  fields_so : (h : State) (set : ℕ) (keys : List RankKey) → SameLayout h.layout l → are_fields l set keys ≡ are_fields h.layout set keys
+  fields_so h set keys fit = ap (λ c. list_all (is_field l c) keys) (member_class_same l h fit set) ∙ field_so h keys (Rattle.ss_records.specs.Sets.member_class h.layout set) fit
+
+  order_so : (order : Option Order) (set : ℕ) (x o : Value) → Changes (filed_in_order order set x o)
+  order_so None set x o = record {
+    by = λ s fit. ok_carried (known_member set x s) (known_member set x (moved s)) _ _ (known_member_so set x s fit) (λ u. refl);
+  }
+  order_so (Some Queue) set x o = filed_at_last_so set x o
+  order_so (Some Stack) set x o = filed_at_first_so set x o
+  order_so (Some (ByRank keys)) set x o = record {
+    by = λ s fit. ok_carried (known_member set x s) (known_member set x (moved s)) _ _ (known_member_so set x s fit) (λ u.
+        let q = settle (moved s) (Rattle.ss_sets.specs.Disciplines.filed_ranked (moved_state l s.heap) keys set (number_of o) (number_of x)) in
+        let r = settle s (Rattle.ss_sets.specs.Disciplines.filed_ranked s.heap keys set (number_of o) (number_of x)) in
+        subst (λ b. CarriedStore (if_so (are_fields s.heap.layout set keys) r) (if_so b q)) (sym (fields_so s.heap set keys fit))
+        (if_carried (are_fields s.heap.layout set keys) r q (heap_so s _ _ (filed_ranked_same l s.heap fit keys set (number_of o) (number_of x)))));
+  }
+
+  filed_so : (f : Filing) (set : ℕ) (x o : Value) → Changes (filed f set x o)
+  filed_so filings.ByDiscipline set x o = record { by = λ s fit. (order_so (slice_get s.orders set) set x o).by s fit }
+  filed_so filings.First set x o = filed_at_first_so set x o
+  filed_so filings.Last set x o = filed_at_last_so set x o
+
+  filed_beside_so : (side : Side) (set : ℕ) (x y o : Value) → Changes (filed_beside side set x y o)
+  filed_beside_so sides_of.Before set x y o = record { by = λ s fit. about_carried set s fit _ _ (heap_so s _ _ (filed_before_same l s.heap fit set (number_of o) (number_of x) (number_of y))) }
+  filed_beside_so sides_of.After set x y o = record { by = λ s fit. about_carried set s fit _ _ (heap_so s _ _ (filed_after_same l s.heap fit set (number_of o) (number_of x) (number_of y))) }
+
+  removed_one_so : (set : ℕ) (x o : Value) → Changes (removed_one set x o)
+  removed_one_so set x o = record { by = λ s fit. about_carried set s fit _ _ (heap_so s _ _ (removed_same l s.heap fit set (number_of o) (number_of x))) }
+
+  -- a value, and the store with it
+  born_so : (line : Line) (b : Bool) (r q : OkOr (ℤ × State) FaultKind) (w : World) (fit : Fits w.store) → CarriedPair l w.store.heap fit r q → CarriedOutcome (born_by line (if_so b (turned (born w.store) r)) w) (born_by line (if_so b (turned (born (moved w.store)) q)) (moved_world w))
+  born_so line false r q w fit c = (refl, (refl, fit))
+  born_so line true (Ok a) (Ok b) w fit c = (ap Whole c.0, (ap (λ (h : State). let v : World = record { store = with_heap w.store h; report = w.report; ticks = w.ticks } in v) c.1.0, c.1.1))
+  born_so line true (Ok a) (Err k) w fit c = absurd c
+  born_so line true (Err j) (Ok b) w fit c = absurd c
+  born_so line true (Err j) (Err k) w fit c = (ap (λ k. Faulted k line) c, (refl, fit))
+
+  end_so : (end : End) (set : ℕ) (o : ℤ) (s : Store) (fit : Fits s) → CarriedPair l s.heap fit (end_removed end s.heap set o) (end_removed end (moved_state l s.heap) set o)
+  end_so ends.First set o s fit = first_removed_same l s.heap fit set o
+  end_so ends.Last set o s fit = last_removed_same l s.heap fit set o
+
+  removed_at_so : (line : Line) (end : End) (set : ℕ) (o : Value) → Natural (λ w. born_by line (removed_at end set o w.store) w)
+  removed_at_so line end set o = record {
+    by = λ w fit.
+        let h = w.store.heap in
+        let n = number_of o in
+        subst (λ t. CarriedOutcome (born_by line (removed_at end set o w.store) w) (born_by line (if_so (is_some t) (turned (born (moved w.store)) (end_removed end (moved_state l h) set n))) (moved_world w))) (sym (set_same l h fit set))
+        (born_so line (is_some (set_at h set)) (end_removed end h set n) (end_removed end (moved_state l h) set n) w fit (end_so end set n w.store fit));
+  }
+
   create_so : (line : Line) (class : ℕ) → Natural (create line class)
   create_so line class = record {
     by = λ w fit.
         let h = w.store.heap in
         subst (λ b. CarriedOutcome (create line class w) (born_by line (if_so b (turned (born (moved w.store)) (created (moved_state l h) class))) (moved_world w))) (sym (numbers_same l h fit class))
-        (sides (has_numbers (class_at h class)) (created h class) (created (moved_state l h) class) w fit (created_same l h fit class));
+        (born_so line (has_numbers (class_at h class)) (created h class) (created (moved_state l h) class) w fit (created_same l h fit class));
   }
-    where
-      sides : (b : Bool) (r q : OkOr (ℤ × State) FaultKind) (w : World) (fit : Fits w.store) → CarriedPair l w.store.heap fit r q → CarriedOutcome (born_by line (if_so b (turned (born w.store) r)) w) (born_by line (if_so b (turned (born (moved w.store)) q)) (moved_world w))
-      sides false r q w fit c = (refl, (refl, fit))
-      sides true (Ok a) (Ok b) w fit c = (ap Rattle.ss_base.specs.declared.value.Value.TheVariants.Whole c.0, (ap (λ (h : State). let v : World = record { store = with_heap w.store h; report = w.report; ticks = w.ticks } in v) c.1.0, c.1.1))
-      sides true (Ok a) (Err k) w fit c = absurd c
-      sides true (Err j) (Ok b) w fit c = absurd c
-      sides true (Err j) (Err k) w fit c = (ap (λ k. Faulted k line) c, (refl, fit))
 
   -- ## Values
 
@@ -227,6 +360,7 @@ module _ (l : Layout) where
     value_so (Absolute' p e) s fit = ap (λ r. if_ok r (λ x. computed Distance x zero_value)) (value_so e s fit)
     value_so (Attribute' class field p e) s fit = ok_same (value e s) (value e (moved s)) _ _ (value_so e s fit) (λ x. attribute_so class field x s fit)
     value_so (Made class) s fit = refl
+    value_so (Derived' derived set p e) s fit = ok_same (value e s) (value e (moved s)) _ _ (value_so e s fit) (λ x. asked_so derived set x s fit)
 
     sum_so : {m : _} (terms : Row_of-Expression-Sum-1-2 m) (x : Value) (s : Store) → Fits s → sum_from x terms (moved s) ≡ sum_from x terms s
     sum_so end_of-Expression-Sum-1-2 x s fit = refl
@@ -243,10 +377,24 @@ module _ (l : Layout) where
   values_so (e ∷ es) s fit =
       ok_same (value e s) (value e (moved s)) _ _ (value_so e s fit) (λ v. ap (λ r. if_ok r (λ vs. Ok (v ∷ vs))) (values_so es s fit))
 
+  looked_so : (known : Value → Store → OkOr (Unit {0}) FaultKind) → ((x : Value) (s : Store) → Fits s → known x (moved s) ≡ known x s) → (e : Expression) (s : Store) → Fits s → looked_as known e (moved s) ≡ looked_as known e s
+  looked_so known h e s fit = ok_same (value e s) (value e (moved s)) _ _ (value_so e s fit) (λ x. ap (λ r. if_ok r (λ u. Ok x)) (h x s fit))
+
+  member_so : (set : ℕ) (e : Expression) (s : Store) → Fits s → member_value set e (moved s) ≡ member_value set e s
+  member_so set e s fit = looked_so (known_member set) (known_member_so set) e s fit
+
+  owner_so : (set : ℕ) (e : Expression) (s : Store) → Fits s → owner_value set e (moved s) ≡ owner_value set e s
+  owner_so set e s fit = looked_so (known_owner set) (known_owner_so set) e s fit
+
   test_so : (t : Test) (s : Store) → Fits s → test_holds t (moved s) ≡ test_holds t s
   test_so (Compare left relation right) s fit =
       ok_same (value left s) (value left (moved s)) _ _ (value_so left s fit) (λ x. ap (λ r. if_ok r (λ y. Ok (related relation x y))) (value_so right s fit))
   test_so (DataEnded negated) s fit = refl
+  test_so (Empty negated set owner) s fit =
+      ok_same (value owner s) (value owner (moved s)) _ _ (value_so owner s fit) (λ o. ap (λ r. if_ok r (λ b. Ok (unless negated b))) (is_empty_so set o s fit))
+  test_so (Member negated set e owner) s fit =
+      ok_same (member_value set e s) (member_value set e (moved s)) _ _ (member_so set e s fit) (λ x.
+      ok_same (value owner s) (value owner (moved s)) _ _ (value_so owner s fit) (λ o. ap (λ r. if_ok r (λ b. Ok (unless negated b))) (is_in_so set x o s fit)))
 
   tests_so : (ts : List Test) (s : Store) → Fits s → all_hold ts (moved s) ≡ all_hold ts s
   tests_so [] s fit = refl
@@ -303,6 +451,39 @@ module _ (l : Layout) where
   range_so n line r m h =
       then_so (look_so line (record { by = λ s fit. bounds_so r s fit })) (λ b. choose_so (is_within b.first b.limit) (items_so n r.variable b.limit b.step m h b.first) (went false))
 
+  outset_at_so : (after : Bool) (m : Members) (e : Expression) (s : Store) → Fits s → outset_at after m e (moved s) ≡ outset_at after m e s
+  outset_at_so after m e s fit =
+      ok_same (owner_value m.set m.owner s) (owner_value m.set m.owner (moved s)) _ _ (owner_so m.set m.owner s fit) (λ o.
+      ok_same (value e s) (value e (moved s)) _ _ (value_so e s fit) (λ y.
+      ap (λ r. if_ok r (λ x. Ok (record { owner = o; first = x }))) (begun_at_so m.reverse after m.set y o s fit)))
+
+  outset_by_so : (m : Members) (t : Start) (s : Store) → Fits s → outset_by m t (moved s) ≡ outset_by m t s
+  outset_by_so m starts.End s fit =
+      ok_same (value m.owner s) (value m.owner (moved s)) _ _ (value_so m.owner s fit) (λ o. ap (λ r. if_ok r (λ x. Ok (record { owner = o; first = x }))) (begun_so m.reverse m.set o s fit))
+  outset_by_so m (starts.From e) s fit = outset_at_so false m e s fit
+  outset_by_so m (starts.After e) s fit = outset_at_so true m e s fit
+
+  after_member_so : (t : Turn) (more : Part Bool) → Natural more → Natural (after_member t more)
+  after_member_so GoesOn more h = h
+  after_member_so EndsLoop more h = went false
+  after_member_so IsFound more h = went true
+
+  members_so : (n : ℕ) (line : Line) (m : Members) (o : Value) (turn : Part Turn) → Natural turn → (v : Value) → Natural (members n line m o turn v)
+  members_so zero line m o turn h v = leaves OutOfTicks
+  members_so (suc n) line m o turn h v = record {
+    by = λ w fit.
+        let more = λ (d : Value). next_member line m.set o d (members n line m o turn) in
+        let go = λ (d : Value). take_tick (λ w. and_then (assign m.variable v w) (λ u w. and_then (turn w) (λ t. after_member t (more d)))) in
+        subst (λ d. CarriedOutcome (go (coming m.reverse m.set v w.store) w) (go d (moved_world w))) (sym (coming_so m.reverse m.set v w.store fit))
+        ((tick_so (then_so (assign_so m.variable v) (λ u. then_so h (λ t. after_member_so t (more (coming m.reverse m.set v w.store))
+        (then_so (look_so line (record { by = λ s fit. goes_on_so m.set (coming m.reverse m.set v w.store) o s fit })) (λ b. choose_so b (members_so n line m o turn h (coming m.reverse m.set v w.store)) (went false))))))).by w fit);
+  }
+
+  over_so : (n : ℕ) (line : Line) (h : Head) (turn : Part Turn) → Natural turn → Natural (over n line h turn)
+  over_so n line (heads.Numbers r) turn h = range_so n line r turn h
+  over_so n line (heads.Members m) turn h =
+      then_so (look_so line (record { by = λ s fit. outset_by_so m m.start s fit })) (λ b. choose_so (is_member b.first) (members_so n line m b.owner turn h b.first) (went false))
+
   -- ## Targets
 
   word_so : (line : Line) (mode : Mode) → Natural (take_word line mode)
@@ -349,6 +530,34 @@ module _ (l : Layout) where
   every_so line [] = went tt
   every_so line (c ∷ cs) = then_so (change_so line (made_all_so c.class c.number)) (λ u. every_so line cs)
 
+  -- ## Members
+
+  value_look : (line : Line) (e : Expression) → Natural (look line (value e))
+  value_look line e = look_so line (record { by = λ s fit. value_so e s fit })
+
+  member_look : (line : Line) (set : ℕ) (e : Expression) → Natural (look line (member_value set e))
+  member_look line set e = look_so line (record { by = λ s fit. member_so set e s fit })
+
+  file_one_so : (line : Line) (f : Filing) (set : ℕ) (e owner : Expression) → Natural (file line f set e owner)
+  file_one_so line f set e owner = then_so (member_look line set e) (λ x. then_so (value_look line owner) (λ o. change_so line (filed_so f set x o)))
+
+  file_beside_so : (line : Line) (side : Side) (set : ℕ) (e f owner : Expression) → Natural (file_beside line side set e f owner)
+  file_beside_so line side set e f owner =
+      then_so (member_look line set e) (λ x. then_so (member_look line set f) (λ y. then_so (value_look line owner) (λ o. change_so line (filed_beside_so side set x y o))))
+
+  file_by_so : (line : Line) (position : Position) (set : ℕ) (e owner : Expression) → Natural (file_by line position set e owner)
+  file_by_so line positions.ByDiscipline set e owner = file_one_so line filings.ByDiscipline set e owner
+  file_by_so line positions.First set e owner = file_one_so line filings.First set e owner
+  file_by_so line positions.Last set e owner = file_one_so line filings.Last set e owner
+  file_by_so line (positions.Before f) set e owner = file_beside_so line sides_of.Before set e f owner
+  file_by_so line (positions.After f) set e owner = file_beside_so line sides_of.After set e f owner
+
+  remove_so : (line : Line) (set : ℕ) (e owner : Expression) → Natural (remove line set e owner)
+  remove_so line set e owner = then_so (member_look line set e) (λ x. then_so (value_look line owner) (λ o. change_so line (removed_one_so set x o)))
+
+  remove_end_so : (line : Line) (set : ℕ) (end : End) (owner : Expression) → Natural (remove_end line set end owner)
+  remove_end_so line set end owner = then_so (value_look line owner) (λ o. removed_at_so line end set o)
+
   -- ## Statements
 
   record NaturalCalls (h : Calls) : Type 0 where
@@ -366,9 +575,9 @@ module _ (l : Layout) where
       effect_so (While' line guards p a) =
           then_so (look_so line (record { by = λ s fit. guards_so guards.items s fit })) (λ t. choose_so t (turns_so n line guards.items (effects h n a) (effects_so a)) (went tt))
       effect_so (For' line r ps p a) =
-          then_so (range_so n line r _ (phrases_so line ps.items _ (then_so (effects_so a) (λ u. went GoesOn)))) (λ b. went tt)
+          then_so (over_so n line r _ (phrases_so line ps.items _ (then_so (effects_so a) (λ u. went GoesOn)))) (λ b. went tt)
       effect_so (Find' line r ps p a q b) =
-          then_so (range_so n line r _ (phrases_so line ps.items _ (went IsFound))) (λ t. choose_so t (effects_so a) (effects_so b))
+          then_so (over_so n line r _ (phrases_so line ps.items _ (went IsFound))) (λ t. choose_so t (effects_so a) (effects_so b))
       effect_so (Call line routine given yielding) =
           then_so (look_so line (record { by = λ s fit. values_so given.items s fit })) (λ vs. then_so (hs.by routine vs (length yielding.items)) (λ us. each_so line yielding.items us))
       effect_so Return = leaves Returned
@@ -378,6 +587,9 @@ module _ (l : Layout) where
       effect_so (Create line class t) = give_so line t (create line class) (create_so line class)
       effect_so (CreateEvery line classes) = every_so line classes.items
       effect_so (Destroy line class e) = then_so (look_so line (record { by = λ s fit. value_so e s fit })) (λ x. change_so line (without_so class x))
+      effect_so (File line set e position owner) = file_by_so line position set e owner
+      effect_so (RemoveEnd line set end t owner) = give_so line t (remove_end line set end owner) (remove_end_so line set end owner)
+      effect_so (Remove line set e owner) = remove_so line set e owner
 
       effects_so : {m : _} (r : Row_of-Statement m) → Natural (effects h n r)
       effects_so end_of-Statement = went tt

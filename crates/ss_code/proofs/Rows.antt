@@ -19,7 +19,7 @@ use Rattle.ss_resolved.specs.declared.resolved.Statement.TheBlock.{hidden-the_ro
 use Rattle.ss_resolved.specs.declared.resolved.Condition.{Condition}
 use Rattle.ss_resolved.specs.declared.resolved.Guard.{Guard}
 use Rattle.ss_resolved.specs.declared.resolved.Phrase.{Phrase}
-use Rattle.ss_resolved.specs.declared.resolved.Range.{Range}
+use Rattle.ss_resolved.specs.declared.resolved.Head.{Head}
 use Rattle.ss_code.specs.Meaning.{operator_of}
 use Rattle.ss_code.specs.Translation.{operand_of, expression_code, sum_code, terms_code, product_code, factors_code, statement_code, statement_pictures, row_code, row_pictures, body_code, body_pictures, if_code, while_code, for_code, find_code, phrases_code}
 use Rattle.ss_code.specs.Rows.{sum_list, terms_list, product_list, factors_list}
@@ -91,10 +91,10 @@ module _ (n : ℕ) (l : Line) where
   pub while_is : (gs : Vec Guard Global) (a : Vec Statement Global) → statement_code n (While l gs a) ≡ while_code l gs.items (body_code n a.items)
   while_is gs a = ap (λ x. while_code l gs.items x) (body_is n a)
 
-  pub for_is : (r : Range) (ps : Vec Phrase Global) (a : Vec Statement Global) → statement_code n (For l r ps a) ≡ for_code l r (phrases_code l ps.items (body_code n a.items))
+  pub for_is : (r : Head) (ps : Vec Phrase Global) (a : Vec Statement Global) → statement_code n (For l r ps a) ≡ for_code l r (phrases_code l ps.items (body_code n a.items))
   for_is r ps a = ap (λ x. for_code l r (phrases_code l ps.items x)) (body_is n a)
 
-  pub find_is : (r : Range) (ps : Vec Phrase Global) (a b : Vec Statement Global) → statement_code n (Find l r ps a b) ≡ find_code l r ps.items (body_code n a.items) (body_code (behind a) b.items)
+  pub find_is : (r : Head) (ps : Vec Phrase Global) (a b : Vec Statement Global) → statement_code n (Find l r ps a b) ≡ find_code l r ps.items (body_code n a.items) (body_code (behind a) b.items)
   find_is r ps a b =
       ap (λ x. find_code l r ps.items x (row_code (n + length (row_pictures (hidden-the_row-Statement-0 a))) (hidden-the_row-Statement-0 b))) (body_is n a)
       ∙ ap (λ x. find_code l r ps.items (body_code n a.items) x) (second_is a b)
@@ -102,5 +102,5 @@ module _ (n : ℕ) (l : Line) where
   pub if_pictures : (c : Condition) (a b : Vec Statement Global) → statement_pictures (If l c a b) ≡ body_pictures a.items ++ body_pictures b.items
   if_pictures c a b = ap (λ x. x ++ row_pictures (hidden-the_row-Statement-0 b)) (pictures_are a) ∙ ap (λ x. body_pictures a.items ++ x) (pictures_are b)
 
-  pub find_pictures : (r : Range) (ps : Vec Phrase Global) (a b : Vec Statement Global) → statement_pictures (Find l r ps a b) ≡ body_pictures a.items ++ body_pictures b.items
+  pub find_pictures : (r : Head) (ps : Vec Phrase Global) (a b : Vec Statement Global) → statement_pictures (Find l r ps a b) ≡ body_pictures a.items ++ body_pictures b.items
   find_pictures r ps a b = ap (λ x. x ++ row_pictures (hidden-the_row-Statement-0 b)) (pictures_are a) ∙ ap (λ x. body_pictures a.items ++ x) (pictures_are b)

@@ -7,9 +7,9 @@ use Rattle.ss_base.specs.declared.value.Value.{Value}
 use Rattle.ss_base.specs.declared.value.Value.TheVariants.{Whole, Text}
 use Rattle.ss_resolved.specs.declared.resolved.Variable.{Variable}
 use Rattle.ss_resolved.specs.declared.resolved.Variable.TheVariants.{Global, Local}
-use Rattle.ss_resolved.specs.declared.resolved.Expression.{Expression, Constant, Fetch, Signed', Sum', Product', Applied', Absolute', Attribute', Made, Row_of-Expression, end_of-Expression, more_of-Expression, Row_of-Expression-Sum-1-2, end_of-Expression-Sum-1-2, more_of-Expression-Sum-1-2}
+use Rattle.ss_resolved.specs.declared.resolved.Expression.{Expression, Constant, Fetch, Signed', Sum', Product', Applied', Absolute', Attribute', Made, Derived', Row_of-Expression, end_of-Expression, more_of-Expression, Row_of-Expression-Sum-1-2, end_of-Expression-Sum-1-2, more_of-Expression-Sum-1-2}
 use Rattle.ss_resolved.specs.declared.resolved.Test.{Test}
-use Rattle.ss_resolved.specs.declared.resolved.Test.TheVariants.{Compare, DataEnded}
+use Rattle.ss_resolved.specs.declared.resolved.Test.TheVariants.{Compare, DataEnded, Empty, Member}
 use Rattle.ss_resolved.specs.declared.resolved.Conjunction.{Conjunction}
 use Rattle.ss_resolved.specs.declared.resolved.Condition.{Condition}
 use Rattle.ss_resolved.specs.declared.resolved.GuardKind.{GuardKind}
@@ -22,13 +22,15 @@ use Rattle.ss_code.specs.declared.instruction.Destination.TheVariants.{Pushed, T
 use Rattle.ss_code.specs.declared.instruction.Operator.{Operator}
 use Rattle.ss_code.specs.declared.instruction.Operator.TheVariants.{Times, Distance}
 use Rattle.ss_code.specs.declared.instruction.Instruction.{Instruction}
-use Rattle.ss_code.specs.declared.instruction.Instruction.TheVariants.{Load, Move, Calculate, Compare as CompareThem, TestData, Jump, Get, CountMade}
+use Rattle.ss_code.specs.declared.instruction.Instruction.TheVariants.{Load, Move, Calculate, Compare as CompareThem, TestData, TestEmpty, TestMember, LookOwner, LookMember, Ask, Jump, Get, CountMade}
 use Rattle.ss_input.specs.Words.{is_ended}
 use Rattle.ss_code.specs.Store.{Store, computed, related}
+use Rattle.ss_resolved.specs.declared.resolved.Derived.{Derived}
 use Rattle.ss_code.specs.Entities.{attribute, made_count}
+use Rattle.ss_code.specs.Sets.{known_owner, known_member, asked, is_empty, is_in}
 use Rattle.ss_code.specs.Meaning.{operator_of, operator_for, unless}
 use Rattle.ss_code.specs.Machine.{Frame, Core, State, Code, Moved, To, Sends, Rest, Stuck, Taken, take_off, with_taken, with_top, with_three, with_operand, delivered, next, did, sent, branch, where_next, act, is_due, Stepped, Goes, Over, NoStep, with_rest, when_due, step_at, step}
-use Rattle.ss_code.specs.Translation.{variable_operand, destination_of, constant_operand, operand_of, placed, constant_code, fetch_code, onwards_code, expression_code, sum_code, terms_code, product_code, factors_code, values_code, test_code, tests_code, alternatives_code, some_code, condition_code, negated_code, guard_code, guards_code}
+use Rattle.ss_code.specs.Translation.{variable_operand, destination_of, constant_operand, operand_of, placed, constant_code, fetch_code, onwards_code, expression_code, sum_code, terms_code, product_code, factors_code, values_code, member_code, owner_code, test_code, tests_code, alternatives_code, some_code, condition_code, negated_code, guard_code, guards_code}
 use Rattle.ss_code.proofs.Steps.{HasAt, has_front, has_back, core_of}
 
 module _ (code : Code) where
@@ -192,6 +194,20 @@ module _ (code : Code) where
     get_safe class field o l place h has n = one (Get class field o l) k place _ frames has (λ j lt stack s len.
         operand_safe (Safe j) o stack h s _ len (λ x rest len2. pushed_safe j place h l (attribute class field x s) rest stack s len2 (n.upto j (omega (arith, lt)))))
 
+    asked_safe : (derived : Derived) (set : ℕ) (o : Operand) (l : Line) (place h : ℕ) → slice_get code.instructions place ≡ Some (Ask derived set o l) → Now k (place + 1) (suc h) frames → Now k place (up o h) frames
+    asked_safe derived set o l place h has n = one (Ask derived set o l) k place _ frames has (λ j lt stack s len.
+        operand_safe (Safe j) o stack h s _ len (λ x rest len2. pushed_safe j place h l (asked derived set x s) rest stack s len2 (n.upto j (omega (arith, lt)))))
+
+    pub look_owner_safe : (set : ℕ) (o : Operand) (l : Line) (place h : ℕ) → slice_get code.instructions place ≡ Some (LookOwner set o l) → Now k (place + 1) (suc h) frames → Now k place (up o h) frames
+    look_owner_safe set o l place h has n = one (LookOwner set o l) k place _ frames has (λ j lt stack s len.
+        operand_safe (Safe j) o stack h s _ len (λ x rest lr.
+        did_safe (Safe j) l (known_owner set x s) _ (λ u. subst (λ m. Safe j (place + 1) (suc m) frames) (sym lr) (n.upto j (omega (arith, lt))))))
+
+    pub look_member_safe : (set : ℕ) (o : Operand) (l : Line) (place h : ℕ) → slice_get code.instructions place ≡ Some (LookMember set o l) → Now k (place + 1) (suc h) frames → Now k place (up o h) frames
+    look_member_safe set o l place h has n = one (LookMember set o l) k place _ frames has (λ j lt stack s len.
+        operand_safe (Safe j) o stack h s _ len (λ x rest lr.
+        did_safe (Safe j) l (known_member set x s) _ (λ u. subst (λ m. Safe j (place + 1) (suc m) frames) (sym lr) (n.upto j (omega (arith, lt))))))
+
     made_safe : (class : ℕ) (into : Destination) (place h : ℕ) → slice_get code.instructions place ≡ Some (CountMade class into) → Now k (place + 1) (down into h) frames → Now k place h frames
     made_safe class into place h has n = one (CountMade class into) k place h frames has (λ j lt stack s len.
         deliver_safe (Safe j) into (made_count class s) stack (core_of place stack frames s) h len (n.upto j (omega (arith, lt))))
@@ -248,6 +264,13 @@ module _ (code : Code) where
             expression_safe e None place (place + length c) h (has_front code.instructions place c tail has) refl
             (get_safe class field (operand_of e) l (place + length c) h hh.0 (onwards_safe into (place + length c + 1) end h hh.1 e' n))
         expression_safe (Made class) into place end h has len n = made_safe class (placed into) place h has.0 (moved_now (sym len) (sym (placed_is into h)) n)
+        expression_safe (Derived' derived set p e) into place end h has len n =
+            let c = expression_code l None e in
+            let tail = Ask derived set (operand_of e) l ∷ onwards_code into in
+            let e' : place + length c + 1 + length (onwards_code into) ≡ end = omega (arith, len, length-append c tail) in
+            let hh = has_back code.instructions place c tail has in
+            expression_safe e None place (place + length c) h (has_front code.instructions place c tail has) refl
+            (asked_safe derived set (operand_of e) l (place + length c) h hh.0 (onwards_safe into (place + length c + 1) end h hh.1 e' n))
 
         sum_safe : {m : _} (terms : Row_of-Expression-Sum-1-2 m) (into : Option Destination) (first : Operand) (place end h : ℕ) → HasAt code.instructions place (sum_code l into first terms) → place + length (sum_code l into first terms) ≡ end → Now k end (landed into Popped h) frames → Now k place (up first h) frames
         sum_safe end_of-Expression-Sum-1-2 into first place end h has len n = move_safe first (placed into) place h has.0 (moved_now (sym len) (sym (placed_is into h)) n)
@@ -300,6 +323,34 @@ module _ (code : Code) where
       data_safe negated skip place h has n q = one (TestData negated skip l) k place h frames has (λ j lt stack s len.
           did_safe (Safe j) l (is_ended s.input) _ (λ b. branch_safe j (unless negated b) skip place h stack stack s len (n.upto j (omega (arith, lt))) (q.upto j (omega (arith, lt)))))
 
+      pub member_safe : (set : ℕ) (e : Expression) (place end h : ℕ) → HasAt code.instructions place (member_code l set e) → place + length (member_code l set e) ≡ end → Now k end (suc h) frames → Now k place h frames
+      member_safe set e place end h has len n =
+          let c = expression_code l None e in
+          let tail = LookMember set (operand_of e) l ∷ [] in
+          let mid = place + length c in
+          let q : mid + 1 ≡ end = omega (arith, len, length-append c tail) in
+          expression_safe e None place mid h (has_front code.instructions place c tail has) refl
+          (look_member_safe set (operand_of e) l mid h (has_back code.instructions place c tail has).0 (moved_now (sym q) refl n))
+
+      pub owner_safe : (set : ℕ) (e : Expression) (place end h : ℕ) → HasAt code.instructions place (owner_code l set e) → place + length (owner_code l set e) ≡ end → Now k end (suc h) frames → Now k place h frames
+      owner_safe set e place end h has len n =
+          let c = expression_code l None e in
+          let tail = LookOwner set (operand_of e) l ∷ [] in
+          let mid = place + length c in
+          let q : mid + 1 ≡ end = omega (arith, len, length-append c tail) in
+          expression_safe e None place mid h (has_front code.instructions place c tail has) refl
+          (look_owner_safe set (operand_of e) l mid h (has_back code.instructions place c tail has).0 (moved_now (sym q) refl n))
+
+      empty_safe : (negated : Bool) (set : ℕ) (o : Operand) (skip place h : ℕ) → slice_get code.instructions place ≡ Some (TestEmpty negated set o skip l) → Now k (place + 1) h frames → Now k (place + 1 + skip) h frames → Now k place (up o h) frames
+      empty_safe negated set o skip place h has n q = one (TestEmpty negated set o skip l) k place _ frames has (λ j lt stack s len.
+          operand_safe (Safe j) o stack h s _ len (λ x rest lr.
+          did_safe (Safe j) l (is_empty set x s) _ (λ b. branch_safe j (unless negated b) skip place h stack rest s lr (n.upto j (omega (arith, lt))) (q.upto j (omega (arith, lt))))))
+
+      is_in_safe : (negated : Bool) (set : ℕ) (o : Operand) (skip place h : ℕ) → slice_get code.instructions place ≡ Some (TestMember negated set o skip l) → Now k (place + 1) h frames → Now k (place + 1 + skip) h frames → Now k place (up o (suc h)) frames
+      is_in_safe negated set o skip place h has n q = one (TestMember negated set o skip l) k place _ frames has (λ j lt stack s len.
+          operand_safe (Safe j) o stack (suc h) s _ len (λ x above la. top_safe (Safe j) above h _ la (λ y rest lr.
+          did_safe (Safe j) l (is_in set y x s) _ (λ b. branch_safe j (unless negated b) skip place h stack rest s lr (n.upto j (omega (arith, lt))) (q.upto j (omega (arith, lt)))))))
+
       test_safe : (t : Test) (skip place end h : ℕ) → HasAt code.instructions place (test_code l skip t) → place + length (test_code l skip t) ≡ end → Now k end h frames → Now k (end + skip) h frames → Now k place h frames
       test_safe (Compare left relation right) skip place end h has len n q =
           let ca = expression_code l None left in
@@ -311,6 +362,24 @@ module _ (code : Code) where
           (expression_safe right None (place + length ca) (place + length ca + length cb) (up (operand_of left) h) (has_front code.instructions (place + length ca) cb tail has') refl
           (compare_safe relation (operand_of left) (operand_of right) skip (place + length ca + length cb) h (has_back code.instructions (place + length ca) cb tail has').0 (moved_now (sym e') refl n) (moved_now (ap (λ p. p + skip) (sym e')) refl q)))
       test_safe (DataEnded negated) skip place end h has len n q = data_safe negated skip place h has.0 (moved_now (sym len) refl n) (moved_now (ap (λ p. p + skip) (sym len)) refl q)
+      test_safe (Empty negated set owner) skip place end h has len n q =
+          let c = expression_code l None owner in
+          let tail = TestEmpty negated set (operand_of owner) skip l ∷ [] in
+          let mid = place + length c in
+          let e' : mid + 1 ≡ end = omega (arith, len, length-append c tail) in
+          expression_safe owner None place mid h (has_front code.instructions place c tail has) refl
+          (empty_safe negated set (operand_of owner) skip mid h (has_back code.instructions place c tail has).0 (moved_now (sym e') refl n) (moved_now (ap (λ p. p + skip) (sym e')) refl q))
+      test_safe (Member negated set e owner) skip place end h has len n q =
+          let front = member_code l set e in
+          let c = expression_code l None owner in
+          let tail = TestMember negated set (operand_of owner) skip l ∷ [] in
+          let p1 = place + length front in
+          let mid = p1 + length c in
+          let e' : mid + 1 ≡ end = omega (arith, len, length-append front (c ++ tail), length-append c tail) in
+          let hh = has_back code.instructions place front (c ++ tail) has in
+          member_safe set e place p1 h (has_front code.instructions place front (c ++ tail) has) refl
+          (expression_safe owner None p1 mid (suc h) (has_front code.instructions p1 c tail hh) refl
+          (is_in_safe negated set (operand_of owner) skip mid h (has_back code.instructions p1 c tail hh).0 (moved_now (sym e') refl n) (moved_now (ap (λ p. p + skip) (sym e')) refl q)))
 
       tests_safe : (ts : List Test) (skip place end h : ℕ) → HasAt code.instructions place (tests_code l skip ts) → place + length (tests_code l skip ts) ≡ end → Now k end h frames → Now k (end + skip) h frames → Now k place h frames
       tests_safe [] skip place end h has len n q = moved_now (omega (arith, len)) refl n

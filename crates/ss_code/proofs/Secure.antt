@@ -1,5 +1,5 @@
 -- Statements and calls find their operands, so no run is ever stuck.
-use Rattle.std.proofs.Common.{◌≡◌, ℕ, zero, suc, ◌+◌, ◌-◌, ◌<◌, ◌≤◌, List, [], ◌∷◌, ◌++◌, length, Option, Some, None, Ok, Err, refl, sym, ap, subst, arith, length-append}
+use Rattle.std.proofs.Common.{◌≡◌, ℕ, zero, suc, ◌+◌, ◌-◌, ◌<◌, ◌≤◌, Bool, true, false, List, [], ◌∷◌, ◌++◌, length, Option, Some, None, Ok, Err, refl, sym, ap, subst, arith, length-append}
 use Rattle.std.specs.Prelude.{slice_get, Result as OkOr}
 use Rattle.ss_base.specs.declared.line.Line.{Line}
 use Rattle.ss_base.specs.declared.fault.FaultKind.{FaultKind}
@@ -12,23 +12,30 @@ use Rattle.ss_resolved.specs.declared.resolved.PhraseKind.{PhraseKind}
 use Rattle.ss_resolved.specs.declared.resolved.PhraseKind.TheVariants.{With as WithPhrase, Unless as UnlessPhrase, While as WhilePhrase, Until as UntilPhrase}
 use Rattle.ss_resolved.specs.declared.resolved.Phrase.{Phrase}
 use Rattle.ss_resolved.specs.declared.resolved.Range.{Range}
+use Rattle.ss_resolved.specs.declared.resolved.Start.{Start}
+use Rattle.ss_resolved.specs.declared.resolved.Start.TheVariants as starts
+use Rattle.ss_resolved.specs.declared.resolved.Members.{Members}
+use Rattle.ss_resolved.specs.declared.resolved.Head.{Head}
+use Rattle.ss_resolved.specs.declared.resolved.Head.TheVariants as heads
 use Rattle.ss_resolved.specs.declared.resolved.Place.{Place}
 use Rattle.ss_resolved.specs.declared.resolved.Section.{Section}
 use Rattle.ss_resolved.specs.declared.resolved.Resolved.{Resolved}
-use Rattle.ss_resolved.specs.declared.resolved.Statement.{Statement, Let, Change, Print, If', While', For', Find', Call as CallRoutine, Return, Stop, Read, Skip as SkipLines, Create, CreateEvery, Destroy, Row_of-Statement, end_of-Statement, more_of-Statement}
+use Rattle.ss_resolved.specs.declared.resolved.Statement.{Statement, Let, Change, Print, If', While', For', Find', Call as CallRoutine, Return, Stop, Read, Skip as SkipLines, Create, CreateEvery, Destroy, File, RemoveEnd, Remove, Row_of-Statement, end_of-Statement, more_of-Statement}
 use Rattle.ss_code.specs.declared.instruction.Operand.TheVariants.{Number}
 use Rattle.ss_code.specs.declared.instruction.Destination.TheVariants.{Pushed}
 use Rattle.ss_code.specs.declared.instruction.Instruction.{Instruction}
-use Rattle.ss_code.specs.declared.instruction.Instruction.TheVariants.{Jump, Turn, Repeat, Begin, Take, Next, Forget, Call, Leave, Halt, Skip as SkipThem, Print as PrintLines}
+use Rattle.ss_code.specs.declared.instruction.Instruction.TheVariants.{Jump, Turn, Repeat, Begin, Take, Next, Forget, Call, Leave, Halt, Skip as SkipThem, Print as PrintLines, BeginSet, BeginAt, TakeMember, NextMember}
+use Rattle.ss_code.specs.Sets.{begun, begun_at, is_member, goes_on}
 use Rattle.ss_code.specs.Store.{Store, number_of, step_of, is_within, item_after, empty_lines, yielded}
 use Rattle.ss_code.specs.Meaning.{operator_of}
-use Rattle.ss_code.specs.Machine.{Frame, Core, State, Code, Entry, To, enter, sent, next, Goes, NoStep, where_next, step}
-use Rattle.ss_code.specs.Translation.{operand_of, expression_code, values_code, condition_code, negated_code, guards_code, phrase_code, phrases_code, if_code, while_code, step_code, bounds_code, for_code, find_code, assigns_code, statement_code, statement_pictures, row_code, row_pictures, body_code, section_code, code_of}
+use Rattle.ss_code.specs.Machine.{Frame, Core, State, Code, Entry, To, enter, sent, did, branch, next, Goes, NoStep, where_next, where_member, step}
+use Rattle.ss_code.specs.Translation.{operand_of, expression_code, values_code, condition_code, negated_code, guards_code, phrase_code, phrases_code, if_code, while_code, step_code, bounds_code, range_code, owner_code, outset_code, members_code, for_code, find_code, assigns_code, statement_code, statement_pictures, row_code, row_pictures, body_code, section_code, code_of}
 use Rattle.ss_code.specs.Running.{Reachable, begins, onwards, changed, peopled}
 use Rattle.ss_code.proofs.Steps.{HasAt, has_front, has_back, core_of}
 use Rattle.ss_code.proofs.Calling.{yielded_length, LinkedAt, Linked}
-use Rattle.ss_code.proofs.Safety.{SafeStep, Safe, Now, now_less, ActSafe, one, moved_now, top_safe, operand_safe, three_safe, off_safe, did_safe, move_safe, jump_safe, branch_safe, expression_safe, values_safe, condition_safe, negated_safe, guards_safe}
-use Rattle.ss_code.proofs.Guarded.{let_safe, change_safe, reads_safe, create_safe, creates_safe, destroy_safe, assigns_safe}
+use Rattle.ss_code.proofs.Safety.{SafeStep, Safe, Now, now_less, ActSafe, one, moved_now, top_safe, operand_safe, three_safe, off_safe, did_safe, move_safe, jump_safe, branch_safe, expression_safe, owner_safe, values_safe, condition_safe, negated_safe, guards_safe}
+use Rattle.ss_code.proofs.Guarded.{let_safe, change_safe, reads_safe, create_safe, creates_safe, destroy_safe, file_safe, remove_safe, remove_end_safe, assigns_safe}
+use Rattle.ss_code.proofs.Effects.{next_at, for_length, forgets}
 use Rattle.ss_code.proofs.Whole.{linked, instructions_at}
 
 module _ (code : Code) where
@@ -197,8 +204,86 @@ module _ (code : Code) where
         (r.by k (omega (arith, le)) (place + 1) end (h + 3) frames (has_front code.instructions (place + 1) turn _ has.1) e back'
         (next_safe k (length turn + 1) end place h frames hn (omega (arith, e)) ih n') n' f')
 
-    for_safe : (l : Line) (r : Range) (found : ℕ) (turn : List Instruction) → TurnPiece found turn → (k : ℕ) → k ≤ K → (place end h : ℕ) (frames : List Frame) → HasAt code.instructions place (for_code l r turn) → place + length (for_code l r turn) ≡ end + 2 → Back k frames → Now code k (end + 2) h frames → Now code k (end + found) (h + 3) frames → Now code k place h frames
-    for_safe l r found turn rt k le place end h frames has len back n f =
+    -- over members
+    take_member_safe : (k : ℕ) (reverse : Bool) (set : ℕ) (x : Variable) (place h : ℕ) (frames : List Frame) → slice_get code.instructions place ≡ Some (TakeMember reverse set x) → Now code k (place + 1) (h + 3) frames → Now code (suc k) place (h + 3) frames
+    take_member_safe k reverse set x place h frames has n = one code (TakeMember reverse set x) (suc k) place (h + 3) frames has (λ j lt stack s len.
+        three_safe code (Safe code j) stack h _ len (λ v last o rest lr.
+        let e : h + 3 ≡ suc (suc (suc (length rest))) = omega (arith, lr) in
+        subst (λ m. Safe code j (place + 1) m frames) e (n.upto j (omega (arith, lt)))))
+
+    next_member_safe : (k set back : ℕ) (l : Line) (place place' h : ℕ) (frames : List Frame) → slice_get code.instructions place ≡ Some (NextMember set back l) → place - back ≡ place' → Now code k place' (h + 3) frames → Now code k (place + 1) (h + 3) frames → Now code k place (h + 3) frames
+    next_member_safe k set back l place place' h frames has e n q = one code (NextMember set back l) k place (h + 3) frames has (λ j lt stack s len.
+        three_safe code (Safe code j) stack h _ len (λ v last o rest lr.
+        did_safe code (Safe code j) l (goes_on set v o s) _ (λ b. sides j (omega (arith, lt)) b (v ∷ last ∷ o ∷ rest) stack s (omega (arith, lr)))))
+      where
+        sides : (j : ℕ) → j ≤ k → (b : Bool) (stack above : List Value) (s : Store) → length stack ≡ h + 3 → ActSafe code (Safe code j) (To (where_member b back stack (core_of place above frames s)))
+        sides j le true stack above s len =
+            subst (λ p. Safe code j p (length stack) frames) (sym e) (subst (λ m. Safe code j place' m frames) (sym len) (n.upto j le))
+        sides j le false stack above s len = subst (λ m. Safe code j (place + 1) m frames) (sym len) (q.upto j le)
+
+    members_safe : (l : Line) (m : Members) (found : ℕ) (turn : List Instruction) → TurnPiece found turn → (k : ℕ) → k ≤ K → (place end h : ℕ) (frames : List Frame) → HasAt code.instructions place (TakeMember m.reverse m.set m.variable ∷ (turn ++ (NextMember m.set (length turn + 1) l ∷ Forget ∷ []))) → place + 1 + length turn ≡ end → Back k frames → Now code k (end + 1) (h + 3) frames → Now code k (end + found) (h + 3) frames → Now code k place (h + 3) frames
+    members_safe l m found turn r zero le place end h frames has e back n f = now_zero place (h + 3) frames
+    members_safe l m found turn r (suc k) le place end h frames has e back n f =
+        let back' = back_less (suc k) k frames (omega arith) back in
+        let n' = now_less code k (omega arith) n in
+        let f' = now_less code k (omega arith) f in
+        let ih = members_safe l m found turn r k (omega (arith, le)) place end h frames has e back' n' f' in
+        let hn = subst (λ p. slice_get code.instructions p ≡ Some (NextMember m.set (length turn + 1) l)) e (has_back code.instructions (place + 1) turn (NextMember m.set (length turn + 1) l ∷ Forget ∷ []) has.1).0 in
+        take_member_safe k m.reverse m.set m.variable place h frames has.0
+        (r.by k (omega (arith, le)) (place + 1) end (h + 3) frames (has_front code.instructions (place + 1) turn _ has.1) e back'
+        (next_member_safe k m.set (length turn + 1) l end place h frames hn (omega (arith, e)) ih n') n' f')
+
+    -- the owner and the first member
+    begun_safe : (j place h skip : ℕ) (l : Line) (r : OkOr Value FaultKind) (o : Value) (rest above : List Value) (s : Store) (frames : List Frame) → length rest ≡ h → Safe code j (place + 1) (h + 3) frames → Safe code j (place + 1 + skip) (h + 3) frames → ActSafe code (Safe code j) (did l r (λ x. branch (is_member x) skip (x ∷ x ∷ o ∷ rest) (core_of place above frames s)))
+    begun_safe j place h skip l r o rest above s frames lr n q = did_safe code (Safe code j) l r _ (λ x. branch_safe code j frames j (is_member x) skip place (h + 3) above (x ∷ x ∷ o ∷ rest) s (omega (arith, lr)) n q)
+
+    outset_at_safe : (after : Bool) (l : Line) (m : Members) (skip : ℕ) (e : Expression) (k place end h : ℕ) (frames : List Frame) → HasAt code.instructions place (owner_code l m.set m.owner ++ (expression_code l None e ++ BeginAt m.reverse after m.set (operand_of e) skip l ∷ [])) → place + length (owner_code l m.set m.owner ++ (expression_code l None e ++ BeginAt m.reverse after m.set (operand_of e) skip l ∷ [])) ≡ end → Now code k end (h + 3) frames → Now code k (end + skip) (h + 3) frames → Now code k place h frames
+    outset_at_safe after l m skip e k place end h frames has len n q =
+        let front = owner_code l m.set m.owner in
+        let c = expression_code l None e in
+        let i = BeginAt m.reverse after m.set (operand_of e) skip l in
+        let p1 = place + length front in
+        let p2 = p1 + length c in
+        let e' : p2 + 1 ≡ end = omega (arith, len, length-append front (c ++ i ∷ []), length-append c (i ∷ [])) in
+        let hh = has_back code.instructions place front (c ++ i ∷ []) has in
+        let n' = moved_now code (sym e') refl n in
+        let q' = moved_now code (ap (λ p. p + skip) (sym e')) refl q in
+        owner_safe code k frames l m.set m.owner place p1 h (has_front code.instructions place front (c ++ i ∷ []) has) refl
+        (expression_safe code k frames l e None p1 p2 (suc h) (has_front code.instructions p1 c (i ∷ []) hh) refl
+        (one code i k p2 _ frames (has_back code.instructions p1 c (i ∷ []) hh).0 (λ j lt stack s ls.
+        operand_safe code (Safe code j) (operand_of e) stack (suc h) s _ ls (λ y above la. top_safe code (Safe code j) above h _ la (λ o rest lr.
+        begun_safe j p2 h skip l (begun_at m.reverse after m.set y o s) o rest stack s frames lr (n'.upto j (omega (arith, lt))) (q'.upto j (omega (arith, lt))))))))
+
+    outset_safe : (l : Line) (m : Members) (skip : ℕ) (t : Start) (k place end h : ℕ) (frames : List Frame) → HasAt code.instructions place (outset_code l skip m t) → place + length (outset_code l skip m t) ≡ end → Now code k end (h + 3) frames → Now code k (end + skip) (h + 3) frames → Now code k place h frames
+    outset_safe l m skip starts.End k place end h frames has len n q =
+        let c = expression_code l None m.owner in
+        let i = BeginSet m.reverse m.set (operand_of m.owner) skip l in
+        let mid = place + length c in
+        let e' : mid + 1 ≡ end = omega (arith, len, length-append c (i ∷ [])) in
+        let n' = moved_now code (sym e') refl n in
+        let q' = moved_now code (ap (λ p. p + skip) (sym e')) refl q in
+        expression_safe code k frames l m.owner None place mid h (has_front code.instructions place c (i ∷ []) has) refl
+        (one code i k mid _ frames (has_back code.instructions place c (i ∷ []) has).0 (λ j lt stack s ls.
+        operand_safe code (Safe code j) (operand_of m.owner) stack h s _ ls (λ o rest lr.
+        begun_safe j mid h skip l (begun m.reverse m.set o s) o rest stack s frames lr (n'.upto j (omega (arith, lt))) (q'.upto j (omega (arith, lt))))))
+    outset_safe l m skip (starts.From e) k place end h frames has len n q = outset_at_safe false l m skip e k place end h frames has len n q
+    outset_safe l m skip (starts.After e) k place end h frames has len n q = outset_at_safe true l m skip e k place end h frames has len n q
+
+    walk_safe : (l : Line) (m : Members) (found : ℕ) (turn : List Instruction) → TurnPiece found turn → (k : ℕ) → k ≤ K → (place end h : ℕ) (frames : List Frame) → HasAt code.instructions place (members_code l m turn) → place + length (members_code l m turn) ≡ end + 2 → Back k frames → Now code k (end + 2) h frames → Now code k (end + found) (h + 3) frames → Now code k place h frames
+    walk_safe l m found turn rt k le place end h frames has len back n f =
+        let all = outset_code l (length turn + 2) m m.start in
+        let loop = TakeMember m.reverse m.set m.variable ∷ (turn ++ (NextMember m.set (length turn + 1) l ∷ Forget ∷ [])) in
+        let p = place + length all in
+        let e4 : p + 1 + length turn ≡ end = omega (arith, len, length-append all loop, length-append turn (NextMember m.set (length turn + 1) l ∷ Forget ∷ [])) in
+        let hl = has_back code.instructions place all loop has in
+        let hf = subst (λ p. slice_get code.instructions (p + 1) ≡ Some Forget) e4 (has_back code.instructions (p + 1) turn (NextMember m.set (length turn + 1) l ∷ Forget ∷ []) hl.1).1.0 in
+        let out = forget_safe k (end + 1) h frames hf (moved_now code {place = end + 2} (omega arith) refl n) in
+        outset_safe l m (length turn + 2) m.start k place p h frames (has_front code.instructions place all loop has) refl
+        (members_safe l m found turn rt k le p end h frames hl e4 back out f)
+        (moved_now code {place = end + 1} (omega (arith, e4)) refl out)
+
+    range_safe : (l : Line) (r : Range) (found : ℕ) (turn : List Instruction) → TurnPiece found turn → (k : ℕ) → k ≤ K → (place end h : ℕ) (frames : List Frame) → HasAt code.instructions place (range_code l r turn) → place + length (range_code l r turn) ≡ end + 2 → Back k frames → Now code k (end + 2) h frames → Now code k (end + found) (h + 3) frames → Now code k place h frames
+    range_safe l r found turn rt k le place end h frames has len back n f =
         let ca = expression_code l (Some Pushed) r.first in
         let cb = expression_code l (Some Pushed) r.limit in
         let cs = step_code l r.step in
@@ -222,16 +307,19 @@ module _ (code : Code) where
         (items_safe l r.variable found turn rt k le (p3 + 1) end h frames hl.1 e4 back out f)
         (moved_now code {place = end + 1} (omega (arith, e4)) refl out)))))
 
+    for_safe : (l : Line) (r : Head) (found : ℕ) (turn : List Instruction) → TurnPiece found turn → (k : ℕ) → k ≤ K → (place end h : ℕ) (frames : List Frame) → HasAt code.instructions place (for_code l r turn) → place + length (for_code l r turn) ≡ end + 2 → Back k frames → Now code k (end + 2) h frames → Now code k (end + found) (h + 3) frames → Now code k place h frames
+    for_safe l (heads.Numbers r) found turn rt k le place end h frames has len back n f = range_safe l r found turn rt k le place end h frames has len back n f
+    for_safe l (heads.Members m) found turn rt k le place end h frames has len back n f = walk_safe l m found turn rt k le place end h frames has len back n f
+
     body_turn_safe : (a : List Instruction) → Piece a → TurnPiece 1 a
     body_turn_safe a p = record { by = λ k le place end h frames has len back n q f. p.by k le place end h frames has len back n }
 
-    for_piece : (l : Line) (r : Range) (turn : List Instruction) → TurnPiece 1 turn → Piece (for_code l r turn)
+    for_piece : (l : Line) (r : Head) (turn : List Instruction) → TurnPiece 1 turn → Piece (for_code l r turn)
     for_piece l r turn rt = record {
       by = λ k le place end h frames has len back n.
-          let e = place + length (bounds_code l r) + 1 + 1 + length turn in
-          let len' : place + length (for_code l r turn) ≡ e + 2 = omega (arith, length-append (bounds_code l r) (Begin (length turn + 2) l ∷ (Take r.variable ∷ (turn ++ (Next (length turn + 1) ∷ Forget ∷ [])))), length-append turn (Next (length turn + 1) ∷ Forget ∷ [])) in
-          let hl = has_back code.instructions place (bounds_code l r) (Begin (length turn + 2) l ∷ (Take r.variable ∷ (turn ++ (Next (length turn + 1) ∷ Forget ∷ [])))) has in
-          let hf = (has_back code.instructions (place + length (bounds_code l r) + 1 + 1) turn (Next (length turn + 1) ∷ Forget ∷ []) hl.1.1).1.0 in
+          let e = next_at code K l r turn place in
+          let len' = for_length code K l r turn place in
+          let hf = forgets code K l r turn place has in
           let n' = moved_now code {place = end} {place' = e + 2} (omega (arith, len, len')) refl n in
           for_safe l r 1 turn rt k le place e h frames has len' back n'
           (forget_safe k (e + 1) h frames hf (moved_now code {place = end} {place' = e + 1 + 1} (omega (arith, len, len')) refl n));
@@ -242,15 +330,15 @@ module _ (code : Code) where
       by = λ k le place end h frames has len back n q f. jump_safe code k frames found place h has.0 (moved_now code (ap (λ p. p + found) (sym len)) refl f);
     }
 
-    find_safe : (l : Line) (r : Range) (ps : List Phrase) (a b : List Instruction) → Piece a → Piece b → Piece (find_code l r ps a b)
+    find_safe : (l : Line) (r : Head) (ps : List Phrase) (a b : List Instruction) → Piece a → Piece b → Piece (find_code l r ps a b)
     find_safe l r ps a b pa pb = record {
       by = λ k le place end h frames has len back n.
           let found = length b + 3 in
           let turn = phrases_code l ps (Jump found ∷ []) in
           let front = for_code l r turn in
           let tail = b ++ Jump (length a + 1) ∷ (Forget ∷ a) in
-          let e = place + length (bounds_code l r) + 1 + 1 + length turn in
-          let len' : place + length front ≡ e + 2 = omega (arith, length-append (bounds_code l r) (Begin (length turn + 2) l ∷ (Take r.variable ∷ (turn ++ (Next (length turn + 1) ∷ Forget ∷ [])))), length-append turn (Next (length turn + 1) ∷ Forget ∷ [])) in
+          let e = next_at code K l r turn place in
+          let len' = for_length code K l r turn place in
           let e' : e + 2 + length b + 1 + 1 + length a ≡ end = omega (arith, len, len', length-append front tail, length-append b (Jump (length a + 1) ∷ (Forget ∷ a))) in
           let ht = subst (λ p. HasAt code.instructions p tail) len' (has_back code.instructions place front tail has) in
           let hj = has_back code.instructions (e + 2) b (Jump (length a + 1) ∷ (Forget ∷ a)) ht in
@@ -341,6 +429,9 @@ module _ (code : Code) where
         statement_safe first (Create l class t) = record { by = λ k le place end h frames has len back n. create_safe code k frames l class t place end h has len n }
         statement_safe first (CreateEvery l classes) = record { by = λ k le place end h frames has len back n. creates_safe code k frames l classes.items place end h has len n }
         statement_safe first (Destroy l class e) = record { by = λ k le place end h frames has len back n. destroy_safe code k frames l class e place end h has len n }
+        statement_safe first (File l set e position owner) = record { by = λ k le place end h frames has len back n. file_safe code k frames l position set e owner place end h has len n }
+        statement_safe first (RemoveEnd l set e t owner) = record { by = λ k le place end h frames has len back n. remove_end_safe code k frames l set e t owner place end h has len n }
+        statement_safe first (Remove l set e owner) = record { by = λ k le place end h frames has len back n. remove_safe code k frames l set e owner place end h has len n }
 
         row_safe : {m : _} (first : ℕ) (r : Row_of-Statement m) → Piece (row_code first r)
         row_safe first end_of-Statement = record { by = λ k le place end h frames has len back n. moved_now code (omega (arith, len)) refl n }

@@ -41,7 +41,7 @@ module _ (code : Code) where
   ends_at s e end stack frames m q g = subst (λ p. Reaches code s (arrive (λ a w. at p stack frames w) frames m)) q g
 
   -- one instruction that changes the store
-  settles : (i : Instruction) (l : Line) (r : OkOr Store FaultKind) (place end : ℕ) (above stack : List Value) (frames : List Frame) (w : World) → slice_get code.instructions place ≡ Some i → is_due i ≡ false → act code i (core_of place above frames w.store) ≡ settled l r stack (core_of place above frames w.store) → place + 1 ≡ end → Reaches code (at place above frames w) (arrive (λ u w'. at end stack frames w') frames (stored l r w))
+  pub settles : (i : Instruction) (l : Line) (r : OkOr Store FaultKind) (place end : ℕ) (above stack : List Value) (frames : List Frame) (w : World) → slice_get code.instructions place ≡ Some i → is_due i ≡ false → act code i (core_of place above frames w.store) ≡ settled l r stack (core_of place above frames w.store) → place + 1 ≡ end → Reaches code (at place above frames w) (arrive (λ u w'. at end stack frames w') frames (stored l r w))
   settles i l (Ok s) place end above stack frames w has free e q =
       ends_at (at place above frames w) (place + 1) end stack frames (stored l (Ok s) w) q
       (goes code (at place above frames w) (at (place + 1) stack frames (record w { store = s })) i _ has
@@ -207,38 +207,41 @@ module _ (code : Code) where
           (λ y p. changes l (operator_of sign) t (operand_of e) y mid end stack frames w (holds e y w.store p) (has_back code.instructions place c tail has) q);
     }
 
-    -- a value that an instruction leaves at a destination, for a target
-    record Leaves (i : Destination → Instruction) (m : Part Value) : Type 0 where
-      pub pushes : (place : ℕ) (stack : List Value) (frames : List Frame) (w : World) → slice_get code.instructions place ≡ Some (i Pushed) → Reaches code (at place stack frames w) (arrive (λ v w'. at (place + 1) (v ∷ stack) frames w') frames (m w))
-      pub assigns : (x : Variable) (place : ℕ) (stack : List Value) (frames : List Frame) (w : World) → slice_get code.instructions place ≡ Some (i (destination_of x)) → Reaches code (at place stack frames w) (arrive (λ u w'. at (place + 1) stack frames w') frames (and_then (m w) (assign x)))
+    -- a value that code leaves at a destination, for a target
+    pub record Leaves (c : Destination → List Instruction) (m : Part Value) : Type 0 where
+      pub pushes : (place : ℕ) (stack : List Value) (frames : List Frame) (w : World) → HasAt code.instructions place (c Pushed) → Reaches code (at place stack frames w) (arrive (λ v w'. at (place + length (c Pushed)) (v ∷ stack) frames w') frames (m w))
+      pub assigns : (x : Variable) (place : ℕ) (stack : List Value) (frames : List Frame) (w : World) → HasAt code.instructions place (c (destination_of x)) → Reaches code (at place stack frames w) (arrive (λ u w'. at (place + length (c (destination_of x))) stack frames w') frames (and_then (m w) (assign x)))
 
-    module _ (l : Line) (i : Destination → Instruction) (m : Part Value) (leaves : Leaves i m) where
-      to_variable : (x : Variable) → Runs code n same (i (destination_of x) ∷ []) done (give_to l (PlainVariable x) m)
-      to_variable x = record { by = λ place stack frames w has le. leaves.assigns x place stack frames w has.0 }
+    module _ (l : Line) (c : Destination → List Instruction) (m : Part Value) (leaves : Leaves c m) where
+      pub to_variable : (x : Variable) → Runs code n same (c (destination_of x)) done (give_to l (PlainVariable x) m)
+      to_variable x = record { by = λ place stack frames w has le. leaves.assigns x place stack frames w has }
 
-      to_attribute : (class field : ℕ) (e : Expression) → Runs code n same (reference_code l class e ++ i Pushed ∷ Put class field Popped l ∷ []) done (give_to l (AttributePlace class field e) m)
+      pub to_attribute : (class field : ℕ) (e : Expression) → Runs code n same (reference_code l class e ++ (c Pushed ++ Put class field Popped l ∷ [])) done (give_to l (AttributePlace class field e) m)
       to_attribute class field e = record {
         by = λ place stack frames w has le.
             let front = reference_code l class e in
-            let tail = i Pushed ∷ Put class field Popped l ∷ [] in
+            let tail = c Pushed ++ Put class field Popped l ∷ [] in
             let mid = place + length front in
+            let p2 = mid + length (c Pushed) in
             let end = place + length (front ++ tail) in
-            let q : mid + 1 + 1 ≡ end = omega (arith, length-append front tail) in
+            let q : p2 + 1 ≡ end = omega (arith, length-append front tail, length-append (c Pushed) (Put class field Popped l ∷ [])) in
             let h = has_back code.instructions place front tail has in
             reference_run l class field e place mid stack frames w (λ u w'. at end stack frames w') (λ p w. and_then (m w) (λ v. change l (written p v))) (has_front code.instructions place front tail has) refl
-            (λ x. join (at mid (x ∷ stack) frames w) (λ v w'. at (mid + 1) (v ∷ x ∷ stack) frames w') (λ u w'. at end stack frames w') frames (m w) (λ v. change l (with_attribute class field x v))
-            (leaves.pushes mid (x ∷ stack) frames w h.0)
-            (λ v w' fewer. puts l class field Popped x v (mid + 1) end stack frames w' (holds_popped v w'.store) h.1.0 q));
+            (λ x. join (at mid (x ∷ stack) frames w) (λ v w'. at p2 (v ∷ x ∷ stack) frames w') (λ u w'. at end stack frames w') frames (m w) (λ v. change l (with_attribute class field x v))
+            (leaves.pushes mid (x ∷ stack) frames w (has_front code.instructions mid (c Pushed) _ h))
+            (λ v w' fewer. puts l class field Popped x v p2 end stack frames w' (holds_popped v w'.store) (has_back code.instructions mid (c Pushed) _ h).0 q));
       }
 
-      to_count : (class number : ℕ) → Runs code n same (i Pushed ∷ SetCount class number Popped l ∷ []) done (give_to l (Count class number) m)
+      pub to_count : (class number : ℕ) → Runs code n same (c Pushed ++ SetCount class number Popped l ∷ []) done (give_to l (Count class number) m)
       to_count class number = record {
         by = λ place stack frames w has le.
-            let end = place + 2 in
-            let q : place + 1 + 1 ≡ end = omega arith in
-            join (at place stack frames w) (λ v w'. at (place + 1) (v ∷ stack) frames w') (λ u w'. at end stack frames w') frames (m w) (λ v. change l (counted class number v))
-            (leaves.pushes place stack frames w has.0)
-            (λ v w' fewer. sets_count l class number Popped v (place + 1) end stack frames w' (holds_popped v w'.store) has.1.0 q);
+            let tail = SetCount class number Popped l ∷ [] in
+            let p2 = place + length (c Pushed) in
+            let end = place + length (c Pushed ++ tail) in
+            let q : p2 + 1 ≡ end = omega (arith, length-append (c Pushed) tail) in
+            join (at place stack frames w) (λ v w'. at p2 (v ∷ stack) frames w') (λ u w'. at end stack frames w') frames (m w) (λ v. change l (counted class number v))
+            (leaves.pushes place stack frames w (has_front code.instructions place (c Pushed) tail has))
+            (λ v w' fewer. sets_count l class number Popped v p2 end stack frames w' (holds_popped v w'.store) (has_back code.instructions place (c Pushed) tail has).0 q);
       }
 
     -- a value that comes to a variable
@@ -271,16 +274,16 @@ module _ (code : Code) where
         rests code (at place stack frames w) (ReadWord mode Pushed l) (Fault kind l) has
         (ap (λ r. with_rest w.report w.ticks (did l r (λ g. delivered Pushed g.value stack (record c { store = record c.store { input = g.rest } })))) q)
 
-    word_leaves : (l : Line) (mode : Mode) → Leaves (λ d. ReadWord mode d l) (take_word l mode)
+    word_leaves : (l : Line) (mode : Mode) → Leaves (λ d. ReadWord mode d l ∷ []) (take_word l mode)
     word_leaves l mode = record {
-      pushes = λ place stack frames w has. read_push l mode (value_given mode w.store.input) place stack frames w refl has;
-      assigns = λ x place stack frames w has. read_step l mode x (value_given mode w.store.input) place stack frames w refl has;
+      pushes = λ place stack frames w has. read_push l mode (value_given mode w.store.input) place stack frames w refl has.0;
+      assigns = λ x place stack frames w has. read_step l mode x (value_given mode w.store.input) place stack frames w refl has.0;
     }
 
     read_run : (l : Line) (mode : Mode) (t : Place) → Runs code n same (read_code l mode t) done (give_to l t (take_word l mode))
-    read_run l mode (PlainVariable x) = to_variable l (λ d. ReadWord mode d l) (take_word l mode) (word_leaves l mode) x
-    read_run l mode (AttributePlace class field e) = to_attribute l (λ d. ReadWord mode d l) (take_word l mode) (word_leaves l mode) class field e
-    read_run l mode (Count class number) = to_count l (λ d. ReadWord mode d l) (take_word l mode) (word_leaves l mode) class number
+    read_run l mode (PlainVariable x) = to_variable l (λ d. ReadWord mode d l ∷ []) (take_word l mode) (word_leaves l mode) x
+    read_run l mode (AttributePlace class field e) = to_attribute l (λ d. ReadWord mode d l ∷ []) (take_word l mode) (word_leaves l mode) class field e
+    read_run l mode (Count class number) = to_count l (λ d. ReadWord mode d l ∷ []) (take_word l mode) (word_leaves l mode) class number
 
     pub reads_run : (l : Line) (ts : List Target) → Runs code n same (reads_code l ts) done (reads l ts)
     reads_run l [] = none code n tt
@@ -310,16 +313,16 @@ module _ (code : Code) where
         rests code (at place stack frames w) (CreateOne class Pushed l) (Fault kind l) has
         (ap (λ r. with_rest w.report w.ticks (did l r (λ b. delivered Pushed b.0 stack (record c { store = b.1 })))) q)
 
-    entity_leaves : (l : Line) (class : ℕ) → Leaves (λ d. CreateOne class d l) (create l class)
+    entity_leaves : (l : Line) (class : ℕ) → Leaves (λ d. CreateOne class d l ∷ []) (create l class)
     entity_leaves l class = record {
-      pushes = λ place stack frames w has. create_push l class (made_one class w.store) place stack frames w refl has;
-      assigns = λ x place stack frames w has. create_step l class x (made_one class w.store) place stack frames w refl has;
+      pushes = λ place stack frames w has. create_push l class (made_one class w.store) place stack frames w refl has.0;
+      assigns = λ x place stack frames w has. create_step l class x (made_one class w.store) place stack frames w refl has.0;
     }
 
     pub create_run : (l : Line) (class : ℕ) (t : Place) → Runs code n same (create_code l class t) done (give_to l t (create l class))
-    create_run l class (PlainVariable x) = to_variable l (λ d. CreateOne class d l) (create l class) (entity_leaves l class) x
-    create_run l class (AttributePlace owner field e) = to_attribute l (λ d. CreateOne class d l) (create l class) (entity_leaves l class) owner field e
-    create_run l class (Count counted number) = to_count l (λ d. CreateOne class d l) (create l class) (entity_leaves l class) counted number
+    create_run l class (PlainVariable x) = to_variable l (λ d. CreateOne class d l ∷ []) (create l class) (entity_leaves l class) x
+    create_run l class (AttributePlace owner field e) = to_attribute l (λ d. CreateOne class d l ∷ []) (create l class) (entity_leaves l class) owner field e
+    create_run l class (Count counted number) = to_count l (λ d. CreateOne class d l ∷ []) (create l class) (entity_leaves l class) counted number
 
     -- all entities of classes
     pub creates_run : (l : Line) (cs : List Counted) → Runs code n same (creates_code l cs) done (create_every l cs)

@@ -1,6 +1,8 @@
 pub mod Layouts
+pub mod Orders
 pub mod Store
 pub mod Entities
+pub mod Sets
 pub mod Meaning
 pub mod Machine
 pub mod Running

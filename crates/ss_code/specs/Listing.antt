@@ -1,7 +1,7 @@
 -- The text that shows a list of instructions.
 use Rattle.std.specs.Prelude.{ℕ, ◌+◌, List, [], ◌∷◌, ◌++◌, codes, decimal}
 use Rattle.ss_code.specs.declared.instruction.Instruction.{Instruction}
-use Rattle.ss_code.specs.declared.instruction.Instruction.TheVariants.{Load, Move, Calculate, Compare, TestData, Jump, Turn, Repeat, Begin, Take, Next, Forget, Call, Leave, Halt, Read, Skip, Print, Look, Get, Put, Give, ChangeField, SetCount, CountMade, CreateOne, CreateAll, DestroyOne}
+use Rattle.ss_code.specs.declared.instruction.Instruction.TheVariants.{Load, Move, Calculate, Compare, TestData, Jump, Turn, Repeat, Begin, Take, Next, Forget, Call, Leave, Halt, Read, Skip, Print, Look, Get, Put, Give, ChangeField, SetCount, CountMade, CreateOne, CreateAll, DestroyOne, Ask, LookOwner, LookMember, TestEmpty, TestMember, FileOne, FileBeside, RemoveAt, RemoveOne, BeginSet, BeginAt, TakeMember, NextMember}
 
 -- what an instruction is called
 abbrev pub name_of : Instruction → List ℕ
@@ -33,6 +33,19 @@ name_of (CountMade class into) = codes "count made"
 name_of (CreateOne class into line) = codes "create one"
 name_of (CreateAll class number line) = codes "create all"
 name_of (DestroyOne class from line) = codes "destroy one"
+name_of (Ask derived set from line) = codes "ask"
+name_of (LookOwner set from line) = codes "look owner"
+name_of (LookMember set from line) = codes "look member"
+name_of (TestEmpty negated set owner skip line) = codes "test empty"
+name_of (TestMember negated set owner skip line) = codes "test member"
+name_of (FileOne filing set member owner line) = codes "file one"
+name_of (FileBeside side set owner line) = codes "file beside"
+name_of (RemoveAt end set owner into line) = codes "remove at"
+name_of (RemoveOne set member owner line) = codes "remove one"
+name_of (BeginSet reverse set owner skip line) = codes "begin set"
+name_of (BeginAt reverse after set from skip line) = codes "begin at"
+name_of (TakeMember reverse set variable) = codes "take member"
+name_of (NextMember set back line) = codes "next member"
 
 -- a line for each instruction, the first of them with this number: the number, a blank, and what the instruction is called
 abbrev pub listed : ℕ → List Instruction → List ℕ

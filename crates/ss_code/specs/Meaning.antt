@@ -13,9 +13,9 @@ use Rattle.ss_resolved.specs.declared.resolved.Sign.{Sign}
 use Rattle.ss_resolved.specs.declared.resolved.Sign.TheVariants.{Plus as PlusSign, Minus as MinusSign}
 use Rattle.ss_resolved.specs.declared.resolved.Function.{Function}
 use Rattle.ss_resolved.specs.declared.resolved.Function.TheVariants.{Quotient as QuotientOf, Remainder as RemainderOf, Least as LeastOf, Greatest as GreatestOf}
-use Rattle.ss_resolved.specs.declared.resolved.Expression.{Expression, Constant, Fetch, Signed', Sum', Product', Applied', Absolute', Attribute', Made, Row_of-Expression, end_of-Expression, more_of-Expression, Row_of-Expression-Sum-1-2, end_of-Expression-Sum-1-2, more_of-Expression-Sum-1-2}
+use Rattle.ss_resolved.specs.declared.resolved.Expression.{Expression, Constant, Fetch, Signed', Sum', Product', Applied', Absolute', Attribute', Made, Derived', Row_of-Expression, end_of-Expression, more_of-Expression, Row_of-Expression-Sum-1-2, end_of-Expression-Sum-1-2, more_of-Expression-Sum-1-2}
 use Rattle.ss_resolved.specs.declared.resolved.Test.{Test}
-use Rattle.ss_resolved.specs.declared.resolved.Test.TheVariants.{Compare, DataEnded}
+use Rattle.ss_resolved.specs.declared.resolved.Test.TheVariants.{Compare, DataEnded, Empty, Member}
 use Rattle.ss_resolved.specs.declared.resolved.Conjunction.{Conjunction}
 use Rattle.ss_resolved.specs.declared.resolved.Condition.{Condition}
 use Rattle.ss_resolved.specs.declared.resolved.GuardKind.{GuardKind}
@@ -25,20 +25,34 @@ use Rattle.ss_resolved.specs.declared.resolved.PhraseKind.{PhraseKind}
 use Rattle.ss_resolved.specs.declared.resolved.PhraseKind.TheVariants.{With as WithPhrase, Unless as UnlessPhrase, While as WhilePhrase, Until as UntilPhrase}
 use Rattle.ss_resolved.specs.declared.resolved.Phrase.{Phrase}
 use Rattle.ss_resolved.specs.declared.resolved.Range.{Range}
+use Rattle.ss_resolved.specs.declared.resolved.Start.{Start}
+use Rattle.ss_resolved.specs.declared.resolved.Start.TheVariants as starts
+use Rattle.ss_resolved.specs.declared.resolved.Members.{Members}
+use Rattle.ss_resolved.specs.declared.resolved.Head.{Head}
+use Rattle.ss_resolved.specs.declared.resolved.Head.TheVariants as heads
+use Rattle.ss_resolved.specs.declared.resolved.End.{End}
+use Rattle.ss_resolved.specs.declared.resolved.Position.{Position}
+use Rattle.ss_resolved.specs.declared.resolved.Position.TheVariants as positions
 use Rattle.ss_resolved.specs.declared.resolved.Place.{Place}
 use Rattle.ss_resolved.specs.declared.resolved.Place.TheVariants.{Variable as PlainVariable, Attribute as AttributePlace, Count}
 use Rattle.ss_resolved.specs.declared.resolved.Target.{Target}
 use Rattle.ss_resolved.specs.declared.resolved.Counted.{Counted}
-use Rattle.ss_resolved.specs.declared.resolved.Statement.{Statement, Let, Change, Print, If', While', For', Find', Call, Return, Stop, Read, Skip, Create, CreateEvery, Destroy, Row_of-Statement, end_of-Statement, more_of-Statement}
+use Rattle.ss_resolved.specs.declared.resolved.Statement.{Statement, Let, Change, Print, If', While', For', Find', Call, Return, Stop, Read, Skip, Create, CreateEvery, Destroy, File, RemoveEnd, Remove, Row_of-Statement, end_of-Statement, more_of-Statement}
 use Rattle.ss_resolved.specs.declared.resolved.Section.{Section}
 use Rattle.ss_resolved.specs.declared.resolved.Resolved.{Resolved}
 use Rattle.ss_resolved.specs.Lines.{lines_of}
 use Rattle.ss_code.specs.declared.instruction.Operator.{Operator}
 use Rattle.ss_code.specs.declared.instruction.Operator.TheVariants.{Plus, Minus, Times, Quotient, Remainder, Least, Greatest, Distance}
+use Rattle.ss_code.specs.declared.instruction.Filing.{Filing}
+use Rattle.ss_code.specs.declared.instruction.Filing.TheVariants as filings
+use Rattle.ss_code.specs.declared.instruction.Side.{Side}
+use Rattle.ss_code.specs.declared.instruction.Side.TheVariants as sides
 use Rattle.ss_input.specs.Words.{Given, is_ended, value_given}
 pub use Rattle.ss_code.specs.Store.{if_ok}
 use Rattle.ss_code.specs.Store.{Store, World, zero_value, number_of, fetched, assigned, computed, printed, related, step_of, is_within, item_after, empty_lines, fresh, yielded}
 use Rattle.ss_code.specs.Entities.{known, attribute, with_attribute, made_count, counted, made_one, made_all, without}
+use Rattle.ss_code.specs.Orders.{Order, orders_said}
+use Rattle.ss_code.specs.Sets.{known_owner, known_member, asked, is_empty, is_in, filed, filed_beside, removed_one, removed_at, begun, begun_at, coming, is_member, goes_on}
 use Rattle.ss_records.specs.State.{first_state}
 
 -- why a part of a program is left before its end
@@ -100,6 +114,7 @@ abbrev mutual
   value (Absolute' p e) s = if_ok (value e s) (λ x. computed Distance x zero_value)
   value (Attribute' class field p e) s = if_ok (value e s) (λ x. attribute class field x s)
   value (Made class) s = Ok (made_count class s)
+  value (Derived' derived set p e) s = if_ok (value e s) (λ x. asked derived set x s)
 
   -- the terms added to x from left to right
   pub sum_from : {m : _} → Value → Row_of-Expression-Sum-1-2 m → Store → Result Value FaultKind
@@ -135,11 +150,25 @@ abbrev pub unless : Bool → Bool → Bool
 unless true b = not b
 unless false b = b
 
+-- a reference to an entity that may be a member of a set, once it was looked at, and one to an owner
+abbrev pub looked_as : (Value → Store → Result (Unit {0}) FaultKind) → Expression → Store → Result Value FaultKind
+looked_as known e s = if_ok (value e s) (λ x. if_ok (known x s) (λ u. Ok x))
+
+abbrev pub member_value : ℕ → Expression → Store → Result Value FaultKind
+member_value set e s = looked_as (known_member set) e s
+
+abbrev pub owner_value : ℕ → Expression → Store → Result Value FaultKind
+owner_value set e s = looked_as (known_owner set) e s
+
 -- whether a test holds
 abbrev pub test_holds : Test → Store → Result Bool FaultKind
 test_holds (Compare left relation right) s =
     if_ok (value left s) (λ x. if_ok (value right s) (λ y. Ok (related relation x y)))
 test_holds (DataEnded negated) s = if_ok (is_ended s.input) (λ b. Ok (unless negated b))
+test_holds (Empty negated set owner) s =
+    if_ok (value owner s) (λ o. if_ok (is_empty set o s) (λ b. Ok (unless negated b)))
+test_holds (Member negated set e owner) s =
+    if_ok (member_value set e s) (λ x. if_ok (value owner s) (λ o. if_ok (is_in set x o s) (λ b. Ok (unless negated b))))
 
 -- whether all of them hold: up to the first that does not
 abbrev pub all_hold : List Test → Store → Result Bool FaultKind
@@ -241,6 +270,51 @@ abbrev pub over_range : ℕ → Line → Range → Part Turn → Part Bool
 over_range n l r turn w =
     and_then (look l (bounds r) w) (λ b. choose (is_within b.first b.limit) (items n r.variable b.limit b.step turn b.first) (WentOn false))
 
+-- the owner of a set, and the member that comes first, 0 where there is none
+pub record Outset : Type 0 where
+  pub owner : Value
+  pub first : Value
+
+-- the first member from a member on, or after it
+abbrev pub outset_at : (after : Bool) → Members → Expression → Store → Result Outset FaultKind
+outset_at after m e s =
+    if_ok (owner_value m.set m.owner s) (λ o. if_ok (value e s) (λ y. if_ok (begun_at m.reverse after m.set y o s) (λ x.
+    Ok (record { owner = o; first = x }))))
+
+abbrev pub outset_by : Members → Start → Store → Result Outset FaultKind
+outset_by m starts.End s =
+    if_ok (value m.owner s) (λ o. if_ok (begun m.reverse m.set o s) (λ x. Ok (record { owner = o; first = x })))
+outset_by m (starts.From e) s = outset_at false m e s
+outset_by m (starts.After e) s = outset_at true m e s
+
+-- after a turn: whether the case was found, or the further members
+abbrev pub after_member : Turn → Part Bool → Part Bool
+after_member GoesOn more = more
+after_member EndsLoop more = WentOn false
+after_member IsFound more = WentOn true
+
+-- the member that was fixed before, and the further ones
+abbrev pub next_member : Line → ℕ → (owner next : Value) → (Value → Part Bool) → Part Bool
+next_member l set o v more w = and_then (look l (goes_on set v o) w) (λ b. choose b (more v) (WentOn false))
+
+-- at most n more members of a FOR, from v on; the one after it is fixed before its turn
+abbrev pub members : ℕ → Line → Members → (owner : Value) → Part Turn → Value → Part Bool
+members zero l m o turn v w = Left OutOfTicks w
+members (suc n) l m o turn v before =
+    take_tick
+    (λ w. and_then (assign m.variable v w) (λ _ w. and_then (turn w) (λ t.
+    after_member t (next_member l m.set o (coming m.reverse m.set v before.store) (members n l m o turn)))))
+    before
+
+-- a FOR over the members of a set: whether the case was found
+abbrev pub over_members : ℕ → Line → Members → Part Turn → Part Bool
+over_members n l m turn w =
+    and_then (look l (outset_by m m.start) w) (λ b. choose (is_member b.first) (members n l m b.owner turn b.first) (WentOn false))
+
+abbrev pub over : ℕ → Line → Head → Part Turn → Part Bool
+over n l (heads.Numbers r) turn w = over_range n l r turn w
+over n l (heads.Members m) turn w = over_members n l m turn w
+
 -- takes the next word of the input
 abbrev pub given_by : Line → Result (Given Value) FaultKind → Part Value
 given_by l (Ok g) w = WentOn g.value (record w { store = record w.store { input = g.rest } })
@@ -308,6 +382,33 @@ abbrev pub create_every : Line → List Counted → Part (Unit {0})
 create_every l [] w = WentOn tt w
 create_every l (c ∷ cs) w = and_then (change l (made_all c.class c.number) w) (λ _. create_every l cs)
 
+-- a member comes into a set where it is put
+abbrev pub file : Line → Filing → ℕ → Expression → Expression → Part (Unit {0})
+file l filing set e owner w =
+    and_then (look l (member_value set e) w) (λ x w. and_then (look l (value owner) w) (λ o. change l (filed filing set x o)))
+
+-- the same beside another one
+abbrev pub file_beside : Line → Side → ℕ → (member other owner : Expression) → Part (Unit {0})
+file_beside l side set e f owner w =
+    and_then (look l (member_value set e) w) (λ x w. and_then (look l (member_value set f) w) (λ y w.
+    and_then (look l (value owner) w) (λ o. change l (filed_beside side set x y o))))
+
+abbrev pub file_by : Line → Position → ℕ → Expression → Expression → Part (Unit {0})
+file_by l positions.ByDiscipline set e owner w = file l filings.ByDiscipline set e owner w
+file_by l positions.First set e owner w = file l filings.First set e owner w
+file_by l positions.Last set e owner w = file l filings.Last set e owner w
+file_by l (positions.Before f) set e owner w = file_beside l sides.Before set e f owner w
+file_by l (positions.After f) set e owner w = file_beside l sides.After set e f owner w
+
+-- a member goes out of a set
+abbrev pub remove : Line → ℕ → Expression → Expression → Part (Unit {0})
+remove l set e owner w =
+    and_then (look l (member_value set e) w) (λ x w. and_then (look l (value owner) w) (λ o. change l (removed_one set x o)))
+
+-- the member at an end goes out of a set
+abbrev pub remove_end : Line → ℕ → End → Expression → Part Value
+remove_end l set end owner w = and_then (look l (value owner) w) (λ o w. born_by l (removed_at end set o w.store) w)
+
 -- what a call does: the routine, the values that it is given, and how many it yields
 abbrev pub Calls : Type 0
 Calls = (routine : ℕ) → (given : List Value) → (count : ℕ) → Part (List Value)
@@ -324,10 +425,10 @@ abbrev mutual
   effect h n (If' l c p a q b) w = and_then (look l (holds c) w) (λ t. choose t (effects h n a) (effects h n b))
   effect h n (While' l guards p a) w =
       and_then (look l (all_pass guards.items) w) (λ t. choose t (turns n l guards.items (effects h n a)) (WentOn tt))
-  effect h n (For' l r ps p a) w =
-      then_nothing (over_range n l r (phrases l ps.items (λ w. and_then (effects h n a w) (λ _. WentOn GoesOn))) w)
-  effect h n (Find' l r ps p a q b) w =
-      and_then (over_range n l r (phrases l ps.items (WentOn IsFound)) w) (λ t. choose t (effects h n a) (effects h n b))
+  effect h n (For' l over_these ps p a) w =
+      then_nothing (over n l over_these (phrases l ps.items (λ w. and_then (effects h n a w) (λ _. WentOn GoesOn))) w)
+  effect h n (Find' l over_these ps p a q b) w =
+      and_then (over n l over_these (phrases l ps.items (WentOn IsFound)) w) (λ t. choose t (effects h n a) (effects h n b))
   effect h n (Call l routine given yielding) w =
       and_then (look l (values given.items) w) (λ vs w.
       and_then (h routine vs (length yielding.items) w) (λ us. assign_each l yielding.items us))
@@ -339,6 +440,9 @@ abbrev mutual
   effect h n (Create l class t) w = give_to l t (create l class) w
   effect h n (CreateEvery l classes) w = create_every l classes.items w
   effect h n (Destroy l class e) w = and_then (look l (value e) w) (λ x. change l (without class x))
+  effect h n (File l set e position owner) w = file_by l position set e owner w
+  effect h n (RemoveEnd l set end t owner) w = give_to l t (remove_end l set end owner) w
+  effect h n (Remove l set e owner) w = remove l set e owner w
 
   -- one statement after another
   pub effects : {m : _} → Calls → ℕ → Row_of-Statement m → Part (Unit {0})
@@ -396,11 +500,12 @@ run_of (WentOn u w) = record { report = w.report; ending = Ended; ticks = w.tick
 run_of (Left e w) = record { report = w.report; ending = ending_of e; ticks = w.ticks }
 
 -- with no entity
-abbrev pub first_store : Layout → List Value → List Value → List ℕ → Store
-first_store layout globals locals input = record { globals = globals; locals = locals; heap = first_state layout; input = input }
+abbrev pub first_store : Layout → List Order → List Value → List Value → List ℕ → Store
+first_store layout orders globals locals input =
+    record { globals = globals; locals = locals; heap = first_state layout; orders = orders; input = input }
 
 abbrev pub first_world : Resolved → List ℕ → ℕ → World
-first_world p input n = record { store = first_store p.layout (firsts p.globals.items) (firsts p.main.locals.items) input; report = []; ticks = n }
+first_world p input n = record { store = first_store p.layout (orders_said p.disciplines.items) (firsts p.globals.items) (firsts p.main.locals.items) input; report = []; ticks = n }
 
 -- what a program does with an input and n ticks
 abbrev pub meaning : Resolved → List ℕ → ℕ → Run

@@ -1,14 +1,14 @@
 -- The instructions of a program.
-use Rattle.std.specs.Prelude.{ℕ, ◌+◌, List, [], ◌∷◌, ◌++◌, length, pos, Option, Some, None}
+use Rattle.std.specs.Prelude.{ℕ, ◌+◌, Bool, true, false, List, [], ◌∷◌, ◌++◌, length, pos, Option, Some, None}
 use Rattle.ss_base.specs.declared.line.Line.{Line}
 use Rattle.ss_base.specs.declared.layout.Mode.{Mode}
 use Rattle.ss_base.specs.declared.value.Value.{Value}
 use Rattle.ss_base.specs.declared.value.Value.TheVariants.{Whole, Text}
 use Rattle.ss_resolved.specs.declared.resolved.Variable.{Variable}
 use Rattle.ss_resolved.specs.declared.resolved.Variable.TheVariants.{Global, Local}
-use Rattle.ss_resolved.specs.declared.resolved.Expression.{Expression, Constant, Fetch, Signed', Sum', Product', Applied', Absolute', Attribute', Made, Row_of-Expression, end_of-Expression, more_of-Expression, Row_of-Expression-Sum-1-2, end_of-Expression-Sum-1-2, more_of-Expression-Sum-1-2}
+use Rattle.ss_resolved.specs.declared.resolved.Expression.{Expression, Constant, Fetch, Signed', Sum', Product', Applied', Absolute', Attribute', Made, Derived', Row_of-Expression, end_of-Expression, more_of-Expression, Row_of-Expression-Sum-1-2, end_of-Expression-Sum-1-2, more_of-Expression-Sum-1-2}
 use Rattle.ss_resolved.specs.declared.resolved.Test.{Test}
-use Rattle.ss_resolved.specs.declared.resolved.Test.TheVariants.{Compare, DataEnded}
+use Rattle.ss_resolved.specs.declared.resolved.Test.TheVariants.{Compare, DataEnded, Empty, Member}
 use Rattle.ss_resolved.specs.declared.resolved.Conjunction.{Conjunction}
 use Rattle.ss_resolved.specs.declared.resolved.Condition.{Condition}
 use Rattle.ss_resolved.specs.declared.resolved.GuardKind.{GuardKind}
@@ -18,12 +18,20 @@ use Rattle.ss_resolved.specs.declared.resolved.PhraseKind.{PhraseKind}
 use Rattle.ss_resolved.specs.declared.resolved.PhraseKind.TheVariants.{With as WithPhrase, Unless as UnlessPhrase, While as WhilePhrase, Until as UntilPhrase}
 use Rattle.ss_resolved.specs.declared.resolved.Phrase.{Phrase}
 use Rattle.ss_resolved.specs.declared.resolved.Range.{Range}
+use Rattle.ss_resolved.specs.declared.resolved.Start.{Start}
+use Rattle.ss_resolved.specs.declared.resolved.Start.TheVariants as starts
+use Rattle.ss_resolved.specs.declared.resolved.Members.{Members}
+use Rattle.ss_resolved.specs.declared.resolved.Head.{Head}
+use Rattle.ss_resolved.specs.declared.resolved.Head.TheVariants as heads
+use Rattle.ss_resolved.specs.declared.resolved.End.{End}
+use Rattle.ss_resolved.specs.declared.resolved.Position.{Position}
+use Rattle.ss_resolved.specs.declared.resolved.Position.TheVariants as positions
 use Rattle.ss_resolved.specs.declared.resolved.Place.{Place}
 use Rattle.ss_resolved.specs.declared.resolved.Place.TheVariants.{Variable as PlainVariable, Attribute as AttributePlace, Count}
 use Rattle.ss_resolved.specs.declared.resolved.Target.{Target}
 use Rattle.ss_resolved.specs.declared.resolved.Counted.{Counted}
 use Rattle.ss_resolved.specs.declared.resolved.Section.{Section}
-use Rattle.ss_resolved.specs.declared.resolved.Statement.{Statement, Let, Change, Print, If', While', For', Find', Call as CallRoutine, Return, Stop, Read, Skip as SkipLines, Create, CreateEvery, Destroy, Row_of-Statement, end_of-Statement, more_of-Statement}
+use Rattle.ss_resolved.specs.declared.resolved.Statement.{Statement, Let, Change, Print, If', While', For', Find', Call as CallRoutine, Return, Stop, Read, Skip as SkipLines, Create, CreateEvery, Destroy, File, RemoveEnd, Remove, Row_of-Statement, end_of-Statement, more_of-Statement}
 use Rattle.ss_resolved.specs.declared.resolved.Resolved.{Resolved}
 use Rattle.ss_code.specs.declared.instruction.Operand.{Operand}
 use Rattle.ss_code.specs.declared.instruction.Operand.TheVariants.{Popped, Number, FromGlobal, FromLocal}
@@ -32,7 +40,12 @@ use Rattle.ss_code.specs.declared.instruction.Destination.TheVariants.{Pushed, T
 use Rattle.ss_code.specs.declared.instruction.Operator.{Operator}
 use Rattle.ss_code.specs.declared.instruction.Operator.TheVariants.{Times, Distance}
 use Rattle.ss_code.specs.declared.instruction.Instruction.{Instruction}
-use Rattle.ss_code.specs.declared.instruction.Instruction.TheVariants.{Load, Move, Calculate, Compare as CompareThem, TestData, Jump, Turn, Repeat, Begin, Take, Next, Forget, Call, Leave, Halt, Read as ReadWord, Skip as SkipThem, Print as PrintLines, Look, Get, Put, Give, ChangeField, SetCount, CountMade, CreateOne, CreateAll, DestroyOne}
+use Rattle.ss_code.specs.declared.instruction.Instruction.TheVariants.{Load, Move, Calculate, Compare as CompareThem, TestData, Jump, Turn, Repeat, Begin, Take, Next, Forget, Call, Leave, Halt, Read as ReadWord, Skip as SkipThem, Print as PrintLines, Look, Get, Put, Give, ChangeField, SetCount, CountMade, CreateOne, CreateAll, DestroyOne, Ask, LookOwner, LookMember, TestEmpty, TestMember, FileOne, FileBeside, RemoveAt, RemoveOne, BeginSet, BeginAt, TakeMember, NextMember}
+use Rattle.ss_code.specs.declared.instruction.Filing.{Filing}
+use Rattle.ss_code.specs.declared.instruction.Filing.TheVariants as filings
+use Rattle.ss_code.specs.declared.instruction.Side.{Side}
+use Rattle.ss_code.specs.declared.instruction.Side.TheVariants as sides
+use Rattle.ss_code.specs.Orders.{orders_said}
 use Rattle.ss_code.specs.Meaning.{operator_of, operator_for, firsts}
 use Rattle.ss_resolved.specs.Lines.{lines_of}
 use Rattle.ss_code.specs.Machine.{Code, Entry}
@@ -60,6 +73,7 @@ operand_of (Applied' function p a q b) = Popped
 operand_of (Absolute' p e) = Popped
 operand_of (Attribute' class field p e) = Popped
 operand_of (Made class) = Popped
+operand_of (Derived' derived set p e) = Popped
 
 -- where a calculation leaves its result: as an operand it is on the stack
 abbrev pub placed : Option Destination → Destination
@@ -97,6 +111,7 @@ abbrev mutual
       expression_code l None e ++ Calculate Distance (operand_of e) (Number (pos 0)) (placed into) l ∷ []
   expression_code l into (Attribute' class field p e) = expression_code l None e ++ Get class field (operand_of e) l ∷ onwards_code into
   expression_code l into (Made class) = CountMade class (placed into) ∷ []
+  expression_code l into (Derived' derived set p e) = expression_code l None e ++ Ask derived set (operand_of e) l ∷ onwards_code into
 
   -- the terms behind the first, which is an operand
   pub sum_code : {m : _} → Line → Option Destination → Operand → Row_of-Expression-Sum-1-2 m → List Instruction
@@ -126,11 +141,21 @@ abbrev pub values_code : Line → List Expression → List Instruction
 values_code l [] = []
 values_code l (e ∷ es) = expression_code l (Some Pushed) e ++ values_code l es
 
+-- a reference to a member, or to an owner, that is looked at, on top of the stack
+abbrev pub member_code : Line → ℕ → Expression → List Instruction
+member_code l set e = expression_code l None e ++ LookMember set (operand_of e) l ∷ []
+
+abbrev pub owner_code : Line → ℕ → Expression → List Instruction
+owner_code l set e = expression_code l None e ++ LookOwner set (operand_of e) l ∷ []
+
 -- a test: on where it holds, past so many instructions where it does not
 abbrev pub test_code : Line → ℕ → Test → List Instruction
 test_code l skip (Compare left relation right) =
     expression_code l None left ++ (expression_code l None right ++ CompareThem relation (operand_of left) (operand_of right) skip ∷ [])
 test_code l skip (DataEnded negated) = TestData negated skip l ∷ []
+test_code l skip (Empty negated set owner) = expression_code l None owner ++ TestEmpty negated set (operand_of owner) skip l ∷ []
+test_code l skip (Member negated set e owner) =
+    member_code l set e ++ (expression_code l None owner ++ TestMember negated set (operand_of owner) skip l ∷ [])
 
 -- tests that all must hold
 abbrev pub tests_code : Line → ℕ → List Test → List Instruction
@@ -192,14 +217,32 @@ abbrev pub bounds_code : Line → Range → List Instruction
 bounds_code l r =
     expression_code l (Some Pushed) r.first ++ (expression_code l (Some Pushed) r.limit ++ step_code l r.step)
 
--- a FOR: its bounds; the tick of an item; the turn; on to the next item; and the end of the loop
-abbrev pub for_code : Line → Range → List Instruction → List Instruction
-for_code l r turn =
+-- a FOR over numbers: its bounds; the tick of an item; the turn; on to the next item; and the end of the loop
+abbrev pub range_code : Line → Range → List Instruction → List Instruction
+range_code l r turn =
     bounds_code l r
     ++ (Begin (length turn + 2) l ∷ (Take r.variable ∷ (turn ++ (Next (length turn + 1) ∷ Forget ∷ []))))
 
+-- the owner of a FOR over members, and the first of them; past so many instructions where there is none
+abbrev pub outset_code : Line → ℕ → Members → Start → List Instruction
+outset_code l skip m starts.End = expression_code l None m.owner ++ BeginSet m.reverse m.set (operand_of m.owner) skip l ∷ []
+outset_code l skip m (starts.From e) =
+    owner_code l m.set m.owner ++ (expression_code l None e ++ BeginAt m.reverse false m.set (operand_of e) skip l ∷ [])
+outset_code l skip m (starts.After e) =
+    owner_code l m.set m.owner ++ (expression_code l None e ++ BeginAt m.reverse true m.set (operand_of e) skip l ∷ [])
+
+-- the same over members
+abbrev pub members_code : Line → Members → List Instruction → List Instruction
+members_code l m turn =
+    outset_code l (length turn + 2) m m.start
+    ++ (TakeMember m.reverse m.set m.variable ∷ (turn ++ (NextMember m.set (length turn + 1) l ∷ Forget ∷ [])))
+
+abbrev pub for_code : Line → Head → List Instruction → List Instruction
+for_code l (heads.Numbers r) turn = range_code l r turn
+for_code l (heads.Members m) turn = members_code l m turn
+
 -- behind a FIND: the end of the loop at which no case was found stands before its side, the other behind a jump past both sides
-abbrev pub find_code : Line → Range → List Phrase → List Instruction → List Instruction → List Instruction
+abbrev pub find_code : Line → Head → List Phrase → List Instruction → List Instruction → List Instruction
 find_code l r ps found none =
     for_code l r (phrases_code l ps (Jump (length none + 3) ∷ [])) ++ (none ++ Jump (length found + 1) ∷ (Forget ∷ found))
 
@@ -251,6 +294,57 @@ abbrev pub assigns_code : Line → List Place → List Instruction
 assigns_code l [] = []
 assigns_code l (t ∷ ts) = assign_code l t ++ assigns_code l ts
 
+-- whether the value of an expression has no fault and takes no instruction that could have one
+abbrev pub is_plain : Expression → Bool
+is_plain (Constant v) = true
+is_plain (Fetch x) = true
+is_plain (Signed' sign p e) = false
+is_plain (Sum' p e h terms) = false
+is_plain (Product' p e h factors) = false
+is_plain (Applied' function p a q b) = false
+is_plain (Absolute' p e) = false
+is_plain (Attribute' class field p e) = false
+is_plain (Made class) = false
+is_plain (Derived' derived set p e) = false
+
+-- the look at a member before its owner is worked out, which is left to the instruction behind both where that has no fault
+abbrev pub early_code : Line → ℕ → Operand → (plain : Bool) → List Instruction
+early_code l set from true = []
+early_code l set from false = LookMember set from l ∷ []
+
+abbrev pub early_operand : Operand → (plain : Bool) → Operand
+early_operand from true = from
+early_operand from false = Popped
+
+-- a member, its owner, and an instruction on both
+abbrev pub pair_code : Line → ℕ → Expression → Expression → (Operand → Operand → Instruction) → List Instruction
+pair_code l set e owner i =
+    expression_code l None e
+    ++ (early_code l set (operand_of e) (is_plain owner)
+    ++ (expression_code l None owner ++ i (early_operand (operand_of e) (is_plain owner)) (operand_of owner) ∷ []))
+
+-- FILE
+abbrev pub beside_code : Line → Side → ℕ → (member other owner : Expression) → List Instruction
+beside_code l side set e f owner =
+    member_code l set e ++ (member_code l set f ++ (expression_code l None owner ++ FileBeside side set (operand_of owner) l ∷ []))
+
+abbrev pub file_code : Line → Position → ℕ → Expression → Expression → List Instruction
+file_code l positions.ByDiscipline set e owner = pair_code l set e owner (λ m o. FileOne filings.ByDiscipline set m o l)
+file_code l positions.First set e owner = pair_code l set e owner (λ m o. FileOne filings.First set m o l)
+file_code l positions.Last set e owner = pair_code l set e owner (λ m o. FileOne filings.Last set m o l)
+file_code l (positions.Before f) set e owner = beside_code l sides.Before set e f owner
+file_code l (positions.After f) set e owner = beside_code l sides.After set e f owner
+
+-- REMOVE FIRST and REMOVE LAST
+abbrev pub end_code : Line → ℕ → End → Expression → Destination → List Instruction
+end_code l set end owner into = expression_code l None owner ++ RemoveAt end set (operand_of owner) into l ∷ []
+
+abbrev pub remove_end_code : Line → ℕ → End → Place → Expression → List Instruction
+remove_end_code l set end (PlainVariable x) owner = end_code l set end owner (destination_of x)
+remove_end_code l set end (AttributePlace class field r) owner =
+    reference_code l class r ++ (end_code l set end owner Pushed ++ Put class field Popped l ∷ [])
+remove_end_code l set end (Count class number) owner = end_code l set end owner Pushed ++ SetCount class number Popped l ∷ []
+
 abbrev mutual
   -- the pictures of a statement
   pub statement_pictures : Statement → List (List ℕ)
@@ -269,6 +363,9 @@ abbrev mutual
   statement_pictures (Create l class t) = []
   statement_pictures (CreateEvery l classes) = []
   statement_pictures (Destroy l class e) = []
+  statement_pictures (File l set e position owner) = []
+  statement_pictures (RemoveEnd l set end t owner) = []
+  statement_pictures (Remove l set e owner) = []
 
   pub row_pictures : {m : _} → Row_of-Statement m → List (List ℕ)
   row_pictures end_of-Statement = []
@@ -296,6 +393,9 @@ abbrev mutual
   statement_code first (Create l class t) = create_code l class t
   statement_code first (CreateEvery l classes) = creates_code l classes.items
   statement_code first (Destroy l class e) = expression_code l None e ++ DestroyOne class (operand_of e) l ∷ []
+  statement_code first (File l set e position owner) = file_code l position set e owner
+  statement_code first (RemoveEnd l set end t owner) = remove_end_code l set end t owner
+  statement_code first (Remove l set e owner) = pair_code l set e owner (λ m o. RemoveOne set m o l)
 
   pub row_code : {m : _} → ℕ → Row_of-Statement m → List Instruction
   row_code first end_of-Statement = []
@@ -332,6 +432,7 @@ entries_from place first (r ∷ rs) =
 abbrev pub code_of : Resolved → Code
 code_of p = record {
   layout = p.layout;
+  orders = orders_said p.disciplines.items;
   instructions = section_code 0 p.main ++ routines_code (length (body_pictures p.main.body.items)) p.routines.items;
   pictures = body_pictures p.main.body.items ++ routines_pictures p.routines.items;
   entries = entries_from (length (section_code 0 p.main)) (length (body_pictures p.main.body.items)) p.routines.items;

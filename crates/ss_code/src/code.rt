@@ -2,17 +2,18 @@
 
 ghost use Rattle.std.specs.Prelude.{◌≡◌, ◌<◌, ◌^◌, length, slice_get, IfOk};
 ghost use Rattle.ss_code.specs.Listing.{listed};
+ghost use Rattle.ss_code.specs.Orders.{orders_said};
 ghost use Rattle.ss_code.specs.Running.{Sound};
 
 use crate::entry::Entry;
 use crate::instruction::Instruction;
 use crate::listing::listing;
-use ss_base::{Layout, Value};
+use ss_base::{Discipline, Layout, Value};
 use ss_picture::Picture;
 use std::alloc::{AllocError, Global};
 use std::marker::Model;
 
-/// The classes and sets of a program, its instructions, the pictures that they print by, the routines that
+/// The classes and sets of a program, the disciplines of its sets, its instructions, the pictures that they print by, the routines that
 /// they call, and the first values of the global variables and of MAIN's own.
 ///
 /// A contract sees it as a record of these. No run of it is ever stuck, and each jump back leads
@@ -20,6 +21,7 @@ use std::marker::Model;
 #[derive(Drop)]
 pub struct Code {
     layout: Layout,
+    disciplines: Vec<Discipline>,
     instructions: Vec<Instruction>,
     pictures: Vec<Picture>,
     entries: Vec<Entry>,
@@ -29,31 +31,34 @@ pub struct Code {
 
 impl Model for Code {
     ghost use Rattle.ss_code.specs.Machine.{Code as CodeValue};
+    ghost use Rattle.ss_code.specs.Orders.{orders_said};
 
     ghost Value = { CodeValue };
 
     ghost use Rattle.ss_code.specs.Running.{Sound};
 
-    ghost view = { λ c. record { layout = c.layout; instructions = c.instructions.items; pictures = c.pictures.items; entries = c.entries.items; globals = c.globals.items; locals = c.locals.items } };
+    ghost view = { λ c. record { layout = c.layout; orders = orders_said c.disciplines.items; instructions = c.instructions.items; pictures = c.pictures.items; entries = c.entries.items; globals = c.globals.items; locals = c.locals.items } };
 
-    ghost invariant = { λ c. Sound (record { layout = c.layout; instructions = c.instructions.items; pictures = c.pictures.items; entries = c.entries.items; globals = c.globals.items; locals = c.locals.items }) };
+    ghost invariant = { λ c. Sound (record { layout = c.layout; orders = orders_said c.disciplines.items; instructions = c.instructions.items; pictures = c.pictures.items; entries = c.entries.items; globals = c.globals.items; locals = c.locals.items }) };
 }
 
 impl Code {
     /// The code of these parts, which is never stuck.
     pub(crate) fn new(
         layout: Layout,
+        disciplines: Vec<Discipline>,
         instructions: Vec<Instruction>,
         pictures: Vec<Picture>,
         entries: Vec<Entry>,
         globals: Vec<Value>,
         locals: Vec<Value>,
     ) -> Code
-        requires { Sound (record { layout = layout; instructions = instructions.items; pictures = pictures.items; entries = entries.items; globals = globals.items; locals = locals.items }) }
-        ensures { result ≡ record { layout = layout; instructions = instructions.items; pictures = pictures.items; entries = entries.items; globals = globals.items; locals = locals.items } }
+        requires { Sound (record { layout = layout; orders = orders_said disciplines.items; instructions = instructions.items; pictures = pictures.items; entries = entries.items; globals = globals.items; locals = locals.items }) }
+        ensures { result ≡ record { layout = layout; orders = orders_said disciplines.items; instructions = instructions.items; pictures = pictures.items; entries = entries.items; globals = globals.items; locals = locals.items } }
     {
         Code {
             layout,
+            disciplines,
             instructions,
             pictures,
             entries,
@@ -67,6 +72,13 @@ impl Code {
         ensures { result.now ≡ self.now.layout }
     {
         &self.layout
+    }
+
+    /// The disciplines of the sets, by their numbers.
+    pub fn disciplines(&self) -> &[Discipline]
+        ensures { orders_said result.now ≡ self.now.orders }
+    {
+        &self.disciplines
     }
 
     /// How many instructions there are. No run of them is ever stuck.

@@ -6,8 +6,11 @@ ghost use Rattle.ss_code.specs.Translation.{test_code, tests_code, some_code, co
 use crate::backward::Backward;
 use crate::emit::{emit_expression, operand, put};
 use crate::instruction::Instruction;
+use crate::members::emit_member;
 use ss_base::Line;
-use ss_resolved::resolved::{Condition, Conjunction, Guard, GuardKind, Phrase, PhraseKind, Test};
+use ss_resolved::resolved::{
+    Condition, Conjunction, Expression, Guard, GuardKind, Phrase, PhraseKind, Test,
+};
 use std::alloc::{AllocError, Global};
 
 /// A number of instructions and some more. The error comes where no memory can hold so many.
@@ -18,6 +21,56 @@ pub(crate) fn sum(count: usize, more: usize) -> Result<usize, AllocError>
         Some(both) => Ok(both),
         None => Err(AllocError),
     }
+}
+
+// Whether the set of an owner has no member.
+fn emit_empty(
+    code: &mut Vec<Instruction>,
+    line: Line,
+    skip: usize,
+    negated: bool,
+    set: u32,
+    owner: &Expression,
+) -> Result<(), AllocError>
+    ensures { OnOk result (code.new.items ≡ code.old.items ++ test_code line skip (Test.Empty negated set owner.now)) }
+{
+    emit_expression(code, line, None, owner)?;
+    put(
+        code,
+        Instruction::TestEmpty {
+            negated,
+            set,
+            owner: operand(owner),
+            skip,
+            line,
+        },
+    )
+}
+
+// Whether a member is in the set of an owner.
+fn emit_is_in(
+    code: &mut Vec<Instruction>,
+    line: Line,
+    skip: usize,
+    negated: bool,
+    set: u32,
+    member: &Expression,
+    owner: &Expression,
+) -> Result<(), AllocError>
+    ensures { OnOk result (code.new.items ≡ code.old.items ++ test_code line skip (Test.Member negated set member.now owner.now)) }
+{
+    emit_member(code, line, set, member)?;
+    emit_expression(code, line, None, owner)?;
+    put(
+        code,
+        Instruction::TestMember {
+            negated,
+            set,
+            owner: operand(owner),
+            skip,
+            line,
+        },
+    )
 }
 
 // A test, which jumps where it does not hold.
@@ -55,6 +108,17 @@ fn emit_test(
                 line,
             },
         ),
+        Test::Empty {
+            negated,
+            set,
+            owner,
+        } => emit_empty(code, line, skip, *negated, *set, owner),
+        Test::Member {
+            negated,
+            set,
+            member,
+            owner,
+        } => emit_is_in(code, line, skip, *negated, *set, member, owner),
     }
 }
 

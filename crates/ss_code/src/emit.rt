@@ -77,7 +77,8 @@ pub(crate) fn operand(e: &Expression) -> Operand
         | Expression::Applied { .. }
         | Expression::Absolute { .. }
         | Expression::Attribute { .. }
-        | Expression::Made { .. } => Operand::Popped,
+        | Expression::Made { .. }
+        | Expression::Derived { .. } => Operand::Popped,
     }
 }
 
@@ -247,6 +248,19 @@ pub(crate) fn emit_expression(
                 into: place(into),
             },
         ),
+        Expression::Derived { derived, set, of } => {
+            emit_expression(code, line, None, of)?;
+            put(
+                code,
+                Instruction::Ask {
+                    derived: *derived,
+                    set: *set,
+                    from: operand(of),
+                    line,
+                },
+            )?;
+            emit_onwards(code, into)
+        }
     }
 }
 

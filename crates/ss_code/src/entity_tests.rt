@@ -4,7 +4,7 @@ use crate::CodeError;
 use crate::generate::generate;
 use ss_base::{ClassKind, ClassLayout, Layout, Line, Mode, Value};
 use ss_resolved::resolved::{
-    Counted, Expression, Place, Range, Resolved, Section, Sign, Statement, Target, Variable,
+    Counted, Expression, Head, Place, Range, Resolved, Section, Sign, Statement, Target, Variable,
 };
 use std::alloc::{AllocError, Global};
 
@@ -131,11 +131,13 @@ fn loaded(alloc: Global) -> Result<Statement, AllocError> {
     })?;
     Ok(Statement::For {
         line: Line(8),
-        range: Range {
-            variable: THE_MACHINE,
-            first: number(1),
-            limit: Expression::Made { class: MACHINE },
-            step: None,
+        head: Head::Numbers {
+            range: Range {
+                variable: THE_MACHINE,
+                first: number(1),
+                limit: Expression::Made { class: MACHINE },
+                step: None,
+            },
         },
         phrases: Vec::new(alloc),
         body,
@@ -166,6 +168,7 @@ fn program(alloc: Global) -> Result<Resolved, AllocError> {
     })?;
     Ok(Resolved {
         layout: layout(alloc)?,
+        disciplines: Vec::new(alloc),
         globals: Vec::from_slice(alloc, &[Mode::Integer, Mode::Integer, Mode::Integer])?,
         routines,
         main: Section {

@@ -4,6 +4,7 @@ ghost use Rattle.std.specs.Prelude.{◌≡◌, ◌≤◌, ◌<◌, ◌++◌, len
 ghost use Rattle.ss_base.specs.declared.layout.Layout.{Layout as LayoutSeen};
 ghost use Rattle.ss_resolved.specs.Nodes.{nodes};
 ghost use Rattle.ss_code.specs.Layouts.{SameLayout};
+ghost use Rattle.ss_code.specs.Orders.{orders_said};
 ghost use Rattle.ss_code.specs.Running.{Behaves};
 ghost use Rattle.ss_code.specs.Translation.{code_of, routines_code, routines_pictures, entries_from};
 
@@ -11,7 +12,7 @@ use crate::code::Code;
 use crate::entry::Entry;
 use crate::error::CodeError;
 use crate::instruction::Instruction;
-use crate::layouts::copied;
+use crate::layouts::{copied, copied_disciplines};
 use crate::statements::{emit_section, first_values};
 use ss_picture::Picture;
 use ss_resolved::resolved::{Resolved, Section};
@@ -50,6 +51,7 @@ pub fn generate(alloc: Global, program: &Resolved) -> Result<Code, CodeError>
     ensures behaves { IfOk result (λ code. Behaves program.now code) }
     ensures anywhere { IfOk result (λ code. (l : LayoutSeen) → SameLayout program.now.layout l → Behaves program.now (record code { layout = l })) }
     ensures layout { IfOk result (λ code. SameLayout program.now.layout code.layout) }
+    ensures orders { IfOk result (λ code. code.orders ≡ orders_said program.now.disciplines.items) }
     ensures limit { IfOk result (λ code. length code.instructions ≤ INSTRUCTION_LIMIT) }
     ensures too_long { result ≡ Err CodeError.CodeTooLong → INSTRUCTION_LIMIT < length (code_of program.now).instructions }
     ensures small { nodes program.now ≤ 16384 → result ≡ Err CodeError.CodeTooLong → ⊥ }
@@ -71,7 +73,16 @@ pub fn generate(alloc: Global, program: &Resolved) -> Result<Code, CodeError>
     let globals = first_values(alloc, &program.globals)?;
     let locals = first_values(alloc, &program.main.locals)?;
     let layout = copied(alloc, &program.layout)?;
-    Ok(Code::new(layout, instructions, pictures, entries, globals, locals))
+    let disciplines = copied_disciplines(alloc, &program.disciplines)?;
+    Ok(Code::new(
+        layout,
+        disciplines,
+        instructions,
+        pictures,
+        entries,
+        globals,
+        locals,
+    ))
 }
 
 #[cfg(test)]
@@ -112,6 +123,7 @@ mod tests {
                 classes: Vec::new(alloc),
                 sets: Vec::new(alloc),
             },
+            disciplines: Vec::new(alloc),
             globals: Vec::new(alloc),
             routines: Vec::new(alloc),
             main: Section {

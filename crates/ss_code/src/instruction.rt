@@ -1,7 +1,7 @@
 //! The instructions of the machine.
 
 use ss_base::{Alpha, Line, Mode};
-use ss_resolved::resolved::{Relation, Variable};
+use ss_resolved::resolved::{Derived, End, Relation, Variable};
 
 /// Where an instruction finds a value.
 #[derive(Clone, Copy, PartialEq, Eq, Debug)]
@@ -39,6 +39,22 @@ pub enum Operator {
     Greatest,
     /// How far the two numbers are apart.
     Distance,
+}
+
+/// Where a member is filed.
+#[derive(Clone, Copy, PartialEq, Eq, Debug)]
+pub enum Filing {
+    /// Where the discipline of the set says.
+    ByDiscipline,
+    First,
+    Last,
+}
+
+/// On which side of another member a member is filed.
+#[derive(Clone, Copy, PartialEq, Eq, Debug)]
+pub enum Side {
+    Before,
+    After,
 }
 
 /// One instruction. A jump counts the instructions that it skips, or that it goes back.
@@ -194,6 +210,105 @@ pub enum Instruction {
     DestroyOne {
         class: u32,
         from: Operand,
+        line: Line,
+    },
+    /// What is asked of the set of an owner, or of a member, goes on top of the stack.
+    Ask {
+        derived: Derived,
+        set: u32,
+        from: Operand,
+        line: Line,
+    },
+    /// Looks at a reference to an owner of a set, which goes on top of the stack.
+    LookOwner {
+        set: u32,
+        from: Operand,
+        line: Line,
+    },
+    /// Looks at a reference to an entity that may be a member of a set, which goes on top of the stack.
+    LookMember {
+        set: u32,
+        from: Operand,
+        line: Line,
+    },
+    /// Goes on where the set of an owner has no member, or has one if negated, and jumps otherwise.
+    TestEmpty {
+        negated: bool,
+        set: u32,
+        owner: Operand,
+        skip: usize,
+        line: Line,
+    },
+    /// Goes on where the next value of the stack is in the set of an owner, which is taken first, or is not if
+    /// negated, and jumps otherwise.
+    TestMember {
+        negated: bool,
+        set: u32,
+        owner: Operand,
+        skip: usize,
+        line: Line,
+    },
+    /// A member is filed in the set of an owner. The owner is taken first.
+    FileOne {
+        filing: Filing,
+        set: u32,
+        member: Operand,
+        owner: Operand,
+        line: Line,
+    },
+    /// A member is filed in the set of an owner, beside another one. The owner is taken first; the other one
+    /// and the member are the next values of the stack.
+    FileBeside {
+        side: Side,
+        set: u32,
+        owner: Operand,
+        line: Line,
+    },
+    /// The member at an end of the set of an owner is removed, and goes to its destination.
+    RemoveAt {
+        end: End,
+        set: u32,
+        owner: Operand,
+        into: Destination,
+        line: Line,
+    },
+    /// A member is removed from the set of an owner. The owner is taken first.
+    RemoveOne {
+        set: u32,
+        member: Operand,
+        owner: Operand,
+        line: Line,
+    },
+    /// The owner of a set, its first member twice or, in reverse, its last, go on the stack, and it jumps where
+    /// there is none.
+    BeginSet {
+        reverse: bool,
+        set: u32,
+        owner: Operand,
+        skip: usize,
+        line: Line,
+    },
+    /// The same from a member on, or after it. The owner is the next value of the stack.
+    BeginAt {
+        reverse: bool,
+        after: bool,
+        set: u32,
+        from: Operand,
+        skip: usize,
+        line: Line,
+    },
+    /// Takes a tick, and assigns the member that lies on the stack. The one that comes after it lies on top
+    /// from then on, 0 for none, and this one below it.
+    TakeMember {
+        reverse: bool,
+        set: u32,
+        variable: Variable,
+    },
+    /// Jumps back to the taking of the member on top of the stack, if there is one. It must still be in the set of
+    /// the owner, which is the third value of the stack.
+    NextMember {
+        set: u32,
+        back: usize,
         line: Line,
     },
 }

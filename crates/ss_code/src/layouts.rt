@@ -1,9 +1,10 @@
-//! Layouts that say the same.
+//! Layouts and disciplines that say the same.
 
 ghost use Rattle.std.specs.Prelude.{◌≡◌, map, IfOk};
 ghost use Rattle.ss_code.specs.Layouts.{class_said, SameLayout};
+ghost use Rattle.ss_code.specs.Orders.{order_said, orders_said};
 
-use ss_base::{ClassLayout, Layout};
+use ss_base::{ClassLayout, Discipline, Layout};
 use std::alloc::{AllocError, Global};
 
 // The same class.
@@ -36,4 +37,33 @@ pub fn copied(alloc: Global, layout: &Layout) -> Result<Layout, AllocError>
     let classes = copied_classes(alloc, &layout.classes)?;
     let sets = Vec::from_slice(alloc, &layout.sets)?;
     Ok(Layout { classes, sets })
+}
+
+// The same discipline.
+fn copied_discipline(alloc: Global, discipline: &Discipline) -> Result<Discipline, AllocError>
+    ensures { IfOk result (λ d. order_said d ≡ order_said discipline.now) }
+{
+    match discipline {
+        Discipline::Fifo => Ok(Discipline::Fifo),
+        Discipline::Lifo => Ok(Discipline::Lifo),
+        Discipline::Ranked(keys) => {
+            let same = Vec::from_slice(alloc, keys)?;
+            Ok(Discipline::Ranked(same))
+        }
+    }
+}
+
+/// Disciplines that say the same, in memory of their own. The error comes where memory was refused.
+pub fn copied_disciplines(
+    alloc: Global,
+    disciplines: &[Discipline],
+) -> Result<Vec<Discipline>, AllocError>
+    ensures { IfOk result (λ ds. orders_said ds.items ≡ orders_said disciplines.now) }
+{
+    let mut copies = Vec::new(alloc);
+    for discipline in disciplines {
+        let copy = copied_discipline(alloc, discipline)?;
+        copies.push(copy)?;
+    }
+    Ok(copies)
 }

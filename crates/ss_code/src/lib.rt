@@ -14,6 +14,9 @@ pub mod instruction;
 pub mod laws;
 pub mod layouts;
 mod listing;
+mod members;
+#[cfg(test)]
+mod set_tests;
 mod statements;
 mod targets;
 #[cfg(test)]

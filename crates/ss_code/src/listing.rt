@@ -40,6 +40,19 @@ fn name(instruction: &Instruction) -> &str
         Instruction::CreateOne { .. } => "create one",
         Instruction::CreateAll { .. } => "create all",
         Instruction::DestroyOne { .. } => "destroy one",
+        Instruction::Ask { .. } => "ask",
+        Instruction::LookOwner { .. } => "look owner",
+        Instruction::LookMember { .. } => "look member",
+        Instruction::TestEmpty { .. } => "test empty",
+        Instruction::TestMember { .. } => "test member",
+        Instruction::FileOne { .. } => "file one",
+        Instruction::FileBeside { .. } => "file beside",
+        Instruction::RemoveAt { .. } => "remove at",
+        Instruction::RemoveOne { .. } => "remove one",
+        Instruction::BeginSet { .. } => "begin set",
+        Instruction::BeginAt { .. } => "begin at",
+        Instruction::TakeMember { .. } => "take member",
+        Instruction::NextMember { .. } => "next member",
     }
 }
 

@@ -4,15 +4,20 @@ ghost use Rattle.std.specs.Prelude.{◌≡◌, ◌∷◌, ◌++◌, [], length, 
 ghost use Rattle.ss_code.specs.Meaning.{firsts};
 ghost use Rattle.ss_resolved.specs.Lines.{lines_of};
 ghost use Rattle.ss_code.specs.declared.instruction.Instruction.TheVariants.{Jump, Forget, Leave};
-ghost use Rattle.ss_code.specs.Translation.{step_code, bounds_code, for_code, while_code, find_code, if_code, statement_code, statement_pictures, body_code, body_pictures};
+ghost use Rattle.ss_code.specs.Translation.{step_code, bounds_code, range_code, members_code, for_code, while_code, find_code, if_code, statement_code, statement_pictures, body_code, body_pictures};
 
 use crate::conditions::{emit_condition, emit_guards, emit_phrases, sum};
 use crate::emit::{emit_expression, emit_values, operand, put};
 use crate::instruction::{Destination, Instruction, Operand};
-use crate::targets::{emit_assigns, emit_change, emit_create, emit_creates, emit_let, emit_reads};
+use crate::members::{emit_file, emit_outset, emit_remove, take_member};
+use crate::targets::{
+    emit_assigns, emit_change, emit_create, emit_creates, emit_let, emit_reads, emit_remove_end,
+};
 use ss_base::{Line, Mode, Value};
 use ss_picture::Picture;
-use ss_resolved::resolved::{Condition, Expression, Guard, Phrase, Place, Range, Statement};
+use ss_resolved::resolved::{
+    Condition, Expression, Guard, Head, Members, Phrase, Place, Range, Statement,
+};
 use std::alloc::{AllocError, Global};
 
 // The pictures of these lines.
@@ -103,14 +108,14 @@ fn emit_bounds(code: &mut Vec<Instruction>, line: Line, range: &Range) -> Result
     emit_step(code, line, &range.step)
 }
 
-// A FOR with this turn.
-fn emit_for(
+// A FOR over numbers with this turn.
+fn emit_range(
     code: &mut Vec<Instruction>,
     line: Line,
     range: &Range,
     mut turn: Vec<Instruction>,
 ) -> Result<(), AllocError>
-    ensures { OnOk result (code.new.items ≡ code.old.items ++ for_code line range.now turn.items) }
+    ensures { OnOk result (code.new.items ≡ code.old.items ++ range_code line range.now turn.items) }
 {
     let length = turn.len();
     emit_bounds(code, line, range)?;
@@ -132,17 +137,50 @@ fn emit_for(
     put(code, Instruction::Forget)
 }
 
+// A FOR over members with this turn.
+fn emit_members(
+    code: &mut Vec<Instruction>,
+    line: Line,
+    members: &Members,
+    mut turn: Vec<Instruction>,
+) -> Result<(), AllocError>
+    ensures { OnOk result (code.new.items ≡ code.old.items ++ members_code line members.now turn.items) }
+{
+    let set = members.set;
+    let back = turn.len() + 1;
+    emit_outset(code, line, back + 1, members)?;
+    put(code, take_member(members))?;
+    code.append(&mut turn)?;
+    put(code, Instruction::NextMember { set, back, line })?;
+    put(code, Instruction::Forget)
+}
+
+// A FOR with this turn.
+fn emit_for(
+    code: &mut Vec<Instruction>,
+    line: Line,
+    head: &Head,
+    turn: Vec<Instruction>,
+) -> Result<(), AllocError>
+    ensures { OnOk result (code.new.items ≡ code.old.items ++ for_code line head.now turn.items) }
+{
+    match head {
+        Head::Numbers { range } => emit_range(code, line, range, turn),
+        Head::Members { members } => emit_members(code, line, members, turn),
+    }
+}
+
 // A FIND, and what follows it where a case was found and where none was.
 fn emit_find(
     alloc: Global,
     code: &mut Vec<Instruction>,
     line: Line,
-    range: &Range,
+    head: &Head,
     phrases: &[Phrase],
     mut found: Vec<Instruction>,
     mut none: Vec<Instruction>,
 ) -> Result<(), AllocError>
-    ensures { OnOk result (code.new.items ≡ code.old.items ++ find_code line range.now phrases.now found.items none.items) }
+    ensures { OnOk result (code.new.items ≡ code.old.items ++ find_code line head.now phrases.now found.items none.items) }
 {
     let mut case = Vec::new(alloc);
     put(
@@ -152,7 +190,7 @@ fn emit_find(
         },
     )?;
     let turn = emit_phrases(alloc, line, phrases, case)?;
-    emit_for(code, line, range, turn)?;
+    emit_for(code, line, head, turn)?;
     code.append(&mut none)?;
     put(
         code,
@@ -289,24 +327,24 @@ fn emit_statement(
         }
         Statement::For {
             line,
-            range,
+            head,
             phrases,
             body,
         } => {
             let inner = emit_body(alloc, pictures, body)?;
             let turn = emit_phrases(alloc, *line, phrases, inner)?;
-            emit_for(code, *line, range, turn)
+            emit_for(code, *line, head, turn)
         }
         Statement::Find {
             line,
-            range,
+            head,
             phrases,
             found,
             none,
         } => {
             let first = emit_body(alloc, pictures, found)?;
             let second = emit_body(alloc, pictures, none)?;
-            emit_find(alloc, code, *line, range, phrases, first, second)
+            emit_find(alloc, code, *line, head, phrases, first, second)
         }
         Statement::Call {
             line,
@@ -325,6 +363,26 @@ fn emit_statement(
             class,
             entity,
         } => emit_destroy(code, *line, *class, entity),
+        Statement::File {
+            line,
+            set,
+            member,
+            position,
+            owner,
+        } => emit_file(code, *line, position, *set, member, owner),
+        Statement::RemoveEnd {
+            line,
+            set,
+            end,
+            into,
+            owner,
+        } => emit_remove_end(code, *line, *set, *end, into, owner),
+        Statement::Remove {
+            line,
+            set,
+            member,
+            owner,
+        } => emit_remove(code, *line, *set, member, owner),
     }
 }
 

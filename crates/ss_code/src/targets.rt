@@ -4,12 +4,13 @@ ghost use Rattle.std.specs.Prelude.{◌≡◌, ◌∷◌, ◌++◌, [], None, So
 ghost use Rattle.ss_code.specs.Meaning.{operator_of};
 ghost use Rattle.ss_code.specs.declared.instruction.Instruction.TheVariants.{Calculate, Read, Put, ChangeField, SetCount, CreateOne};
 ghost use Rattle.ss_code.specs.declared.instruction.Destination.TheVariants.{Pushed};
-ghost use Rattle.ss_code.specs.Translation.{operand_of, expression_code, reference_code, let_code, change_code, read_code, reads_code, create_code, creates_code, assign_code, assigns_code};
+ghost use Rattle.ss_code.specs.Translation.{operand_of, expression_code, reference_code, let_code, change_code, read_code, reads_code, create_code, creates_code, remove_end_code, assign_code, assigns_code};
 
 use crate::emit::{emit_expression, from_variable, operand, put, signed, to_variable};
 use crate::instruction::{Destination, Instruction, Operand, Operator};
+use crate::members::emit_end;
 use ss_base::{Line, Mode};
-use ss_resolved::resolved::{Counted, Expression, Place, Sign, Target};
+use ss_resolved::resolved::{Counted, End, Expression, Place, Sign, Target};
 use std::alloc::AllocError;
 
 // A reference that is looked at, on top of the stack.
@@ -278,6 +279,33 @@ pub(crate) fn emit_create(
         } => {
             put_new(code, line, class, Destination::Pushed)?;
             put_count(code, line, *counted, *number, Operand::Popped)
+        }
+    }
+}
+
+/// REMOVE FIRST and REMOVE LAST.
+pub(crate) fn emit_remove_end(
+    code: &mut Vec<Instruction>,
+    line: Line,
+    set: u32,
+    end: End,
+    target: &Place,
+    owner: &Expression,
+) -> Result<(), AllocError>
+    ensures { OnOk result (code.new.items ≡ code.old.items ++ remove_end_code line set end target.now owner.now) }
+{
+    match target {
+        Place::Variable { variable } => {
+            emit_end(code, line, set, end, owner, to_variable(*variable))
+        }
+        Place::Attribute { class, field, of } => {
+            emit_reference(code, line, *class, of)?;
+            emit_end(code, line, set, end, owner, Destination::Pushed)?;
+            put_attribute(code, line, *class, *field, Operand::Popped)
+        }
+        Place::Count { class, number } => {
+            emit_end(code, line, set, end, owner, Destination::Pushed)?;
+            put_count(code, line, *class, *number, Operand::Popped)
         }
     }
 }

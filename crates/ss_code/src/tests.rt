@@ -4,7 +4,7 @@ use crate::CodeError;
 use crate::generate::generate;
 use ss_base::{Layout, Line, Mode, Value};
 use ss_resolved::resolved::{
-    Condition, Conjunction, Expression, Guard, GuardKind, Phrase, PhraseKind, Place, Range,
+    Condition, Conjunction, Expression, Guard, GuardKind, Head, Phrase, PhraseKind, Place, Range,
     Relation, Resolved, Section, Sign, Statement, Target, Test, Variable,
 };
 use std::alloc::{AllocError, Global};
@@ -81,11 +81,13 @@ fn calls_made(alloc: Global) -> Result<Statement, AllocError> {
     })?;
     Ok(Statement::For {
         line: Line(6),
-        range: Range {
-            variable: ITEM,
-            first: number(1),
-            limit: number(9),
-            step: None,
+        head: Head::Numbers {
+            range: Range {
+                variable: ITEM,
+                first: number(1),
+                limit: number(9),
+                step: None,
+            },
         },
         phrases,
         body,
@@ -124,6 +126,7 @@ fn program(alloc: Global) -> Result<Resolved, AllocError> {
             classes: Vec::new(alloc),
             sets: Vec::new(alloc),
         },
+        disciplines: Vec::new(alloc),
         globals: Vec::from_slice(alloc, &[Mode::Integer])?,
         routines,
         main: Section {

@@ -10,6 +10,8 @@ mod refusals;
 #[cfg(test)]
 mod reports;
 #[cfg(test)]
+mod sets;
+#[cfg(test)]
 mod streams;
 #[cfg(test)]
 mod trial;

@@ -19,7 +19,7 @@ use Rattle.ss_tree.specs.Tree.{ExpressionTree, StatementTree, expression_row, te
 use Rattle.ss_tree.specs.View.{view_expression, view_named, view_term, view_statement}
 use Rattle.ss_tree.specs.Views.{view_named_made, view_call_made, view_product_made, view_sum_made, view_if_made, view_loop_made, view_find_if_made}
 use Rattle.ss_tables.specs.Served.{served_name}
-use Rattle.ss_tables.specs.Serving.{served_expression, served_row, served_terms, served_term, served_target, served_inner, served_statements, served_whole}
+use Rattle.ss_tables.specs.Serving.{served_expression, served_row, served_terms, served_term, served_target, served_set, served_inner, served_statements, served_whole}
 
 row_served : (es : List ExpressionTree) → served_row (expression_row es) ≡ list_all served_expression es
 row_served [] = refl
@@ -47,6 +47,9 @@ sum_served b v = ap served_expression (view_sum_made b v) ∙ ap (λ x. served_e
 
 pub target_served : (n : Named) → served_target (view_named n) ≡ (served_name n.designator && list_all served_expression (map view_expression n.subscripts.items))
 target_served n = ap (λ b. served_name n.designator && b) (row_served (map view_expression n.subscripts.items))
+
+pub set_served : (n : Named) → served_set (view_named n) ≡ (served_name n.designator && list_all served_expression (map view_expression n.subscripts.items))
+set_served n = ap (λ b. served_name n.designator && b) (row_served (map view_expression n.subscripts.items))
 
 pub if_served : (l : Line) (c : Condition) (t e : Vec Statement) → served_inner (view_statement (statements.If l c t e)) ≡ (list_all served_whole (map view_statement t.items) && list_all served_whole (map view_statement e.items))
 if_served l c t e = ap served_inner (view_if_made l c t e) ∙ (λ i. statements_served (map view_statement t.items) i && statements_served (map view_statement e.items) i)

@@ -2,11 +2,11 @@
 use Rattle.std.proofs.Common.{◌≡◌, ℕ, Bool, true, false, List, [], ◌∷◌, ◌++◌, map, Option, Some, None, refl, sym, ap, ◌∙◌}
 use Rattle.std.specs.Prelude.{◌&&◌}
 use Rattle.std.specs.List.{list_all, flat_map}
-use Rattle.ss_tree.specs.Tree.{ExpressionTree, number, text, named, call, parenthesised, product, signed, sum, ExpressionRow, no_expression, and_expression, TermRow, no_term, and_term, NamedTree, TestTree, compare, empty, member, data_ended, ConditionTree, PhraseTree, GuardTree, over_range, over_members, over_class, guarded, StatementTree, let_statement, add_statement, subtract_statement, call_statement, return_statement, stop_statement, read_statement, start_simulation, if_statement, loop_statement, find_statement, find_if_statement, create_statement, create_every, destroy_statement, file_statement, remove_end, remove_statement, schedule_new, schedule_statement, cancel_statement, reset_statement, print_statement, skip_statement, StatementRow, no_statement, and_statement, SectionTree, ProgramTree}
-use Rattle.ss_tables.specs.declared.mentions.Role.TheVariants.{Target, AllOfClass}
-use Rattle.ss_tables.specs.Mentions.{mention_of, in_expression, in_expressions, in_terms, in_named, in_option, in_test, in_condition, in_phrases, in_guards, in_head, in_all, in_targets, with_inner, with_inner_row}
+use Rattle.ss_tree.specs.Tree.{ExpressionTree, number, text, named, call, parenthesised, product, signed, sum, ExpressionRow, no_expression, and_expression, TermRow, no_term, and_term, NamedTree, TestTree, compare, empty, member, data_ended, ConditionTree, PhraseTree, GuardTree, StartTree, from_end, from_member, after_member, over_range, over_members, over_class, guarded, PositionTree, by_discipline, at_first, at_last, before, after, StatementTree, let_statement, add_statement, subtract_statement, call_statement, return_statement, stop_statement, read_statement, start_simulation, if_statement, loop_statement, find_statement, find_if_statement, create_statement, create_every, destroy_statement, file_statement, remove_end, remove_statement, schedule_new, schedule_statement, cancel_statement, reset_statement, print_statement, skip_statement, StatementRow, no_statement, and_statement, SectionTree, ProgramTree}
+use Rattle.ss_tables.specs.declared.mentions.Role.TheVariants.{Target, Set, AllOfClass}
+use Rattle.ss_tables.specs.Mentions.{mention_of, in_expression, in_expressions, in_terms, in_named, in_option, in_test, in_condition, in_phrases, in_guards, in_start, in_position, in_head, in_all, in_targets, with_inner, with_inner_row}
 use Rattle.ss_tables.specs.Served.{served_name, served_mention, served_statement, served_section, served_preamble, served_kind, served_program}
-use Rattle.ss_tables.specs.Serving.{served_expression, served_row, served_terms, served_target, served_test, served_conjunction, served_condition, served_phrase, served_guard, served_called, served_step, served_finding, served_itself, served_statements, served_whole, serves_section, serves_program}
+use Rattle.ss_tables.specs.Serving.{served_expression, served_row, served_terms, served_target, served_test, served_conjunction, served_condition, served_phrase, served_guard, served_set, served_called, served_step, served_start, served_position, served_finding, served_itself, served_statements, served_whole, serves_section, serves_program}
 
 -- ---- all of some lists
 
@@ -59,10 +59,13 @@ mutual
 target_is : (n : NamedTree) → list_all served_mention (in_named Target n) ≡ served_target n
 target_is n = ap (λ b. served_name n.designator && b) (row_is n.subscripts)
 
+set_is : (n : NamedTree) → list_all served_mention (in_named Set n) ≡ served_set n
+set_is n = ap (λ b. served_name n.designator && b) (row_is n.subscripts)
+
 test_is : (t : TestTree) → list_all served_mention (in_test t) ≡ served_test t
 test_is (compare l r e) = all_append served_mention (in_expression l) (in_expression e) ∙ (λ i. expression_is l i && expression_is e i)
-test_is (empty s n) = refl
-test_is (member x s n) = all_append served_mention (in_expression x) _ ∙ and_false (list_all served_mention (in_expression x))
+test_is (empty s n) = set_is s
+test_is (member x s n) = all_append served_mention (in_expression x) (in_named Set s) ∙ (λ i. expression_is x i && set_is s i)
 test_is (data_ended n) = refl
 
 conjunction_is : (c : List TestTree) → list_all served_mention (flat_map in_test c) ≡ served_conjunction c
@@ -99,6 +102,24 @@ range_is v f t s ps =
     ∙ and_assoc (served_expression f && served_expression t) (served_step s) (list_all served_phrase ps)
     ∙ and_assoc (served_expression f) (served_expression t) (served_step s && list_all served_phrase ps)
 
+start_is : (s : StartTree) → list_all served_mention (in_start s) ≡ served_start s
+start_is from_end = refl
+start_is (from_member e) = expression_is e
+start_is (after_member e) = expression_is e
+
+members_is : (v : List ℕ) (n : NamedTree) (s : StartTree) (r : Bool) (ps : List PhraseTree) → list_all served_mention (in_head (over_members v n s r ps)) ≡ served_finding (over_members v n s r ps)
+members_is v n s r ps =
+    all_append served_mention (in_named Set n) (in_start s ++ in_phrases ps)
+    ∙ (λ i. set_is n i && all_append served_mention (in_start s) (in_phrases ps) i)
+    ∙ (λ i. served_set n && (start_is s i && phrases_is ps i))
+
+position_is : (p : PositionTree) → list_all served_mention (in_position p) ≡ served_position p
+position_is by_discipline = refl
+position_is at_first = refl
+position_is at_last = refl
+position_is (before e) = expression_is e
+position_is (after e) = expression_is e
+
 class_is : (n : List ℕ) (c : Option (List ℕ)) (ps : List PhraseTree) → list_all served_mention (in_head (over_class n c ps)) ≡ list_all served_phrase ps
 class_is n None ps = phrases_is ps
 class_is n (Some v) ps = phrases_is ps
@@ -124,23 +145,26 @@ itself_is (read_statement l ts) = targets_is ts
 itself_is (start_simulation l) = refl
 itself_is (if_statement l c a b) = condition_is c
 itself_is (loop_statement l (over_range v f t s ps) b) = range_is v f t s ps
-itself_is (loop_statement l (over_members v s st r ps) b) = refl
+itself_is (loop_statement l (over_members v s st r ps) b) = members_is v s st r ps
 itself_is (loop_statement l (over_class n c ps) b) = class_is n c ps
 itself_is (loop_statement l (guarded gs) b) = guards_is gs
 itself_is (find_statement l (over_range v f t s ps)) = range_is v f t s ps
-itself_is (find_statement l (over_members v s st r ps)) = refl
+itself_is (find_statement l (over_members v s st r ps)) = members_is v s st r ps
 itself_is (find_statement l (over_class n c ps)) = class_is n c ps
 itself_is (find_statement l (guarded gs)) = refl
 itself_is (find_if_statement l (over_range v f t s ps) o a b) = range_is v f t s ps
-itself_is (find_if_statement l (over_members v s st r ps) o a b) = refl
+itself_is (find_if_statement l (over_members v s st r ps) o a b) = members_is v s st r ps
 itself_is (find_if_statement l (over_class n c ps) o a b) = class_is n c ps
 itself_is (find_if_statement l (guarded gs) o a b) = refl
 itself_is (create_statement l n c) = called_is c
 itself_is (create_every l ns) = classes_are ns
 itself_is (destroy_statement l n c) = step_is c
-itself_is (file_statement l x p s) = refl
-itself_is (remove_end l e t s) = refl
-itself_is (remove_statement l x s) = refl
+itself_is (file_statement l x p s) =
+    all_append served_mention (in_expression x) (in_position p ++ in_named Set s)
+    ∙ (λ i. expression_is x i && all_append served_mention (in_position p) (in_named Set s) i)
+    ∙ (λ i. served_expression x && (position_is p i && set_is s i))
+itself_is (remove_end l e t s) = all_append served_mention (in_named Target t) (in_named Set s) ∙ (λ i. target_is t i && set_is s i)
+itself_is (remove_statement l x s) = all_append served_mention (in_expression x) (in_named Set s) ∙ (λ i. expression_is x i && set_is s i)
 itself_is (schedule_new l n c g w) = refl
 itself_is (schedule_statement l n c g w) = refl
 itself_is (cancel_statement l n c) = refl
@@ -172,9 +196,9 @@ mutual
   whole_is (create_statement l n c) = alone (create_statement l n c)
   whole_is (create_every l ns) = alone (create_every l ns)
   whole_is (destroy_statement l n c) = alone (destroy_statement l n c)
-  whole_is (file_statement l x p s) = refl
-  whole_is (remove_end l e t s) = refl
-  whole_is (remove_statement l x s) = refl
+  whole_is (file_statement l x p s) = alone (file_statement l x p s)
+  whole_is (remove_end l e t s) = alone (remove_end l e t s)
+  whole_is (remove_statement l x s) = alone (remove_statement l x s)
   whole_is (schedule_new l n c g w) = refl
   whole_is (schedule_statement l n c g w) = refl
   whole_is (cancel_statement l n c) = refl

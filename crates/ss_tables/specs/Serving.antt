@@ -2,7 +2,7 @@
 use Rattle.std.specs.Prelude.{Bool, true, false, ◌&&◌, List, Option, Some, None}
 use Rattle.std.specs.List.{list_all}
 use Rattle.ss_tree.specs.declared.expression.Sign.{Sign}
-use Rattle.ss_tree.specs.Tree.{ExpressionTree, number, text, named, call, parenthesised, product, signed, sum, ExpressionRow, no_expression, and_expression, TermRow, no_term, and_term, NamedTree, TestTree, compare, empty, member, data_ended, ConditionTree, PhraseTree, GuardTree, HeadTree, over_range, over_class, guarded, StatementTree, let_statement, add_statement, subtract_statement, call_statement, return_statement, stop_statement, read_statement, if_statement, loop_statement, find_statement, find_if_statement, create_statement, create_every, destroy_statement, print_statement, skip_statement, StatementRow, no_statement, and_statement, SectionTree, ProgramTree}
+use Rattle.ss_tree.specs.Tree.{ExpressionTree, number, text, named, call, parenthesised, product, signed, sum, ExpressionRow, no_expression, and_expression, TermRow, no_term, and_term, NamedTree, TestTree, compare, empty, member, data_ended, ConditionTree, PhraseTree, GuardTree, StartTree, from_end, from_member, after_member, HeadTree, over_range, over_members, over_class, guarded, PositionTree, by_discipline, at_first, at_last, before, after, StatementTree, let_statement, add_statement, subtract_statement, call_statement, return_statement, stop_statement, read_statement, if_statement, loop_statement, find_statement, find_if_statement, create_statement, create_every, destroy_statement, file_statement, remove_end, remove_statement, print_statement, skip_statement, StatementRow, no_statement, and_statement, SectionTree, ProgramTree}
 use Rattle.ss_tables.specs.Served.{served_name, served_preamble, served_kind}
 
 abbrev mutual
@@ -30,10 +30,14 @@ served_term t = served_expression t.1
 abbrev pub served_target : NamedTree → Bool
 served_target n = served_name n.designator && served_row n.subscripts
 
+-- a set, with its subscript
+abbrev pub served_set : NamedTree → Bool
+served_set n = served_name n.designator && served_row n.subscripts
+
 abbrev pub served_test : TestTree → Bool
 served_test (compare left relation right) = served_expression left && served_expression right
-served_test (empty set negated) = false
-served_test (member x set negated) = false
+served_test (empty set negated) = served_set set
+served_test (member x set negated) = served_expression x && served_set set
 served_test (data_ended negated) = true
 
 abbrev pub served_conjunction : List TestTree → Bool
@@ -57,18 +61,33 @@ abbrev pub served_called : Option NamedTree → Bool
 served_called None = true
 served_called (Some n) = served_target n
 
+-- where a loop over members begins
+abbrev pub served_start : StartTree → Bool
+served_start from_end = true
+served_start (from_member e) = served_expression e
+served_start (after_member e) = served_expression e
+
+-- where FILE puts a member
+abbrev pub served_position : PositionTree → Bool
+served_position by_discipline = true
+served_position at_first = true
+served_position at_last = true
+served_position (before e) = served_expression e
+served_position (after e) = served_expression e
+
 -- the head of a loop that FIND may stand behind
 abbrev pub served_finding : HeadTree → Bool
 served_finding (over_range variable from to step phrases) =
     served_expression from && (served_expression to && (served_step step && list_all served_phrase phrases))
+served_finding (over_members variable set start reverse phrases) = served_set set && (served_start start && list_all served_phrase phrases)
 served_finding (over_class class called phrases) = list_all served_phrase phrases
-served_finding _ = false
+served_finding (guarded guards) = false
 
 abbrev pub served_loop : HeadTree → Bool
 served_loop (over_range variable from to step phrases) = served_finding (over_range variable from to step phrases)
+served_loop (over_members variable set start reverse phrases) = served_finding (over_members variable set start reverse phrases)
 served_loop (over_class class called phrases) = served_finding (over_class class called phrases)
 served_loop (guarded guards) = list_all served_guard guards
-served_loop _ = false
 
 -- a statement, but for those in it
 abbrev pub served_itself : StatementTree → Bool
@@ -86,6 +105,9 @@ served_itself (find_if_statement line head outcome first second) = served_findin
 served_itself (create_statement line class called) = served_called called
 served_itself (create_every line classes) = true
 served_itself (destroy_statement line class called) = served_step called
+served_itself (file_statement line x position set) = served_expression x && (served_position position && served_set set)
+served_itself (remove_end line end target set) = served_target target && served_set set
+served_itself (remove_statement line x set) = served_expression x && served_set set
 served_itself (print_statement line items pictures) = list_all served_expression items
 served_itself (skip_statement line count) = served_expression count
 served_itself _ = false

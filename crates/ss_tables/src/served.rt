@@ -2,16 +2,16 @@
 
 ghost use Rattle.std.specs.Prelude.{◌≡◌, map};
 ghost use Rattle.std.specs.List.{list_all};
-ghost use Rattle.ss_tree.specs.View.{view_expression, view_term, view_named, view_test, view_conjunction, view_condition, view_phrase, view_guard, view_option, view_head, view_statement, view_clause, view_preamble, view_kind, view_section, view_program};
+ghost use Rattle.ss_tree.specs.View.{view_expression, view_term, view_named, view_test, view_conjunction, view_condition, view_phrase, view_guard, view_option, view_start, view_head, view_position, view_statement, view_clause, view_preamble, view_kind, view_section, view_program};
 ghost use Rattle.ss_tables.specs.Served.{served_class, served_clause, served_name, served_preamble, served_kind, served_program};
-ghost use Rattle.ss_tables.specs.Serving.{served_expression, served_term, served_target, served_test, served_conjunction, served_condition, served_phrase, served_guard, served_called, served_step, served_loop, served_finding, served_itself, served_inner, served_whole, serves_section, serves_program};
+ghost use Rattle.ss_tables.specs.Serving.{served_expression, served_term, served_target, served_set, served_start, served_position, served_test, served_conjunction, served_condition, served_phrase, served_guard, served_called, served_step, served_loop, served_finding, served_itself, served_inner, served_whole, serves_section, serves_program};
 
 use ss_tree::condition::{Condition, Conjunction, Test};
 use ss_tree::expression::{Designator, Expression, Named, Term};
-use ss_tree::head::{Guard, Head, Phrase};
+use ss_tree::head::{Guard, Head, MemberStart, Phrase};
 use ss_tree::preamble::{ClassKind, Clause, PreambleStatement};
 use ss_tree::program::{Program, Section, SectionKind};
-use ss_tree::statement::Statement;
+use ss_tree::statement::{Position, Statement};
 
 fn is_name(designator: &Designator) -> bool
     ensures { result ≡ served_name designator.now }
@@ -83,13 +83,21 @@ fn serves_targets(targets: &[Named]) -> bool
     all
 }
 
+// Whether a set with its subscript is served.
+#[tactic(auto, using(crate::proofs::Parts::set_served))]
+fn serves_set(set: &Named) -> bool
+    ensures { result ≡ served_set (view_named set.now) }
+{
+    is_name(&set.designator) && serves_expressions(&set.subscripts)
+}
+
 fn serves_test(test: &Test) -> bool
     ensures { result ≡ served_test (view_test test.now) }
 {
     match test {
         Test::Compare { left, right, .. } => serves_expression(left) && serves_expression(right),
-        Test::Empty { .. } => false,
-        Test::Member { .. } => false,
+        Test::Empty { set, .. } => serves_set(set),
+        Test::Member { member, set, .. } => serves_expression(member) && serves_set(set),
         Test::DataEnded { .. } => true,
     }
 }
@@ -153,6 +161,30 @@ fn serves_called(called: &Option<Named>) -> bool
     }
 }
 
+/// Whether the place where a loop over members begins is served.
+fn serves_start(start: &MemberStart) -> bool
+    ensures { result ≡ served_start (view_start start.now) }
+{
+    match start {
+        MemberStart::End => true,
+        MemberStart::From(member) => serves_expression(member),
+        MemberStart::After(member) => serves_expression(member),
+    }
+}
+
+/// Whether the place where FILE puts a member is served.
+fn serves_position(position: &Position) -> bool
+    ensures { result ≡ served_position (view_position position.now) }
+{
+    match position {
+        Position::Discipline => true,
+        Position::First => true,
+        Position::Last => true,
+        Position::Before(member) => serves_expression(member),
+        Position::After(member) => serves_expression(member),
+    }
+}
+
 /// Whether this is the head of a loop that FIND may stand behind.
 fn serves_finding(head: &Head) -> bool
     ensures { result ≡ served_finding (view_head head.now) }
@@ -171,7 +203,12 @@ fn serves_finding(head: &Head) -> bool
                 && serves_phrases(phrases)
         }
         Head::Class { phrases, .. } => serves_phrases(phrases),
-        Head::Members { .. } => false,
+        Head::Members {
+            set,
+            start,
+            phrases,
+            ..
+        } => serves_set(set) && serves_start(start) && serves_phrases(phrases),
         Head::Guards { .. } => false,
     }
 }
@@ -182,7 +219,7 @@ fn serves_loop(head: &Head) -> bool
     match head {
         Head::Range { .. } => serves_finding(head),
         Head::Class { .. } => serves_finding(head),
-        Head::Members { .. } => false,
+        Head::Members { .. } => serves_finding(head),
         Head::Guards { guards } => serves_guards(guards),
     }
 }
@@ -215,10 +252,15 @@ fn serves_itself(statement: &Statement) -> bool
         Statement::Destroy { called, .. } => serves_step(called),
         Statement::Print { items, .. } => serves_expressions(items),
         Statement::Skip { count, .. } => serves_expression(count),
+        Statement::File {
+            member,
+            position,
+            set,
+            ..
+        } => serves_expression(member) && serves_position(position) && serves_set(set),
+        Statement::RemoveEnd { target, set, .. } => serves_target(target) && serves_set(set),
+        Statement::Remove { member, set, .. } => serves_expression(member) && serves_set(set),
         Statement::StartSimulation { .. }
-        | Statement::File { .. }
-        | Statement::RemoveEnd { .. }
-        | Statement::Remove { .. }
         | Statement::ScheduleNew { .. }
         | Statement::Schedule { .. }
         | Statement::Cancel { .. }
@@ -301,8 +343,8 @@ fn serves_clause(clause: &Clause) -> bool
 {
     match clause {
         Clause::Has(_) => true,
-        Clause::Owns(_) => false,
-        Clause::BelongsTo(_) => false,
+        Clause::Owns(_) => true,
+        Clause::BelongsTo(_) => true,
     }
 }
 
@@ -322,6 +364,8 @@ fn serves_declaration(statement: &PreambleStatement) -> bool
     match statement {
         PreambleStatement::Normally { .. } => true,
         PreambleStatement::DefineVariables { .. } => true,
+        PreambleStatement::DefineSets { .. } => true,
+        PreambleStatement::SystemOwns { .. } => true,
         PreambleStatement::PermanentEntities { .. } => true,
         PreambleStatement::TemporaryEntities { .. } => true,
         PreambleStatement::Every { kind, clauses, .. } => {

@@ -53,8 +53,8 @@ emit_statement-returns-in_ok-turn-in-For-clause-code t c =
     let n = length c.args.pictures.now.items in
     let one : c.in_ok-inner-in-For.inner.items ≡ body_code n i.body.items = c.in_ok-inner-in-For.ensures.code ∙ ap (body_code n) c.deref-in-For.ensures.value in
     let ps : c.deref-in-For-2.result.now ≡ i.phrases.items = c.deref-in-For-2.ensures.value in
-    let all : for_code i.line i.range c.in_ok-turn-in-For.turn.items ≡ statement_code n c.args.s.now =
-    ap (λ x. for_code i.line i.range x) (c.in_ok-turn-in-For.ensures ∙ ap (λ g. phrases_code i.line g c.in_ok-inner-in-For.inner.items) ps ∙ ap (λ x. phrases_code i.line i.phrases.items x) one) ∙ sym (ap (statement_code n) i.is ∙ for_is n i.line i.range i.phrases i.body) in
+    let all : for_code i.line i.head c.in_ok-turn-in-For.turn.items ≡ statement_code n c.args.s.now =
+    ap (λ x. for_code i.line i.head x) (c.in_ok-turn-in-For.ensures ∙ ap (λ g. phrases_code i.line g c.in_ok-inner-in-For.inner.items) ps ∙ ap (λ x. phrases_code i.line i.phrases.items x) one) ∙ sym (ap (statement_code n) i.is ∙ for_is n i.line i.head i.phrases i.body) in
     on_ok_weaker c.emit_for.result (λ q. q ∙ ap (λ x. c.args.code.now.items ++ x) all) c.emit_for.ensures
 
 pub emit_statement-returns-in_ok-turn-in-For-clause-pictures : goal.emit_statement-returns-in_ok-turn-in-For-clause-pictures
@@ -75,8 +75,8 @@ emit_statement-returns-in_ok-second-in-Find-clause-code t c =
     let k : length c.emit_body-in-Find.new.pictures.items ≡ behind n i.line i.found = ap length pics ∙ length-append c.args.pictures.now.items (body_pictures i.found.items) in
     let two : c.in_ok-second-in-Find.second.items ≡ body_code (behind n i.line i.found) i.none.items =
     c.in_ok-second-in-Find.ensures.code ∙ ap (body_code (length c.emit_body-in-Find.new.pictures.items)) c.deref-in-Find-2.ensures.value ∙ ap (λ j. body_code j i.none.items) k in
-    let all : find_code i.line i.range c.deref-in-Find-3.result.now c.in_ok-first-in-Find.first.items c.in_ok-second-in-Find.second.items ≡ statement_code n c.args.s.now =
-    ap (λ g. find_code i.line i.range g c.in_ok-first-in-Find.first.items c.in_ok-second-in-Find.second.items) c.deref-in-Find-3.ensures.value ∙ ap (λ x. find_code i.line i.range i.phrases.items x c.in_ok-second-in-Find.second.items) one ∙ ap (λ x. find_code i.line i.range i.phrases.items (body_code n i.found.items) x) two ∙ sym (ap (statement_code n) i.is ∙ find_is n i.line i.range i.phrases i.found i.none) in
+    let all : find_code i.line i.head c.deref-in-Find-3.result.now c.in_ok-first-in-Find.first.items c.in_ok-second-in-Find.second.items ≡ statement_code n c.args.s.now =
+    ap (λ g. find_code i.line i.head g c.in_ok-first-in-Find.first.items c.in_ok-second-in-Find.second.items) c.deref-in-Find-3.ensures.value ∙ ap (λ x. find_code i.line i.head i.phrases.items x c.in_ok-second-in-Find.second.items) one ∙ ap (λ x. find_code i.line i.head i.phrases.items (body_code n i.found.items) x) two ∙ sym (ap (statement_code n) i.is ∙ find_is n i.line i.head i.phrases i.found i.none) in
     on_ok_weaker c.emit_find.result (λ q. q ∙ ap (λ x. c.args.code.now.items ++ x) all) c.emit_find.ensures
 
 pub emit_statement-returns-in_ok-second-in-Find-clause-pictures : goal.emit_statement-returns-in_ok-second-in-Find-clause-pictures
@@ -87,5 +87,5 @@ emit_statement-returns-in_ok-second-in-Find-clause-pictures t c =
     let more : c.emit_body-in-Find-2.new.pictures.items ≡ c.emit_body-in-Find.new.pictures.items ++ body_pictures i.none.items =
     c.in_ok-second-in-Find.ensures.pictures ∙ ap (λ ss. c.emit_body-in-Find.new.pictures.items ++ body_pictures ss) c.deref-in-Find-2.ensures.value in
     let all = more ∙ ap (λ x. x ++ body_pictures i.none.items) pics ∙ append_assoc c.args.pictures.now.items (body_pictures i.found.items) (body_pictures i.none.items)
-    ∙ ap (λ x. c.args.pictures.now.items ++ x) (sym (ap statement_pictures i.is ∙ find_pictures 0 i.line i.range i.phrases i.found i.none)) in
+    ∙ ap (λ x. c.args.pictures.now.items ++ x) (sym (ap statement_pictures i.is ∙ find_pictures 0 i.line i.head i.phrases i.found i.none)) in
     on_ok_weaker c.emit_find.result (λ q. all) c.emit_find.ensures

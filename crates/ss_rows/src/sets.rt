@@ -1,0 +1,313 @@
+//! Sets: disciplines, filing and removing, loops over members.
+
+use crate::trial::{Trial, try_all};
+use ss_base::{FaultKind, Line};
+use ss_engine::{Outcome, Stop};
+use std::test::Fail;
+
+#[test]
+fn disciplines_say_where_a_member_goes(rt: HostRuntime) -> Result<(), Fail> {
+    let trials = [
+        Trial {
+            text: b"PREAMBLE\nNORMALLY, MODE IS INTEGER\nPERMANENT ENTITIES\nEVERY MACHINE OWNS A QUEUE\nTEMPORARY ENTITIES\nEVERY JOB HAS A RANK AND MAY BELONG TO A QUEUE, A POOL, A RACK\nEVERY TOOL HAS A SIZE AND OWNS A RACK\nTHE SYSTEM OWNS A POOL\nDEFINE POOL AS A SET RANKED BY HIGH RANK\nEND\nMAIN\nFOR I = 1 TO 4 DO\nCREATE A JOB\nREAD RANK\nFILE JOB IN POOL\nLOOP\nFOR EACH JOB IN POOL\nPRINT 1 LINE WITH JOB AND RANK THUS\n* *\nEND",
+            input: b"2 1 2 3",
+            pieces: &[1000000],
+            outcome: Outcome::Stopped(Stop::Ended, 8),
+            report: b"4 3\n1 2\n3 2\n2 1\n",
+        },
+        Trial {
+            text: b"PREAMBLE\nNORMALLY, MODE IS INTEGER\nPERMANENT ENTITIES\nEVERY MACHINE OWNS A QUEUE\nTEMPORARY ENTITIES\nEVERY JOB HAS A RANK AND MAY BELONG TO A QUEUE, A POOL, A RACK\nEVERY TOOL HAS A SIZE AND OWNS A RACK\nTHE SYSTEM OWNS A POOL\nDEFINE POOL AS A LIFO SET\nEND\nMAIN\nCREATE A JOB CALLED A1\nFILE A1 IN POOL\nCREATE A JOB CALLED B1\nFILE B1 IN POOL\nCREATE A JOB CALLED C1\nFILE C1 IN POOL\nREMOVE B1 FROM POOL\nPRINT 1 LINE WITH N.POOL, F.POOL, L.POOL, S.POOL(C1), P.POOL(A1), S.POOL(A1) AND P.POOL(C1) THUS\n* * * * * * *\nEND",
+            input: b"",
+            pieces: &[1000000],
+            outcome: Outcome::Stopped(Stop::Ended, 0),
+            report: b"2 3 1 1 3 0 0\n",
+        },
+        Trial {
+            text: b"PREAMBLE\nNORMALLY, MODE IS INTEGER\nTEMPORARY ENTITIES\nEVERY SHIP HAS A TITLE, A SIZE AND MAY BELONG TO A DOCK\nTHE SYSTEM OWNS A DOCK\nDEFINE TITLE AS AN ALPHA VARIABLE\nDEFINE DOCK AS A SET RANKED BY LOW TITLE THEN BY HIGH SIZE\nEND\nMAIN\nFOR I = 1 TO 5 DO CREATE A SHIP READ TITLE, SIZE FILE SHIP IN DOCK LOOP\nFOR EACH SHIP IN DOCK PRINT 1 LINE WITH SHIP, TITLE, SIZE THUS\n* ** *\nEND",
+            input: b"B 1 A 2 B 3 AB 1 B 1",
+            pieces: &[1000000],
+            outcome: Outcome::Stopped(Stop::Ended, 10),
+            report: b"2 A  2\n4 AB 1\n3 B  3\n1 B  1\n5 B  1\n",
+        },
+        Trial {
+            text: b"PREAMBLE\nNORMALLY, MODE IS INTEGER\nPERMANENT ENTITIES\nEVERY MACHINE OWNS A QUEUE\nTEMPORARY ENTITIES\nEVERY JOB HAS A RANK AND MAY BELONG TO A QUEUE, A POOL, A RACK\nEVERY TOOL HAS A SIZE AND OWNS A RACK\nTHE SYSTEM OWNS A POOL\nDEFINE POOL AS A SET RANKED BY HIGH RANK\nEND\nMAIN\nFOR I = 1 TO 3 DO CREATE A JOB LET RANK = I FILE JOB IN POOL LOOP\nLET RANK(1) = 9\nFOR EACH JOB IN POOL PRINT 1 LINE WITH JOB, RANK THUS\n* *\nEND",
+            input: b"",
+            pieces: &[1000000],
+            outcome: Outcome::Stopped(Stop::Ended, 6),
+            report: b"3 3\n2 2\n1 9\n",
+        },
+    ];
+    try_all(&rt, rt.alloc(), &trials)?;
+    Ok(())
+}
+
+#[test]
+fn filing_beside_and_at_the_ends(rt: HostRuntime) -> Result<(), Fail> {
+    let trials = [
+        Trial {
+            text: b"PREAMBLE\nNORMALLY, MODE IS INTEGER\nPERMANENT ENTITIES\nEVERY MACHINE OWNS A QUEUE\nTEMPORARY ENTITIES\nEVERY JOB HAS A RANK AND MAY BELONG TO A QUEUE, A POOL, A RACK\nEVERY TOOL HAS A SIZE AND OWNS A RACK\nTHE SYSTEM OWNS A POOL\nDEFINE POOL AS A FIFO SET\nEND\nMAIN\nFOR I = 1 TO 5 DO CREATE A JOB LOOP\nFILE 1 IN POOL\nFILE 2 FIRST IN POOL\nFILE 3 LAST IN POOL\nFILE 4 BEFORE 1 IN POOL\nFILE 5 AFTER 1 IN THE POOL\nFOR EACH JOB IN POOL PRINT 1 LINE WITH JOB, P.POOL, S.POOL, M.POOL THUS\n* * * *\nPRINT 1 LINE WITH M.QUEUE(1) THUS\n*\nEND",
+            input: b"",
+            pieces: &[1000000],
+            outcome: Outcome::Stopped(Stop::Ended, 10),
+            report: b"2 0 4 1\n4 2 1 1\n1 4 5 1\n5 1 3 1\n3 5 0 1\n0\n",
+        },
+        Trial {
+            text: b"PREAMBLE\nNORMALLY, MODE IS INTEGER\nPERMANENT ENTITIES\nEVERY MACHINE OWNS A QUEUE\nTEMPORARY ENTITIES\nEVERY JOB HAS A RANK AND MAY BELONG TO A QUEUE, A POOL, A RACK\nEVERY TOOL HAS A SIZE AND OWNS A RACK\nTHE SYSTEM OWNS A POOL\nDEFINE POOL AS A FIFO SET\nEND\nMAIN\nCREATE A JOB CALLED A1\nCREATE A JOB CALLED B1\nFILE A1 IN POOL\nFILE A1 BEFORE B1 IN POOL\nEND",
+            input: b"",
+            pieces: &[1000000],
+            outcome: Outcome::Stopped(Stop::Fault(FaultKind::FiledTwice, Line(15)), 0),
+            report: b"",
+        },
+        Trial {
+            text: b"PREAMBLE\nNORMALLY, MODE IS INTEGER\nPERMANENT ENTITIES\nEVERY MACHINE OWNS A QUEUE\nTEMPORARY ENTITIES\nEVERY JOB HAS A RANK AND MAY BELONG TO A QUEUE, A POOL, A RACK\nEVERY TOOL HAS A SIZE AND OWNS A RACK\nTHE SYSTEM OWNS A POOL\nDEFINE POOL AS A FIFO SET\nEND\nMAIN\nCREATE A JOB CALLED A1\nCREATE A JOB CALLED B1\nFILE A1 BEFORE B1 IN POOL\nEND",
+            input: b"",
+            pieces: &[1000000],
+            outcome: Outcome::Stopped(Stop::Fault(FaultKind::NotFiled, Line(14)), 0),
+            report: b"",
+        },
+        Trial {
+            text: b"PREAMBLE\nNORMALLY, MODE IS INTEGER\nPERMANENT ENTITIES\nEVERY MACHINE OWNS A QUEUE\nTEMPORARY ENTITIES\nEVERY JOB HAS A RANK AND MAY BELONG TO A QUEUE, A POOL, A RACK\nEVERY TOOL HAS A SIZE AND OWNS A RACK\nTHE SYSTEM OWNS A POOL\nDEFINE POOL AS A FIFO SET\nEND\nMAIN\nCREATE A JOB CALLED A1\nFILE A1 AFTER A1 IN POOL\nEND",
+            input: b"",
+            pieces: &[1000000],
+            outcome: Outcome::Stopped(Stop::Fault(FaultKind::NotFiled, Line(13)), 0),
+            report: b"",
+        },
+        Trial {
+            text: b"PREAMBLE\nNORMALLY, MODE IS INTEGER\nPERMANENT ENTITIES\nEVERY MACHINE OWNS A QUEUE\nTEMPORARY ENTITIES\nEVERY JOB HAS A RANK AND MAY BELONG TO A QUEUE, A POOL, A RACK\nEVERY TOOL HAS A SIZE AND OWNS A RACK\nTHE SYSTEM OWNS A POOL\nDEFINE POOL AS A FIFO SET\nEND\nMAIN\nCREATE A JOB CALLED A1\nFILE A1 BEFORE 0 IN QUEUE(1)\nEND",
+            input: b"",
+            pieces: &[1000000],
+            outcome: Outcome::Stopped(Stop::Fault(FaultKind::NoEntity, Line(13)), 0),
+            report: b"",
+        },
+        Trial {
+            text: b"PREAMBLE\nNORMALLY, MODE IS INTEGER\nPERMANENT ENTITIES\nEVERY MACHINE OWNS A QUEUE\nTEMPORARY ENTITIES\nEVERY JOB HAS A RANK AND MAY BELONG TO A QUEUE, A POOL, A RACK\nEVERY TOOL HAS A SIZE AND OWNS A RACK\nTHE SYSTEM OWNS A POOL\nDEFINE POOL AS A FIFO SET\nEND\nMAIN\nCREATE A JOB CALLED A1\nFILE 7 BEFORE 0 IN QUEUE(1)\nEND",
+            input: b"",
+            pieces: &[1000000],
+            outcome: Outcome::Stopped(Stop::Fault(FaultKind::NeverCreated, Line(13)), 0),
+            report: b"",
+        },
+    ];
+    try_all(&rt, rt.alloc(), &trials)?;
+    Ok(())
+}
+
+#[test]
+fn faults_of_sets(rt: HostRuntime) -> Result<(), Fail> {
+    let trials = [
+        Trial {
+            text: b"PREAMBLE\nNORMALLY, MODE IS INTEGER\nPERMANENT ENTITIES\nEVERY MACHINE OWNS A QUEUE\nTEMPORARY ENTITIES\nEVERY JOB HAS A RANK AND MAY BELONG TO A QUEUE, A POOL, A RACK\nEVERY TOOL HAS A SIZE AND OWNS A RACK\nTHE SYSTEM OWNS A POOL\nDEFINE POOL AS A SET RANKED BY HIGH RANK\nEND\nMAIN\nPRINT 1 LINE THUS\nBEFORE\nREMOVE THE FIRST JOB FROM POOL\nEND",
+            input: b"",
+            pieces: &[1000000],
+            outcome: Outcome::Stopped(Stop::Fault(FaultKind::EmptySet, Line(14)), 0),
+            report: b"BEFORE\n",
+        },
+        Trial {
+            text: b"PREAMBLE\nNORMALLY, MODE IS INTEGER\nPERMANENT ENTITIES\nEVERY MACHINE OWNS A QUEUE\nTEMPORARY ENTITIES\nEVERY JOB HAS A RANK AND MAY BELONG TO A QUEUE, A POOL, A RACK\nEVERY TOOL HAS A SIZE AND OWNS A RACK\nTHE SYSTEM OWNS A POOL\nDEFINE POOL AS A SET RANKED BY HIGH RANK\nEND\nMAIN\nLET N.MACHINE = 2\nCREATE EVERY MACHINE\nCREATE A JOB\nFILE JOB IN QUEUE(1)\nFILE JOB IN QUEUE(2)\nEND",
+            input: b"",
+            pieces: &[1000000],
+            outcome: Outcome::Stopped(Stop::Fault(FaultKind::FiledTwice, Line(16)), 0),
+            report: b"",
+        },
+        Trial {
+            text: b"PREAMBLE\nNORMALLY, MODE IS INTEGER\nPERMANENT ENTITIES\nEVERY MACHINE OWNS A QUEUE\nTEMPORARY ENTITIES\nEVERY JOB HAS A RANK AND MAY BELONG TO A QUEUE, A POOL, A RACK\nEVERY TOOL HAS A SIZE AND OWNS A RACK\nTHE SYSTEM OWNS A POOL\nDEFINE POOL AS A SET RANKED BY HIGH RANK\nEND\nMAIN\nLET N.MACHINE = 2\nCREATE EVERY MACHINE\nCREATE A JOB\nFILE JOB IN QUEUE(1)\nREMOVE JOB FROM QUEUE(2)\nEND",
+            input: b"",
+            pieces: &[1000000],
+            outcome: Outcome::Stopped(Stop::Fault(FaultKind::NotFiled, Line(16)), 0),
+            report: b"",
+        },
+        Trial {
+            text: b"PREAMBLE\nNORMALLY, MODE IS INTEGER\nPERMANENT ENTITIES\nEVERY MACHINE OWNS A QUEUE\nTEMPORARY ENTITIES\nEVERY JOB HAS A RANK AND MAY BELONG TO A QUEUE, A POOL, A RACK\nEVERY TOOL HAS A SIZE AND OWNS A RACK\nTHE SYSTEM OWNS A POOL\nDEFINE POOL AS A SET RANKED BY HIGH RANK\nEND\nMAIN\nLET N.MACHINE = 2\nCREATE EVERY MACHINE\nCREATE A JOB\nFILE JOB IN QUEUE(1)\nFILE JOB IN POOL\nEND",
+            input: b"",
+            pieces: &[1000000],
+            outcome: Outcome::Stopped(Stop::Ended, 0),
+            report: b"",
+        },
+        Trial {
+            text: b"PREAMBLE\nNORMALLY, MODE IS INTEGER\nPERMANENT ENTITIES\nEVERY MACHINE OWNS A QUEUE\nTEMPORARY ENTITIES\nEVERY JOB HAS A RANK AND MAY BELONG TO A QUEUE, A POOL, A RACK\nEVERY TOOL HAS A SIZE AND OWNS A RACK\nTHE SYSTEM OWNS A POOL\nDEFINE POOL AS A SET RANKED BY HIGH RANK\nEND\nMAIN\nLET N.MACHINE = 2\nCREATE EVERY MACHINE\nCREATE A JOB\nFILE JOB IN QUEUE(1)\nFILE JOB IN QUEUE(3)\nEND",
+            input: b"",
+            pieces: &[1000000],
+            outcome: Outcome::Stopped(Stop::Fault(FaultKind::Index, Line(16)), 0),
+            report: b"",
+        },
+        Trial {
+            text: b"PREAMBLE\nNORMALLY, MODE IS INTEGER\nPERMANENT ENTITIES\nEVERY MACHINE OWNS A QUEUE\nTEMPORARY ENTITIES\nEVERY JOB HAS A RANK AND MAY BELONG TO A QUEUE, A POOL, A RACK\nEVERY TOOL HAS A SIZE AND OWNS A RACK\nTHE SYSTEM OWNS A POOL\nDEFINE POOL AS A SET RANKED BY HIGH RANK\nEND\nMAIN\nLET N.MACHINE = 2\nCREATE EVERY MACHINE\nCREATE A JOB\nFILE JOB IN QUEUE(1)\nCREATE EVERY MACHINE\nEND",
+            input: b"",
+            pieces: &[1000000],
+            outcome: Outcome::Stopped(Stop::Fault(FaultKind::CreatedTwice, Line(16)), 0),
+            report: b"",
+        },
+        Trial {
+            text: b"PREAMBLE\nNORMALLY, MODE IS INTEGER\nPERMANENT ENTITIES\nEVERY MACHINE OWNS A QUEUE\nTEMPORARY ENTITIES\nEVERY JOB HAS A RANK AND MAY BELONG TO A QUEUE, A POOL, A RACK\nEVERY TOOL HAS A SIZE AND OWNS A RACK\nTHE SYSTEM OWNS A POOL\nDEFINE POOL AS A SET RANKED BY HIGH RANK\nEND\nMAIN\nLET N.MACHINE = 2\nCREATE EVERY MACHINE\nCREATE A JOB\nFILE JOB IN QUEUE(1)\nLET N.MACHINE = 3\nEND",
+            input: b"",
+            pieces: &[1000000],
+            outcome: Outcome::Stopped(Stop::Fault(FaultKind::CreatedTwice, Line(16)), 0),
+            report: b"",
+        },
+        Trial {
+            text: b"PREAMBLE\nNORMALLY, MODE IS INTEGER\nPERMANENT ENTITIES\nEVERY MACHINE OWNS A QUEUE\nTEMPORARY ENTITIES\nEVERY JOB HAS A RANK AND MAY BELONG TO A QUEUE, A POOL, A RACK\nEVERY TOOL HAS A SIZE AND OWNS A RACK\nTHE SYSTEM OWNS A POOL\nDEFINE POOL AS A SET RANKED BY HIGH RANK\nEND\nMAIN\nCREATE A JOB CALLED J1\nDESTROY THE JOB CALLED J1\nCREATE A JOB CALLED J2\nFILE J2 IN QUEUE(1)\nEND",
+            input: b"",
+            pieces: &[1000000],
+            outcome: Outcome::Stopped(Stop::Fault(FaultKind::Index, Line(15)), 0),
+            report: b"",
+        },
+        Trial {
+            text: b"PREAMBLE\nNORMALLY, MODE IS INTEGER\nPERMANENT ENTITIES\nEVERY MACHINE OWNS A QUEUE\nTEMPORARY ENTITIES\nEVERY JOB HAS A RANK AND MAY BELONG TO A QUEUE, A POOL, A RACK\nEVERY TOOL HAS A SIZE AND OWNS A RACK\nTHE SYSTEM OWNS A POOL\nDEFINE POOL AS A SET RANKED BY HIGH RANK\nEND\nMAIN\nCREATE A JOB CALLED J1\nDESTROY THE JOB CALLED J1\nCREATE A JOB CALLED J2\nFILE J1 IN QUEUE(1)\nEND",
+            input: b"",
+            pieces: &[1000000],
+            outcome: Outcome::Stopped(Stop::Fault(FaultKind::DestroyedEntity, Line(15)), 0),
+            report: b"",
+        },
+        Trial {
+            text: b"PREAMBLE\nNORMALLY, MODE IS INTEGER\nPERMANENT ENTITIES\nEVERY MACHINE OWNS A QUEUE\nTEMPORARY ENTITIES\nEVERY JOB HAS A RANK AND MAY BELONG TO A QUEUE, A POOL, A RACK\nEVERY TOOL HAS A SIZE AND OWNS A RACK\nTHE SYSTEM OWNS A POOL\nDEFINE POOL AS A SET RANKED BY HIGH RANK\nEND\nMAIN\nCREATE A JOB CALLED J1\nDESTROY THE JOB CALLED J1\nCREATE A JOB CALLED J2\nLET RANK(J2) = 5\nEND",
+            input: b"",
+            pieces: &[1000000],
+            outcome: Outcome::Stopped(Stop::Ended, 0),
+            report: b"",
+        },
+        Trial {
+            text: b"PREAMBLE\nNORMALLY, MODE IS INTEGER\nPERMANENT ENTITIES\nEVERY MACHINE OWNS A QUEUE\nTEMPORARY ENTITIES\nEVERY JOB HAS A RANK AND MAY BELONG TO A QUEUE, A POOL, A RACK\nEVERY TOOL HAS A SIZE AND OWNS A RACK\nTHE SYSTEM OWNS A POOL\nDEFINE POOL AS A SET RANKED BY HIGH RANK\nEND\nMAIN\nCREATE A TOOL\nCREATE A JOB\nFILE JOB IN RACK\nDESTROY THE JOB\nEND",
+            input: b"",
+            pieces: &[1000000],
+            outcome: Outcome::Stopped(Stop::Fault(FaultKind::InASet, Line(15)), 0),
+            report: b"",
+        },
+        Trial {
+            text: b"PREAMBLE\nNORMALLY, MODE IS INTEGER\nPERMANENT ENTITIES\nEVERY MACHINE OWNS A QUEUE\nTEMPORARY ENTITIES\nEVERY JOB HAS A RANK AND MAY BELONG TO A QUEUE, A POOL, A RACK\nEVERY TOOL HAS A SIZE AND OWNS A RACK\nTHE SYSTEM OWNS A POOL\nDEFINE POOL AS A SET RANKED BY HIGH RANK\nEND\nMAIN\nCREATE A TOOL\nCREATE A JOB\nFILE JOB IN RACK\nDESTROY THE TOOL\nEND",
+            input: b"",
+            pieces: &[1000000],
+            outcome: Outcome::Stopped(Stop::Fault(FaultKind::OwnsMembers, Line(15)), 0),
+            report: b"",
+        },
+        Trial {
+            text: b"PREAMBLE\nNORMALLY, MODE IS INTEGER\nPERMANENT ENTITIES\nEVERY MACHINE OWNS A QUEUE\nTEMPORARY ENTITIES\nEVERY JOB HAS A RANK AND MAY BELONG TO A QUEUE, A POOL, A RACK\nEVERY TOOL HAS A SIZE AND OWNS A RACK\nTHE SYSTEM OWNS A POOL\nDEFINE POOL AS A SET RANKED BY HIGH RANK\nEND\nMAIN\nCREATE A TOOL\nCREATE A JOB\nFILE JOB IN RACK\nREMOVE JOB FROM RACK\nDESTROY THE JOB\nDESTROY THE TOOL\nEND",
+            input: b"",
+            pieces: &[1000000],
+            outcome: Outcome::Stopped(Stop::Ended, 0),
+            report: b"",
+        },
+        Trial {
+            text: b"PREAMBLE\nNORMALLY, MODE IS INTEGER\nPERMANENT ENTITIES\nEVERY MACHINE OWNS A QUEUE\nTEMPORARY ENTITIES\nEVERY JOB HAS A RANK AND MAY BELONG TO A QUEUE, A POOL, A RACK\nEVERY TOOL HAS A SIZE AND OWNS A RACK\nTHE SYSTEM OWNS A POOL\nDEFINE POOL AS A SET RANKED BY HIGH RANK\nEND\nMAIN\nCREATE A TOOL\nFILE TOOL IN POOL\nEND",
+            input: b"",
+            pieces: &[1000000],
+            outcome: Outcome::Stopped(Stop::Fault(FaultKind::WrongClass, Line(13)), 0),
+            report: b"",
+        },
+        Trial {
+            text: b"PREAMBLE\nNORMALLY, MODE IS INTEGER\nPERMANENT ENTITIES\nEVERY MACHINE OWNS A QUEUE\nTEMPORARY ENTITIES\nEVERY JOB HAS A RANK AND MAY BELONG TO A QUEUE, A POOL, A RACK\nEVERY TOOL HAS A SIZE AND OWNS A RACK\nTHE SYSTEM OWNS A POOL\nDEFINE POOL AS A SET RANKED BY HIGH RANK\nEND\nMAIN\nCREATE A TOOL\nIF F.RACK = 0 AND L.RACK(TOOL) = 0 AND N.RACK = 0 AND RACK IS EMPTY AND RACK(TOOL) IS NOT EMPTY STOP ALWAYS\nLET X = S.RACK(TOOL)\nEND",
+            input: b"",
+            pieces: &[1000000],
+            outcome: Outcome::Stopped(Stop::Fault(FaultKind::WrongClass, Line(14)), 0),
+            report: b"",
+        },
+    ];
+    try_all(&rt, rt.alloc(), &trials)?;
+    Ok(())
+}
+
+#[test]
+fn loops_over_members(rt: HostRuntime) -> Result<(), Fail> {
+    let trials = [
+        Trial {
+            text: b"PREAMBLE\nNORMALLY, MODE IS INTEGER\nPERMANENT ENTITIES\nEVERY MACHINE OWNS A QUEUE\nTEMPORARY ENTITIES\nEVERY JOB HAS A RANK AND MAY BELONG TO A QUEUE, A POOL, A RACK\nEVERY TOOL HAS A SIZE AND OWNS A RACK\nTHE SYSTEM OWNS A POOL\nDEFINE POOL AS A SET RANKED BY HIGH RANK\nEND\nMAIN\nFOR I = 1 TO 3 DO CREATE A JOB FILE JOB IN POOL LOOP\nFOR EACH JOB IN POOL REMOVE JOB FROM POOL\nPRINT 1 LINE WITH N.POOL THUS\n*\nEND",
+            input: b"",
+            pieces: &[1000000],
+            outcome: Outcome::Stopped(Stop::Ended, 6),
+            report: b"0\n",
+        },
+        Trial {
+            text: b"PREAMBLE\nNORMALLY, MODE IS INTEGER\nPERMANENT ENTITIES\nEVERY MACHINE OWNS A QUEUE\nTEMPORARY ENTITIES\nEVERY JOB HAS A RANK AND MAY BELONG TO A QUEUE, A POOL, A RACK\nEVERY TOOL HAS A SIZE AND OWNS A RACK\nTHE SYSTEM OWNS A POOL\nDEFINE POOL AS A SET RANKED BY HIGH RANK\nEND\nMAIN\nFOR I = 1 TO 3 DO CREATE A JOB FILE JOB IN POOL LOOP\nFOR EACH JOB IN POOL REMOVE JOB+1 FROM POOL\nPRINT 1 LINE WITH N.POOL THUS\n*\nEND",
+            input: b"",
+            pieces: &[1000000],
+            outcome: Outcome::Stopped(Stop::Fault(FaultKind::LoopMemberGone, Line(13)), 4),
+            report: b"",
+        },
+        Trial {
+            text: b"PREAMBLE\nNORMALLY, MODE IS INTEGER\nPERMANENT ENTITIES\nEVERY MACHINE OWNS A QUEUE\nTEMPORARY ENTITIES\nEVERY JOB HAS A RANK AND MAY BELONG TO A QUEUE, A POOL, A RACK\nEVERY TOOL HAS A SIZE AND OWNS A RACK\nTHE SYSTEM OWNS A POOL\nDEFINE POOL AS A SET RANKED BY HIGH RANK\nEND\nMAIN\nFOR I = 1 TO 3 DO CREATE A JOB FILE JOB IN POOL LOOP\nFOR EACH JOB IN POOL REMOVE JOB+1 FROM POOL\nPRINT 1 LINE WITH N.POOL THUS\n*\nEND",
+            input: b"",
+            pieces: &[4],
+            outcome: Outcome::Stopped(Stop::Fault(FaultKind::LoopMemberGone, Line(13)), 4),
+            report: b"",
+        },
+        Trial {
+            text: b"PREAMBLE\nNORMALLY, MODE IS INTEGER\nPERMANENT ENTITIES\nEVERY MACHINE OWNS A QUEUE\nTEMPORARY ENTITIES\nEVERY JOB HAS A RANK AND MAY BELONG TO A QUEUE, A POOL, A RACK\nEVERY TOOL HAS A SIZE AND OWNS A RACK\nTHE SYSTEM OWNS A POOL\nDEFINE POOL AS A SET RANKED BY HIGH RANK\nEND\nMAIN\nFOR I = 1 TO 3 DO CREATE A JOB FILE JOB IN POOL LOOP\nFOR EACH JOB IN POOL REMOVE JOB FROM POOL\nPRINT 1 LINE WITH N.POOL THUS\n*\nEND",
+            input: b"",
+            pieces: &[5],
+            outcome: Outcome::Stopped(Stop::Paused, 5),
+            report: b"",
+        },
+        Trial {
+            text: b"PREAMBLE\nNORMALLY, MODE IS INTEGER\nPERMANENT ENTITIES\nEVERY MACHINE OWNS A QUEUE\nTEMPORARY ENTITIES\nEVERY JOB HAS A RANK AND MAY BELONG TO A QUEUE, A POOL, A RACK\nEVERY TOOL HAS A SIZE AND OWNS A RACK\nTHE SYSTEM OWNS A POOL\nDEFINE POOL AS A FIFO SET\nEND\nMAIN\nFOR I = 1 TO 3 DO CREATE A JOB FILE JOB IN POOL LOOP\nFOR EACH JOB IN POOL DO\nPRINT 1 LINE WITH JOB THUS\n*\nIF JOB = 1 REMOVE 2 FROM POOL FILE 2 IN POOL ALWAYS\nLOOP\nEND",
+            input: b"",
+            pieces: &[1000000],
+            outcome: Outcome::Stopped(Stop::Ended, 5),
+            report: b"1\n2\n",
+        },
+        Trial {
+            text: b"PREAMBLE\nNORMALLY, MODE IS INTEGER\nPERMANENT ENTITIES\nEVERY MACHINE OWNS A QUEUE\nTEMPORARY ENTITIES\nEVERY JOB HAS A RANK AND MAY BELONG TO A QUEUE, A POOL, A RACK\nEVERY TOOL HAS A SIZE AND OWNS A RACK\nTHE SYSTEM OWNS A POOL\nDEFINE POOL AS A FIFO SET\nEND\nMAIN\nCREATE A JOB FILE JOB IN POOL\nFOR EACH JOB IN POOL DO\nCREATE A JOB CALLED NEW FILE NEW IN POOL\nLOOP\nPRINT 1 LINE WITH N.POOL, JOB THUS\n* *\nEND",
+            input: b"",
+            pieces: &[1000000],
+            outcome: Outcome::Stopped(Stop::Ended, 1),
+            report: b"2 1\n",
+        },
+        Trial {
+            text: b"PREAMBLE\nNORMALLY, MODE IS INTEGER\nPERMANENT ENTITIES\nEVERY MACHINE OWNS A QUEUE\nTEMPORARY ENTITIES\nEVERY JOB HAS A RANK AND MAY BELONG TO A QUEUE, A POOL, A RACK\nEVERY TOOL HAS A SIZE AND OWNS A RACK\nTHE SYSTEM OWNS A POOL\nDEFINE POOL AS A FIFO SET\nEND\nMAIN\nFOR I = 1 TO 4 DO CREATE A JOB FILE JOB IN POOL LOOP\nFOR EACH V IN POOL IN REVERSE ORDER PRINT 1 LINE WITH V THUS\n*\nFOR EACH V IN POOL FROM 3 PRINT 1 LINE WITH V THUS\n*\nFOR EACH V IN POOL AFTER 3 PRINT 1 LINE WITH V THUS\n*\nFOR EACH V IN POOL FROM 2 IN REVERSE ORDER PRINT 1 LINE WITH V THUS\n*\nFOR EACH V IN POOL AFTER 2 IN REVERSE ORDER PRINT 1 LINE WITH V THUS\n*\nFOR EACH V IN POOL AFTER 4 PRINT 1 LINE WITH V THUS\n*\nEND",
+            input: b"",
+            pieces: &[1000000],
+            outcome: Outcome::Stopped(Stop::Ended, 14),
+            report: b"4\n3\n2\n1\n3\n4\n4\n2\n1\n1\n",
+        },
+        Trial {
+            text: b"PREAMBLE\nNORMALLY, MODE IS INTEGER\nPERMANENT ENTITIES\nEVERY MACHINE OWNS A QUEUE\nTEMPORARY ENTITIES\nEVERY JOB HAS A RANK AND MAY BELONG TO A QUEUE, A POOL, A RACK\nEVERY TOOL HAS A SIZE AND OWNS A RACK\nTHE SYSTEM OWNS A POOL\nDEFINE POOL AS A FIFO SET\nEND\nMAIN\nCREATE A JOB\nFOR EACH V IN POOL FROM JOB STOP\nEND",
+            input: b"",
+            pieces: &[1000000],
+            outcome: Outcome::Stopped(Stop::Fault(FaultKind::NotFiled, Line(13)), 0),
+            report: b"",
+        },
+        Trial {
+            text: b"PREAMBLE\nNORMALLY, MODE IS INTEGER\nPERMANENT ENTITIES\nEVERY MACHINE OWNS A QUEUE\nTEMPORARY ENTITIES\nEVERY JOB HAS A RANK AND MAY BELONG TO A QUEUE, A POOL, A RACK\nEVERY TOOL HAS A SIZE AND OWNS A RACK\nTHE SYSTEM OWNS A POOL\nDEFINE POOL AS A FIFO SET\nEND\nMAIN\nCREATE A JOB\nFOR EACH V IN POOL AFTER 9 STOP\nEND",
+            input: b"",
+            pieces: &[1000000],
+            outcome: Outcome::Stopped(Stop::Fault(FaultKind::NeverCreated, Line(13)), 0),
+            report: b"",
+        },
+        Trial {
+            text: b"PREAMBLE\nNORMALLY, MODE IS INTEGER\nPERMANENT ENTITIES\nEVERY MACHINE OWNS A QUEUE\nTEMPORARY ENTITIES\nEVERY JOB HAS A RANK AND MAY BELONG TO A QUEUE, A POOL, A RACK\nEVERY TOOL HAS A SIZE AND OWNS A RACK\nTHE SYSTEM OWNS A POOL\nDEFINE POOL AS A FIFO SET\nEND\nMAIN\nCREATE A JOB\nFOR EACH V IN QUEUE(1) AFTER 9 STOP\nEND",
+            input: b"",
+            pieces: &[1000000],
+            outcome: Outcome::Stopped(Stop::Fault(FaultKind::Index, Line(13)), 0),
+            report: b"",
+        },
+    ];
+    try_all(&rt, rt.alloc(), &trials)?;
+    Ok(())
+}
+
+#[test]
+fn cases_found_in_a_set(rt: HostRuntime) -> Result<(), Fail> {
+    let trials = [
+        Trial {
+            text: b"PREAMBLE\nNORMALLY, MODE IS INTEGER\nPERMANENT ENTITIES\nEVERY MACHINE OWNS A QUEUE\nTEMPORARY ENTITIES\nEVERY JOB HAS A RANK AND MAY BELONG TO A QUEUE, A POOL, A RACK\nEVERY TOOL HAS A SIZE AND OWNS A RACK\nTHE SYSTEM OWNS A POOL\nDEFINE POOL AS A SET RANKED BY HIGH RANK\nEND\nMAIN\nFOR I = 1 TO 4 DO CREATE A JOB LET RANK = I FILE JOB IN POOL LOOP\nFOR EACH JOB IN POOL WITH RANK LT 4 UNLESS RANK = 3 UNTIL RANK = 1, FIND THE FIRST CASE\nIF FOUND PRINT 1 LINE WITH JOB THUS\nFOUND *\nELSE PRINT 1 LINE WITH JOB THUS\nNONE *\nALWAYS\nEND",
+            input: b"",
+            pieces: &[1000000],
+            outcome: Outcome::Stopped(Stop::Ended, 7),
+            report: b"FOUND 2\n",
+        },
+        Trial {
+            text: b"PREAMBLE\nNORMALLY, MODE IS INTEGER\nPERMANENT ENTITIES\nEVERY MACHINE OWNS A QUEUE\nTEMPORARY ENTITIES\nEVERY JOB HAS A RANK AND MAY BELONG TO A QUEUE, A POOL, A RACK\nEVERY TOOL HAS A SIZE AND OWNS A RACK\nTHE SYSTEM OWNS A POOL\nDEFINE POOL AS A SET RANKED BY HIGH RANK\nEND\nMAIN\nFOR I = 1 TO 4 DO CREATE A JOB LET RANK = I FILE JOB IN POOL LOOP\nFOR EACH JOB IN POOL WITH RANK LT 4 UNLESS RANK = 3 UNTIL RANK = 2, FIND THE FIRST CASE\nIF FOUND PRINT 1 LINE WITH JOB THUS\nFOUND *\nELSE PRINT 1 LINE WITH JOB THUS\nNONE *\nALWAYS\nEND",
+            input: b"",
+            pieces: &[1000000],
+            outcome: Outcome::Stopped(Stop::Ended, 7),
+            report: b"NONE 2\n",
+        },
+        Trial {
+            text: b"PREAMBLE\nNORMALLY, MODE IS INTEGER\nPERMANENT ENTITIES\nEVERY MACHINE OWNS A QUEUE\nTEMPORARY ENTITIES\nEVERY JOB HAS A RANK AND MAY BELONG TO A QUEUE, A POOL, A RACK\nEVERY TOOL HAS A SIZE AND OWNS A RACK\nTHE SYSTEM OWNS A POOL\nDEFINE POOL AS A FIFO SET\nEND\nMAIN\nFOR I = 1 TO 3 DO CREATE A JOB FILE JOB IN POOL LOOP\nREMOVE THE FIRST A1 FROM POOL\nREMOVE LAST B1 FROM THE POOL\nPRINT 1 LINE WITH A1, B1, N.POOL, F.POOL THUS\n* * * *\nIF 2 IS IN POOL AND 1 IS NOT IN THE POOL AND POOL IS NOT EMPTY PRINT 1 LINE THUS\nYES\nALWAYS\nIF 2 IS NOT IN POOL OR POOL IS EMPTY PRINT 1 LINE THUS\nNO\nALWAYS\nEND",
+            input: b"",
+            pieces: &[1000000],
+            outcome: Outcome::Stopped(Stop::Ended, 3),
+            report: b"1 3 1 2\nYES\n",
+        },
+    ];
+    try_all(&rt, rt.alloc(), &trials)?;
+    Ok(())
+}
+
