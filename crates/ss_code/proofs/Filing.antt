@@ -1,9 +1,8 @@
 -- The code that files and removes members.
 use Rattle.std.proofs.Common.{◌≡◌, ℕ, ◌+◌, Bool, true, false, List, [], ◌∷◌, ◌++◌, length, Option, Some, None, Ok, Err, refl, sym, ap, ◌∙◌, subst, arith, length-append}
-use Rattle.std.specs.Prelude.{ℤ, is_some, slice_get, Result as OkOr}
+use Rattle.std.specs.Prelude.{is_some, slice_get, Result as OkOr}
 use Rattle.ss_base.specs.declared.line.Line.{Line}
 use Rattle.ss_base.specs.declared.fault.FaultKind.{FaultKind}
-use Rattle.ss_base.specs.declared.fault.FaultKind.TheVariants.{WrongClass}
 use Rattle.ss_base.specs.declared.value.Value.{Value}
 use Rattle.ss_resolved.specs.declared.resolved.Variable.{Variable}
 use Rattle.ss_resolved.specs.declared.resolved.Expression.{Expression, Constant, Fetch, Signed', Sum', Product', Applied', Absolute', Attribute', Made, Derived'}
@@ -18,7 +17,6 @@ use Rattle.ss_code.specs.declared.instruction.Side.{Side}
 use Rattle.ss_code.specs.declared.instruction.Side.TheVariants as sides
 use Rattle.ss_code.specs.declared.instruction.Operand.{Operand}
 use Rattle.ss_code.specs.declared.instruction.Operand.TheVariants.{Popped}
-use Rattle.ss_code.specs.declared.instruction.Destination.{Destination}
 use Rattle.ss_code.specs.declared.instruction.Destination.TheVariants.{Pushed}
 use Rattle.ss_code.specs.declared.instruction.Instruction.{Instruction}
 use Rattle.ss_code.specs.declared.instruction.Instruction.TheVariants.{LookMember, FileOne, FileBeside, RemoveAt, RemoveOne}
@@ -27,15 +25,15 @@ use Rattle.ss_records.specs.State.{State}
 use Rattle.ss_records.specs.Sets as R
 use Rattle.ss_code.specs.Orders.{Order, Queue, Stack, ByRank}
 use Rattle.ss_code.specs.Store.{Store, World, number_of, assigned}
-use Rattle.ss_code.specs.Entities.{if_so, turned}
-use Rattle.ss_code.specs.Sets.{set_at, about, known_member, settle, filed_at_first, filed_at_last, filed_in_order, filed, filed_beside, removed_one, removed_at}
+use Rattle.ss_code.specs.Entities.{if_so}
+use Rattle.ss_code.specs.Sets.{set_at, known_member, settle, filed_at_first, filed_at_last, filed_in_order, filed, filed_beside, removed_one, removed_at}
 use Rattle.ss_code.specs.Meaning.{Fault, Outcome, Part, and_then, if_ok, look, looked, assign, stored, change, value, member_value, born_by, file, file_beside, file_by, remove, remove_end, give_to}
 use Rattle.ss_code.specs.Machine.{Frame, Core, Code, act, is_due, with_top, with_operand, with_rest, did, delivered, settled}
 use Rattle.ss_code.specs.Running.{Underway}
 use Rattle.ss_code.specs.Translation.{destination_of, operand_of, expression_code, member_code, is_plain, early_code, early_operand, pair_code, beside_code, file_code, end_code, remove_end_code}
 use Rattle.ss_code.proofs.Steps.{HasAt, has_front, has_back, Reaches, here, core_of, at, arrive}
-use Rattle.ss_code.proofs.Parts.{Runs, same, done, told, told_part, goes, rests}
-use Rattle.ss_code.proofs.Expressions.{Holds, shelved, holds, holds_popped, untimed, same_ok, expression_run}
+use Rattle.ss_code.proofs.Parts.{Runs, same, done, told_part, goes, rests}
+use Rattle.ss_code.proofs.Expressions.{Holds, shelved, holds, holds_popped, expression_run}
 use Rattle.ss_code.proofs.Looking.{look_operand, member_run}
 use Rattle.ss_code.proofs.Writing.{look_on, settles, Leaves, to_variable, to_attribute, to_count}
 

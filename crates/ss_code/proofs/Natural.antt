@@ -51,7 +51,7 @@ use Rattle.ss_code.specs.Sets.{set_at, about, known_owner, known_member, members
 use Rattle.ss_code.specs.Layouts.{SameLayout, Said}
 use Rattle.ss_code.specs.Store.{Store, World, if_ok, zero_value, number_of, fetched, assigned, computed, printed, related, step_of, is_within, item_after, empty_lines, fresh, yielded}
 use Rattle.ss_code.specs.Entities.{class_at, field_at, has_numbers, has_indices, if_so, turned, with_heap, born, known, attribute, fitted, if_field, with_attribute, unless_made, counted, made_all, without}
-use Rattle.ss_code.specs.Meaning.{Exit, Returned, Stopped, Faulted, OutOfTicks, Outcome, WentOn, Left, Part, and_then, look, looked, assign, send, operator_of, operator_for, value, sum_from, product_from, values, firsts, both, either, test_holds, all_hold, some_hold, holds, unless, passes, all_pass, tick_from, take_tick, choose, turns, Turn, GoesOn, EndsLoop, IsFound, phrase, phrases, after_turn, items, step_value, bounds, over_range, looked_as, member_value, owner_value, outset_at, outset_by, after_member, next_member, members, over_members, over, file, file_beside, file_by, remove, remove_end, given_by, take_word, stored, change, Spot, InVariable, InAttribute, InCount, spot_of, held, written, give_to, reads, assign_each, born_by, create, create_every, Calls, effect, effects, body, with_locals, come_back, routine_body, calls, run_of, first_world, meaning}
+use Rattle.ss_code.specs.Meaning.{Exit, Returned, Stopped, Faulted, OutOfTicks, Outcome, WentOn, Left, Part, and_then, look, looked, assign, send, operator_of, operator_for, value, sum_from, product_from, values, firsts, both, either, test_holds, all_hold, some_hold, holds, unless, passes, all_pass, tick_from, take_tick, choose, turns, Turn, GoesOn, EndsLoop, IsFound, phrase, phrases, after_turn, items, step_value, bounds, over_range, looked_as, member_value, owner_value, outset_at, outset_by, after_member, next_member, members, over, file, file_beside, file_by, remove, remove_end, given_by, take_word, stored, change, Spot, InVariable, InAttribute, InCount, spot_of, held, written, give_to, reads, assign_each, born_by, create, create_every, Calls, effect, effects, body, with_locals, come_back, routine_body, calls, run_of, first_world, meaning}
 use Rattle.ss_code.specs.Machine.{Code}
 use Rattle.ss_code.specs.Translation.{code_of}
 use Rattle.ss_code.specs.Running.{Ends, Behaves}

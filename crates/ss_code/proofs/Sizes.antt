@@ -24,7 +24,6 @@ use Rattle.ss_resolved.specs.declared.resolved.Head.TheVariants as heads
 use Rattle.ss_resolved.specs.declared.resolved.End.{End}
 use Rattle.ss_resolved.specs.declared.resolved.Position.{Position}
 use Rattle.ss_resolved.specs.declared.resolved.Position.TheVariants as positions
-use Rattle.ss_code.specs.declared.instruction.Filing.{Filing}
 use Rattle.ss_code.specs.declared.instruction.Filing.TheVariants as filings
 use Rattle.ss_code.specs.declared.instruction.Side.{Side}
 use Rattle.ss_code.specs.declared.instruction.Side.TheVariants as sides

@@ -14,7 +14,7 @@ use Rattle.ss_code.specs.declared.instruction.Instruction.{Instruction}
 use Rattle.ss_code.specs.declared.instruction.Instruction.TheVariants.{BeginSet, BeginAt, TakeMember, NextMember, Forget}
 use Rattle.ss_code.specs.Store.{World, assigned}
 use Rattle.ss_code.specs.Sets.{begun, begun_at, coming, is_member, goes_on}
-use Rattle.ss_code.specs.Meaning.{OutOfTicks, Fault, WentOn, Left, Part, and_then, if_ok, look, assign, value, choose, Turn, GoesOn, EndsLoop, IsFound, Outset, owner_value, outset_at, outset_by, after_member, next_member, members, over_members, over}
+use Rattle.ss_code.specs.Meaning.{Fault, WentOn, Part, and_then, if_ok, assign, value, choose, Turn, GoesOn, EndsLoop, IsFound, Outset, owner_value, outset_at, outset_by, after_member, next_member, members, over_members, over}
 use Rattle.ss_code.specs.Machine.{Frame, State, Code, To, Goes, act, is_due, with_top, with_rest, branch, did, where_member}
 use Rattle.ss_code.specs.Translation.{operand_of, expression_code, owner_code, outset_code, members_code, for_code}
 use Rattle.ss_code.specs.Running.{Underway}

@@ -41,7 +41,6 @@ use Rattle.ss_code.specs.declared.instruction.Operator.{Operator}
 use Rattle.ss_code.specs.declared.instruction.Operator.TheVariants.{Times, Distance}
 use Rattle.ss_code.specs.declared.instruction.Instruction.{Instruction}
 use Rattle.ss_code.specs.declared.instruction.Instruction.TheVariants.{Load, Move, Calculate, Compare as CompareThem, TestData, Jump, Turn, Repeat, Begin, Take, Next, Forget, Call, Leave, Halt, Read as ReadWord, Skip as SkipThem, Print as PrintLines, Look, Get, Put, Give, ChangeField, SetCount, CountMade, CreateOne, CreateAll, DestroyOne, Ask, LookOwner, LookMember, TestEmpty, TestMember, FileOne, FileBeside, RemoveAt, RemoveOne, BeginSet, BeginAt, TakeMember, NextMember}
-use Rattle.ss_code.specs.declared.instruction.Filing.{Filing}
 use Rattle.ss_code.specs.declared.instruction.Filing.TheVariants as filings
 use Rattle.ss_code.specs.declared.instruction.Side.{Side}
 use Rattle.ss_code.specs.declared.instruction.Side.TheVariants as sides

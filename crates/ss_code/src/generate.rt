@@ -43,7 +43,8 @@ fn emit_routines(
 }
 
 /// The code of a program, which does for each input and each number of ticks what the program means,
-/// and nothing else, wherever its layout, a copy of the program's, lies in memory.
+/// and nothing else, wherever its layout, a copy of the program's, lies in memory. Its disciplines say the
+/// same as the program's.
 ///
 /// `CodeTooLong` comes only where the code has more than `INSTRUCTION_LIMIT` instructions, and never
 /// for a program of at most 16,384 nodes; `Memory` where memory was refused.
