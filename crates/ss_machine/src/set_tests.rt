@@ -98,11 +98,7 @@ fn ranked(alloc: Global) -> Result<Discipline, AllocError> {
 }
 
 // MAIN with these statements, where the POOL has a discipline.
-fn program(
-    alloc: Global,
-    pool: Discipline,
-    body: Vec<Statement>,
-) -> Result<Resolved, AllocError> {
+fn program(alloc: Global, pool: Discipline, body: Vec<Statement>) -> Result<Resolved, AllocError> {
     let mut disciplines = Vec::new(alloc);
     disciplines.push(pool)?;
     disciplines.push(Discipline::Fifo)?;
@@ -329,10 +325,12 @@ fn queues_are_apart(alloc: Global) -> Result<bool, CodeError> {
     let other = remove(20, QUEUE, held(THE_JOB), number(2));
     let pool = file(20, POOL, held(THE_JOB), system());
     let lacking = file(20, QUEUE, held(THE_JOB), number(3));
-    Ok(in_a_queue(alloc, twice, fault(FaultKind::FiledTwice))?
-        && in_a_queue(alloc, other, fault(FaultKind::NotFiled))?
-        && in_a_queue(alloc, pool, Stop::Ended)?
-        && in_a_queue(alloc, lacking, fault(FaultKind::Index))?)
+    Ok(
+        in_a_queue(alloc, twice, fault(FaultKind::FiledTwice))?
+            && in_a_queue(alloc, other, fault(FaultKind::NotFiled))?
+            && in_a_queue(alloc, pool, Stop::Ended)?
+            && in_a_queue(alloc, lacking, fault(FaultKind::Index))?,
+    )
 }
 
 #[test]

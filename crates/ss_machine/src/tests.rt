@@ -6,8 +6,8 @@ use ss_code::CodeError;
 use ss_code::generate::generate;
 use ss_picture::Sink;
 use ss_resolved::resolved::{
-    Condition, Conjunction, Expression, Head, Place, Range, Relation, Resolved, Section, Sign, Statement,
-    Target, Test, Variable,
+    Condition, Conjunction, Expression, Head, Place, Range, Relation, Resolved, Section, Sign,
+    Statement, Target, Test, Variable,
 };
 use std::alloc::{AllocError, Global};
 
