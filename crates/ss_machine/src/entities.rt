@@ -19,7 +19,7 @@ use std::marker::Model;
 /// fault WRONG CLASS.
 #[derive(Drop)]
 pub struct Entities {
-    heap: Heap,
+    pub(crate) heap: Heap,
     made: Vec<Option<i64>>,
 }
 

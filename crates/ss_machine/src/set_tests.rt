@@ -1,0 +1,380 @@
+// Programs with sets run; what they write is worked out by hand.
+
+use crate::{Machine, Source, Stop};
+use ss_base::{
+    ClassKind, ClassLayout, Discipline, FaultKind, Layout, Line, MemoryRead, MemoryWrite, Mode,
+    Owner, Plan, RankKey, SetLayout, Trouble, Value,
+};
+use ss_code::CodeError;
+use ss_code::generate::generate;
+use ss_picture::Sink;
+use ss_resolved::resolved::{
+    Counted, Derived, Expression, Head, Members, Place, Position, Range, Resolved, Section, Sign,
+    Start, Statement, Target, Variable,
+};
+use std::alloc::{AllocError, Global};
+
+// JOB, with RANK, and MACHINE, of which there are N.MACHINE.
+const JOB: u32 = 0;
+
+const MACHINE: u32 = 1;
+
+const RANK: u32 = 0;
+
+// THE SYSTEM owns a POOL, and each MACHINE a QUEUE.
+const POOL: u32 = 0;
+
+const QUEUE: u32 = 1;
+
+const COUNT: u32 = 0;
+
+const THE_JOB: Variable = Variable::Global { number: 1 };
+
+const ITEM: Variable = Variable::Local { number: 0 };
+
+const SECOND: Variable = Variable::Local { number: 1 };
+
+const THIRD: Variable = Variable::Local { number: 2 };
+
+fn number(value: i64) -> Expression {
+    Expression::Constant {
+        value: Value::Whole(value),
+    }
+}
+
+fn held(variable: Variable) -> Expression {
+    Expression::Fetch { variable }
+}
+
+// The owner of the POOL.
+fn system() -> Expression {
+    number(0)
+}
+
+fn derived(
+    alloc: Global,
+    derived: Derived,
+    set: u32,
+    of: Expression,
+) -> Result<Expression, AllocError> {
+    Ok(Expression::Derived {
+        derived,
+        set,
+        of: Box::new(alloc, of)?,
+    })
+}
+
+fn layout(alloc: Global) -> Result<Layout, AllocError> {
+    let mut classes = Vec::new(alloc);
+    classes.push(ClassLayout {
+        kind: ClassKind::Temporary,
+        fields: Vec::from_slice(alloc, &[Mode::Integer])?,
+    })?;
+    classes.push(ClassLayout {
+        kind: ClassKind::Permanent,
+        fields: Vec::new(alloc),
+    })?;
+    let pool = SetLayout {
+        owner: Owner::System,
+        member: JOB as usize,
+    };
+    let queue = SetLayout {
+        owner: Owner::Class(MACHINE as usize),
+        member: JOB as usize,
+    };
+    Ok(Layout {
+        classes,
+        sets: Vec::from_slice(alloc, &[pool, queue])?,
+    })
+}
+
+// By high RANK.
+fn ranked(alloc: Global) -> Result<Discipline, AllocError> {
+    let key = RankKey {
+        field: RANK as usize,
+        high: true,
+    };
+    Ok(Discipline::Ranked(Vec::from_slice(alloc, &[key])?))
+}
+
+// MAIN with these statements, where the POOL has a discipline.
+fn program(alloc: Global, pool: Discipline, body: Vec<Statement>) -> Result<Resolved, AllocError> {
+    let mut disciplines = Vec::new(alloc);
+    disciplines.push(pool)?;
+    disciplines.push(Discipline::Fifo)?;
+    Ok(Resolved {
+        layout: layout(alloc)?,
+        disciplines,
+        globals: Vec::from_slice(alloc, &[Mode::Integer, Mode::Integer])?,
+        routines: Vec::new(alloc),
+        main: Section {
+            locals: Vec::from_slice(alloc, &[Mode::Integer, Mode::Integer, Mode::Integer])?,
+            body,
+        },
+    })
+}
+
+// Whether a run of it with this input stops so after so many ticks, and writes this.
+fn comes_to(
+    alloc: Global,
+    program: &Resolved,
+    input: &[u8],
+    stop: Stop,
+    used: u64,
+    report: &[u8],
+) -> Result<bool, CodeError> {
+    let code = generate(alloc, program)?;
+    let mut machine = Machine::new(alloc, code)?;
+    let mut source = Source::new(MemoryRead::new(alloc, input, Plan::smooth(1))?);
+    let writer = MemoryWrite::new(alloc, 64, Plan::smooth(2), Trouble::Error)?;
+    let mut sink = Sink::new(writer);
+    let answer = machine.run(99, &mut source, &mut sink);
+    let as_wanted = answer == stop && machine.used() == used;
+    Ok(as_wanted && sink.into_inner().bytes() == report)
+}
+
+// CREATE A JOB CALLED this variable.
+fn create(line: u32, into: Variable) -> Statement {
+    Statement::Create {
+        line: Line(line),
+        class: JOB,
+        into: Place::Variable { variable: into },
+    }
+}
+
+// FILE this JOB by the discipline of a set.
+fn file(line: u32, set: u32, member: Expression, owner: Expression) -> Statement {
+    Statement::File {
+        line: Line(line),
+        set,
+        member,
+        position: Position::ByDiscipline,
+        owner,
+    }
+}
+
+// REMOVE this JOB.
+fn remove(line: u32, set: u32, member: Expression, owner: Expression) -> Statement {
+    Statement::Remove {
+        line: Line(line),
+        set,
+        member,
+        owner,
+    }
+}
+
+// PRINT 1 LINE WITH these items.
+fn print(
+    alloc: Global,
+    line: u32,
+    items: Vec<Expression>,
+    picture: &[u8],
+) -> Result<Statement, AllocError> {
+    let mut pictures = Vec::new(alloc);
+    pictures.push(Vec::from_slice(alloc, picture)?)?;
+    Ok(Statement::Print {
+        line: Line(line),
+        items,
+        pictures,
+    })
+}
+
+// FOR ITEM = 1 TO so many.
+fn repeat(alloc: Global, line: u32, times: i64, body: Vec<Statement>) -> Statement {
+    let range = Range {
+        variable: ITEM,
+        first: number(1),
+        limit: number(times),
+        step: None,
+    };
+    Statement::For {
+        line: Line(line),
+        head: Head::Numbers { range },
+        phrases: Vec::new(alloc),
+        body,
+    }
+}
+
+// FOR EACH JOB IN POOL.
+fn for_each_job(alloc: Global, line: u32, body: Vec<Statement>) -> Statement {
+    let members = Members {
+        variable: THE_JOB,
+        set: POOL,
+        owner: system(),
+        start: Start::End,
+        reverse: false,
+    };
+    Statement::For {
+        line: Line(line),
+        head: Head::Members { members },
+        phrases: Vec::new(alloc),
+        body,
+    }
+}
+
+// FOR ITEM = 1 TO 4; CREATE A JOB; READ RANK; FILE JOB IN POOL; LOOP; FOR EACH JOB IN POOL; PRINT 1 LINE WITH JOB
+// AND RANK.
+fn by_rank(alloc: Global) -> Result<bool, CodeError> {
+    let mut made = Vec::new(alloc);
+    made.push(create(17, THE_JOB))?;
+    let rank = Target {
+        place: Place::Attribute {
+            class: JOB,
+            field: RANK,
+            of: held(THE_JOB),
+        },
+        mode: Mode::Integer,
+    };
+    made.push(Statement::Read {
+        line: Line(18),
+        targets: Vec::from_array(alloc, [rank])?,
+    })?;
+    made.push(file(19, POOL, held(THE_JOB), system()))?;
+    let mut items = Vec::new(alloc);
+    items.push(held(THE_JOB))?;
+    items.push(Expression::Attribute {
+        class: JOB,
+        field: RANK,
+        of: Box::new(alloc, held(THE_JOB))?,
+    })?;
+    let mut shown = Vec::new(alloc);
+    shown.push(print(alloc, 22, items, b"* *")?)?;
+    let mut body = Vec::new(alloc);
+    body.push(repeat(alloc, 16, 4, made))?;
+    body.push(for_each_job(alloc, 21, shown))?;
+    let program = program(alloc, ranked(alloc)?, body)?;
+    let report = b"4 3\n1 2\n3 2\n2 1\n";
+    comes_to(alloc, &program, b"2 1 2 3", Stop::Ended, 8, report)
+}
+
+#[test]
+fn a_ranked_set_is_walked_by_its_ranks(rt: HostRuntime) {
+    assert_eq!(rt; by_rank(rt.alloc()), Ok(true));
+}
+
+// What is asked of the POOL and of its JOBs once the second of three is removed.
+fn asked(alloc: Global) -> Result<Vec<Expression>, AllocError> {
+    let mut items = Vec::new(alloc);
+    items.push(derived(alloc, Derived::Count, POOL, system())?)?;
+    items.push(derived(alloc, Derived::First, POOL, system())?)?;
+    items.push(derived(alloc, Derived::Last, POOL, system())?)?;
+    items.push(derived(alloc, Derived::Successor, POOL, held(THIRD))?)?;
+    items.push(derived(alloc, Derived::Predecessor, POOL, held(ITEM))?)?;
+    items.push(derived(alloc, Derived::Successor, POOL, held(ITEM))?)?;
+    items.push(derived(alloc, Derived::Predecessor, POOL, held(THIRD))?)?;
+    items.push(derived(alloc, Derived::Membership, POOL, held(SECOND))?)?;
+    items.push(derived(alloc, Derived::Membership, POOL, held(THIRD))?)?;
+    Ok(items)
+}
+
+// CREATE A JOB and FILE it IN POOL, three times; REMOVE the second FROM POOL; PRINT 1 LINE.
+fn last_comes_first(alloc: Global) -> Result<bool, CodeError> {
+    let mut body = Vec::new(alloc);
+    body.push(create(16, ITEM))?;
+    body.push(file(17, POOL, held(ITEM), system()))?;
+    body.push(create(18, SECOND))?;
+    body.push(file(19, POOL, held(SECOND), system()))?;
+    body.push(create(20, THIRD))?;
+    body.push(file(21, POOL, held(THIRD), system()))?;
+    body.push(remove(22, POOL, held(SECOND), system()))?;
+    body.push(print(alloc, 23, asked(alloc)?, b"* * * * * * * * *")?)?;
+    let program = program(alloc, Discipline::Lifo, body)?;
+    let report = b"2 3 1 1 3 0 0 0 1\n";
+    comes_to(alloc, &program, b"", Stop::Ended, 0, report)
+}
+
+#[test]
+fn a_set_of_the_last_first_is_asked(rt: HostRuntime) {
+    assert_eq!(rt; last_comes_first(rt.alloc()), Ok(true));
+}
+
+// LET N.MACHINE = 2; CREATE EVERY MACHINE; CREATE A JOB; FILE JOB IN QUEUE(1); a last statement at line 20.
+fn in_a_queue(alloc: Global, last: Statement, stop: Stop) -> Result<bool, CodeError> {
+    let mut body = Vec::new(alloc);
+    body.push(Statement::Let {
+        line: Line(16),
+        target: Place::Count {
+            class: MACHINE,
+            number: COUNT,
+        },
+        value: number(2),
+    })?;
+    let all = Counted {
+        class: MACHINE,
+        number: COUNT,
+    };
+    body.push(Statement::CreateEvery {
+        line: Line(17),
+        classes: Vec::from_slice(alloc, &[all])?,
+    })?;
+    body.push(create(18, THE_JOB))?;
+    body.push(file(19, QUEUE, held(THE_JOB), number(1)))?;
+    body.push(last)?;
+    let program = program(alloc, ranked(alloc)?, body)?;
+    comes_to(alloc, &program, b"", stop, 0, b"")
+}
+
+fn fault(kind: FaultKind) -> Stop {
+    Stop::Fault(kind, Line(20))
+}
+
+// Whether filing and removing in other queues comes to its faults.
+fn queues_are_apart(alloc: Global) -> Result<bool, CodeError> {
+    let job = held(THE_JOB);
+    let twice = file(20, QUEUE, job, number(2));
+    let other = remove(20, QUEUE, held(THE_JOB), number(2));
+    let pool = file(20, POOL, held(THE_JOB), system());
+    let lacking = file(20, QUEUE, held(THE_JOB), number(3));
+    Ok(
+        in_a_queue(alloc, twice, fault(FaultKind::FiledTwice))?
+            && in_a_queue(alloc, other, fault(FaultKind::NotFiled))?
+            && in_a_queue(alloc, pool, Stop::Ended)?
+            && in_a_queue(alloc, lacking, fault(FaultKind::Index))?,
+    )
+}
+
+#[test]
+fn a_job_is_in_one_queue(rt: HostRuntime) {
+    assert_eq!(rt; queues_are_apart(rt.alloc()), Ok(true));
+}
+
+// FOR ITEM = 1 TO 3 DO CREATE A JOB; FILE JOB IN POOL; LOOP; FOR EACH JOB IN POOL REMOVE so many behind JOB FROM POOL;
+// PRINT 1 LINE WITH N.POOL.
+fn removing(
+    alloc: Global,
+    behind: i64,
+    stop: Stop,
+    used: u64,
+    report: &[u8],
+) -> Result<bool, CodeError> {
+    let mut made = Vec::new(alloc);
+    made.push(create(16, THE_JOB))?;
+    made.push(file(16, POOL, held(THE_JOB), system()))?;
+    let mut rest = Vec::new(alloc);
+    rest.push((Sign::Plus, number(behind)))?;
+    let mut gone = Vec::new(alloc);
+    let one = Expression::Sum {
+        first: Box::new(alloc, held(THE_JOB))?,
+        rest,
+    };
+    gone.push(remove(17, POOL, one, system()))?;
+    let mut items = Vec::new(alloc);
+    items.push(derived(alloc, Derived::Count, POOL, system())?)?;
+    let mut body = Vec::new(alloc);
+    body.push(repeat(alloc, 16, 3, made))?;
+    body.push(for_each_job(alloc, 17, gone))?;
+    body.push(print(alloc, 18, items, b"*")?)?;
+    let program = program(alloc, ranked(alloc)?, body)?;
+    comes_to(alloc, &program, b"", stop, used, report)
+}
+
+// Whether the member of the turn may be removed, and the next one not.
+fn members_go(alloc: Global) -> Result<bool, CodeError> {
+    let gone = Stop::Fault(FaultKind::LoopMemberGone, Line(17));
+    Ok(removing(alloc, 0, Stop::Ended, 6, b"0\n")? && removing(alloc, 1, gone, 4, b"")?)
+}
+
+#[test]
+fn the_next_member_is_fixed_as_a_turn_begins(rt: HostRuntime) {
+    assert_eq!(rt; members_go(rt.alloc()), Ok(true));
+}
