@@ -6,3 +6,4 @@ pub mod Known
 pub mod Serves
 pub mod Parts
 mod Numbered
+mod Ordered

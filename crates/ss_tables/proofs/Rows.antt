@@ -21,7 +21,7 @@ pub next_taken : {A B : Type 0} (f : A → B) (xs : List A) (i : ℕ) (x : A) �
 next_taken f xs i x lt e =
     ap (map f) (take_more xs i x lt) ∙ map-append f (take i xs) (get_or xs i x ∷ []) ∙ ap (λ y. map f (take i xs) ++ f y ∷ []) (sym e)
 
-flat_map_more : {B C : Type 0} (f : B → List C) (ys : List B) (y : B) → flat_map f (ys ++ y ∷ []) ≡ flat_map f ys ++ f y
+pub flat_map_more : {B C : Type 0} (f : B → List C) (ys : List B) (y : B) → flat_map f (ys ++ y ∷ []) ≡ flat_map f ys ++ f y
 flat_map_more f [] y = append_nil (f y)
 flat_map_more f (z ∷ ys) y = ap (λ l. f z ++ l) (flat_map_more f ys y) ∙ sym (append_assoc (f z) (flat_map f ys) (f y))
 
@@ -80,3 +80,8 @@ finds_section f xs i x now here after lt is e h more =
     let next : first_in_sections f 0 (map view_section (take (i + 1) xs)) ≡ line_or (first_in_sections f 0 seen) (first_in_body f i (view_section x).body) =
     ap (first_in_sections f 0) (next_taken view_section xs i x lt is) ∙ first_more f 0 seen (view_section x) ∙ ap (λ m. line_or (first_in_sections f 0 seen) (first_in_body f m (view_section x).body)) count in
     more ∙ (λ k. line_or (e k) (h k)) ∙ sym next
+
+-- a loop that adds one for each, both seen as something else
+pub adds_seen : {A B X : Type 0} (seen : A → X) (f : B → X) (xs : List B) (i : ℕ) (x : B) (now after : List A) (made : A) → i < length xs → x ≡ get_or xs i x → map seen now ≡ map f (take i xs) → after ≡ now ++ made ∷ [] → seen made ≡ f x → map seen after ≡ map f (take (i + 1) xs)
+adds_seen seen f xs i x now after made lt is e more h =
+    ap (map seen) more ∙ map-append seen now (made ∷ []) ∙ (λ k. e k ++ h k ∷ []) ∙ sym (next_taken f xs i x lt is)

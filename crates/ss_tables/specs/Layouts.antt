@@ -1,7 +1,7 @@
 -- The classes and the sets of a program, as numbers.
 use Rattle.std.specs.Prelude.{ℕ, nat_eq, List, [], ◌∷◌, ◌++◌, map, slice_get, Option, Some, None, if◌then◌else◌}
 use Rattle.std.specs.List.{flat_map, fold, position_or_len}
-use Rattle.std.specs.Map.{lookup}
+use Rattle.std.specs.Map.{lookup, keys_of, values_of}
 use Rattle.std.specs.Cmp.Lexicographic.{pointwise}
 use Rattle.ss_base.specs.declared.layout.ClassKind.{ClassKind}
 use Rattle.ss_base.specs.declared.layout.ClassKind.TheVariants as class_kinds
@@ -113,9 +113,14 @@ abbrev pub place_at : Option (List (List ℕ)) → List ℕ → ℕ
 place_at None name = 0
 place_at (Some names) name = place_among names name
 
+-- the number of an attribute among those of a class, where these are the classes and the attributes of each; 0 where
+-- that is no class
+abbrev pub field_among : List (List ℕ) → List (List (List ℕ)) → List ℕ → List ℕ → ℕ
+field_among classes attributes class name = place_at (slice_get attributes (class_number classes class)) name
+
 -- the number of an attribute among the fields of a class; 0 where that is no class
 abbrev pub field_number : List Saying → List ℕ → List ℕ → ℕ
-field_number says class name = place_at (slice_get (class_attributes says) (class_number (class_names says) class)) name
+field_number says class name = field_among (class_names says) (class_attributes says) class name
 
 -- the mode of an attribute
 abbrev pub field_mode : List Moded → Option ModeSaid → List ℕ → Mode
@@ -153,21 +158,51 @@ number_of names (Some class) = class_number names class
 abbrev pub member_number : List (List ℕ) → List Member → List ℕ → ℕ
 member_number names members set = number_of names (member_class members set)
 
--- A set has its owner from the clause that says so; as a program that keeps the rules says of each set once who owns
--- it, the sets are numbered in the order of these clauses.
-abbrev pub with_set_said : List (List ℕ) → List Member → List SetLayout → Said → Option (List ℕ) → List SetLayout
+-- a set and its layout
+abbrev pub NamedSet : Type 0
+NamedSet = List ℕ × SetLayout
+
+abbrev pub layout_in : List NamedSet → List ℕ → Option SetLayout
+layout_in sets set = lookup (pointwise nat_eq set) sets
+
+abbrev pub set_beside : List NamedSet → List ℕ → SetLayout → Option SetLayout → List NamedSet
+set_beside sets set layout None = sets ++ (set, layout) ∷ []
+set_beside sets set layout (Some known) = sets
+
+-- the sets so far and one more, unless it is known
+abbrev pub with_set : List NamedSet → List ℕ → SetLayout → List NamedSet
+with_set sets set layout = set_beside sets set layout (layout_in sets set)
+
+-- a set has its owner from the clause that says so first
+abbrev pub with_set_said : List (List ℕ) → List Member → List NamedSet → Said → Option (List ℕ) → List NamedSet
 with_set_said names members sets said.SystemSet (Some set) =
-    sets ++ record { owner = owners.System; member = member_number names members set } ∷ []
+    with_set sets set (record { owner = owners.System; member = member_number names members set })
 with_set_said names members sets (said.OwnedSet class) (Some set) =
-    sets ++ record { owner = owners.Class (class_number names class); member = member_number names members set } ∷ []
+    with_set sets set (record { owner = owners.Class (class_number names class); member = member_number names members set })
 with_set_said names members sets _ _ = sets
 
-abbrev pub with_set_layout : List (List ℕ) → List Member → List SetLayout → Saying → List SetLayout
+abbrev pub with_set_layout : List (List ℕ) → List Member → List NamedSet → Saying → List NamedSet
 with_set_layout names members sets s = with_set_said names members sets s.said s.name
 
--- the sets, in the order of their numbers
-abbrev pub set_layouts : List (List ℕ) → List Member → List Saying → List SetLayout
+-- the sets with their layouts, where these are the classes and those of the members
+abbrev pub set_layouts : List (List ℕ) → List Member → List Saying → List NamedSet
 set_layouts names members says = fold (with_set_layout names members) [] says
+
+-- the sets of a program that says this, in the order of their numbers
+abbrev pub named_sets : List Saying → List NamedSet
+named_sets says = set_layouts (class_names says) (members_of says) says
+
+-- the names of the sets, in the order in which their owners are told
+abbrev pub set_names : List Saying → List (List ℕ)
+set_names says = keys_of (named_sets says)
+
+-- the layout of a set, if it is one
+abbrev pub set_layout : List Saying → List ℕ → Option SetLayout
+set_layout says set = layout_in (named_sets says) set
+
+-- the number of a set; as many as there are sets where it is none
+abbrev pub set_number : List (List ℕ) → List ℕ → ℕ
+set_number names name = position_or_len (pointwise nat_eq name) names
 
 -- ---- the layout of a program that says this, where names stand for this and NORMALLY gives this mode
 
@@ -175,5 +210,6 @@ set_layouts names members says = fold (with_set_layout names members) [] says
 abbrev pub classes_laid : (List ℕ → Option Kind) → Option ModeSaid → List Saying → List ClassShape
 classes_laid kind usual says = map (class_shape kind (modes_of says) usual (attributes_in says)) (class_names says)
 
+-- the sets, in the order of their numbers
 abbrev pub sets_laid : List Saying → List SetLayout
-sets_laid says = set_layouts (class_names says) (members_of says) says
+sets_laid says = values_of (named_sets says)

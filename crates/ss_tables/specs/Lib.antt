@@ -8,6 +8,7 @@ pub mod Counts
 pub mod Ranks
 pub mod Declarations
 pub mod Layouts
+pub mod Disciplines
 pub mod Repeated
 pub mod Mentions
 pub mod Modes

@@ -8,18 +8,20 @@ use Rattle.ss_tables.specs.declared.kind.Kind.{Kind}
 use Rattle.ss_tables.specs.declared.spelling.TheConstants.{SPELLING_LIMIT}
 use Rattle.ss_tables.specs.Declarations.{NameBytes, same_name, kind_of, globals, routines}
 use Rattle.ss_tables.specs.declared.saying.Saying.{Saying}
-use Rattle.ss_tables.specs.Layouts.{class_attributes, class_names}
+use Rattle.ss_tables.specs.Disciplines.{Order, disciplines}
+use Rattle.ss_tables.specs.Layouts.{NamedSet, class_attributes, class_names, named_sets}
 use Rattle.ss_tables.specs.Modes.{usual_mode}
 use Rattle.ss_tables.specs.Sayings.{sayings}
 
 -- tables, as a clause sees them: each global name with what it stands for, the global variables and the routines in
--- the order of their numbers, and the mode that NORMALLY gives, and what the program says
+-- the order of their numbers, the mode that NORMALLY gives, what the program says, and how each set is ordered
 pub record TablesSeen : Type 0 where
   pub names : List (NameBytes × Kind)
   pub globals : List NameBytes
   pub routines : List NameBytes
   pub usual : Option Mode
   pub says : List Saying
+  pub disciplines : List Order
 
 -- what a name stands for by some entries
 abbrev pub kind_among : List (NameBytes × Kind) → NameBytes → Option Kind
@@ -36,8 +38,16 @@ pub record AreTablesOf (p : ProgramTree) (t : TablesSeen) : Type 0 where
   pub routines_are : t.routines ≡ routines p
   pub usual_is : t.usual ≡ usual_mode p.preamble
   pub says_is : t.says ≡ sayings p
+  pub disciplines_are : t.disciplines ≡ disciplines p
 
--- the classes of a program that says this, and the attributes of each
-pub record AreClassesOf (says : List Saying) (classes : List NameBytes) (attributes : List (List NameBytes)) : Type 0 where
-  pub names_are : classes ≡ class_names says
-  pub attributes_are : attributes ≡ class_attributes says
+-- what has a number: the classes, the attributes of each, and the sets with their layouts
+pub record NumbersSeen : Type 0 where
+  pub classes : List NameBytes
+  pub attributes : List (List NameBytes)
+  pub sets : List NamedSet
+
+-- the numbers of a program that says this
+pub record AreNumbersOf (says : List Saying) (n : NumbersSeen) : Type 0 where
+  pub classes_are : n.classes ≡ class_names says
+  pub attributes_are : n.attributes ≡ class_attributes says
+  pub sets_are : n.sets ≡ named_sets says

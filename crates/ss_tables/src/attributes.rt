@@ -2,7 +2,7 @@
 
 ghost use Rattle.std.specs.Prelude.{◌≡◌, [], ◌++◌, map, OnOk, IfOk};
 ghost use Rattle.ss_tables.specs.Declarations.{place_among, with_name};
-ghost use Rattle.ss_tables.specs.Layouts.{attribute_in, attributes_in, attributes_of, with_attribute};
+ghost use Rattle.ss_tables.specs.Layouts.{attribute_in, attributes_in, attributes_of, field_among, with_attribute};
 
 use crate::saying::{Said, Saying};
 use indexmap::IndexSet;
@@ -132,4 +132,20 @@ pub fn attributes_of_all(
         all.push(attributes)?;
     }
     Ok(all)
+}
+
+/// The number of an attribute among those of its class, where these are the classes and the attributes of each; 0
+/// where that is no class.
+pub fn field_among(
+    classes: &IndexSet<Name>,
+    attributes: &[Attributes],
+    class: Name,
+    name: Name,
+) -> usize
+    ensures { result ≡ field_among classes.now.keys attributes.now class name }
+{
+    match attributes.get(place_of(classes, class)) {
+        Some(attributes) => attributes.place(name),
+        None => 0,
+    }
 }

@@ -1,17 +1,16 @@
-//! The classes and the sets of a program, as numbers.
+//! The classes of a program, as numbers.
 
 ghost use Rattle.std.specs.Prelude.{◌≡◌, [], ◌∷◌, ◌++◌, map, OnOk, IfOk};
 ghost use Rattle.ss_tables.specs.Names.{kind_in};
-ghost use Rattle.ss_tables.specs.Layouts.{layout_mode, layout_kind, mode_in, with_mode, with_mode_said, modes_of, mode_or, with_class_said, class_names, class_number, field_mode, fields_of, shape_of, class_kind, class_shape, number_of, member_number, with_set_said, set_layouts};
+ghost use Rattle.ss_tables.specs.Layouts.{layout_mode, layout_kind, mode_in, with_mode, with_mode_said, modes_of, mode_or, with_class_said, class_names, class_number, field_mode, fields_of, shape_of, class_kind, class_shape};
 
 use crate::attributes::{Owned, attributes_of, place_of};
 use crate::kind::Kind;
 use crate::names::Names;
-use crate::rank::Members;
 use crate::saying::{Said, Saying};
 use crate::spelling::Spelling;
 use indexmap::{IndexMap, IndexSet};
-use ss_base::{ClassKind, ClassLayout, Mode, Owner, SetLayout};
+use ss_base::{ClassKind, ClassLayout, Mode};
 use ss_lex::Name;
 use ss_tree::preamble::{ClassKind as KindSaid, Mode as ModeSaid};
 use std::alloc::{AllocError, Global};
@@ -230,60 +229,4 @@ pub fn class_layouts(
         layouts.push(layout)?;
     }
     Ok(layouts)
-}
-
-fn number_of(names: &IndexSet<Name>, class: &Option<Name>) -> usize
-    ensures { result ≡ number_of names.now.keys class.now }
-{
-    match class {
-        None => 0,
-        Some(class) => class_number(names, *class),
-    }
-}
-
-fn member_number(names: &IndexSet<Name>, members: &Members, set: Name) -> usize
-    ensures { result ≡ member_number names.now.keys members.now set }
-{
-    number_of(names, &members.class(set))
-}
-
-/// Adds a set, where a saying tells its owner.
-fn add_set(
-    sets: &mut Vec<SetLayout>,
-    names: &IndexSet<Name>,
-    members: &Members,
-    said: &Said,
-    set: &Option<Name>,
-) -> Result<(), AllocError>
-    ensures { OnOk result (sets.new.items ≡ with_set_said names.now.keys members.now sets.old.items said.now set.now) }
-{
-    match set {
-        None => Ok(()),
-        Some(set) => {
-            let owner = match said {
-                Said::SystemSet => Owner::System,
-                Said::OwnedSet { class } => Owner::Class(class_number(names, *class)),
-                _ => return Ok(()),
-            };
-            let member = member_number(names, members, *set);
-            sets.push(SetLayout { owner, member })?;
-            Ok(())
-        }
-    }
-}
-
-/// The sets, in the order of their numbers.
-pub fn set_layouts(
-    alloc: Global,
-    names: &IndexSet<Name>,
-    members: &Members,
-    sayings: &[Saying],
-) -> Result<Vec<SetLayout>, AllocError>
-    ensures { IfOk result (λ sets. sets.items ≡ set_layouts names.now.keys members.now sayings.now) }
-{
-    let mut sets = Vec::new(alloc);
-    for saying in sayings {
-        add_set(&mut sets, names, members, &saying.said, &saying.name)?;
-    }
-    Ok(sets)
 }

@@ -3,6 +3,7 @@
 
 mod attributes;
 mod count;
+mod discipline;
 mod error;
 mod keep;
 mod kind;
@@ -12,6 +13,7 @@ mod mark;
 mod mentions;
 mod mode;
 mod names;
+mod numbers;
 mod once;
 mod place;
 mod rank;
@@ -19,6 +21,7 @@ mod refusal;
 mod saying;
 mod sayings;
 mod served;
+mod set;
 mod spelling;
 mod tables;
 

@@ -2,34 +2,36 @@
 
 ghost use Rattle.std.specs.Prelude.{◌≡◌, ◌≢◌, ◌<◌, length, map, slice_get, option_map, None, Some, IfOk, IfErr};
 ghost use Rattle.std.specs.Map.{keys_of};
-ghost use Rattle.ss_tree.specs.View.{view_program};
+ghost use Rattle.ss_tree.specs.View.{view_preamble, view_program};
 ghost use Rattle.ss_tables.specs.Declarations.{place_among, kept_names};
-ghost use Rattle.ss_tables.specs.Layouts.{shape_of, class_names, class_number, classes_laid, field_number, sets_laid};
+ghost use Rattle.ss_tables.specs.Disciplines.{discipline_said, orders_laid};
+ghost use Rattle.ss_tables.specs.Layouts.{shape_of, class_names, class_number, classes_laid, field_number, set_names, set_number, sets_laid};
 ghost use Rattle.ss_tables.specs.Marks.{marks_of};
 ghost use Rattle.ss_tables.specs.Names.{count_name, declared};
 ghost use Rattle.ss_tables.specs.Refusals.{refusal};
 ghost use Rattle.ss_tables.specs.Served.{served_program};
 ghost use Rattle.ss_tables.specs.Tables.{kind_among, found_among, AreTablesOf};
 
-use crate::attributes::{Attributes, attributes_in, attributes_of_all};
+use crate::attributes::attributes_in;
+use crate::discipline::{copies_of, disciplines_in};
 use crate::error::TableError;
 use crate::keep::{Kept, kept_names};
 use crate::kind::Kind;
-use crate::layout::{class_layouts, class_names, class_number, modes_of, set_layouts};
+use crate::layout::{class_layouts, modes_of};
 use crate::mark::marks_of;
 use crate::mode::usual_mode;
 use crate::names::{Names, names_of};
+use crate::numbers::{Numbers, numbers_of};
 use crate::place::Facts;
-use crate::rank::members_of;
 use crate::refusal::refusal;
 use crate::saying::Saying;
 use crate::sayings::sayings;
 use crate::served::served;
 use crate::spelling::Spelling;
 use indexmap::IndexSet;
-use ss_base::Layout;
+use ss_base::{Discipline, Layout};
 use ss_lex::Name;
-use ss_tree::preamble::Mode;
+use ss_tree::preamble::{Mode, PreambleStatement};
 use ss_tree::program::Program;
 use std::alloc::{AllocError, Global};
 use std::marker::Model;
@@ -42,18 +44,20 @@ pub struct Tables {
     routines: IndexSet<Spelling>,
     usual: Option<Mode>,
     sayings: Vec<Saying>,
-    classes: IndexSet<Name>,
-    attributes: Vec<Attributes>,
+    numbers: Numbers,
+    disciplines: Vec<Discipline>,
 }
 
 impl Model for Tables {
-    ghost use Rattle.ss_tables.specs.Tables.{AreClassesOf, TablesSeen};
+    ghost use Rattle.std.specs.Prelude.{map};
+    ghost use Rattle.ss_tables.specs.Disciplines.{discipline_said};
+    ghost use Rattle.ss_tables.specs.Tables.{AreNumbersOf, TablesSeen};
 
     ghost Value = { TablesSeen };
 
-    ghost view = { λ t. record { names = t.names.names; globals = t.globals.keys; routines = t.routines.keys; usual = t.usual; says = t.sayings.items } };
+    ghost view = { λ t. record { names = t.names.names; globals = t.globals.keys; routines = t.routines.keys; usual = t.usual; says = t.sayings.items; disciplines = map discipline_said t.disciplines.items } };
 
-    ghost invariant = { λ t. AreClassesOf t.sayings.items t.classes.keys t.attributes.items };
+    ghost invariant = { λ t. AreNumbersOf t.sayings.items t.numbers };
 }
 
 // The place of a name among some, or how many there are where it is none of them.
@@ -100,27 +104,32 @@ fn facts_of(alloc: Global, sayings: &[Saying], usual: Option<Mode>) -> Result<Fa
     })
 }
 
-/// The tables of a program that says this, of which this is known.
-fn made(alloc: Global, facts: Facts, sayings: Vec<Saying>) -> Result<Tables, AllocError>
+/// The tables of a program that says this, has this preamble, and of which this is known.
+fn made(
+    alloc: Global,
+    facts: Facts,
+    sayings: Vec<Saying>,
+    preamble: &[PreambleStatement],
+) -> Result<Tables, AllocError>
     ensures names { IfOk result (λ t. t.names ≡ facts.names.names) }
     ensures globals { IfOk result (λ t. t.globals ≡ kept_names Kept.Variables facts.marks sayings.items) }
     ensures routines { IfOk result (λ t. t.routines ≡ kept_names Kept.Routines facts.marks sayings.items) }
     ensures usual { IfOk result (λ t. t.usual ≡ facts.usual) }
     ensures says { IfOk result (λ t. t.says ≡ sayings.items) }
+    ensures disciplines { IfOk result (λ t. t.disciplines ≡ orders_laid sayings.items (map view_preamble preamble.now)) }
 {
     let globals = kept_names(alloc, Kept::Variables, &facts.marks, &sayings)?;
     let routines = kept_names(alloc, Kept::Routines, &facts.marks, &sayings)?;
-    let classes = class_names(alloc, &sayings)?;
-    let owned = attributes_in(alloc, &sayings)?;
-    let attributes = attributes_of_all(alloc, &owned, classes.as_slice())?;
+    let numbers = numbers_of(alloc, &sayings)?;
+    let disciplines = disciplines_in(alloc, &numbers, &sayings, preamble)?;
     Ok(Tables {
         names: facts.names,
         globals,
         routines,
         usual: facts.usual,
         sayings,
-        classes,
-        attributes,
+        numbers,
+        disciplines,
     })
 }
 
@@ -141,7 +150,7 @@ impl Tables {
         if let Some(error) = refusal(alloc, &facts, &sayings, program)? {
             return Err(error);
         }
-        Ok(made(alloc, facts, sayings)?)
+        Ok(made(alloc, facts, sayings, &program.preamble)?)
     }
 
     /// Whether all forms of a program are served: a preamble of NORMALLY, of DEFINE of variables, and of permanent
@@ -187,11 +196,10 @@ impl Tables {
         ensures sets { IfOk result (λ l. l.sets.items ≡ sets_laid self.now.says) }
     {
         let modes = modes_of(alloc, &self.sayings)?;
-        let members = members_of(alloc, &self.sayings)?;
         let owned = attributes_in(alloc, &self.sayings)?;
-        let named = self.classes.as_slice();
+        let named = self.numbers.classes();
         let classes = class_layouts(alloc, &self.names, &modes, self.usual, &owned, named)?;
-        let sets = set_layouts(alloc, &self.classes, &members, &self.sayings)?;
+        let sets = self.numbers.set_layouts(alloc)?;
         Ok(Layout { classes, sets })
     }
 
@@ -223,7 +231,7 @@ impl Tables {
     pub fn class(&self, name: Name) -> usize
         ensures { result ≡ class_number (class_names self.now.says) name }
     {
-        class_number(&self.classes, name)
+        self.numbers.class(name)
     }
 
     /// The number of an attribute among the fields of its class, from 0. As many as the class has where it is
@@ -231,10 +239,26 @@ impl Tables {
     pub fn field(&self, class: Name, attribute: Name) -> usize
         ensures { result ≡ field_number self.now.says class attribute }
     {
-        match self.attributes.get(class_number(&self.classes, class)) {
-            Some(attributes) => attributes.place(attribute),
-            None => 0,
-        }
+        self.numbers.field(class, attribute)
+    }
+
+    /// The number of a set among all of them, from 0, in the order in which their owners are told; as many as
+    /// there are where it is none.
+    pub fn set(&self, name: Name) -> usize
+        ensures { result ≡ set_number (set_names self.now.says) name }
+    {
+        self.numbers.set(name)
+    }
+
+    /// The discipline of each set, in the order of their numbers: FIFO where no DEFINE says another. The keys of a
+    /// ranked set are numbers of attributes of its members' class.
+    ///
+    /// # Errors
+    /// `AllocError` where memory is refused.
+    pub fn disciplines(&self, alloc: Global) -> Result<Vec<Discipline>, AllocError>
+        ensures { IfOk result (λ all. map discipline_said all.items ≡ self.now.disciplines) }
+    {
+        copies_of(alloc, &self.disciplines)
     }
 
     /// What each global variable stands for, in the order of their numbers.

@@ -15,7 +15,7 @@ returns-clause-classes c =
     let t = c.self.inside in
     let xs = map shape_of c.in_ok-classes.classes.items in
     let modes : c.in_ok-modes.modes ≡ modes_of t.sayings.items = search rules in
-    let owned : c.deref-4.result.now ≡ attributes_in t.sayings.items = search rules in
-    let names : c.as_slice-named.result.now ≡ class_names t.sayings.items = search rules in
+    let owned : c.deref-3.result.now ≡ attributes_in t.sayings.items = search rules in
+    let names : c.classes-named.result.now ≡ class_names t.sayings.items = search rules in
     subst (λ (s : TablesSeen). xs ≡ classes_laid (kind_among s.names) s.usual s.says) c.self.view_is
-    (laid (kind_in t.names.names) t.usual t.sayings.items c.in_ok-modes.modes c.deref-4.result.now c.as_slice-named.result.now xs modes owned names c.in_ok-classes.ensures)
+    (laid (kind_in t.names.names) t.usual t.sayings.items c.in_ok-modes.modes c.deref-3.result.now c.classes-named.result.now xs modes owned names c.in_ok-classes.ensures)
