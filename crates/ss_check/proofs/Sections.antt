@@ -10,6 +10,7 @@ use Rattle.ss_resolved.specs.declared.resolved.Section.{Section}
 use Rattle.ss_resolved.specs.declared.resolved.Resolved.{Resolved}
 use Rattle.ss_tables.specs.declared.kind.Kind.{Kind}
 use Rattle.ss_tables.specs.Declarations.{NameBytes, kind_of}
+use Rattle.ss_tables.specs.Disciplines.{discipline_said}
 use Rattle.ss_tables.specs.Layouts.{shape_of, classes_laid, sets_laid}
 use Rattle.ss_tables.specs.Tables.{kind_among}
 use Rattle.ss_rules.specs.declared.scope.Names.{Names}
@@ -73,14 +74,15 @@ pub map_twice : {A B C : Type 0} (f : B → C) (g : A → B) (xs : List A) → m
 map_twice f g [] = refl
 map_twice f g (x ∷ xs) = ap (λ l. f (g x) ∷ l) (map_twice f g xs)
 
-pub program_resolves : (p : ProgramTree) (n : Names) (r : Resolved) → AreNamesOf p n → map shape_of r.layout.classes.items ≡ classes_laid (kind_among n.tables.names) n.tables.usual n.tables.says → r.layout.sets.items ≡ sets_laid n.tables.says → r.globals.items ≡ map (mode_of_global (kind_among n.tables.names)) n.tables.globals → ResolveRoutines (context_in n) p.sections r.routines.items → ResolvesMain (context_in n) p.sections r.main → ResolvesProgram p r
-program_resolves p n r h ls ss g rs m =
+pub program_resolves : (p : ProgramTree) (n : Names) (r : Resolved) → AreNamesOf p n → map shape_of r.layout.classes.items ≡ classes_laid (kind_among n.tables.names) n.tables.usual n.tables.says → r.layout.sets.items ≡ sets_laid n.tables.says → map discipline_said r.disciplines.items ≡ n.tables.disciplines → r.globals.items ≡ map (mode_of_global (kind_among n.tables.names)) n.tables.globals → ResolveRoutines (context_in n) p.sections r.routines.items → ResolvesMain (context_in n) p.sections r.main → ResolvesProgram p r
+program_resolves p n r h ls ss ds g rs m =
     let contexts : context_in n ≡ context_of p = fun_ext (λ s. same_context (scope_in n s) (scope_of p s) n.tables.says (sayings p) (scope_given p n s h) h.tables_are.says_is) in
     record {
       classes_are =
           ls ∙ ap (λ (kind : NameBytes → Option Kind). classes_laid kind n.tables.usual n.tables.says) (fun_ext h.tables_are.kinds) ∙
           (λ i. classes_laid (kind_of p) (h.tables_are.usual_is i) (h.tables_are.says_is i));
       sets_are = ss ∙ ap sets_laid h.tables_are.says_is;
+      disciplines_are = ds ∙ h.tables_are.disciplines_are;
       globals_are =
           g ∙ ap (λ (kind : NameBytes → Option Kind). map (mode_of_global kind) n.tables.globals) (fun_ext h.tables_are.kinds) ∙
           ap (map (mode_of_global (kind_of p))) h.tables_are.globals_are;

@@ -8,24 +8,31 @@ use Rattle.std.proofs.lemmas.List.{length-map}
 use Rattle.std.proofs.lemmas.List.Sums.{sum_by-cons}
 use Rattle.ss_tree.specs.declared.expression.Function.TheVariants.{Div, Mod, Abs, Min, Max}
 use Rattle.ss_tree.specs.declared.statement.FindOutcome.TheVariants as outcomes
-use Rattle.ss_tree.specs.Tree.{ExpressionTree, number, text, named, call, parenthesised, product, signed, sum, ExpressionRow, no_expression, and_expression, TermRow, no_term, and_term, NamedTree, TestTree, compare, empty, member, data_ended, ConditionTree, PhraseTree, GuardTree, over_range, over_class, guarded, StatementTree, let_statement, add_statement, subtract_statement, call_statement, return_statement, stop_statement, read_statement, if_statement, loop_statement, find_statement, find_if_statement, create_statement, create_every, destroy_statement, print_statement, skip_statement, StatementRow, no_statement, and_statement, SectionKindTree, main, routine, event, SectionTree, ProgramTree}
+use Rattle.ss_tree.specs.Tree.{ExpressionTree, number, text, named, call, parenthesised, product, signed, sum, ExpressionRow, no_expression, and_expression, TermRow, no_term, and_term, NamedTree, TestTree, compare, empty, member, data_ended, ConditionTree, PhraseTree, GuardTree, StartTree, from_end, from_member, after_member, HeadTree, over_range, over_members, over_class, guarded, PositionTree, by_discipline, at_first, at_last, before, after, StatementTree, let_statement, add_statement, subtract_statement, call_statement, return_statement, stop_statement, read_statement, if_statement, loop_statement, find_statement, find_if_statement, create_statement, create_every, destroy_statement, file_statement, remove_end, remove_statement, print_statement, skip_statement, StatementRow, no_statement, and_statement, SectionKindTree, main, routine, event, SectionTree, ProgramTree}
 use Rattle.ss_tree.specs.Nodes as tree
 use Rattle.ss_resolved.specs.Nodes as resolved
 use Rattle.ss_resolved.specs.declared.resolved.Function.{Function}
-use Rattle.ss_resolved.specs.declared.resolved.Expression.{Expression, Constant, Fetch, Signed', Sum', Product', Applied', Absolute', Attribute', Made, Row_of-Expression, end_of-Expression, more_of-Expression, Row_of-Expression-Sum-1-2, end_of-Expression-Sum-1-2, more_of-Expression-Sum-1-2}
+use Rattle.ss_resolved.specs.declared.resolved.Expression.{Expression, Constant, Fetch, Signed', Sum', Product', Applied', Absolute', Attribute', Made, Derived', Row_of-Expression, end_of-Expression, more_of-Expression, Row_of-Expression-Sum-1-2, end_of-Expression-Sum-1-2, more_of-Expression-Sum-1-2}
 use Rattle.ss_resolved.specs.declared.resolved.Test.{Test}
-use Rattle.ss_resolved.specs.declared.resolved.Test.TheVariants.{Compare, DataEnded}
+use Rattle.ss_resolved.specs.declared.resolved.Test.TheVariants.{Compare, DataEnded, Empty, Member}
 use Rattle.ss_resolved.specs.declared.resolved.Conjunction.{Conjunction}
 use Rattle.ss_resolved.specs.declared.resolved.Condition.{Condition}
 use Rattle.ss_resolved.specs.declared.resolved.Guard.{Guard}
 use Rattle.ss_resolved.specs.declared.resolved.Phrase.{Phrase}
 use Rattle.ss_resolved.specs.declared.resolved.Range.{Range}
+use Rattle.ss_resolved.specs.declared.resolved.Start.{Start}
+use Rattle.ss_resolved.specs.declared.resolved.Start.TheVariants as starts
+use Rattle.ss_resolved.specs.declared.resolved.Members.{Members}
+use Rattle.ss_resolved.specs.declared.resolved.Head.{Head}
+use Rattle.ss_resolved.specs.declared.resolved.Head.TheVariants as heads
+use Rattle.ss_resolved.specs.declared.resolved.Position.{Position}
+use Rattle.ss_resolved.specs.declared.resolved.Position.TheVariants as positions
 use Rattle.ss_resolved.specs.declared.resolved.Variable.{Variable}
 use Rattle.ss_resolved.specs.declared.resolved.Place.{Place}
 use Rattle.ss_resolved.specs.declared.resolved.Place.TheVariants as places
 use Rattle.ss_resolved.specs.declared.resolved.Target.{Target}
 use Rattle.ss_resolved.specs.declared.resolved.Counted.{Counted}
-use Rattle.ss_resolved.specs.declared.resolved.Statement.{Statement, Let, Change, Print, If', While', For', Find', Call, Read, Skip, Create, CreateEvery, Destroy, Row_of-Statement, end_of-Statement, more_of-Statement}
+use Rattle.ss_resolved.specs.declared.resolved.Statement.{Statement, Let, Change, Print, If', While', For', Find', Call, Read, Skip, Create, CreateEvery, Destroy, File, RemoveEnd, Remove, Row_of-Statement, end_of-Statement, more_of-Statement}
 use Rattle.ss_resolved.specs.declared.resolved.Section.{Section}
 use Rattle.ss_resolved.specs.declared.resolved.Resolved.{Resolved}
 use Rattle.ss_tables.specs.Declarations.{NameBytes}
@@ -35,8 +42,8 @@ use Rattle.ss_rules.specs.Scopes.{is_main, is_routine_section, sections_of}
 use Rattle.ss_rules.specs.Rules.{has_main, has_main_in, is_main_section}
 use Rattle.ss_check.specs.declared.meanings.Meaning.{Meaning}
 use Rattle.ss_check.specs.declared.meanings.Meaning.TheVariants as meanings
-use Rattle.ss_check.specs.Contexts.{Context, context_of, meaning_of}
-use Rattle.ss_check.specs.Resolving.{IsNoCall, IsNamed, Each, Resolves, ResolvesEntity, ResolveOne, ResolveTwo, ResolveFactors, ResolveTerms, ResolveAll, ResolvesTest, ResolvesConjunction, ResolvesCondition, ResolvesPhrase, ResolvesGuard, ResolvesOption, ResolvesRange, RangesOver, IsPlaceOf, IsPlace, IsTarget, TakesNew, IsEntity, IsCounted, ResolvesStatement, ResolveRow, ResolvesSection, ResolvesFound, ResolvesMain, ResolvesProgram}
+use Rattle.ss_check.specs.Contexts.{Context, context_of, meaning_of, owner_implied}
+use Rattle.ss_check.specs.Resolving.{IsNoCall, IsNamed, entity_in, guards_of, phrases_of, Each, Resolves, ResolvesEntity, ResolveOne, ResolveTwo, ResolveFactors, ResolveTerms, ResolveAll, ResolvesTest, ResolvesConjunction, ResolvesCondition, ResolvesPhrase, ResolvesGuard, ResolvesOption, ResolvesRange, RangesOver, ResolvesStart, ResolvesMembers, GoesOver, IsPlaceOf, IsPlace, IsTarget, TakesNew, IsEntity, IsCounted, IsOwner, ResolvesPosition, ResolvesStatement, ResolveRow, ResolvesSection, ResolvesFound, ResolvesMain, ResolvesProgram}
 
 -- ---- expressions
 
@@ -53,12 +60,24 @@ plain_size _ n = omega arith
 implied_size : (implied : Variable) (x : Expression) → x ≡ Fetch implied → resolved.unless_plain x (resolved.expression_nodes x) ≤ 0
 implied_size implied x h = omega (arith, ap (λ y. resolved.unless_plain y (resolved.expression_nodes y)) h)
 
--- what is named, where the entity of an attribute has at most n nodes
-named_size : (m : Meaning) (n : ℕ) (x : Expression) (IsIt : Variable → Expression → Type 0) → ((implied : Variable) (y : Expression) → IsIt implied y → resolved.unless_plain y (resolved.expression_nodes y) ≤ n) → IsNamed m IsIt x → resolved.expression_nodes x ≤ 1 + n
-named_size (meanings.Variable v) n x IsIt few h = omega (arith, ap resolved.expression_nodes h)
-named_size (meanings.Count class k) n x IsIt few h = omega (arith, ap resolved.expression_nodes h)
-named_size (meanings.Attribute class field implied) n (Attribute' k f b x) IsIt few h = omega (arith, few implied x h.2)
-named_size (meanings.Attribute class field implied) n _ IsIt few h = absurd h
+-- the same of the owner of a set, or of a member of one
+meant_size : (x : Expression) (n : ℕ) → resolved.unless_meant x n ≤ n
+meant_size (Fetch x) n = omega arith
+meant_size (Constant v) n = omega arith
+meant_size _ n = omega arith
+
+meant_implied_size : (implied : Option Variable) (x : Expression) → x ≡ entity_in implied → resolved.unless_meant x (resolved.expression_nodes x) ≤ 0
+meant_implied_size None x h = omega (arith, ap (λ y. resolved.unless_meant y (resolved.expression_nodes y)) h)
+meant_implied_size (Some v) x h = omega (arith, ap (λ y. resolved.unless_meant y (resolved.expression_nodes y)) h)
+
+-- what is named, where the entity of an attribute, or of a set, has at most n nodes
+named_size : (m : Meaning) (n : ℕ) (x : Expression) (IsIt : Option Variable → Expression → Type 0) → ((implied : Variable) (y : Expression) → IsIt (Some implied) y → resolved.unless_plain y (resolved.expression_nodes y) ≤ n) → ((implied : Option Variable) (y : Expression) → IsIt implied y → resolved.unless_meant y (resolved.expression_nodes y) ≤ n) → IsNamed m IsIt x → resolved.expression_nodes x ≤ 1 + n
+named_size (meanings.Variable v) n x IsIt few meant h = omega (arith, ap resolved.expression_nodes h)
+named_size (meanings.Count class k) n x IsIt few meant h = omega (arith, ap resolved.expression_nodes h)
+named_size (meanings.Attribute class field implied) n (Attribute' k f b x) IsIt few meant h = omega (arith, few implied x h.2)
+named_size (meanings.Attribute class field implied) n _ IsIt few meant h = absurd h
+named_size (meanings.Derived derived set implied) n (Derived' d k b x) IsIt few meant h = omega (arith, meant implied x h.2)
+named_size (meanings.Derived derived set implied) n _ IsIt few meant h = absurd h
 
 module _ (c : Context) where
   mutual
@@ -66,9 +85,9 @@ module _ (c : Context) where
     expression_size (number z) (Constant v) h = omega arith
     expression_size (text t) (Constant v) h = omega arith
     expression_size (named designator no_expression) x h =
-        named_size (meaning_of c designator) 0 x (λ implied y. ResolvesEntity c implied no_expression y) (λ implied y k. implied_size implied y k) h
+        named_size (meaning_of c designator) 0 x (λ implied y. ResolvesEntity c implied no_expression y) (λ implied y k. implied_size implied y k) (λ implied y k. meant_implied_size implied y k) h
     expression_size (named designator (and_expression e es)) x h =
-        omega (arith, named_size (meaning_of c designator) (tree.expression_nodes e) x (λ implied y. ResolvesEntity c implied (and_expression e es) y) (λ implied y k. omega (arith, plain_size y (resolved.expression_nodes y), expression_size e y k)) h)
+        omega (arith, named_size (meaning_of c designator) (tree.expression_nodes e) x (λ implied y. ResolvesEntity c implied (and_expression e es) y) (λ implied y k. omega (arith, plain_size y (resolved.expression_nodes y), expression_size e y k)) (λ implied y k. omega (arith, meant_size y (resolved.expression_nodes y), expression_size e y k)) h)
     expression_size (call Abs arguments) x h = one_size arguments x h
     expression_size (call Div arguments) x h = two_size _ arguments x h
     expression_size (call Mod arguments) x h = two_size _ arguments x h
@@ -113,9 +132,16 @@ module _ (c : Context) where
     terms_size (and_term sign e es) (more_of-Expression-Sum-1-2 t x xs) h = omega (arith, expression_size e x h.1, terms_size es xs h.2)
     terms_size _ _ h = absurd h
 
-  entity_size : (implied : Variable) (es : ExpressionRow) (x : Expression) → ResolvesEntity c implied es x → resolved.unless_plain x (resolved.expression_nodes x) ≤ tree.row_nodes es
+  entity_size : (implied : Variable) (es : ExpressionRow) (x : Expression) → ResolvesEntity c (Some implied) es x → resolved.unless_plain x (resolved.expression_nodes x) ≤ tree.row_nodes es
   entity_size implied no_expression x h = implied_size implied x h
   entity_size implied (and_expression e es) x h = omega (arith, plain_size x (resolved.expression_nodes x), expression_size e x h)
+
+  owner_of_size : (implied : Option Variable) (es : ExpressionRow) (x : Expression) → ResolvesEntity c implied es x → resolved.unless_meant x (resolved.expression_nodes x) ≤ tree.row_nodes es
+  owner_of_size implied no_expression x h = meant_implied_size implied x h
+  owner_of_size implied (and_expression e es) x h = omega (arith, meant_size x (resolved.expression_nodes x), expression_size e x h)
+
+  owner_size : (set : NamedTree) (x : Expression) → IsOwner c set x → resolved.set_nodes x ≤ tree.named_nodes set
+  owner_size set x h = omega (arith, owner_of_size (owner_implied c set.designator) set.subscripts x h)
 
   all_size : (ts : List ExpressionTree) (xs : List Expression) → ResolveAll c ts xs → resolved.expressions_nodes xs ≤ sum_by tree.expression_nodes ts
   all_size [] [] h = omega arith
@@ -129,9 +155,11 @@ module _ (c : Context) where
 
   test_size : (t : TestTree) (x : Test) → ResolvesTest c t x → resolved.test_nodes x ≤ tree.test_nodes t
   test_size (compare left relation right) (Compare x r y) h = omega (arith, expression_size left x h.0, expression_size right y h.2)
-  test_size (compare left relation right) (DataEnded n) h = absurd h
-  test_size (empty set negated) x h = omega (arith, ended_size x negated h)
-  test_size (member e set negated) x h = omega (arith, ended_size x negated h)
+  test_size (compare left relation right) _ h = absurd h
+  test_size (empty set negated) (Empty n k owner) h = omega (arith, owner_size set owner h.2)
+  test_size (empty set negated) _ h = absurd h
+  test_size (member e set negated) (Member n k x owner) h = omega (arith, expression_size e x h.2, owner_size set owner h.3)
+  test_size (member e set negated) _ h = absurd h
   test_size (data_ended negated) x h = ended_size x negated h
 
   tests_size : (ts : List TestTree) (xs : List Test) → Each (ResolvesTest c) ts xs → resolved.tests_nodes xs ≤ sum_by tree.test_nodes ts
@@ -185,6 +213,26 @@ module _ (c : Context) where
   class_range_size class called r h =
       omega (arith, ap (λ e. resolved.ends_nodes e r.limit) h.first, ap (resolved.ends_nodes (Constant (Whole (pos 1)))) h.limit, ap resolved.step_nodes h.step_is)
 
+  start_size : (t : StartTree) (x : Start) → ResolvesStart c t x → resolved.start_nodes x ≤ tree.start_nodes t
+  start_size from_end x h = omega (arith, ap resolved.start_nodes h)
+  start_size (from_member e) (starts.From x) h = expression_size e x h
+  start_size (from_member e) _ h = absurd h
+  start_size (after_member e) (starts.After x) h = expression_size e x h
+  start_size (after_member e) _ h = absurd h
+
+  members_size : (variable : NameBytes) (set : NamedTree) (start : StartTree) (reverse : Bool) (m : Members) → ResolvesMembers c variable set start reverse m → resolved.members_nodes m ≤ 1 + tree.named_nodes set + tree.start_nodes start
+  members_size variable set start reverse m h = omega (arith, owner_size set m.owner h.owner_is, start_size start m.start h.start_is)
+
+  head_size : (t : HeadTree) (x : Head) → GoesOver c t (Some x) → resolved.head_nodes x + sum_by tree.phrase_nodes (phrases_of t) ≤ tree.head_nodes t
+  head_size (over_range variable from to step them) (heads.Numbers r) h = omega (arith, range_size variable from to step r h)
+  head_size (over_class class called them) (heads.Numbers r) h = omega (arith, class_range_size class called r h)
+  head_size (over_members variable set start reverse them) (heads.Members m) h = omega (arith, members_size variable set start reverse m h)
+  head_size _ _ h = absurd h
+
+  guarded_size : (t : HeadTree) (gs : List Guard) → GoesOver c t None → Each (ResolvesGuard c) (guards_of t) gs → resolved.guards_nodes gs ≤ tree.head_nodes t
+  guarded_size (guarded them) gs g h = guards_size them gs h
+  guarded_size _ gs g h = absurd g
+
   -- ---- targets
 
   place_of_size : (m : Meaning) (es : ExpressionRow) (x : Place) → IsPlaceOf c m es x → resolved.place_nodes x ≤ 1 + tree.row_nodes es
@@ -192,6 +240,7 @@ module _ (c : Context) where
   place_of_size (meanings.Count class n) es x h = omega (arith, ap resolved.place_nodes h)
   place_of_size (meanings.Attribute class field implied) es (places.Attribute k f x) h = omega (arith, entity_size implied es x h.2)
   place_of_size (meanings.Attribute class field implied) es _ h = absurd h
+  place_of_size (meanings.Derived derived set implied) es x h = omega (arith, ap resolved.place_nodes h)
 
   place_size : (t : NamedTree) (x : Place) → IsPlace c t x → resolved.place_nodes x ≤ tree.named_nodes t
   place_size t x h = place_of_size (meaning_of c t.designator) t.subscripts x h
@@ -219,6 +268,15 @@ module _ (c : Context) where
   counted_size (k ∷ ks) (x ∷ xs) h = omega (arith, counted_size ks xs h.1)
   counted_size _ _ h = absurd h
 
+  position_size : (t : PositionTree) (x : Position) → ResolvesPosition c t x → resolved.position_nodes x ≤ tree.position_nodes t
+  position_size by_discipline x h = omega (arith, ap resolved.position_nodes h)
+  position_size at_first x h = omega (arith, ap resolved.position_nodes h)
+  position_size at_last x h = omega (arith, ap resolved.position_nodes h)
+  position_size (before e) (positions.Before x) h = expression_size e x h
+  position_size (before e) _ h = absurd h
+  position_size (after e) (positions.After x) h = expression_size e x h
+  position_size (after e) _ h = absurd h
+
   -- ---- statements
 
   mutual
@@ -231,18 +289,17 @@ module _ (c : Context) where
     statement_size (stop_statement line) x h = omega (arith, ap resolved.statement_nodes h)
     statement_size (read_statement line targets) (Read l ts) h = omega (arith, targets_size targets ts.items h.1)
     statement_size (if_statement line condition first second) (If' l x p a q b) h = omega (arith, condition_size condition x h.1, row_size first a h.2, row_size second b h.3)
-    statement_size (loop_statement line (over_range variable from to step them) body) (For' l r ps p b) h = omega (arith, range_size variable from to step r h.1, phrases_size them ps.items h.2, row_size body b h.3)
-    statement_size (loop_statement line (guarded them) body) (While' l gs p b) h = omega (arith, guards_size them gs.items h.1, row_size body b h.2)
-    statement_size (find_statement line (over_range variable from to step them)) (Find' l r ps p a q b) h = omega (arith, range_size variable from to step r h.1, phrases_size them ps.items h.2, row_size no_statement a h.3, row_size no_statement b h.4)
-    statement_size (find_if_statement line (over_range variable from to step them) outcomes.Found first second) (Find' l r ps p a q b) h = omega (arith, range_size variable from to step r h.1, phrases_size them ps.items h.2, row_size first a h.3, row_size second b h.4)
-    statement_size (find_if_statement line (over_range variable from to step them) outcomes.None first second) (Find' l r ps p a q b) h = omega (arith, range_size variable from to step r h.1, phrases_size them ps.items h.2, row_size second a h.3, row_size first b h.4)
-    statement_size (loop_statement line (over_class class called them) body) (For' l r ps p b) h = omega (arith, class_range_size class called r h.1, phrases_size them ps.items h.2, row_size body b h.3)
-    statement_size (find_statement line (over_class class called them)) (Find' l r ps p a q b) h = omega (arith, class_range_size class called r h.1, phrases_size them ps.items h.2, row_size no_statement a h.3, row_size no_statement b h.4)
-    statement_size (find_if_statement line (over_class class called them) outcomes.Found first second) (Find' l r ps p a q b) h = omega (arith, class_range_size class called r h.1, phrases_size them ps.items h.2, row_size first a h.3, row_size second b h.4)
-    statement_size (find_if_statement line (over_class class called them) outcomes.None first second) (Find' l r ps p a q b) h = omega (arith, class_range_size class called r h.1, phrases_size them ps.items h.2, row_size second a h.3, row_size first b h.4)
+    statement_size (loop_statement line t body) (While' l gs p b) h = omega (arith, guarded_size t gs.items h.1 h.2, row_size body b h.3)
+    statement_size (loop_statement line t body) (For' l x ps p b) h = omega (arith, head_size t x h.1, phrases_size (phrases_of t) ps.items h.2, row_size body b h.3)
+    statement_size (find_statement line t) (Find' l x ps p a q b) h = omega (arith, head_size t x h.1, phrases_size (phrases_of t) ps.items h.2, row_size no_statement a h.3, row_size no_statement b h.4)
+    statement_size (find_if_statement line t outcomes.Found first second) (Find' l x ps p a q b) h = omega (arith, head_size t x h.1, phrases_size (phrases_of t) ps.items h.2, row_size first a h.3, row_size second b h.4)
+    statement_size (find_if_statement line t outcomes.None first second) (Find' l x ps p a q b) h = omega (arith, head_size t x h.1, phrases_size (phrases_of t) ps.items h.2, row_size second a h.3, row_size first b h.4)
     statement_size (create_statement line class called) (Create l k x) h = omega (arith, new_size class called x h.2)
     statement_size (create_every line classes) (CreateEvery l ks) h = omega (arith, counted_size classes ks.items h.1)
     statement_size (destroy_statement line class called) (Destroy l k x) h = omega (arith, named_entity_size class called x h.2)
+    statement_size (file_statement line e position set) (File l k x at owner) h = omega (arith, expression_size e x h.2, position_size position at h.3, owner_size set owner h.4)
+    statement_size (remove_end line end target set) (RemoveEnd l k n x owner) h = omega (arith, place_size target x h.3, owner_size set owner h.4)
+    statement_size (remove_statement line e set) (Remove l k x owner) h = omega (arith, expression_size e x h.2, owner_size set owner h.3)
     statement_size (print_statement line items pictures) (Print l es ps) h = omega (arith, all_size items es.items h.1, ap length h.2, length-map ps.items (λ (p : Vec ℕ Global). p.items))
     statement_size (skip_statement line count) (Skip l x) h = omega (arith, expression_size count x h.1)
     statement_size t x h = omega (arith, ap resolved.statement_nodes h.1)

@@ -1,5 +1,5 @@
 -- What a tree is once each name in it is replaced by what it stands for.
-use Rattle.std.specs.Prelude.{◌≡◌, pos, false, List, [], ◌∷◌, map, Option, Some, None}
+use Rattle.std.specs.Prelude.{◌≡◌, pos, false, Bool, List, [], ◌∷◌, map, Option, Some, None}
 use Rattle.std.specs.List.{find}
 use Rattle.ss_base.specs.declared.layout.Mode.{Mode}
 use Rattle.ss_base.specs.declared.value.Value.TheVariants.{Whole, Text}
@@ -13,7 +13,9 @@ use Rattle.ss_tree.specs.declared.head.PhraseKind.TheVariants as phrases
 use Rattle.ss_tree.specs.declared.head.GuardKind.{GuardKind as ParsedGuardKind}
 use Rattle.ss_tree.specs.declared.head.GuardKind.TheVariants as guards
 use Rattle.ss_tree.specs.declared.statement.FindOutcome.TheVariants as outcomes
-use Rattle.ss_tree.specs.Tree.{ExpressionTree, number, text, named, call, parenthesised, product, signed, sum, ExpressionRow, no_expression, and_expression, TermRow, no_term, and_term, NamedTree, TestTree, compare, empty, member, data_ended, ConditionTree, PhraseTree, GuardTree, over_range, over_class, guarded, StatementTree, let_statement, add_statement, subtract_statement, call_statement, return_statement, stop_statement, read_statement, if_statement, loop_statement, find_statement, find_if_statement, create_statement, create_every, destroy_statement, print_statement, skip_statement, StatementRow, no_statement, and_statement, SectionTree, ProgramTree}
+use Rattle.ss_tree.specs.declared.statement.SetEnd.{SetEnd}
+use Rattle.ss_tree.specs.declared.statement.SetEnd.TheVariants as set_ends
+use Rattle.ss_tree.specs.Tree.{ExpressionTree, number, text, named, call, parenthesised, product, signed, sum, ExpressionRow, no_expression, and_expression, TermRow, no_term, and_term, NamedTree, TestTree, compare, empty, member, data_ended, ConditionTree, PhraseTree, GuardTree, StartTree, from_end, from_member, after_member, HeadTree, over_range, over_members, over_class, guarded, PositionTree, by_discipline, at_first, at_last, before, after, StatementTree, let_statement, add_statement, subtract_statement, call_statement, return_statement, stop_statement, read_statement, if_statement, loop_statement, find_statement, find_if_statement, create_statement, create_every, destroy_statement, file_statement, remove_end, remove_statement, print_statement, skip_statement, StatementRow, no_statement, and_statement, SectionTree, ProgramTree}
 use Rattle.ss_resolved.specs.Lines.{lines_of}
 use Rattle.ss_resolved.specs.declared.resolved.Sign.{Sign}
 use Rattle.ss_resolved.specs.declared.resolved.Sign.TheVariants.{Plus, Minus}
@@ -21,11 +23,11 @@ use Rattle.ss_resolved.specs.declared.resolved.Function.{Function}
 use Rattle.ss_resolved.specs.declared.resolved.Function.TheVariants.{Quotient, Remainder, Least, Greatest}
 use Rattle.ss_resolved.specs.declared.resolved.Variable.{Variable}
 use Rattle.ss_resolved.specs.declared.resolved.Variable.TheVariants.{Global}
-use Rattle.ss_resolved.specs.declared.resolved.Expression.{Expression, Constant, Fetch, Signed', Sum', Product', Applied', Absolute', Attribute', Made, Row_of-Expression, end_of-Expression, more_of-Expression, Row_of-Expression-Sum-1-2, end_of-Expression-Sum-1-2, more_of-Expression-Sum-1-2}
+use Rattle.ss_resolved.specs.declared.resolved.Expression.{Expression, Constant, Fetch, Signed', Sum', Product', Applied', Absolute', Attribute', Made, Derived', Row_of-Expression, end_of-Expression, more_of-Expression, Row_of-Expression-Sum-1-2, end_of-Expression-Sum-1-2, more_of-Expression-Sum-1-2}
 use Rattle.ss_resolved.specs.declared.resolved.Relation.{Relation}
 use Rattle.ss_resolved.specs.declared.resolved.Relation.TheVariants as relations
 use Rattle.ss_resolved.specs.declared.resolved.Test.{Test}
-use Rattle.ss_resolved.specs.declared.resolved.Test.TheVariants.{Compare, DataEnded}
+use Rattle.ss_resolved.specs.declared.resolved.Test.TheVariants.{Compare, DataEnded, Empty, Member}
 use Rattle.ss_resolved.specs.declared.resolved.Conjunction.{Conjunction}
 use Rattle.ss_resolved.specs.declared.resolved.Condition.{Condition}
 use Rattle.ss_resolved.specs.declared.resolved.GuardKind.{GuardKind}
@@ -35,15 +37,25 @@ use Rattle.ss_resolved.specs.declared.resolved.PhraseKind.{PhraseKind}
 use Rattle.ss_resolved.specs.declared.resolved.PhraseKind.TheVariants as phrase_kinds
 use Rattle.ss_resolved.specs.declared.resolved.Phrase.{Phrase}
 use Rattle.ss_resolved.specs.declared.resolved.Range.{Range}
+use Rattle.ss_resolved.specs.declared.resolved.Start.{Start}
+use Rattle.ss_resolved.specs.declared.resolved.Start.TheVariants as starts
+use Rattle.ss_resolved.specs.declared.resolved.Members.{Members}
+use Rattle.ss_resolved.specs.declared.resolved.Head.{Head}
+use Rattle.ss_resolved.specs.declared.resolved.Head.TheVariants as heads
+use Rattle.ss_resolved.specs.declared.resolved.End.{End}
+use Rattle.ss_resolved.specs.declared.resolved.End.TheVariants as ends
+use Rattle.ss_resolved.specs.declared.resolved.Position.{Position}
+use Rattle.ss_resolved.specs.declared.resolved.Position.TheVariants as positions
 use Rattle.ss_resolved.specs.declared.resolved.Place.{Place}
 use Rattle.ss_resolved.specs.declared.resolved.Place.TheVariants as places
 use Rattle.ss_resolved.specs.declared.resolved.Counted.{Counted}
 use Rattle.ss_resolved.specs.declared.resolved.Target.{Target}
-use Rattle.ss_resolved.specs.declared.resolved.Statement.{Statement, Let, Change, Print, If', While', For', Find', Call, Return, Stop, Read, Skip, Create, CreateEvery, Destroy, Row_of-Statement, end_of-Statement, more_of-Statement}
+use Rattle.ss_resolved.specs.declared.resolved.Statement.{Statement, Let, Change, Print, If', While', For', Find', Call, Return, Stop, Read, Skip, Create, CreateEvery, Destroy, File, RemoveEnd, Remove, Row_of-Statement, end_of-Statement, more_of-Statement}
 use Rattle.ss_resolved.specs.declared.resolved.Section.{Section}
 use Rattle.ss_resolved.specs.declared.resolved.Resolved.{Resolved}
 use Rattle.ss_tables.specs.declared.kind.Kind.{Kind}
 use Rattle.ss_tables.specs.Declarations.{NameBytes, kind_of, globals}
+use Rattle.ss_tables.specs.Disciplines.{discipline_said, disciplines}
 use Rattle.ss_tables.specs.Layouts.{shape_of, classes_laid, sets_laid}
 use Rattle.ss_tables.specs.Modes.{usual_mode}
 use Rattle.ss_tables.specs.Sayings.{sayings}
@@ -52,7 +64,7 @@ use Rattle.ss_rules.specs.Scopes.{is_routine_section, sections_of, mode_of_kind}
 use Rattle.ss_rules.specs.Rules.{target_mode, is_main_section}
 use Rattle.ss_check.specs.declared.meanings.Meaning.{Meaning}
 use Rattle.ss_check.specs.declared.meanings.Meaning.TheVariants as meanings
-use Rattle.ss_check.specs.Contexts.{Context, context_of, class_of, count_of, variable_named, name_called, meaning_of}
+use Rattle.ss_check.specs.Contexts.{Context, context_of, class_of, count_of, variable_named, name_called, meaning_of, set_named, owner_implied}
 
 -- ---- words that stand for themselves
 
@@ -78,6 +90,23 @@ abbrev pub guard_kind_of : ParsedGuardKind → GuardKind
 guard_kind_of guards.While = guard_kinds.While
 guard_kind_of guards.Until = guard_kinds.Until
 
+abbrev pub end_of : SetEnd → End
+end_of set_ends.First = ends.First
+end_of set_ends.Last = ends.Last
+
+-- ---- heads of loops
+
+-- the phrases of a FOR, and the conditions of a loop that begins with WHILE or UNTIL
+abbrev pub phrases_of : HeadTree → List PhraseTree
+phrases_of (over_range variable from to step them) = them
+phrases_of (over_members variable set start reverse them) = them
+phrases_of (over_class class called them) = them
+phrases_of (guarded them) = []
+
+abbrev pub guards_of : HeadTree → List GuardTree
+guards_of (guarded them) = them
+guards_of _ = []
+
 -- ---- expressions
 
 -- what a function with another number of arguments comes to: no accepted program has one
@@ -91,12 +120,19 @@ Each Stands [] [] = Unit {0}
 Each Stands (x ∷ xs) (y ∷ ys) = Stands x y × Each Stands xs ys
 Each Stands _ _ = ⊥
 
--- the value of what is named, where this tells the entity of an attribute by the variable that is implied
-abbrev pub IsNamed : Meaning → (Variable → Expression → Type 0) → Expression → Type 0
+-- the entity in a variable; where there is none it is 0, which stands for THE SYSTEM
+abbrev pub entity_in : Option Variable → Expression
+entity_in None = Constant (Whole (pos 0))
+entity_in (Some v) = Fetch v
+
+-- the value of what is named, where this tells the entity of an attribute, or of a set, by the variable that is implied
+abbrev pub IsNamed : Meaning → (Option Variable → Expression → Type 0) → Expression → Type 0
 IsNamed (meanings.Variable v) IsEntity x = x ≡ Fetch v
 IsNamed (meanings.Count class n) IsEntity x = x ≡ Fetch (Global n)
-IsNamed (meanings.Attribute class field implied) IsEntity (Attribute' k f b x) = (k ≡ class) × (f ≡ field) × IsEntity implied x
+IsNamed (meanings.Attribute class field implied) IsEntity (Attribute' k f b x) = (k ≡ class) × (f ≡ field) × IsEntity (Some implied) x
 IsNamed (meanings.Attribute class field implied) IsEntity _ = ⊥
+IsNamed (meanings.Derived derived set implied) IsEntity (Derived' d s b x) = (d ≡ derived) × (s ≡ set) × IsEntity implied x
+IsNamed (meanings.Derived derived set implied) IsEntity _ = ⊥
 
 module _ (c : Context) where
   abbrev mutual
@@ -116,9 +152,9 @@ module _ (c : Context) where
     Resolves (sum e further) (Sum' b x h xs) = Resolves e x × ResolveTerms further xs
     Resolves _ _ = ⊥
 
-    -- the entity of an attribute: the subscript, of which no accepted program has two, or else the entity in a variable
-    pub ResolvesEntity : Variable → ExpressionRow → Expression → Type 0
-    ResolvesEntity implied no_expression x = x ≡ Fetch implied
+    -- the entity of what is named: the subscript, of which no accepted program has two, or else the one that is implied
+    pub ResolvesEntity : Option Variable → ExpressionRow → Expression → Type 0
+    ResolvesEntity implied no_expression x = x ≡ entity_in implied
     ResolvesEntity implied (and_expression e es) x = Resolves e x
 
     -- a function of one argument
@@ -154,14 +190,20 @@ module _ (c : Context) where
   abbrev pub ResolveSigned : List (ParsedSign × ExpressionTree) → List (Sign × Expression) → Type 0
   ResolveSigned ts xs = Each ResolvesTerm ts xs
 
+  -- the owner of a set: the subscript, or else the entity that is implied
+  abbrev pub IsOwner : NamedTree → Expression → Type 0
+  IsOwner set x = ResolvesEntity (owner_implied c set.designator) set.subscripts x
+
   -- ---- conditions
 
-  -- tests on sets are not served
   abbrev pub ResolvesTest : TestTree → Test → Type 0
   ResolvesTest (compare left relation right) (Compare x r y) = Resolves left x × (r ≡ relation_of relation) × Resolves right y
-  ResolvesTest (compare left relation right) (DataEnded n) = ⊥
-  ResolvesTest (empty set negated) t = t ≡ DataEnded negated
-  ResolvesTest (member e set negated) t = t ≡ DataEnded negated
+  ResolvesTest (compare left relation right) _ = ⊥
+  ResolvesTest (empty set negated) (Empty n s owner) = (n ≡ negated) × (s ≡ set_named c set.designator) × IsOwner set owner
+  ResolvesTest (empty set negated) _ = ⊥
+  ResolvesTest (member e set negated) (Member n s x owner) =
+      (n ≡ negated) × (s ≡ set_named c set.designator) × Resolves e x × IsOwner set owner
+  ResolvesTest (member e set negated) _ = ⊥
   ResolvesTest (data_ended negated) t = t ≡ DataEnded negated
 
   abbrev pub ResolvesConjunction : List TestTree → Conjunction → Type 0
@@ -196,15 +238,39 @@ module _ (c : Context) where
     pub limit : r.limit ≡ Made (class_of c class)
     pub step_is : r.step ≡ None
 
+  abbrev pub ResolvesStart : StartTree → Start → Type 0
+  ResolvesStart from_end x = x ≡ starts.End
+  ResolvesStart (from_member e) (starts.From x) = Resolves e x
+  ResolvesStart (from_member e) _ = ⊥
+  ResolvesStart (after_member e) (starts.After x) = Resolves e x
+  ResolvesStart (after_member e) _ = ⊥
+
+  -- the members of a set, from the first on or, in reverse, from the last backwards
+  pub record ResolvesMembers (variable : NameBytes) (set : NamedTree) (start : StartTree) (reverse : Bool) (m : Members) : Type 0 where
+    pub variable_is : m.variable ≡ variable_named c variable
+    pub set_is : m.set ≡ set_named c set.designator
+    pub owner_is : IsOwner set m.owner
+    pub start_is : ResolvesStart start m.start
+    pub reverse_is : m.reverse ≡ reverse
+
+  -- what a FOR goes over; a loop that begins with WHILE or UNTIL goes over nothing
+  abbrev pub GoesOver : HeadTree → Option Head → Type 0
+  GoesOver (over_range variable from to step them) (Some (heads.Numbers r)) = ResolvesRange variable from to step r
+  GoesOver (over_class class called them) (Some (heads.Numbers r)) = RangesOver class called r
+  GoesOver (over_members variable set start reverse them) (Some (heads.Members m)) = ResolvesMembers variable set start reverse m
+  GoesOver (guarded them) None = Unit {0}
+  GoesOver _ _ = ⊥
+
   -- ---- targets
 
-  -- what is named, with its subscripts, as a target
+  -- what is named, with its subscripts, as a target; no accepted program has a derived name as one
   abbrev pub IsPlaceOf : Meaning → ExpressionRow → Place → Type 0
   IsPlaceOf (meanings.Variable v) subscripts x = x ≡ places.Variable v
   IsPlaceOf (meanings.Count class n) subscripts x = x ≡ places.Count class n
   IsPlaceOf (meanings.Attribute class field implied) subscripts (places.Attribute k f x) =
-      (k ≡ class) × (f ≡ field) × ResolvesEntity implied subscripts x
+      (k ≡ class) × (f ≡ field) × ResolvesEntity (Some implied) subscripts x
   IsPlaceOf (meanings.Attribute class field implied) subscripts _ = ⊥
+  IsPlaceOf (meanings.Derived derived set implied) subscripts x = x ≡ places.Variable (Global 0)
 
   abbrev pub IsPlace : NamedTree → Place → Type 0
   IsPlace n x = IsPlaceOf (meaning_of c n.designator) n.subscripts x
@@ -229,6 +295,17 @@ module _ (c : Context) where
   abbrev pub IsCounted : NameBytes → Counted → Type 0
   IsCounted class x = (x.class ≡ class_of c class) × (x.number ≡ count_of c class)
 
+  -- ---- statements on sets
+
+  abbrev pub ResolvesPosition : PositionTree → Position → Type 0
+  ResolvesPosition by_discipline x = x ≡ positions.ByDiscipline
+  ResolvesPosition at_first x = x ≡ positions.First
+  ResolvesPosition at_last x = x ≡ positions.Last
+  ResolvesPosition (before e) (positions.Before x) = Resolves e x
+  ResolvesPosition (before e) _ = ⊥
+  ResolvesPosition (after e) (positions.After x) = Resolves e x
+  ResolvesPosition (after e) _ = ⊥
+
   -- ---- statements
 
   abbrev mutual
@@ -247,35 +324,30 @@ module _ (c : Context) where
     ResolvesStatement (read_statement line targets) (Read l ts) = (l ≡ line) × Each IsTarget targets ts.items
     ResolvesStatement (if_statement line condition first second) (If' l x h a k b) =
         (l ≡ line) × ResolvesCondition condition x × ResolveRow first a × ResolveRow second b
-    ResolvesStatement (loop_statement line (over_range variable from to step them) body) (For' l r ps h b) =
-        (l ≡ line) × ResolvesRange variable from to step r × Each ResolvesPhrase them ps.items × ResolveRow body b
-    ResolvesStatement (loop_statement line (guarded them) body) (While' l gs h b) =
-        (l ≡ line) × Each ResolvesGuard them gs.items × ResolveRow body b
-    ResolvesStatement (find_statement line (over_range variable from to step them)) (Find' l r ps h a k b) =
-        (l ≡ line) × ResolvesRange variable from to step r × Each ResolvesPhrase them ps.items ×
+    ResolvesStatement (loop_statement line head body) (While' l gs h b) =
+        (l ≡ line) × GoesOver head None × Each ResolvesGuard (guards_of head) gs.items × ResolveRow body b
+    ResolvesStatement (loop_statement line head body) (For' l over ps h b) =
+        (l ≡ line) × GoesOver head (Some over) × Each ResolvesPhrase (phrases_of head) ps.items × ResolveRow body b
+    ResolvesStatement (find_statement line head) (Find' l over ps h a k b) =
+        (l ≡ line) × GoesOver head (Some over) × Each ResolvesPhrase (phrases_of head) ps.items ×
         ResolveRow no_statement a × ResolveRow no_statement b
-    ResolvesStatement (find_if_statement line (over_range variable from to step them) outcomes.Found first second) (Find' l r ps h a k b) =
-        (l ≡ line) × ResolvesRange variable from to step r × Each ResolvesPhrase them ps.items ×
+    ResolvesStatement (find_if_statement line head outcomes.Found first second) (Find' l over ps h a k b) =
+        (l ≡ line) × GoesOver head (Some over) × Each ResolvesPhrase (phrases_of head) ps.items ×
         ResolveRow first a × ResolveRow second b
-    ResolvesStatement (find_if_statement line (over_range variable from to step them) outcomes.None first second) (Find' l r ps h a k b) =
-        (l ≡ line) × ResolvesRange variable from to step r × Each ResolvesPhrase them ps.items ×
-        ResolveRow second a × ResolveRow first b
-    ResolvesStatement (loop_statement line (over_class class called them) body) (For' l r ps h b) =
-        (l ≡ line) × RangesOver class called r × Each ResolvesPhrase them ps.items × ResolveRow body b
-    ResolvesStatement (find_statement line (over_class class called them)) (Find' l r ps h a k b) =
-        (l ≡ line) × RangesOver class called r × Each ResolvesPhrase them ps.items ×
-        ResolveRow no_statement a × ResolveRow no_statement b
-    ResolvesStatement (find_if_statement line (over_class class called them) outcomes.Found first second) (Find' l r ps h a k b) =
-        (l ≡ line) × RangesOver class called r × Each ResolvesPhrase them ps.items ×
-        ResolveRow first a × ResolveRow second b
-    ResolvesStatement (find_if_statement line (over_class class called them) outcomes.None first second) (Find' l r ps h a k b) =
-        (l ≡ line) × RangesOver class called r × Each ResolvesPhrase them ps.items ×
+    ResolvesStatement (find_if_statement line head outcomes.None first second) (Find' l over ps h a k b) =
+        (l ≡ line) × GoesOver head (Some over) × Each ResolvesPhrase (phrases_of head) ps.items ×
         ResolveRow second a × ResolveRow first b
     ResolvesStatement (create_statement line class called) (Create l k x) =
         (l ≡ line) × (k ≡ class_of c class) × TakesNew class called x
     ResolvesStatement (create_every line classes) (CreateEvery l ks) = (l ≡ line) × Each IsCounted classes ks.items
     ResolvesStatement (destroy_statement line class called) (Destroy l k x) =
         (l ≡ line) × (k ≡ class_of c class) × IsEntity class called x
+    ResolvesStatement (file_statement line e position set) (File l s x at owner) =
+        (l ≡ line) × (s ≡ set_named c set.designator) × Resolves e x × ResolvesPosition position at × IsOwner set owner
+    ResolvesStatement (remove_end line end target set) (RemoveEnd l s n x owner) =
+        (l ≡ line) × (s ≡ set_named c set.designator) × (n ≡ end_of end) × IsPlace target x × IsOwner set owner
+    ResolvesStatement (remove_statement line e set) (Remove l s x owner) =
+        (l ≡ line) × (s ≡ set_named c set.designator) × Resolves e x × IsOwner set owner
     ResolvesStatement (print_statement line items pictures) (Print l es ps) =
         (l ≡ line) × ResolveAll items es.items × (lines_of ps.items ≡ pictures)
     ResolvesStatement (skip_statement line count) (Skip l x) = (l ≡ line) × Resolves count x
@@ -309,11 +381,12 @@ ResolvesMain context sections x = ResolvesFound context (find is_main_section se
 abbrev pub mode_of_global : (NameBytes → Option Kind) → NameBytes → Mode
 mode_of_global kind name = mode_of_kind (kind name)
 
--- the program with each name replaced by what it stands for: its classes and sets, the modes of its global variables and
--- its routines, each in the order of their numbers, and MAIN
+-- the program with each name replaced by what it stands for: its classes, its sets and how each is ordered, the modes of
+-- its global variables and its routines, each in the order of their numbers, and MAIN
 pub record ResolvesProgram (p : ProgramTree) (r : Resolved) : Type 0 where
   pub classes_are : map shape_of r.layout.classes.items ≡ classes_laid (kind_of p) (usual_mode p.preamble) (sayings p)
   pub sets_are : r.layout.sets.items ≡ sets_laid (sayings p)
+  pub disciplines_are : map discipline_said r.disciplines.items ≡ disciplines p
   pub globals_are : r.globals.items ≡ map (mode_of_global (kind_of p)) (globals p)
   pub routines_are : ResolveRoutines (context_of p) p.sections r.routines.items
   pub main_is : ResolvesMain (context_of p) p.sections r.main

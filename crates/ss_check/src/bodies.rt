@@ -7,6 +7,7 @@ ghost use Rattle.ss_check.specs.Resolving.{Each, ResolvesStatement};
 
 use crate::entities::{resolve_create, resolve_create_every, resolve_destroy};
 use crate::nested::{resolve_find_if, resolve_if, resolve_loop};
+use crate::sets::{resolve_file, resolve_remove, resolve_remove_end};
 use crate::statements::{
     resolve_add, resolve_find, resolve_let, resolve_print, resolve_read, resolve_routine_call,
     resolve_skip, resolve_subtract,
@@ -97,10 +98,22 @@ fn resolve_statement(
             pictures,
         } => resolve_print(alloc, names, locals, *line, items, pictures),
         Statement::Skip { line, count } => resolve_skip(alloc, names, locals, *line, count),
+        Statement::File {
+            line,
+            member,
+            position,
+            set,
+        } => resolve_file(alloc, names, locals, *line, member, position, set),
+        Statement::RemoveEnd {
+            line,
+            end,
+            target,
+            set,
+        } => resolve_remove_end(alloc, names, locals, *line, *end, target, set),
+        Statement::Remove { line, member, set } => {
+            resolve_remove(alloc, names, locals, *line, member, set)
+        }
         Statement::StartSimulation { .. }
-        | Statement::File { .. }
-        | Statement::RemoveEnd { .. }
-        | Statement::Remove { .. }
         | Statement::ScheduleNew { .. }
         | Statement::Schedule { .. }
         | Statement::Cancel { .. }

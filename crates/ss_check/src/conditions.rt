@@ -1,27 +1,23 @@
-//! Conditions and heads of loops in which each name is replaced by what it stands for.
+//! Conditions in which each name is replaced by what it stands for.
 
 ghost use Rattle.std.specs.Prelude.{◌≡◌, map, IfOk};
-ghost use Rattle.ss_tree.specs.View.{view_condition, view_conjunction, view_expression, view_guard, view_option, view_phrase, view_test};
+ghost use Rattle.ss_tree.specs.View.{view_condition, view_conjunction, view_guard, view_phrase, view_test};
 ghost use Rattle.ss_check.specs.Seen.{context_seen};
-ghost use Rattle.ss_check.specs.Resolving.{Each, ResolvesCondition, ResolvesConjunction, ResolvesGuard, ResolvesOption, ResolvesPhrase, ResolvesRange, RangesOver, ResolvesTest};
+ghost use Rattle.ss_check.specs.Resolving.{Each, ResolvesCondition, ResolvesConjunction, ResolvesGuard, ResolvesPhrase, ResolvesTest};
 
-use crate::expressions::resolve_expression;
-use crate::meanings::{class_of, name_called};
+use crate::expressions::{resolve_expression, resolve_owner};
+use crate::meanings::set_named;
 use crate::words::{guard_kind_of, phrase_kind_of, relation_of};
-use ss_base::Value;
-use ss_lex::Name;
 use ss_resolved::resolved::{
-    Condition as ResolvedCondition, Conjunction as ResolvedConjunction,
-    Expression as ResolvedExpression, Guard as ResolvedGuard, Phrase as ResolvedPhrase, Range,
-    Test as ResolvedTest,
+    Condition as ResolvedCondition, Conjunction as ResolvedConjunction, Guard as ResolvedGuard,
+    Phrase as ResolvedPhrase, Test as ResolvedTest,
 };
-use ss_rules::scope::{Locals, Names, variable_of};
+use ss_rules::scope::{Locals, Names};
 use ss_tree::condition::{Condition, Conjunction, Test};
-use ss_tree::expression::Expression;
 use ss_tree::head::{Guard, Phrase};
 use std::alloc::{AllocError, Global};
 
-// A test. Those on sets are not served.
+// A test.
 fn resolve_test(
     alloc: Global,
     names: &Names,
@@ -44,8 +40,30 @@ fn resolve_test(
                 right,
             })
         }
-        Test::Empty { negated, .. } => Ok(ResolvedTest::DataEnded { negated: *negated }),
-        Test::Member { negated, .. } => Ok(ResolvedTest::DataEnded { negated: *negated }),
+        Test::Empty { set, negated } => {
+            let number = set_named(names, locals, set.designator)?;
+            let owner = resolve_owner(alloc, names, locals, set)?;
+            Ok(ResolvedTest::Empty {
+                negated: *negated,
+                set: number,
+                owner,
+            })
+        }
+        Test::Member {
+            member,
+            set,
+            negated,
+        } => {
+            let number = set_named(names, locals, set.designator)?;
+            let member = resolve_expression(alloc, names, locals, member)?;
+            let owner = resolve_owner(alloc, names, locals, set)?;
+            Ok(ResolvedTest::Member {
+                negated: *negated,
+                set: number,
+                member,
+                owner,
+            })
+        }
         Test::DataEnded { negated } => Ok(ResolvedTest::DataEnded { negated: *negated }),
     }
 }
@@ -162,67 +180,4 @@ pub(crate) fn resolve_guards(
         resolved.push(one)?;
     }
     Ok(resolved)
-}
-
-// The step of a FOR, where one is written.
-fn resolve_step(
-    alloc: Global,
-    names: &Names,
-    locals: &Locals,
-    step: &Option<Expression>,
-) -> Result<Option<ResolvedExpression>, AllocError>
-    ensures { IfOk result (λ x. ResolvesOption (context_seen names.now locals.now) (view_option view_expression step.now) x) }
-{
-    match step {
-        None => Ok(None),
-        Some(step) => {
-            let step = resolve_expression(alloc, names, locals, step)?;
-            Ok(Some(step))
-        }
-    }
-}
-
-// The numbers that a FOR goes over.
-pub(crate) fn resolve_range(
-    alloc: Global,
-    names: &Names,
-    locals: &Locals,
-    variable: Name,
-    from: &Expression,
-    to: &Expression,
-    step: &Option<Expression>,
-) -> Result<Range, AllocError>
-    ensures { IfOk result (λ x. ResolvesRange (context_seen names.now locals.now) variable (view_expression from.now) (view_expression to.now) (view_option view_expression step.now) x) }
-{
-    let variable = variable_of(names, locals, variable)?;
-    let first = resolve_expression(alloc, names, locals, from)?;
-    let limit = resolve_expression(alloc, names, locals, to)?;
-    let step = resolve_step(alloc, names, locals, step)?;
-    Ok(Range {
-        variable,
-        first,
-        limit,
-        step,
-    })
-}
-
-// The numbers of all entities of a permanent class.
-pub(crate) fn resolve_class(
-    names: &Names,
-    locals: &Locals,
-    class: Name,
-    called: &Option<Name>,
-) -> Result<Range, AllocError>
-    ensures { IfOk result (λ x. RangesOver (context_seen names.now locals.now) class called.now x) }
-{
-    let variable = variable_of(names, locals, name_called(class, called))?;
-    let class = class_of(names, class)?;
-    Ok(Range {
-        variable,
-        first: ResolvedExpression::Constant {
-            value: Value::Whole(1),
-        },
-        limit: ResolvedExpression::Made { class },
-        step: None,
-    })
 }

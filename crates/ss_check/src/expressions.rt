@@ -1,19 +1,19 @@
 //! Expressions in which each name is replaced by what it stands for.
 
 ghost use Rattle.std.specs.Prelude.{◌≡◌, map, IfOk};
-ghost use Rattle.ss_tree.specs.View.{view_expression, view_term};
+ghost use Rattle.ss_tree.specs.View.{view_expression, view_named, view_term};
 ghost use Rattle.ss_tree.specs.Tree.{call, expression_row, named};
 ghost use Rattle.ss_check.specs.Seen.{context_seen};
-ghost use Rattle.ss_check.specs.Resolving.{IsNoCall, Resolves, ResolvesEntity, ResolveAll, ResolveOne, ResolveSigned, ResolveTwo};
+ghost use Rattle.ss_check.specs.Resolving.{IsNoCall, IsOwner, Resolves, entity_in, ResolvesEntity, ResolveAll, ResolveOne, ResolveSigned, ResolveTwo};
 
-use crate::meanings::{Meaning, meaning_of};
+use crate::meanings::{Meaning, meaning_of, owner_implied};
 use crate::words::sign_of;
 use ss_base::Value;
 use ss_resolved::resolved::{
     Expression as Resolved, Function as ResolvedFunction, Sign as ResolvedSign, Variable,
 };
 use ss_rules::scope::{Locals, Names};
-use ss_tree::expression::{Designator, Expression, Function, Term};
+use ss_tree::expression::{Designator, Expression, Function, Named, Term};
 use std::alloc::{AllocError, Global};
 
 // What a function with another number of arguments comes to: no accepted program has one.
@@ -22,6 +22,18 @@ fn no_call() -> Resolved
 {
     Resolved::Constant {
         value: Value::Whole(0),
+    }
+}
+
+// The entity in a variable. Where there is none it is 0, which stands for THE SYSTEM.
+fn entity_in(implied: Option<Variable>) -> Resolved
+    ensures { result ≡ entity_in implied }
+{
+    match implied {
+        Some(variable) => Resolved::Fetch { variable },
+        None => Resolved::Constant {
+            value: Value::Whole(0),
+        },
     }
 }
 
@@ -98,26 +110,35 @@ fn resolve_named(
             field,
             implied,
         } => {
-            let of = resolve_entity(alloc, names, locals, implied, subscripts)?;
+            let of = resolve_entity(alloc, names, locals, Some(implied), subscripts)?;
             let of = Box::new(alloc, of)?;
             Ok(Resolved::Attribute { class, field, of })
+        }
+        Meaning::Derived {
+            derived,
+            set,
+            implied,
+        } => {
+            let of = resolve_entity(alloc, names, locals, implied, subscripts)?;
+            let of = Box::new(alloc, of)?;
+            Ok(Resolved::Derived { derived, set, of })
         }
     }
 }
 
-// The entity of an attribute: the subscript, or else the entity in a variable.
+// The entity of what is named: the subscript, or else the one that is implied.
 #[cycle(resolving)]
 pub(crate) fn resolve_entity(
     alloc: Global,
     names: &Names,
     locals: &Locals,
-    implied: Variable,
+    implied: Option<Variable>,
     subscripts: &[Expression],
 ) -> Result<Resolved, AllocError>
     ensures { IfOk result (λ x. ResolvesEntity (context_seen names.now locals.now) implied (expression_row (map view_expression subscripts.now)) x) }
 {
     match subscripts {
-        [] => Ok(Resolved::Fetch { variable: implied }),
+        [] => Ok(entity_in(implied)),
         [entity, ..] => resolve_expression(alloc, names, locals, entity),
     }
 }
@@ -226,4 +247,17 @@ fn resolve_terms(
         resolved.push((sign_of(term.sign), one))?;
     }
     Ok(resolved)
+}
+
+// The owner of a set: the subscript, or else the entity that is implied.
+pub(crate) fn resolve_owner(
+    alloc: Global,
+    names: &Names,
+    locals: &Locals,
+    set: &Named,
+) -> Result<Resolved, AllocError>
+    ensures { IfOk result (λ x. IsOwner (context_seen names.now locals.now) (view_named set.now) x) }
+{
+    let implied = owner_implied(names, locals, set.designator)?;
+    resolve_entity(alloc, names, locals, implied, &set.subscripts)
 }

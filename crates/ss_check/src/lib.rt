@@ -5,9 +5,11 @@ mod bodies;
 mod conditions;
 mod entities;
 mod expressions;
+mod heads;
 mod meanings;
 mod nested;
 mod program;
+mod sets;
 mod statements;
 mod words;
 

@@ -7,11 +7,10 @@ ghost use Rattle.ss_check.specs.Seen.{context_seen};
 ghost use Rattle.ss_resolved.specs.declared.resolved.Statement.{Find};
 ghost use Rattle.ss_check.specs.Resolving.{Each, ResolvesStatement};
 
-use crate::conditions::{
-    resolve_class, resolve_condition, resolve_guards, resolve_phrases, resolve_range,
-};
+use crate::conditions::{resolve_condition, resolve_guards, resolve_phrases};
+use crate::heads::{guards_of, phrases_of, resolve_head};
 use ss_base::Line;
-use ss_resolved::resolved::{Phrase, Range, Statement as Resolved};
+use ss_resolved::resolved::{Head as ResolvedHead, Phrase, Statement as Resolved};
 use ss_rules::scope::{Locals, Names};
 use ss_tree::condition::Condition;
 use ss_tree::head::Head;
@@ -39,7 +38,7 @@ pub(crate) fn resolve_if(
     })
 }
 
-// A loop. Those over sets are not served.
+// A loop.
 pub(crate) fn resolve_loop(
     alloc: Global,
     names: &Names,
@@ -50,68 +49,46 @@ pub(crate) fn resolve_loop(
 ) -> Result<Resolved, AllocError>
     ensures { IfOk result (λ x. (ts : List StatementTree) → Each (ResolvesStatement (context_seen names.now locals.now)) ts body.items → ResolvesStatement (context_seen names.now locals.now) (loop_statement line (view_head head.now) (statement_row ts)) x) }
 {
-    match head {
-        Head::Range {
-            variable,
-            from,
-            to,
-            step,
-            phrases,
-        } => {
-            let range = resolve_range(alloc, names, locals, *variable, from, to, step)?;
-            let phrases = resolve_phrases(alloc, names, locals, phrases)?;
+    match resolve_head(alloc, names, locals, head)? {
+        Some(over) => {
+            let phrases = resolve_phrases(alloc, names, locals, phrases_of(head))?;
             Ok(Resolved::For {
                 line,
-                range,
+                head: over,
                 phrases,
                 body,
             })
         }
-        Head::Guards { guards } => {
-            let guards = resolve_guards(alloc, names, locals, guards)?;
+        None => {
+            let guards = resolve_guards(alloc, names, locals, guards_of(head))?;
             Ok(Resolved::While { line, guards, body })
         }
-        Head::Class {
-            class,
-            called,
-            phrases,
-        } => {
-            let range = resolve_class(names, locals, *class, called)?;
-            let phrases = resolve_phrases(alloc, names, locals, phrases)?;
-            Ok(Resolved::For {
-                line,
-                range,
-                phrases,
-                body,
-            })
-        }
-        Head::Members { .. } => Ok(Resolved::Return),
     }
 }
 
-// FIND THE FIRST CASE over these numbers and the IF behind it.
+// FIND THE FIRST CASE of such a FOR and the IF behind it.
 fn found_or_none(
     line: Line,
-    range: Range,
+    over: ResolvedHead,
     phrases: Vec<Phrase>,
     outcome: FindOutcome,
     then: Vec<Resolved>,
     otherwise: Vec<Resolved>,
 ) -> Resolved
-    ensures found { outcome ≡ FindOutcome.Found → result ≡ Find line range phrases then otherwise }
-    ensures none { outcome ≡ FindOutcome.None → result ≡ Find line range phrases otherwise then }
+    ensures found { outcome ≡ FindOutcome.Found → result ≡ Find line over phrases then otherwise }
+    ensures none { outcome ≡ FindOutcome.None → result ≡ Find line over phrases otherwise then }
 {
     match outcome {
         FindOutcome::Found => Resolved::Find {
             line,
-            range,
+            head: over,
             phrases,
             found: then,
             none: otherwise,
         },
         FindOutcome::None => Resolved::Find {
             line,
-            range,
+            head: over,
             phrases,
             found: otherwise,
             none: then,
@@ -119,7 +96,7 @@ fn found_or_none(
     }
 }
 
-// FIND THE FIRST CASE and the IF behind it. One of a FOR over a set is not served.
+// FIND THE FIRST CASE and the IF behind it.
 pub(crate) fn resolve_find_if(
     alloc: Global,
     names: &Names,
@@ -132,28 +109,11 @@ pub(crate) fn resolve_find_if(
 ) -> Result<Resolved, AllocError>
     ensures { IfOk result (λ x. (ts us : List StatementTree) → Each (ResolvesStatement (context_seen names.now locals.now)) ts then.items → Each (ResolvesStatement (context_seen names.now locals.now)) us otherwise.items → ResolvesStatement (context_seen names.now locals.now) (find_if_statement line (view_head head.now) outcome (statement_row ts) (statement_row us)) x) }
 {
-    match head {
-        Head::Range {
-            variable,
-            from,
-            to,
-            step,
-            phrases,
-        } => {
-            let range = resolve_range(alloc, names, locals, *variable, from, to, step)?;
-            let phrases = resolve_phrases(alloc, names, locals, phrases)?;
-            Ok(found_or_none(line, range, phrases, outcome, then, otherwise))
+    match resolve_head(alloc, names, locals, head)? {
+        Some(over) => {
+            let phrases = resolve_phrases(alloc, names, locals, phrases_of(head))?;
+            Ok(found_or_none(line, over, phrases, outcome, then, otherwise))
         }
-        Head::Class {
-            class,
-            called,
-            phrases,
-        } => {
-            let range = resolve_class(names, locals, *class, called)?;
-            let phrases = resolve_phrases(alloc, names, locals, phrases)?;
-            Ok(found_or_none(line, range, phrases, outcome, then, otherwise))
-        }
-        Head::Members { .. } => Ok(Resolved::Return),
-        Head::Guards { .. } => Ok(Resolved::Return),
+        None => Ok(Resolved::Return),
     }
 }

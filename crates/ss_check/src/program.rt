@@ -107,11 +107,13 @@ fn resolve(alloc: Global, program: &Program, names: &Names) -> Result<Resolved, 
     ensures { IfOk result (λ x. ResolvesProgram (view_program program.now) x) }
 {
     let layout = names.tables.layout(alloc)?;
+    let disciplines = names.tables.disciplines(alloc)?;
     let globals = global_modes(alloc, names)?;
     let routines = resolve_routines(alloc, names, &program.sections)?;
     let main = resolve_main(alloc, names, &program.sections)?;
     Ok(Resolved {
         layout,
+        disciplines,
         globals,
         routines,
         main,

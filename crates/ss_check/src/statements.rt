@@ -9,12 +9,13 @@ ghost use Rattle.ss_check.specs.Seen.{context_seen};
 ghost use Rattle.ss_check.specs.Resolving.{Each, IsPlace, IsTarget, ResolvesStatement};
 ghost use Rattle.ss_rules.specs.Rules.{mode_of_designator};
 
-use crate::conditions::{resolve_class, resolve_phrases, resolve_range};
+use crate::conditions::resolve_phrases;
 use crate::expressions::{resolve_all, resolve_entity, resolve_expression};
+use crate::heads::{phrases_of, resolve_head};
 use crate::meanings::{Meaning, meaning_of, routine_of};
 use ss_base::{Line, Mode};
 use ss_lex::{Name, PictureLine};
-use ss_resolved::resolved::{Place, Sign, Statement as Resolved, Target};
+use ss_resolved::resolved::{Place, Sign, Statement as Resolved, Target, Variable};
 use ss_rules::scope::{Locals, Names, mode_of_name};
 use ss_tree::expression::{Designator, Expression, Named};
 use ss_tree::head::Head;
@@ -30,7 +31,7 @@ fn mode_at(names: &Names, locals: &Locals, designator: Designator) -> Mode
     }
 }
 
-// What a target is.
+// What a target is. No accepted program has a derived name as one.
 pub(crate) fn resolve_place(
     alloc: Global,
     names: &Names,
@@ -47,9 +48,12 @@ pub(crate) fn resolve_place(
             field,
             implied,
         } => {
-            let of = resolve_entity(alloc, names, locals, implied, &target.subscripts)?;
+            let of = resolve_entity(alloc, names, locals, Some(implied), &target.subscripts)?;
             Ok(Place::Attribute { class, field, of })
         }
+        Meaning::Derived { .. } => Ok(Place::Variable {
+            variable: Variable::Global { number: 0 },
+        }),
     }
 }
 
@@ -247,7 +251,7 @@ pub(crate) fn resolve_skip(
     Ok(Resolved::Skip { line, count })
 }
 
-// FIND THE FIRST CASE without an IF. One of a FOR over a set is not served.
+// FIND THE FIRST CASE without an IF.
 pub(crate) fn resolve_find(
     alloc: Global,
     names: &Names,
@@ -257,40 +261,17 @@ pub(crate) fn resolve_find(
 ) -> Result<Resolved, AllocError>
     ensures { IfOk result (λ x. ResolvesStatement (context_seen names.now locals.now) (find_statement line (view_head head.now)) x) }
 {
-    match head {
-        Head::Range {
-            variable,
-            from,
-            to,
-            step,
-            phrases,
-        } => {
-            let range = resolve_range(alloc, names, locals, *variable, from, to, step)?;
-            let phrases = resolve_phrases(alloc, names, locals, phrases)?;
+    match resolve_head(alloc, names, locals, head)? {
+        Some(over) => {
+            let phrases = resolve_phrases(alloc, names, locals, phrases_of(head))?;
             Ok(Resolved::Find {
                 line,
-                range,
+                head: over,
                 phrases,
                 found: Vec::new(alloc),
                 none: Vec::new(alloc),
             })
         }
-        Head::Class {
-            class,
-            called,
-            phrases,
-        } => {
-            let range = resolve_class(names, locals, *class, called)?;
-            let phrases = resolve_phrases(alloc, names, locals, phrases)?;
-            Ok(Resolved::Find {
-                line,
-                range,
-                phrases,
-                found: Vec::new(alloc),
-                none: Vec::new(alloc),
-            })
-        }
-        Head::Members { .. } => Ok(Resolved::Return),
-        Head::Guards { .. } => Ok(Resolved::Return),
+        None => Ok(Resolved::Return),
     }
 }

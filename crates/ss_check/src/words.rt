@@ -1,15 +1,16 @@
 //! Words that stand for themselves.
 
 ghost use Rattle.std.specs.Prelude.{◌≡◌};
-ghost use Rattle.ss_check.specs.Resolving.{guard_kind_of, phrase_kind_of, relation_of, sign_of};
+ghost use Rattle.ss_check.specs.Resolving.{end_of, guard_kind_of, phrase_kind_of, relation_of, sign_of};
 
 use ss_resolved::resolved::{
-    GuardKind as ResolvedGuardKind, PhraseKind as ResolvedPhraseKind, Relation as ResolvedRelation,
-    Sign as ResolvedSign,
+    End, GuardKind as ResolvedGuardKind, PhraseKind as ResolvedPhraseKind,
+    Relation as ResolvedRelation, Sign as ResolvedSign,
 };
 use ss_tree::condition::Relation;
 use ss_tree::expression::Sign;
 use ss_tree::head::{GuardKind, PhraseKind};
+use ss_tree::statement::SetEnd;
 
 // The sign that a sign stands for.
 pub(crate) fn sign_of(sign: Sign) -> ResolvedSign
@@ -54,5 +55,15 @@ pub(crate) fn guard_kind_of(kind: GuardKind) -> ResolvedGuardKind
     match kind {
         GuardKind::While => ResolvedGuardKind::While,
         GuardKind::Until => ResolvedGuardKind::Until,
+    }
+}
+
+// The end of a set that an end stands for.
+pub(crate) fn end_of(end: SetEnd) -> End
+    ensures { result ≡ end_of end }
+{
+    match end {
+        SetEnd::First => End::First,
+        SetEnd::Last => End::Last,
     }
 }

@@ -1,25 +1,14 @@
-use Rattle.std.proofs.Common.{map, sym, subst}
-use Rattle.ss_tree.specs.Tree.{find_if_statement, statement_row}
-use Rattle.ss_tree.specs.View.{view_expression, view_head, view_option, view_phrase}
+use Rattle.std.proofs.Common.{Some, subst}
+use Rattle.ss_tree.specs.View.{view_head}
 use Rattle.ss_check.specs.Seen.{context_seen}
-use Rattle.ss_check.specs.Resolving.{ResolvesStatement}
-use Rattle.ss_check.proofs.Rows.{resolves_outcome, resolves_outcome_each}
+use Rattle.ss_check.specs.Resolving.{Each, GoesOver, ResolvesPhrase, phrases_of}
+use Rattle.ss_check.proofs.Rows.{resolves_outcome}
 use Rattle.ss_check.proofs.nested.resolve_find_if.Goals as goal
 
-pub returns-in_ok-phrases-in-Range : goal.returns-in_ok-phrases-in-Range
-returns-in_ok-phrases-in-Range c ts us k m =
+pub returns-in_ok-phrases-in-Some : goal.returns-in_ok-phrases-in-Some
+returns-in_ok-phrases-in-Some c ts us k m =
     let s = context_seen c.args.names.now c.args.locals.now in
-    let v = c.in-Range in
-    let x = c.found_or_none.result in
-    subst (λ h. ResolvesStatement s (find_if_statement c.args.line (view_head h) c.args.outcome (statement_row ts) (statement_row us)) x) (sym v.is)
-    (resolves_outcome s c.args.line c.args.outcome v.variable (view_expression v.from) (view_expression v.to) (view_option view_expression v.step) (map view_phrase v.phrases.items) ts us c.in_ok-range-in-Range.range c.in_ok-phrases-in-Range.phrases c.args.then c.args.otherwise x
-    c.in_ok-range-in-Range.ensures (rw (← c.deref.ensures.value) c.in_ok-phrases-in-Range.ensures) k m c.found_or_none.ensures.found c.found_or_none.ensures.none)
-
-pub returns-in_ok-phrases-in-Class : goal.returns-in_ok-phrases-in-Class
-returns-in_ok-phrases-in-Class c ts us k m =
-    let s = context_seen c.args.names.now c.args.locals.now in
-    let v = c.in-Class in
-    let x = c.found_or_none-in-Class.result in
-    subst (λ h. ResolvesStatement s (find_if_statement c.args.line (view_head h) c.args.outcome (statement_row ts) (statement_row us)) x) (sym v.is)
-    (resolves_outcome_each s c.args.line c.args.outcome v.class v.called (map view_phrase v.phrases.items) ts us c.in_ok-range-in-Class.range c.in_ok-phrases-in-Class.phrases c.args.then c.args.otherwise x
-    c.in_ok-range-in-Class.ensures (rw (← c.deref-in-Class.ensures.value) c.in_ok-phrases-in-Class.ensures) k m c.found_or_none-in-Class.ensures.found c.found_or_none-in-Class.ensures.none)
+    let t = view_head c.args.head.now in
+    let over : GoesOver s t (Some c.in-Some.over) = subst (GoesOver s t) c.in-Some.is c.in_ok-over.ensures in
+    let phrases : Each (ResolvesPhrase s) (phrases_of t) c.in_ok-phrases-in-Some.phrases.items = rw (← c.phrases_of.ensures) c.in_ok-phrases-in-Some.ensures in
+    resolves_outcome s c.args.line c.args.outcome t ts us c.in-Some.over c.in_ok-phrases-in-Some.phrases c.args.then c.args.otherwise c.found_or_none.result over phrases k m c.found_or_none.ensures.found c.found_or_none.ensures.none

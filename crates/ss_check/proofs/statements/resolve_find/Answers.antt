@@ -1,30 +1,14 @@
-use Rattle.std.proofs.Common.{map, sym, subst}
-use Rattle.ss_tree.specs.Tree.{find_statement}
-use Rattle.ss_tree.specs.View.{view_expression, view_head, view_option, view_phrase}
-use Rattle.ss_resolved.specs.declared.resolved.Statement.{Find}
+use Rattle.std.proofs.Common.{Some, subst}
+use Rattle.ss_tree.specs.View.{view_head}
 use Rattle.ss_check.specs.Seen.{context_seen}
-use Rattle.ss_check.specs.Resolving.{ResolvesStatement}
-use Rattle.ss_check.proofs.Rows.{resolves_find, resolves_find_each}
+use Rattle.ss_check.specs.Resolving.{Each, GoesOver, ResolvesPhrase, phrases_of}
+use Rattle.ss_check.proofs.Rows.{resolves_find}
 use Rattle.ss_check.proofs.statements.resolve_find.Goals as goal
 
-pub returns-in_ok-phrases-in-Range : goal.returns-in_ok-phrases-in-Range
-returns-in_ok-phrases-in-Range c =
+pub returns-in_ok-phrases-in-Some : goal.returns-in_ok-phrases-in-Some
+returns-in_ok-phrases-in-Some c =
     let s = context_seen c.args.names.now c.args.locals.now in
-    let v = c.in-Range in
-    let range = c.in_ok-range-in-Range.range in
-    let phrases = c.in_ok-phrases-in-Range.phrases in
-    subst (λ h. ResolvesStatement s (find_statement c.args.line (view_head h)) (Find c.args.line range phrases c.new.result c.new-in-Range.result)) (sym v.is)
-    (resolves_find s c.args.line v.variable (view_expression v.from) (view_expression v.to) (view_option view_expression v.step) (map view_phrase v.phrases.items) range phrases c.new.result c.new-in-Range.result
-    c.in_ok-range-in-Range.ensures (rw (← c.deref.ensures.value) c.in_ok-phrases-in-Range.ensures) c.new.ensures.items c.new-in-Range.ensures.items)
-
-pub returns-in_ok-phrases-in-Class : goal.returns-in_ok-phrases-in-Class
-returns-in_ok-phrases-in-Class c =
-    let s = context_seen c.args.names.now c.args.locals.now in
-    let v = c.in-Class in
-    let range = c.in_ok-range-in-Class.range in
-    let phrases = c.in_ok-phrases-in-Class.phrases in
-    let found = c.new-in-Class.result in
-    let none = c.new-in-Class-2.result in
-    subst (λ h. ResolvesStatement s (find_statement c.args.line (view_head h)) (Find c.args.line range phrases found none)) (sym v.is)
-    (resolves_find_each s c.args.line v.class v.called (map view_phrase v.phrases.items) range phrases found none
-    c.in_ok-range-in-Class.ensures (rw (← c.deref-in-Class.ensures.value) c.in_ok-phrases-in-Class.ensures) c.new-in-Class.ensures.items c.new-in-Class-2.ensures.items)
+    let t = view_head c.args.head.now in
+    let over : GoesOver s t (Some c.in-Some.over) = subst (GoesOver s t) c.in-Some.is c.in_ok-over.ensures in
+    let phrases : Each (ResolvesPhrase s) (phrases_of t) c.in_ok-phrases-in-Some.phrases.items = rw (← c.phrases_of.ensures) c.in_ok-phrases-in-Some.ensures in
+    resolves_find s c.args.line t c.in-Some.over c.in_ok-phrases-in-Some.phrases c.new.result c.new-in-Some.result over phrases c.new.ensures.items c.new-in-Some.ensures.items
