@@ -214,7 +214,7 @@ fn for_each_job(alloc: Global, line: u32, body: Vec<Statement>) -> Statement {
 
 // FOR ITEM = 1 TO 4; CREATE A JOB; READ RANK; FILE JOB IN POOL; LOOP; FOR EACH JOB IN POOL; PRINT 1 LINE WITH JOB
 // AND RANK.
-fn by_rank(alloc: Global) -> Result<bool, CodeError> {
+fn filed_by_rank(alloc: Global) -> Result<Resolved, AllocError> {
     let mut made = Vec::new(alloc);
     made.push(create(17, THE_JOB))?;
     let rank = Target {
@@ -242,7 +242,11 @@ fn by_rank(alloc: Global) -> Result<bool, CodeError> {
     let mut body = Vec::new(alloc);
     body.push(repeat(alloc, 16, 4, made))?;
     body.push(for_each_job(alloc, 21, shown))?;
-    let program = program(alloc, ranked(alloc)?, body)?;
+    program(alloc, ranked(alloc)?, body)
+}
+
+fn by_rank(alloc: Global) -> Result<bool, CodeError> {
+    let program = filed_by_rank(alloc)?;
     let report = b"4 3\n1 2\n3 2\n2 1\n";
     comes_to(alloc, &program, b"2 1 2 3", Stop::Ended, 8, report)
 }
@@ -268,7 +272,7 @@ fn asked(alloc: Global) -> Result<Vec<Expression>, AllocError> {
 }
 
 // CREATE A JOB and FILE it IN POOL, three times; REMOVE the second FROM POOL; PRINT 1 LINE.
-fn last_comes_first(alloc: Global) -> Result<bool, CodeError> {
+fn filed_first(alloc: Global) -> Result<Resolved, AllocError> {
     let mut body = Vec::new(alloc);
     body.push(create(16, ITEM))?;
     body.push(file(17, POOL, held(ITEM), system()))?;
@@ -278,7 +282,11 @@ fn last_comes_first(alloc: Global) -> Result<bool, CodeError> {
     body.push(file(21, POOL, held(THIRD), system()))?;
     body.push(remove(22, POOL, held(SECOND), system()))?;
     body.push(print(alloc, 23, asked(alloc)?, b"* * * * * * * * *")?)?;
-    let program = program(alloc, Discipline::Lifo, body)?;
+    program(alloc, Discipline::Lifo, body)
+}
+
+fn last_comes_first(alloc: Global) -> Result<bool, CodeError> {
+    let program = filed_first(alloc)?;
     let report = b"2 3 1 1 3 0 0 0 1\n";
     comes_to(alloc, &program, b"", Stop::Ended, 0, report)
 }
@@ -289,7 +297,7 @@ fn a_set_of_the_last_first_is_asked(rt: HostRuntime) {
 }
 
 // LET N.MACHINE = 2; CREATE EVERY MACHINE; CREATE A JOB; FILE JOB IN QUEUE(1); a last statement at line 20.
-fn in_a_queue(alloc: Global, last: Statement, stop: Stop) -> Result<bool, CodeError> {
+fn filed_in_a_queue(alloc: Global, last: Statement) -> Result<Resolved, AllocError> {
     let mut body = Vec::new(alloc);
     body.push(Statement::Let {
         line: Line(16),
@@ -310,7 +318,11 @@ fn in_a_queue(alloc: Global, last: Statement, stop: Stop) -> Result<bool, CodeEr
     body.push(create(18, THE_JOB))?;
     body.push(file(19, QUEUE, held(THE_JOB), number(1)))?;
     body.push(last)?;
-    let program = program(alloc, ranked(alloc)?, body)?;
+    program(alloc, ranked(alloc)?, body)
+}
+
+fn in_a_queue(alloc: Global, last: Statement, stop: Stop) -> Result<bool, CodeError> {
+    let program = filed_in_a_queue(alloc, last)?;
     comes_to(alloc, &program, b"", stop, 0, b"")
 }
 
@@ -340,13 +352,7 @@ fn a_job_is_in_one_queue(rt: HostRuntime) {
 
 // FOR ITEM = 1 TO 3 DO CREATE A JOB; FILE JOB IN POOL; LOOP; FOR EACH JOB IN POOL REMOVE so many behind JOB FROM POOL;
 // PRINT 1 LINE WITH N.POOL.
-fn removing(
-    alloc: Global,
-    behind: i64,
-    stop: Stop,
-    used: u64,
-    report: &[u8],
-) -> Result<bool, CodeError> {
+fn removed(alloc: Global, behind: i64) -> Result<Resolved, AllocError> {
     let mut made = Vec::new(alloc);
     made.push(create(16, THE_JOB))?;
     made.push(file(16, POOL, held(THE_JOB), system()))?;
@@ -364,7 +370,17 @@ fn removing(
     body.push(repeat(alloc, 16, 3, made))?;
     body.push(for_each_job(alloc, 17, gone))?;
     body.push(print(alloc, 18, items, b"*")?)?;
-    let program = program(alloc, ranked(alloc)?, body)?;
+    program(alloc, ranked(alloc)?, body)
+}
+
+fn removing(
+    alloc: Global,
+    behind: i64,
+    stop: Stop,
+    used: u64,
+    report: &[u8],
+) -> Result<bool, CodeError> {
+    let program = removed(alloc, behind)?;
     comes_to(alloc, &program, b"", stop, used, report)
 }
 
