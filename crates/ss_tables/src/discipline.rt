@@ -54,11 +54,7 @@ fn order_of(preamble: &[PreambleStatement], set: Name) -> Option<&SetOrder>
     found
 }
 
-fn member_field(
-    numbers: &Numbers,
-    class: &Option<Name>,
-    name: Name,
-) -> usize
+fn member_field(numbers: &Numbers, class: &Option<Name>, name: Name) -> usize
     ensures { result ≡ member_field numbers.now.classes numbers.now.attributes class.now name }
 {
     match class {
@@ -79,7 +75,10 @@ fn rank_keys(
     let mut ranks = Vec::new(alloc);
     for key in keys {
         let field = member_field(numbers, class, key.name);
-        ranks.push(RankKey { field, high: key.high })?;
+        ranks.push(RankKey {
+            field,
+            high: key.high,
+        })?;
     }
     Ok(ranks)
 }
