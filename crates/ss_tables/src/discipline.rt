@@ -2,8 +2,6 @@
 
 ghost use Rattle.std.specs.Prelude.{◌≡◌, map, option_map, Some, IfOk};
 ghost use Rattle.ss_tree.specs.View.{view_order, view_preamble};
-ghost use Rattle.ss_tree.specs.Tree.{OrderTree};
-ghost use Rattle.std.specs.List.{flat_map};
 ghost use Rattle.std.specs.Map.{keys_of, lookup};
 ghost use Rattle.ss_tables.specs.Ranks.{members_of};
 ghost use Rattle.ss_tables.specs.Disciplines.{discipline_said, member_field, order_by, order_of, orders_said, rank_key, set_order};
