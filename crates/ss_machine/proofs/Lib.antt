@@ -1,6 +1,8 @@
 pub mod Layered
 mod Stacked
 mod Alike
+mod Gathered
+mod Filed
 mod Peopling
 mod Known
 pub mod Inputs

@@ -9,7 +9,7 @@ use ss_code::CodeError;
 use ss_code::generate::generate;
 use ss_picture::Sink;
 use ss_resolved::resolved::{
-    Counted, Expression, Place, Range, Resolved, Section, Sign, Statement, Target, Variable,
+    Counted, Expression, Head, Place, Range, Resolved, Section, Sign, Statement, Target, Variable,
 };
 use std::alloc::{AllocError, Global};
 
@@ -136,14 +136,15 @@ fn loaded(alloc: Global) -> Result<Statement, AllocError> {
         items,
         pictures,
     })?;
+    let range = Range {
+        variable: THE_MACHINE,
+        first: number(1),
+        limit: Expression::Made { class: MACHINE },
+        step: None,
+    };
     Ok(Statement::For {
         line: Line(7),
-        range: Range {
-            variable: THE_MACHINE,
-            first: number(1),
-            limit: Expression::Made { class: MACHINE },
-            step: None,
-        },
+        head: Head::Numbers { range },
         phrases: Vec::new(alloc),
         body,
     })
@@ -162,6 +163,7 @@ fn program(alloc: Global, last: Statement) -> Result<Resolved, AllocError> {
     body.push(last)?;
     Ok(Resolved {
         layout: layout(alloc)?,
+        disciplines: Vec::new(alloc),
         globals: Vec::from_slice(alloc, &[Mode::Integer, Mode::Integer, Mode::Integer])?,
         routines: Vec::new(alloc),
         main: Section {

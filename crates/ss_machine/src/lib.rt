@@ -2,6 +2,7 @@
 #![tactic(auto)]
 
 mod burst;
+pub mod disciplines;
 pub mod entities;
 #[cfg(test)]
 mod entity_tests;
@@ -14,6 +15,10 @@ mod quick;
 mod reading;
 pub mod running;
 mod serving;
+mod set_serving;
+#[cfg(test)]
+mod set_tests;
+mod sets;
 mod stack;
 mod stop;
 #[cfg(test)]

@@ -5,6 +5,7 @@ ghost use Rattle.ss_input.specs.Inputs.{source_block, source_missed, source_read
 ghost use Rattle.ss_machine.specs.Held.{IsFirst, answer_again, kept_after};
 ghost use Rattle.ss_machine.specs.Runs.{Ran};
 
+use crate::disciplines::Disciplines;
 use crate::entities::Entities;
 use crate::frames::Frames;
 use crate::operands::Operands;
@@ -79,6 +80,7 @@ impl Machine {
             return Err(AllocError);
         }
         let entities = Entities::new(alloc, layout)?;
+        let disciplines = Disciplines::of(alloc, code.disciplines())?;
         let working = Working {
             place: 0,
             operands: Operands::new(alloc),
@@ -86,6 +88,7 @@ impl Machine {
             globals,
             locals,
             entities,
+            disciplines,
         };
         Ok(Machine {
             running: Running {

@@ -6,8 +6,8 @@ use ss_code::CodeError;
 use ss_code::generate::generate;
 use ss_picture::Sink;
 use ss_resolved::resolved::{
-    Condition, Conjunction, Expression, Place, Range, Relation, Resolved, Section, Sign, Statement,
-    Target, Test, Variable,
+    Condition, Conjunction, Expression, Head, Place, Range, Relation, Resolved, Section, Sign,
+    Statement, Target, Test, Variable,
 };
 use std::alloc::{AllocError, Global};
 
@@ -60,14 +60,15 @@ fn products_added(alloc: Global) -> Result<Statement, AllocError> {
     let mut body = Vec::new(alloc);
     body.push(call(alloc, 3, ITEM)?)?;
     body.push(add(4, PRODUCT))?;
+    let range = Range {
+        variable: ITEM,
+        first: number(1),
+        limit: number(3),
+        step: None,
+    };
     Ok(Statement::For {
         line: Line(2),
-        range: Range {
-            variable: ITEM,
-            first: number(1),
-            limit: number(3),
-            step: None,
-        },
+        head: Head::Numbers { range },
         phrases: Vec::new(alloc),
         body,
     })
@@ -166,6 +167,7 @@ fn program(alloc: Global) -> Result<Resolved, AllocError> {
             classes: Vec::new(alloc),
             sets: Vec::new(alloc),
         },
+        disciplines: Vec::new(alloc),
         globals: Vec::from_slice(alloc, &[Mode::Integer])?,
         routines,
         main: main_section(alloc)?,
