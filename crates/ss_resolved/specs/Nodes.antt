@@ -1,6 +1,6 @@
 -- The size of a tree.
 use Rattle.std.specs.Prelude.{ℕ, ◌+◌, List, [], ◌∷◌, length, Option, Some, None}
-use Rattle.ss_resolved.specs.declared.resolved.Expression.{Expression, Constant, Fetch, Signed', Sum', Product', Applied', Absolute', Attribute', Made, Derived', Row_of-Expression, end_of-Expression, more_of-Expression, Row_of-Expression-Sum-1-2, end_of-Expression-Sum-1-2, more_of-Expression-Sum-1-2}
+use Rattle.ss_resolved.specs.declared.resolved.Expression.{Expression, Constant, Fetch, Signed', Sum', Product', Applied', Absolute', Attribute', Made, Derived', Clock, TimeOf', Row_of-Expression, end_of-Expression, more_of-Expression, Row_of-Expression-Sum-1-2, end_of-Expression-Sum-1-2, more_of-Expression-Sum-1-2}
 use Rattle.ss_resolved.specs.declared.resolved.Test.{Test}
 use Rattle.ss_resolved.specs.declared.resolved.Test.TheVariants.{Compare, DataEnded, Empty, Member}
 use Rattle.ss_resolved.specs.declared.resolved.Conjunction.{Conjunction}
@@ -18,8 +18,10 @@ use Rattle.ss_resolved.specs.declared.resolved.Position.TheVariants as positions
 use Rattle.ss_resolved.specs.declared.resolved.Place.{Place}
 use Rattle.ss_resolved.specs.declared.resolved.Place.TheVariants.{Variable as PlainVariable, Attribute as AttributePlace, Count}
 use Rattle.ss_resolved.specs.declared.resolved.Target.{Target}
+use Rattle.ss_resolved.specs.declared.resolved.When.{When}
+use Rattle.ss_resolved.specs.declared.resolved.When.TheVariants as whens
 use Rattle.ss_resolved.specs.declared.resolved.Section.{Section}
-use Rattle.ss_resolved.specs.declared.resolved.Statement.{Statement, Let, Change, Print, If', While', For', Find', Call, Return, Stop, Read, Skip, Create, CreateEvery, Destroy, File, RemoveEnd, Remove, Row_of-Statement, end_of-Statement, more_of-Statement}
+use Rattle.ss_resolved.specs.declared.resolved.Statement.{Statement, Let, Change, Print, If', While', For', Find', Call, Return, Stop, Read, Skip, Create, CreateEvery, Destroy, File, RemoveEnd, Remove, ScheduleNew, Schedule, Cancel, Simulate, Row_of-Statement, end_of-Statement, more_of-Statement}
 use Rattle.ss_resolved.specs.declared.resolved.Resolved.{Resolved}
 
 -- a variable as a subscript counts as none, since it may be meant without being written
@@ -46,6 +48,8 @@ abbrev mutual
   expression_nodes (Attribute' class field p e) = 1 + unless_plain e (expression_nodes e)
   expression_nodes (Made class) = 1
   expression_nodes (Derived' derived set p e) = 1 + unless_meant e (expression_nodes e)
+  expression_nodes Clock = 1
+  expression_nodes (TimeOf' p e) = 1 + expression_nodes e
 
   -- an operator before each further term; a sum of one term, which no text has, counts as one
   pub sum_nodes : {m : _} → Row_of-Expression-Sum-1-2 m → ℕ
@@ -153,6 +157,11 @@ position_nodes positions.Last = 0
 position_nodes (positions.Before e) = expression_nodes e
 position_nodes (positions.After e) = expression_nodes e
 
+abbrev pub when_nodes : When → ℕ
+when_nodes (whens.At e) = expression_nodes e
+when_nodes (whens.In e) = expression_nodes e
+when_nodes whens.Now = 0
+
 abbrev mutual
   -- a statement is a node, and so is each name and each picture in it
   pub statement_nodes : Statement → ℕ
@@ -174,6 +183,10 @@ abbrev mutual
   statement_nodes (File l set e position owner) = 1 + expression_nodes e + position_nodes position + set_nodes owner
   statement_nodes (RemoveEnd l set end target owner) = 1 + place_nodes target + set_nodes owner
   statement_nodes (Remove l set e owner) = 1 + expression_nodes e + set_nodes owner
+  statement_nodes (ScheduleNew l class target given when) = 1 + place_nodes target + expressions_nodes given.items + when_nodes when
+  statement_nodes (Schedule l class e given when) = 1 + expression_nodes e + expressions_nodes given.items + when_nodes when
+  statement_nodes (Cancel l class e) = 1 + expression_nodes e
+  statement_nodes Simulate = 1
 
   pub row_nodes : {m : _} → Row_of-Statement m → ℕ
   row_nodes end_of-Statement = 0

@@ -1,6 +1,6 @@
 //! The tree of a program in which each name is replaced by what it stands for.
 
-use ss_base::{Discipline, Layout, Line, Mode, Value};
+use ss_base::{Discipline, Layout, Line, Mode, RankKey, Value};
 
 /// A variable: the place of a global one among all of them, or that of a local one in its routine.
 #[derive(Clone, Copy, PartialEq, Eq, Debug)]
@@ -85,6 +85,12 @@ pub enum Expression {
         derived: Derived,
         set: u32,
         of: Box<Expression>,
+    },
+    /// TIME.V: the time of the simulation, in units.
+    Clock,
+    /// TIME.A: the time that a notice was last scheduled for, in units; 0 before.
+    TimeOf {
+        notice: Box<Expression>,
     },
 }
 
@@ -261,6 +267,17 @@ pub struct Target {
     pub mode: Mode,
 }
 
+/// The time for which a notice is scheduled.
+#[derive(Drop)]
+pub enum When {
+    /// AT: this time, in units.
+    At { time: Expression },
+    /// IN: so many units from now.
+    In { units: Expression },
+    /// NOW.
+    Now,
+}
+
 /// A permanent class, and the number of the global variable that says how many entities of it are to be
 /// made.
 #[derive(Clone, Copy, PartialEq, Eq, Debug)]
@@ -379,23 +396,65 @@ pub enum Statement {
         member: Expression,
         owner: Expression,
     },
+    /// SCHEDULE A: a new notice of a class, whose number goes to the target, gets the values given as its first
+    /// attributes, and is filed among the pending notices.
+    ScheduleNew {
+        line: Line,
+        class: u32,
+        into: Place,
+        given: Vec<Expression>,
+        when: When,
+    },
+    /// SCHEDULE THE: the same with a notice that there is.
+    Schedule {
+        line: Line,
+        class: u32,
+        notice: Expression,
+        given: Vec<Expression>,
+        when: When,
+    },
+    /// CANCEL: a notice is pending no longer.
+    Cancel {
+        line: Line,
+        class: u32,
+        notice: Expression,
+    },
+    /// START SIMULATION: the events that are pending, one after the other, until none is.
+    Simulate,
 }
 
-/// MAIN or a routine: its variables in the order of their numbers, and its statements. The first
-/// variables of a routine are those that it is given, and then those that it yields.
+/// MAIN, a routine or an event routine: its variables in the order of their numbers, and its statements. The first
+/// variables of a routine are those that it is given, and then those that it yields; those of an event
+/// routine take the first attributes of its notice.
 #[derive(Drop)]
 pub struct Section {
     pub locals: Vec<Mode>,
     pub body: Vec<Statement>,
 }
 
-/// A program: its classes and sets, the discipline of each set, its global variables and its routines,
-/// all in the order of their numbers, and MAIN.
+/// A class of notices: the line of its event routine, the number of that routine, how many attributes of
+/// the notice it takes, the global variable that gets the number of a notice that is saved, and the
+/// attributes that break ties between notices of the class at one time. A notice that isn't saved is destroyed as
+/// its routine begins.
+#[derive(Drop)]
+pub struct Event {
+    pub class: u32,
+    pub line: Line,
+    pub routine: u32,
+    pub given: u32,
+    pub saved: Option<u32>,
+    pub ties: Vec<RankKey>,
+}
+
+/// A program: its classes and sets, the discipline of each set, its global variables and its routines, event
+/// routines behind the others, all in the order of their numbers; its classes of notices in the order in which
+/// they come at one time; and MAIN.
 #[derive(Drop)]
 pub struct Resolved {
     pub layout: Layout,
     pub disciplines: Vec<Discipline>,
     pub globals: Vec<Mode>,
     pub routines: Vec<Section>,
+    pub events: Vec<Event>,
     pub main: Section,
 }
