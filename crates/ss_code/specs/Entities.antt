@@ -2,7 +2,7 @@
 -- the layout lacks, or a class of another kind, and there they are the fault WRONG CLASS.
 use Rattle.std.specs.Prelude.{ℕ, Bool, true, false, not, List, [], length, ℤ, pos, Option, Some, None, is_some, Result, Ok, Err, slice_get}
 use Rattle.ss_base.specs.declared.fault.FaultKind.{FaultKind}
-use Rattle.ss_base.specs.declared.fault.FaultKind.TheVariants.{WrongClass, CreatedTwice}
+use Rattle.ss_base.specs.declared.fault.FaultKind.TheVariants.{WrongClass, CreatedTwice, Scheduled}
 use Rattle.ss_base.specs.declared.value.Value.{Value}
 use Rattle.ss_base.specs.declared.value.Value.TheVariants.{Whole, Text}
 use Rattle.ss_base.specs.declared.layout.Mode.{Mode}
@@ -12,7 +12,8 @@ use Rattle.ss_base.specs.declared.layout.ClassKind.TheVariants.{Permanent, Tempo
 use Rattle.ss_base.specs.declared.layout.ClassLayout.{ClassLayout}
 use Rattle.ss_resolved.specs.declared.resolved.Variable.TheVariants.{Global}
 use Rattle.ss_code.specs.declared.instruction.Operator.{Operator}
-use Rattle.ss_records.specs.State.{State, modes_of, known_in, value_in, assigned as assigned_in, created, created_all, is_made as is_made_in, records_in, destroyed}
+use Rattle.ss_records.specs.State.{State, kind_of, modes_of, known_in, value_in, assigned as assigned_in, created, created_all, is_made as is_made_in, records_in, destroyed}
+use Rattle.ss_events.specs.PendingList.{is_pending}
 use Rattle.ss_code.specs.Store.{Store, if_ok, number_of, fetched, assigned, computed}
 
 -- the class of a number, where the layout has it
@@ -110,5 +111,19 @@ made_all class number s =
     if_so (has_indices (class_at s.heap class)) (turned (with_heap s) (created_all s.heap class (number_of (fetched (Global number) s))))
 
 -- the store without an entity
+abbrev pub gone : ℕ → Value → Store → Result Store FaultKind
+gone class x s = if_so (has_numbers (class_at s.heap class)) (turned (with_heap s) (destroyed s.heap class (number_of x)))
+
+abbrev pub unless_scheduled : Bool → Result (Unit {0}) FaultKind
+unless_scheduled true = Err Scheduled
+unless_scheduled false = Ok tt
+
+-- whether an entity may be destroyed, which a notice that is pending may not
+abbrev pub may_go : ClassKind → ℕ → Value → Store → Result (Unit {0}) FaultKind
+may_go Permanent class x s = Ok tt
+may_go Temporary class x s = Ok tt
+may_go Notice class x s = if_ok (known class x s) (λ u. unless_scheduled (is_pending (number_of x) s.pending.entries))
+
+-- the store once an entity is destroyed
 abbrev pub without : ℕ → Value → Store → Result Store FaultKind
-without class x s = if_so (has_numbers (class_at s.heap class)) (turned (with_heap s) (destroyed s.heap class (number_of x)))
+without class x s = if_ok (may_go (kind_of s.heap.layout class) class x s) (λ u. gone class x s)

@@ -1,8 +1,10 @@
 pub mod Layouts
 pub mod Orders
+pub mod EventClasses
 pub mod Store
 pub mod Entities
 pub mod Sets
+pub mod Events
 pub mod Meaning
 pub mod Machine
 pub mod Running

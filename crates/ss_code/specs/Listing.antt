@@ -1,7 +1,7 @@
 -- The text that shows a list of instructions.
 use Rattle.std.specs.Prelude.{ℕ, ◌+◌, List, [], ◌∷◌, ◌++◌, codes, decimal}
 use Rattle.ss_code.specs.declared.instruction.Instruction.{Instruction}
-use Rattle.ss_code.specs.declared.instruction.Instruction.TheVariants.{Load, Move, Calculate, Compare, TestData, Jump, Turn, Repeat, Begin, Take, Next, Forget, Call, Leave, Halt, Read, Skip, Print, Look, Get, Put, Give, ChangeField, SetCount, CountMade, CreateOne, CreateAll, DestroyOne, Ask, LookOwner, LookMember, TestEmpty, TestMember, FileOne, FileBeside, RemoveAt, RemoveOne, BeginSet, BeginAt, TakeMember, NextMember}
+use Rattle.ss_code.specs.declared.instruction.Instruction.TheVariants.{Load, Move, Calculate, Compare, TestData, Jump, Turn, Repeat, Begin, Take, Next, Forget, Call, Leave, Halt, Read, Skip, Print, Look, Get, Put, Give, ChangeField, SetCount, CountMade, CreateOne, CreateAll, DestroyOne, Ask, LookOwner, LookMember, TestEmpty, TestMember, FileOne, FileBeside, RemoveAt, RemoveOne, BeginSet, BeginAt, TakeMember, NextMember, Clock, TimeOf, When, MakeNotice, Duplicate, PutKept, FileNotice, Refile, CancelNotice, Await, TakeEvent, EventFault}
 
 -- what an instruction is called
 abbrev pub name_of : Instruction → List ℕ
@@ -46,6 +46,18 @@ name_of (BeginSet reverse set owner skip line) = codes "begin set"
 name_of (BeginAt reverse after set from skip line) = codes "begin at"
 name_of (TakeMember reverse set variable) = codes "take member"
 name_of (NextMember set back line) = codes "next member"
+name_of (Clock into) = codes "clock"
+name_of (TimeOf from line) = codes "time of"
+name_of (When from later line) = codes "when"
+name_of (MakeNotice class given line) = codes "make notice"
+name_of Duplicate = codes "duplicate"
+name_of (PutKept class field line) = codes "put kept"
+name_of (FileNotice class line) = codes "file notice"
+name_of (Refile class given line) = codes "refile"
+name_of (CancelNotice class from line) = codes "cancel notice"
+name_of (Await skip) = codes "await"
+name_of TakeEvent = codes "take event"
+name_of EventFault = codes "event fault"
 
 -- a line for each instruction, the first of them with this number: the number, a blank, and what the instruction is called
 abbrev pub listed : ℕ → List Instruction → List ℕ

@@ -13,7 +13,7 @@ use Rattle.ss_resolved.specs.declared.resolved.Sign.{Sign}
 use Rattle.ss_resolved.specs.declared.resolved.Sign.TheVariants.{Plus as PlusSign, Minus as MinusSign}
 use Rattle.ss_resolved.specs.declared.resolved.Function.{Function}
 use Rattle.ss_resolved.specs.declared.resolved.Function.TheVariants.{Quotient as QuotientOf, Remainder as RemainderOf, Least as LeastOf, Greatest as GreatestOf}
-use Rattle.ss_resolved.specs.declared.resolved.Expression.{Expression, Constant, Fetch, Signed', Sum', Product', Applied', Absolute', Attribute', Made, Derived', Row_of-Expression, end_of-Expression, more_of-Expression, Row_of-Expression-Sum-1-2, end_of-Expression-Sum-1-2, more_of-Expression-Sum-1-2}
+use Rattle.ss_resolved.specs.declared.resolved.Expression.{Expression, Constant, Fetch, Signed', Sum', Product', Applied', Absolute', Attribute', Made, Derived', Clock, TimeOf', Row_of-Expression, end_of-Expression, more_of-Expression, Row_of-Expression-Sum-1-2, end_of-Expression-Sum-1-2, more_of-Expression-Sum-1-2}
 use Rattle.ss_resolved.specs.declared.resolved.Test.{Test}
 use Rattle.ss_resolved.specs.declared.resolved.Test.TheVariants.{Compare, DataEnded, Empty, Member}
 use Rattle.ss_resolved.specs.declared.resolved.Conjunction.{Conjunction}
@@ -37,7 +37,9 @@ use Rattle.ss_resolved.specs.declared.resolved.Place.{Place}
 use Rattle.ss_resolved.specs.declared.resolved.Place.TheVariants.{Variable as PlainVariable, Attribute as AttributePlace, Count}
 use Rattle.ss_resolved.specs.declared.resolved.Target.{Target}
 use Rattle.ss_resolved.specs.declared.resolved.Counted.{Counted}
-use Rattle.ss_resolved.specs.declared.resolved.Statement.{Statement, Let, Change, Print, If', While', For', Find', Call, Return, Stop, Read, Skip, Create, CreateEvery, Destroy, File, RemoveEnd, Remove, Row_of-Statement, end_of-Statement, more_of-Statement}
+use Rattle.ss_resolved.specs.declared.resolved.When.{When}
+use Rattle.ss_resolved.specs.declared.resolved.When.TheVariants as whens
+use Rattle.ss_resolved.specs.declared.resolved.Statement.{Statement, Let, Change, Print, If', While', For', Find', Call, Return, Stop, Read, Skip, Create, CreateEvery, Destroy, File, RemoveEnd, Remove, ScheduleNew, Schedule, Cancel, Simulate, Row_of-Statement, end_of-Statement, more_of-Statement}
 use Rattle.ss_resolved.specs.declared.resolved.Section.{Section}
 use Rattle.ss_resolved.specs.declared.resolved.Resolved.{Resolved}
 use Rattle.ss_resolved.specs.Lines.{lines_of}
@@ -52,7 +54,9 @@ pub use Rattle.ss_code.specs.Store.{if_ok}
 use Rattle.ss_code.specs.Store.{Store, World, zero_value, number_of, fetched, assigned, computed, printed, related, step_of, is_within, item_after, empty_lines, fresh, yielded}
 use Rattle.ss_code.specs.Entities.{known, attribute, with_attribute, made_count, counted, made_one, made_all, without}
 use Rattle.ss_code.specs.Orders.{Order, orders_said}
+use Rattle.ss_code.specs.EventClasses.{EventClass, events_said, first_pending}
 use Rattle.ss_code.specs.Sets.{known_owner, known_member, asked, is_empty, is_in, filed, filed_beside, removed_one, removed_at, begun, begun_at, coming, is_member, goes_on}
+use Rattle.ss_code.specs.Events.{clock, time_of, due_at, made_notice, filed_notice, refiled, unscheduled, is_awaited, Beginning, Blame, event_begun}
 use Rattle.ss_records.specs.State.{first_state}
 
 -- why a part of a program is left before its end
@@ -115,6 +119,8 @@ abbrev mutual
   value (Attribute' class field p e) s = if_ok (value e s) (λ x. attribute class field x s)
   value (Made class) s = Ok (made_count class s)
   value (Derived' derived set p e) s = if_ok (value e s) (λ x. asked derived set x s)
+  value Clock s = Ok (clock s)
+  value (TimeOf' p e) s = if_ok (value e s) (λ x. time_of x s)
 
   -- the terms added to x from left to right
   pub sum_from : {m : _} → Value → Row_of-Expression-Sum-1-2 m → Store → Result Value FaultKind
@@ -409,9 +415,49 @@ remove l set e owner w =
 abbrev pub remove_end : Line → ℕ → End → Expression → Part Value
 remove_end l set end owner w = and_then (look l (value owner) w) (λ o w. born_by l (removed_at end set o w.store) w)
 
--- what a call does: the routine, the values that it is given, and how many it yields
-abbrev pub Calls : Type 0
-Calls = (routine : ℕ) → (given : List Value) → (count : ℕ) → Part (List Value)
+-- ## Events
+
+-- a reference to a notice that was looked at
+abbrev pub notice_value : ℕ → Expression → Store → Result Value FaultKind
+notice_value class e s = looked_as (known class) e s
+
+-- the time to schedule for
+abbrev pub time_value : When → Store → Result Value FaultKind
+time_value (whens.At e) s = if_ok (value e s) (λ v. due_at false v s)
+time_value (whens.In e) s = if_ok (value e s) (λ v. due_at true v s)
+time_value whens.Now s = Ok (clock s)
+
+-- a new notice with the values that are given, for a time
+abbrev pub create_notice : Line → ℕ → List Expression → When → Part Value
+create_notice l class given when w =
+    and_then (look l (values given) w) (λ vs w. and_then (look l (time_value when) w) (λ t w. born_by l (made_notice class vs t w.store) w))
+
+-- a new notice for a target, which is then filed
+abbrev pub schedule_new : Line → ℕ → Place → List Expression → When → Part (Unit {0})
+schedule_new l class target given when w =
+    and_then (look l (spot_of target) w) (λ p w. and_then (create_notice l class given when w) (λ x w.
+    and_then (change l (written p x) w) (λ u. change l (filed_notice class x))))
+
+-- a notice that there is gets the values that are given and a time, and is filed
+abbrev pub schedule : Line → ℕ → Expression → List Expression → When → Part (Unit {0})
+schedule l class e given when w =
+    and_then (look l (notice_value class e) w) (λ x w. and_then (look l (values given) w) (λ vs w.
+    and_then (look l (time_value when) w) (λ t. change l (refiled class x vs t))))
+
+-- at most n more events, the first of which is pending
+abbrev pub events : ℕ → (event : Part (Unit {0})) → Part (Unit {0})
+events zero event w = Left OutOfTicks w
+events (suc n) event w =
+    take_tick (λ w. and_then (event w) (λ u w. choose (is_awaited w.store) (events n event) (WentOn tt) w)) w
+
+-- event after event, until none is pending
+abbrev pub simulate : ℕ → (event : Part (Unit {0})) → Part (Unit {0})
+simulate n event w = choose (is_awaited w.store) (events n event) (WentOn tt) w
+
+-- what a call does, by the routine, the values that it is given and how many it yields; and what the event does that comes next
+pub record Calls : Type 0 where
+  pub call : (routine : ℕ) → (given : List Value) → (count : ℕ) → Part (List Value)
+  pub event : Part (Unit {0})
 
 abbrev mutual
   -- what a statement does, where each loop makes at most n turns, and calls do what h says
@@ -431,7 +477,7 @@ abbrev mutual
       and_then (over n l over_these (phrases l ps.items (WentOn IsFound)) w) (λ t. choose t (effects h n a) (effects h n b))
   effect h n (Call l routine given yielding) w =
       and_then (look l (values given.items) w) (λ vs w.
-      and_then (h routine vs (length yielding.items) w) (λ us. assign_each l yielding.items us))
+      and_then (h.call routine vs (length yielding.items) w) (λ us. assign_each l yielding.items us))
   effect h n Return w = Left Returned w
   effect h n Stop w = Left Stopped w
   effect h n (Read l targets) w = reads l targets.items w
@@ -443,6 +489,10 @@ abbrev mutual
   effect h n (File l set e position owner) w = file_by l position set e owner w
   effect h n (RemoveEnd l set end t owner) w = give_to l t (remove_end l set end owner) w
   effect h n (Remove l set e owner) w = remove l set e owner w
+  effect h n (ScheduleNew l class t given when) w = schedule_new l class t given.items when w
+  effect h n (Schedule l class e given when) w = schedule l class e given.items when w
+  effect h n (Cancel l class e) w = and_then (look l (value e) w) (λ x. change l (unscheduled class x))
+  effect h n Simulate w = simulate n h.event w
 
   -- one statement after another
   pub effects : {m : _} → Calls → ℕ → Row_of-Statement m → Part (Unit {0})
@@ -472,10 +522,18 @@ routine_body None h n given count w = WentOn (yielded 0 count []) w
 routine_body (Some r) h n given count w =
     come_back (length given) count w.store.locals (body h n r.body.items (with_locals (fresh (firsts r.locals.items) given) w))
 
+-- an event that begins, or its fault
+abbrev pub begin : {A : Type 0} → Result Beginning Blame → (Beginning → Part A) → Part A
+begin (Ok b) go w = go b (record w { store = b.store })
+begin (Err blame) go w = Left (Faulted blame.kind blame.line) w
+
 -- a call takes a tick; n bounds how many calls stand in one another, and the turns of each loop
 abbrev pub calls : List Section → ℕ → Calls
-calls rs zero routine given count w = Left OutOfTicks w
-calls rs (suc n) routine given count w = take_tick (routine_body (slice_get rs routine) (calls rs n) n given count) w
+calls rs zero = record { call = λ routine given count. Left OutOfTicks; event = Left OutOfTicks }
+calls rs (suc n) = record {
+  call = λ routine given count. take_tick (routine_body (slice_get rs routine) (calls rs n) n given count);
+  event = λ w. then_nothing (begin (event_begun w.store) (λ b. routine_body (slice_get rs b.routine) (calls rs n) n b.given 0) w);
+}
 
 -- how a run ends
 pub data Ending : Type 0 where
@@ -499,13 +557,13 @@ abbrev pub run_of : Outcome (Unit {0}) → Run
 run_of (WentOn u w) = record { report = w.report; ending = Ended; ticks = w.ticks }
 run_of (Left e w) = record { report = w.report; ending = ending_of e; ticks = w.ticks }
 
--- with no entity
-abbrev pub first_store : Layout → List Order → List Value → List Value → List ℕ → Store
-first_store layout orders globals locals input =
-    record { globals = globals; locals = locals; heap = first_state layout; orders = orders; input = input }
+-- with no entity, at the time 0
+abbrev pub first_store : Layout → List Order → List EventClass → List Value → List Value → List ℕ → Store
+first_store layout orders events globals locals input =
+    record { globals = globals; locals = locals; heap = first_state layout; orders = orders; events = events; time = pos 0; pending = first_pending layout events; input = input }
 
 abbrev pub first_world : Resolved → List ℕ → ℕ → World
-first_world p input n = record { store = first_store p.layout (orders_said p.disciplines.items) (firsts p.globals.items) (firsts p.main.locals.items) input; report = []; ticks = n }
+first_world p input n = record { store = first_store p.layout (orders_said p.disciplines.items) (events_said p.events.items) (firsts p.globals.items) (firsts p.main.locals.items) input; report = []; ticks = n }
 
 -- what a program does with an input and n ticks
 abbrev pub meaning : Resolved → List ℕ → ℕ → Run

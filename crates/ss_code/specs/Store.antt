@@ -16,14 +16,20 @@ use Rattle.ss_base.specs.Arithmetic.{plus_of, minus_of, times_of, quotient_of, r
 use Rattle.ss_base.specs.Order.{value_cmp}
 use Rattle.ss_picture.specs.Pictures.{filled, field_count}
 use Rattle.ss_records.specs.State.{State}
+use Rattle.ss_events.specs.PendingList.{PendingList}
 use Rattle.ss_code.specs.Orders.{Order}
+use Rattle.ss_code.specs.EventClasses.{EventClass}
 
--- the values of the global variables and of the local ones, the entities, the orders of the sets, and the input that is not yet read
+-- the values of the global variables and of the local ones, the entities, the orders of the sets, the classes of notices, the time, the
+-- notices that are pending, and the input that is not yet read
 pub record Store : Type 0 where
   pub globals : List Value
   pub locals : List Value
   pub heap : State
   pub orders : List Order
+  pub events : List EventClass
+  pub time : ℤ
+  pub pending : PendingList
   pub input : List ℕ
 
 -- the store, the report so far, and the ticks that are left

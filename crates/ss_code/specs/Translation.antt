@@ -6,7 +6,7 @@ use Rattle.ss_base.specs.declared.value.Value.{Value}
 use Rattle.ss_base.specs.declared.value.Value.TheVariants.{Whole, Text}
 use Rattle.ss_resolved.specs.declared.resolved.Variable.{Variable}
 use Rattle.ss_resolved.specs.declared.resolved.Variable.TheVariants.{Global, Local}
-use Rattle.ss_resolved.specs.declared.resolved.Expression.{Expression, Constant, Fetch, Signed', Sum', Product', Applied', Absolute', Attribute', Made, Derived', Row_of-Expression, end_of-Expression, more_of-Expression, Row_of-Expression-Sum-1-2, end_of-Expression-Sum-1-2, more_of-Expression-Sum-1-2}
+use Rattle.ss_resolved.specs.declared.resolved.Expression.{Expression, Constant, Fetch, Signed', Sum', Product', Applied', Absolute', Attribute', Made, Derived', Clock, TimeOf', Row_of-Expression, end_of-Expression, more_of-Expression, Row_of-Expression-Sum-1-2, end_of-Expression-Sum-1-2, more_of-Expression-Sum-1-2}
 use Rattle.ss_resolved.specs.declared.resolved.Test.{Test}
 use Rattle.ss_resolved.specs.declared.resolved.Test.TheVariants.{Compare, DataEnded, Empty, Member}
 use Rattle.ss_resolved.specs.declared.resolved.Conjunction.{Conjunction}
@@ -30,8 +30,10 @@ use Rattle.ss_resolved.specs.declared.resolved.Place.{Place}
 use Rattle.ss_resolved.specs.declared.resolved.Place.TheVariants.{Variable as PlainVariable, Attribute as AttributePlace, Count}
 use Rattle.ss_resolved.specs.declared.resolved.Target.{Target}
 use Rattle.ss_resolved.specs.declared.resolved.Counted.{Counted}
+use Rattle.ss_resolved.specs.declared.resolved.When.{When}
+use Rattle.ss_resolved.specs.declared.resolved.When.TheVariants as whens
 use Rattle.ss_resolved.specs.declared.resolved.Section.{Section}
-use Rattle.ss_resolved.specs.declared.resolved.Statement.{Statement, Let, Change, Print, If', While', For', Find', Call as CallRoutine, Return, Stop, Read, Skip as SkipLines, Create, CreateEvery, Destroy, File, RemoveEnd, Remove, Row_of-Statement, end_of-Statement, more_of-Statement}
+use Rattle.ss_resolved.specs.declared.resolved.Statement.{Statement, Let, Change, Print, If', While', For', Find', Call as CallRoutine, Return, Stop, Read, Skip as SkipLines, Create, CreateEvery, Destroy, File, RemoveEnd, Remove, ScheduleNew, Schedule, Cancel, Simulate, Row_of-Statement, end_of-Statement, more_of-Statement}
 use Rattle.ss_resolved.specs.declared.resolved.Resolved.{Resolved}
 use Rattle.ss_code.specs.declared.instruction.Operand.{Operand}
 use Rattle.ss_code.specs.declared.instruction.Operand.TheVariants.{Popped, Number, FromGlobal, FromLocal}
@@ -40,11 +42,12 @@ use Rattle.ss_code.specs.declared.instruction.Destination.TheVariants.{Pushed, T
 use Rattle.ss_code.specs.declared.instruction.Operator.{Operator}
 use Rattle.ss_code.specs.declared.instruction.Operator.TheVariants.{Times, Distance}
 use Rattle.ss_code.specs.declared.instruction.Instruction.{Instruction}
-use Rattle.ss_code.specs.declared.instruction.Instruction.TheVariants.{Load, Move, Calculate, Compare as CompareThem, TestData, Jump, Turn, Repeat, Begin, Take, Next, Forget, Call, Leave, Halt, Read as ReadWord, Skip as SkipThem, Print as PrintLines, Look, Get, Put, Give, ChangeField, SetCount, CountMade, CreateOne, CreateAll, DestroyOne, Ask, LookOwner, LookMember, TestEmpty, TestMember, FileOne, FileBeside, RemoveAt, RemoveOne, BeginSet, BeginAt, TakeMember, NextMember}
+use Rattle.ss_code.specs.declared.instruction.Instruction.TheVariants.{Load, Move, Calculate, Compare as CompareThem, TestData, Jump, Turn, Repeat, Begin, Take, Next, Forget, Call, Leave, Halt, Read as ReadWord, Skip as SkipThem, Print as PrintLines, Look, Get, Put, Give, ChangeField, SetCount, CountMade, CreateOne, CreateAll, DestroyOne, Ask, LookOwner, LookMember, TestEmpty, TestMember, FileOne, FileBeside, RemoveAt, RemoveOne, BeginSet, BeginAt, TakeMember, NextMember, Clock as ClockTime, TimeOf, When as WhenDue, MakeNotice, Duplicate, PutKept, FileNotice, Refile, CancelNotice, Await, TakeEvent, EventFault}
 use Rattle.ss_code.specs.declared.instruction.Filing.TheVariants as filings
 use Rattle.ss_code.specs.declared.instruction.Side.{Side}
 use Rattle.ss_code.specs.declared.instruction.Side.TheVariants as sides
 use Rattle.ss_code.specs.Orders.{orders_said}
+use Rattle.ss_code.specs.EventClasses.{events_said}
 use Rattle.ss_code.specs.Meaning.{operator_of, operator_for, firsts}
 use Rattle.ss_resolved.specs.Lines.{lines_of}
 use Rattle.ss_code.specs.Machine.{Code, Entry}
@@ -73,6 +76,8 @@ operand_of (Absolute' p e) = Popped
 operand_of (Attribute' class field p e) = Popped
 operand_of (Made class) = Popped
 operand_of (Derived' derived set p e) = Popped
+operand_of Clock = Popped
+operand_of (TimeOf' p e) = Popped
 
 -- where a calculation leaves its result: as an operand it is on the stack
 abbrev pub placed : Option Destination → Destination
@@ -111,6 +116,8 @@ abbrev mutual
   expression_code l into (Attribute' class field p e) = expression_code l None e ++ Get class field (operand_of e) l ∷ onwards_code into
   expression_code l into (Made class) = CountMade class (placed into) ∷ []
   expression_code l into (Derived' derived set p e) = expression_code l None e ++ Ask derived set (operand_of e) l ∷ onwards_code into
+  expression_code l into Clock = ClockTime (placed into) ∷ []
+  expression_code l into (TimeOf' p e) = expression_code l None e ++ TimeOf (operand_of e) l ∷ onwards_code into
 
   -- the terms behind the first, which is an operand
   pub sum_code : {m : _} → Line → Option Destination → Operand → Row_of-Expression-Sum-1-2 m → List Instruction
@@ -305,6 +312,8 @@ is_plain (Absolute' p e) = false
 is_plain (Attribute' class field p e) = false
 is_plain (Made class) = false
 is_plain (Derived' derived set p e) = false
+is_plain Clock = false
+is_plain (TimeOf' p e) = false
 
 -- the look at a member before its owner is worked out, which is left to the instruction behind both where that has no fault
 abbrev pub early_code : Line → ℕ → Operand → (plain : Bool) → List Instruction
@@ -344,6 +353,37 @@ remove_end_code l set end (AttributePlace class field r) owner =
     reference_code l class r ++ (end_code l set end owner Pushed ++ Put class field Popped l ∷ [])
 remove_end_code l set end (Count class number) owner = end_code l set end owner Pushed ++ SetCount class number Popped l ∷ []
 
+-- the time to schedule for, on top of the stack
+abbrev pub when_code : Line → When → List Instruction
+when_code l (whens.At e) = expression_code l None e ++ WhenDue (operand_of e) false l ∷ []
+when_code l (whens.In e) = expression_code l None e ++ WhenDue (operand_of e) true l ∷ []
+when_code l whens.Now = ClockTime Pushed ∷ []
+
+-- the number of a new notice, on top of the stack
+abbrev pub notice_code : Line → ℕ → List Expression → When → List Instruction
+notice_code l class given when = values_code l given ++ (when_code l when ++ MakeNotice class (length given) l ∷ [])
+
+-- the look at the reference of a target
+abbrev pub spot_code : Line → Place → List Instruction
+spot_code l (PlainVariable x) = []
+spot_code l (AttributePlace class field r) = reference_code l class r
+spot_code l (Count class number) = []
+
+-- the value on top of the stack goes to a target that was looked at, and stays
+abbrev pub kept_code : Line → Place → List Instruction
+kept_code l (PlainVariable x) = Duplicate ∷ Move Popped (destination_of x) ∷ []
+kept_code l (AttributePlace class field r) = PutKept class field l ∷ []
+kept_code l (Count class number) = Duplicate ∷ SetCount class number Popped l ∷ []
+
+-- SCHEDULE A
+abbrev pub schedule_new_code : Line → ℕ → Place → List Expression → When → List Instruction
+schedule_new_code l class t given when = spot_code l t ++ (notice_code l class given when ++ (kept_code l t ++ FileNotice class l ∷ []))
+
+-- SCHEDULE THE
+abbrev pub schedule_code : Line → ℕ → Expression → List Expression → When → List Instruction
+schedule_code l class e given when =
+    reference_code l class e ++ (values_code l given ++ (when_code l when ++ Refile class (length given) l ∷ []))
+
 abbrev mutual
   -- the pictures of a statement
   pub statement_pictures : Statement → List (List ℕ)
@@ -365,6 +405,10 @@ abbrev mutual
   statement_pictures (File l set e position owner) = []
   statement_pictures (RemoveEnd l set end t owner) = []
   statement_pictures (Remove l set e owner) = []
+  statement_pictures (ScheduleNew l class t given when) = []
+  statement_pictures (Schedule l class e given when) = []
+  statement_pictures (Cancel l class e) = []
+  statement_pictures Simulate = []
 
   pub row_pictures : {m : _} → Row_of-Statement m → List (List ℕ)
   row_pictures end_of-Statement = []
@@ -395,6 +439,10 @@ abbrev mutual
   statement_code first (File l set e position owner) = file_code l position set e owner
   statement_code first (RemoveEnd l set end t owner) = remove_end_code l set end t owner
   statement_code first (Remove l set e owner) = pair_code l set e owner (λ m o. RemoveOne set m o l)
+  statement_code first (ScheduleNew l class t given when) = schedule_new_code l class t given.items when
+  statement_code first (Schedule l class e given when) = schedule_code l class e given.items when
+  statement_code first (Cancel l class e) = expression_code l None e ++ CancelNotice class (operand_of e) l ∷ []
+  statement_code first Simulate = Await 2 ∷ TakeEvent ∷ EventFault ∷ []
 
   pub row_code : {m : _} → ℕ → Row_of-Statement m → List Instruction
   row_code first end_of-Statement = []
@@ -432,6 +480,7 @@ abbrev pub code_of : Resolved → Code
 code_of p = record {
   layout = p.layout;
   orders = orders_said p.disciplines.items;
+  events = events_said p.events.items;
   instructions = section_code 0 p.main ++ routines_code (length (body_pictures p.main.body.items)) p.routines.items;
   pictures = body_pictures p.main.body.items ++ routines_pictures p.routines.items;
   entries = entries_from (length (section_code 0 p.main)) (length (body_pictures p.main.body.items)) p.routines.items;

@@ -2,6 +2,7 @@
 
 ghost use Rattle.std.specs.Prelude.{◌≡◌, ◌<◌, ◌^◌, length, slice_get, IfOk};
 ghost use Rattle.ss_code.specs.Listing.{listed};
+ghost use Rattle.ss_code.specs.EventClasses.{events_said};
 ghost use Rattle.ss_code.specs.Orders.{orders_said};
 ghost use Rattle.ss_code.specs.Running.{Sound};
 
@@ -10,11 +11,12 @@ use crate::instruction::Instruction;
 use crate::listing::listing;
 use ss_base::{Discipline, Layout, Value};
 use ss_picture::Picture;
+use ss_resolved::resolved::Event;
 use std::alloc::{AllocError, Global};
 use std::marker::Model;
 
-/// The classes and sets of a program, the disciplines of its sets, its instructions, the pictures that they print by, the routines that
-/// they call, and the first values of the global variables and of MAIN's own.
+/// The classes and sets of a program, the disciplines of its sets, its classes of notices, its instructions, the pictures that they print
+/// by, the routines that they call, and the first values of the global variables and of MAIN's own.
 ///
 /// A contract sees it as a record of these. No run of it is ever stuck, and each jump back leads
 /// to an instruction that takes a tick.
@@ -22,6 +24,7 @@ use std::marker::Model;
 pub struct Code {
     layout: Layout,
     disciplines: Vec<Discipline>,
+    events: Vec<Event>,
     instructions: Vec<Instruction>,
     pictures: Vec<Picture>,
     entries: Vec<Entry>,
@@ -31,15 +34,16 @@ pub struct Code {
 
 impl Model for Code {
     ghost use Rattle.ss_code.specs.Machine.{Code as CodeValue};
+    ghost use Rattle.ss_code.specs.EventClasses.{events_said};
     ghost use Rattle.ss_code.specs.Orders.{orders_said};
 
     ghost Value = { CodeValue };
 
     ghost use Rattle.ss_code.specs.Running.{Sound};
 
-    ghost view = { λ c. record { layout = c.layout; orders = orders_said c.disciplines.items; instructions = c.instructions.items; pictures = c.pictures.items; entries = c.entries.items; globals = c.globals.items; locals = c.locals.items } };
+    ghost view = { λ c. record { layout = c.layout; orders = orders_said c.disciplines.items; events = events_said c.events.items; instructions = c.instructions.items; pictures = c.pictures.items; entries = c.entries.items; globals = c.globals.items; locals = c.locals.items } };
 
-    ghost invariant = { λ c. Sound (record { layout = c.layout; orders = orders_said c.disciplines.items; instructions = c.instructions.items; pictures = c.pictures.items; entries = c.entries.items; globals = c.globals.items; locals = c.locals.items }) };
+    ghost invariant = { λ c. Sound (record { layout = c.layout; orders = orders_said c.disciplines.items; events = events_said c.events.items; instructions = c.instructions.items; pictures = c.pictures.items; entries = c.entries.items; globals = c.globals.items; locals = c.locals.items }) };
 }
 
 impl Code {
@@ -47,18 +51,20 @@ impl Code {
     pub(crate) fn new(
         layout: Layout,
         disciplines: Vec<Discipline>,
+        events: Vec<Event>,
         instructions: Vec<Instruction>,
         pictures: Vec<Picture>,
         entries: Vec<Entry>,
         globals: Vec<Value>,
         locals: Vec<Value>,
     ) -> Code
-        requires { Sound (record { layout = layout; orders = orders_said disciplines.items; instructions = instructions.items; pictures = pictures.items; entries = entries.items; globals = globals.items; locals = locals.items }) }
-        ensures { result ≡ record { layout = layout; orders = orders_said disciplines.items; instructions = instructions.items; pictures = pictures.items; entries = entries.items; globals = globals.items; locals = locals.items } }
+        requires { Sound (record { layout = layout; orders = orders_said disciplines.items; events = events_said events.items; instructions = instructions.items; pictures = pictures.items; entries = entries.items; globals = globals.items; locals = locals.items }) }
+        ensures { result ≡ record { layout = layout; orders = orders_said disciplines.items; events = events_said events.items; instructions = instructions.items; pictures = pictures.items; entries = entries.items; globals = globals.items; locals = locals.items } }
     {
         Code {
             layout,
             disciplines,
+            events,
             instructions,
             pictures,
             entries,
@@ -79,6 +85,13 @@ impl Code {
         ensures { orders_said result.now ≡ self.now.orders }
     {
         &self.disciplines
+    }
+
+    /// The classes of notices, in the order in which they come at one time.
+    pub fn events(&self) -> &[Event]
+        ensures { events_said result.now ≡ self.now.events }
+    {
+        &self.events
     }
 
     /// How many instructions there are. No run of them is ever stuck.

@@ -78,7 +78,9 @@ pub(crate) fn operand(e: &Expression) -> Operand
         | Expression::Absolute { .. }
         | Expression::Attribute { .. }
         | Expression::Made { .. }
-        | Expression::Derived { .. } => Operand::Popped,
+        | Expression::Derived { .. }
+        | Expression::Clock
+        | Expression::TimeOf { .. } => Operand::Popped,
     }
 }
 
@@ -256,6 +258,18 @@ pub(crate) fn emit_expression(
                     derived: *derived,
                     set: *set,
                     from: operand(of),
+                    line,
+                },
+            )?;
+            emit_onwards(code, into)
+        }
+        Expression::Clock => put(code, Instruction::Clock { into: place(into) }),
+        Expression::TimeOf { notice } => {
+            emit_expression(code, line, None, notice)?;
+            put(
+                code,
+                Instruction::TimeOf {
+                    from: operand(notice),
                     line,
                 },
             )?;

@@ -171,6 +171,7 @@ fn program(alloc: Global) -> Result<Resolved, AllocError> {
         disciplines: Vec::new(alloc),
         globals: Vec::from_slice(alloc, &[Mode::Integer, Mode::Integer, Mode::Integer])?,
         routines,
+        events: Vec::new(alloc),
         main: Section {
             locals: Vec::new(alloc),
             body,

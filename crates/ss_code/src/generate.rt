@@ -4,6 +4,7 @@ ghost use Rattle.std.specs.Prelude.{◌≡◌, ◌≤◌, ◌<◌, ◌++◌, len
 ghost use Rattle.ss_base.specs.declared.layout.Layout.{Layout as LayoutSeen};
 ghost use Rattle.ss_resolved.specs.Nodes.{nodes};
 ghost use Rattle.ss_code.specs.Layouts.{SameLayout};
+ghost use Rattle.ss_code.specs.EventClasses.{events_said};
 ghost use Rattle.ss_code.specs.Orders.{orders_said};
 ghost use Rattle.ss_code.specs.Running.{Behaves};
 ghost use Rattle.ss_code.specs.Translation.{code_of, routines_code, routines_pictures, entries_from};
@@ -12,7 +13,7 @@ use crate::code::Code;
 use crate::entry::Entry;
 use crate::error::CodeError;
 use crate::instruction::Instruction;
-use crate::layouts::{copied, copied_disciplines};
+use crate::layouts::{copied, copied_disciplines, copied_events};
 use crate::statements::{emit_section, first_values};
 use ss_picture::Picture;
 use ss_resolved::resolved::{Resolved, Section};
@@ -43,8 +44,8 @@ fn emit_routines(
 }
 
 /// The code of a program, which does for each input and each number of ticks what the program means,
-/// and nothing else, wherever its layout, a copy of the program's, lies in memory. Its disciplines say the
-/// same as the program's.
+/// and nothing else, wherever its layout, a copy of the program's, lies in memory. Its disciplines and its classes of
+/// notices say the same as the program's.
 ///
 /// `CodeTooLong` comes only where the code has more than `INSTRUCTION_LIMIT` instructions, and never
 /// for a program of at most 16,384 nodes; `Memory` where memory was refused.
@@ -53,6 +54,7 @@ pub fn generate(alloc: Global, program: &Resolved) -> Result<Code, CodeError>
     ensures anywhere { IfOk result (λ code. (l : LayoutSeen) → SameLayout program.now.layout l → Behaves program.now (record code { layout = l })) }
     ensures layout { IfOk result (λ code. SameLayout program.now.layout code.layout) }
     ensures orders { IfOk result (λ code. code.orders ≡ orders_said program.now.disciplines.items) }
+    ensures events { IfOk result (λ code. code.events ≡ events_said program.now.events.items) }
     ensures limit { IfOk result (λ code. length code.instructions ≤ INSTRUCTION_LIMIT) }
     ensures too_long { result ≡ Err CodeError.CodeTooLong → INSTRUCTION_LIMIT < length (code_of program.now).instructions }
     ensures small { nodes program.now ≤ 16384 → result ≡ Err CodeError.CodeTooLong → ⊥ }
@@ -75,9 +77,11 @@ pub fn generate(alloc: Global, program: &Resolved) -> Result<Code, CodeError>
     let locals = first_values(alloc, &program.main.locals)?;
     let layout = copied(alloc, &program.layout)?;
     let disciplines = copied_disciplines(alloc, &program.disciplines)?;
+    let events = copied_events(alloc, &program.events)?;
     Ok(Code::new(
         layout,
         disciplines,
+        events,
         instructions,
         pictures,
         entries,
@@ -127,6 +131,7 @@ mod tests {
             disciplines: Vec::new(alloc),
             globals: Vec::new(alloc),
             routines: Vec::new(alloc),
+            events: Vec::new(alloc),
             main: Section {
                 locals: Vec::from_slice(alloc, &[Mode::Integer])?,
                 body,

@@ -311,4 +311,65 @@ pub enum Instruction {
         back: usize,
         line: Line,
     },
+    /// The time of the simulation goes to its destination.
+    Clock {
+        into: Destination,
+    },
+    /// The time that the notice that an operand refers to was last scheduled for goes on top of the stack.
+    TimeOf {
+        from: Operand,
+        line: Line,
+    },
+    /// The time that an operand says or, if later, that is so many units from now, goes on top of the stack. It
+    /// may not be past.
+    When {
+        from: Operand,
+        later: bool,
+        line: Line,
+    },
+    /// A new notice gets the time on top of the stack and, as its first attributes, so many values below it. Its
+    /// number goes on top of the stack.
+    MakeNotice {
+        class: u32,
+        given: usize,
+        line: Line,
+    },
+    /// The value on top of the stack goes there once more.
+    Duplicate,
+    /// The value on top of the stack goes to an attribute of the entity that the value below it refers to, and
+    /// stays in place of both.
+    PutKept {
+        class: u32,
+        field: u32,
+        line: Line,
+    },
+    /// The notice on top of the stack is filed among those that are pending, by the time that it is scheduled
+    /// for, its class and its attributes.
+    FileNotice {
+        class: u32,
+        line: Line,
+    },
+    /// A notice that there is gets the time on top of the stack and, as its first attributes, so many values below
+    /// it, and is filed. It is the next value of the stack, and may not be pending.
+    Refile {
+        class: u32,
+        given: usize,
+        line: Line,
+    },
+    /// The notice that an operand refers to is pending no longer.
+    CancelNotice {
+        class: u32,
+        from: Operand,
+        line: Line,
+    },
+    /// Goes on where a notice is pending, and jumps otherwise.
+    Await {
+        skip: usize,
+    },
+    /// Takes a tick, and begins the event that comes next: its notice is taken out, the time becomes that of the
+    /// notice, and its routine is called, which goes back to the instruction before this one. Where there is a
+    /// fault, nothing is taken out, and it goes on.
+    TakeEvent,
+    /// The run ends by the fault for which the event that comes next does not begin.
+    EventFault,
 }

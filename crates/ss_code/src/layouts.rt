@@ -1,10 +1,12 @@
-//! Layouts and disciplines that say the same.
+//! Layouts, disciplines and classes of notices that say the same.
 
 ghost use Rattle.std.specs.Prelude.{◌≡◌, map, IfOk};
 ghost use Rattle.ss_code.specs.Layouts.{class_said, SameLayout};
+ghost use Rattle.ss_code.specs.EventClasses.{event_said, events_said};
 ghost use Rattle.ss_code.specs.Orders.{order_said, orders_said};
 
 use ss_base::{ClassLayout, Discipline, Layout};
+use ss_resolved::resolved::Event;
 use std::alloc::{AllocError, Global};
 
 // The same class.
@@ -63,6 +65,33 @@ pub fn copied_disciplines(
     let mut copies = Vec::new(alloc);
     for discipline in disciplines {
         let copy = copied_discipline(alloc, discipline)?;
+        copies.push(copy)?;
+    }
+    Ok(copies)
+}
+
+// The same class of notices.
+fn copied_event(alloc: Global, event: &Event) -> Result<Event, AllocError>
+    ensures { IfOk result (λ e. event_said e ≡ event_said event.now) }
+{
+    let ties = Vec::from_slice(alloc, &event.ties)?;
+    Ok(Event {
+        class: event.class,
+        line: event.line,
+        routine: event.routine,
+        given: event.given,
+        saved: event.saved,
+        ties,
+    })
+}
+
+/// Classes of notices that say the same, in memory of their own. The error comes where memory was refused.
+pub fn copied_events(alloc: Global, events: &[Event]) -> Result<Vec<Event>, AllocError>
+    ensures { IfOk result (λ es. events_said es.items ≡ events_said events.now) }
+{
+    let mut copies = Vec::new(alloc);
+    for event in events {
+        let copy = copied_event(alloc, event)?;
         copies.push(copy)?;
     }
     Ok(copies)

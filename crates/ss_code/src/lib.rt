@@ -15,6 +15,7 @@ pub mod laws;
 pub mod layouts;
 mod listing;
 mod members;
+mod schedule;
 #[cfg(test)]
 mod set_tests;
 mod statements;

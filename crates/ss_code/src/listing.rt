@@ -53,6 +53,18 @@ fn name(instruction: &Instruction) -> &str
         Instruction::BeginAt { .. } => "begin at",
         Instruction::TakeMember { .. } => "take member",
         Instruction::NextMember { .. } => "next member",
+        Instruction::Clock { .. } => "clock",
+        Instruction::TimeOf { .. } => "time of",
+        Instruction::When { .. } => "when",
+        Instruction::MakeNotice { .. } => "make notice",
+        Instruction::Duplicate => "duplicate",
+        Instruction::PutKept { .. } => "put kept",
+        Instruction::FileNotice { .. } => "file notice",
+        Instruction::Refile { .. } => "refile",
+        Instruction::CancelNotice { .. } => "cancel notice",
+        Instruction::Await { .. } => "await",
+        Instruction::TakeEvent => "take event",
+        Instruction::EventFault => "event fault",
     }
 }
 

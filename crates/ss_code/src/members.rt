@@ -63,7 +63,9 @@ fn plain(e: &Expression) -> bool
         | Expression::Absolute { .. }
         | Expression::Attribute { .. }
         | Expression::Made { .. }
-        | Expression::Derived { .. } => false,
+        | Expression::Derived { .. }
+        | Expression::Clock
+        | Expression::TimeOf { .. } => false,
     }
 }
 

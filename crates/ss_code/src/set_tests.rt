@@ -129,6 +129,7 @@ fn program(alloc: Global) -> Result<Resolved, AllocError> {
         disciplines: Vec::from_array(alloc, [Discipline::Lifo])?,
         globals: Vec::from_slice(alloc, &[Mode::Integer, Mode::Integer])?,
         routines: Vec::new(alloc),
+        events: Vec::new(alloc),
         main: Section {
             locals: Vec::new(alloc),
             body,

@@ -10,6 +10,7 @@ use crate::conditions::{emit_condition, emit_guards, emit_phrases, sum};
 use crate::emit::{emit_expression, emit_values, operand, put};
 use crate::instruction::{Destination, Instruction, Operand};
 use crate::members::{emit_file, emit_outset, emit_remove, take_member};
+use crate::schedule::{emit_cancel, emit_schedule, emit_schedule_new, emit_simulation};
 use crate::targets::{
     emit_assigns, emit_change, emit_create, emit_creates, emit_let, emit_reads, emit_remove_end,
 };
@@ -383,6 +384,26 @@ fn emit_statement(
             member,
             owner,
         } => emit_remove(code, *line, *set, member, owner),
+        Statement::ScheduleNew {
+            line,
+            class,
+            into,
+            given,
+            when,
+        } => emit_schedule_new(code, *line, *class, into, given, when),
+        Statement::Schedule {
+            line,
+            class,
+            notice,
+            given,
+            when,
+        } => emit_schedule(code, *line, *class, notice, given, when),
+        Statement::Cancel {
+            line,
+            class,
+            notice,
+        } => emit_cancel(code, *line, *class, notice),
+        Statement::Simulate => emit_simulation(code),
     }
 }
 

@@ -13,8 +13,8 @@ use ss_base::{Line, Mode};
 use ss_resolved::resolved::{Counted, End, Expression, Place, Sign, Target};
 use std::alloc::AllocError;
 
-// A reference that is looked at, on top of the stack.
-fn emit_reference(
+/// A reference that is looked at, on top of the stack.
+pub(crate) fn emit_reference(
     code: &mut Vec<Instruction>,
     line: Line,
     class: u32,
