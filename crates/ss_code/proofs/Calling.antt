@@ -1,16 +1,18 @@
 -- The code of calls.
-use Rattle.std.proofs.Common.{◌≡◌, ℕ, zero, suc, ◌+◌, ◌≤◌, true, List, [], ◌∷◌, ◌++◌, length, Option, Some, None, refl, sym, ap, ◌∙◌, subst, arith}
-use Rattle.std.specs.Prelude.{slice_get}
+use Rattle.std.proofs.Common.{◌≡◌, ℕ, zero, suc, ◌+◌, ◌-◌, ◌<◌, ◌≤◌, true, List, [], ◌∷◌, ◌++◌, length, Option, Some, None, refl, sym, ap, ◌∙◌, subst, arith, Ok, Err}
+use Rattle.std.specs.Prelude.{slice_get, Result as OkOr}
 use Rattle.ss_base.specs.declared.value.Value.{Value}
 use Rattle.ss_resolved.specs.declared.resolved.Section.{Section}
-use Rattle.ss_code.specs.declared.instruction.Instruction.TheVariants.{Call, Leave}
+use Rattle.ss_code.specs.declared.instruction.Instruction.TheVariants.{Call, Leave, EventFault}
 use Rattle.ss_code.specs.Store.{Store, World, fresh, yielded}
-use Rattle.ss_code.specs.Meaning.{Returned, Stopped, Faulted, OutOfTicks, Paused, Outcome, WentOn, Left, Calls, firsts, body, with_locals, come_back, routine_body, tick_from, calls}
-use Rattle.ss_code.specs.Machine.{Frame, State, Code, Entry, act, enter, with_taken, with_rest, when_due}
+use Rattle.ss_code.specs.Events.{Beginning, Blame, event_begun}
+use Rattle.ss_code.specs.Meaning.{Fault, then_nothing, begin, Returned, Stopped, Faulted, OutOfTicks, Paused, Outcome, WentOn, Left, Calls, firsts, body, with_locals, come_back, routine_body, tick_from, calls}
+use Rattle.ss_code.specs.Machine.{Frame, State, Code, Entry, act, enter, enter_event, take_event, event_fault, with_taken, with_rest, when_due}
 use Rattle.ss_code.specs.Translation.{body_code, body_pictures, section_code}
 use Rattle.ss_code.proofs.Steps.{HasAt, has_front, has_back, Reaches, here, reaches_on, core_of, at, arrive}
 use Rattle.ss_code.proofs.Parts.{onto, take_them, goes, rests, IfWentOn}
 use Rattle.ss_code.proofs.Looping.{world, out_run}
+use Rattle.ss_code.proofs.Scheduling.{EventRuns}
 use Rattle.ss_code.proofs.Effects.{CallsRun, body_run}
 
 -- the code of the routine that is called stands where its entry says, and its pictures in the table
@@ -45,7 +47,7 @@ body_such : (o : Option Section) (h : Calls) (n : ℕ) (vs : List Value) (count 
 body_such None h n vs count w = yielded_length 0 count []
 body_such (Some r) h n vs count w = back_such (length vs) count w.store.locals (body h n r.body.items (with_locals (fresh (firsts r.locals.items) vs) w))
 
-calls_such : (rs : List Section) (n r count : ℕ) (vs : List Value) (w : World) → IfWentOn (λ us. length us ≡ count) (calls rs n r vs count w)
+calls_such : (rs : List Section) (n r count : ℕ) (vs : List Value) (w : World) → IfWentOn (λ us. length us ≡ count) ((calls rs n).call r vs count w)
 calls_such rs zero r count vs w = tt
 calls_such rs (suc n) r count vs w = ticked w.ticks
   where
@@ -61,6 +63,14 @@ back_run code p f frames s (Left Returned w) has g = g
 back_run code p f frames s (Left Stopped w) has g = g
 back_run code p f frames s (Left (Faulted kind line) w) has g = g
 back_run code p f frames s (Left OutOfTicks w) has g = g
+
+-- the same of an event, which yields nothing
+nothing_back : (code : Code) (first back : ℕ) (stack locals : List Value) (frames : List Frame) (s : State) (o : Outcome (Unit {0})) → Reaches code s (arrive (λ us w. at back (us ++ stack) frames w) frames (come_back first 0 locals o)) → Reaches code s (arrive (λ u w. at back stack frames w) frames (then_nothing (come_back first 0 locals o)))
+nothing_back code first back stack locals frames s (WentOn u w) g = g
+nothing_back code first back stack locals frames s (Left Returned w) g = g
+nothing_back code first back stack locals frames s (Left Stopped w) g = g
+nothing_back code first back stack locals frames s (Left (Faulted kind line) w) g = g
+nothing_back code first back stack locals frames s (Left OutOfTicks w) g = g
 
 module _ (code : Code) (rs : List Section) (linked : Linked code rs) where
   -- what the step of a call comes to, with a tick
@@ -93,14 +103,40 @@ module _ (code : Code) (rs : List Section) (linked : Linked code rs) where
   call_due n ok r given count vs len place stack frames s report (suc t) le has =
       enter_run n ok r given count vs len (slice_get rs r) (slice_get code.entries r) refl (linked.each r) place stack frames s report t (omega arith) has
 
+  -- an event that begins
+  enter_event_run : (n : ℕ) → CallsRun code n (calls rs n) → (b : Beginning) (o : Option Section) (e : Option Entry) → LinkedAt code o e → (place : ℕ) (stack : List Value) (frames : List Frame) (s : Store) (report : List ℕ) (t : ℕ) → t ≤ n → Reaches code (record { core = enter_event e b (core_of place stack frames s); report = report; ticks = t }) (arrive (λ u w. at (place - 1) stack frames w) frames (then_nothing (routine_body o (calls rs n) n b.given 0 (world b.store report t))))
+  enter_event_run n ok b None None link place stack frames s report t le = here
+  enter_event_run n ok b None (Some e) link place stack frames s report t le = absurd link
+  enter_event_run n ok b (Some x) None link place stack frames s report t le = absurd link
+  enter_event_run n ok b (Some x) (Some e) link place stack frames s report t le =
+      let f : Frame = record { back = place - 1; operands = stack; locals = b.store.locals; first = length b.given; count = 0 } in
+      let w : World = with_locals (fresh e.locals b.given) (world b.store report t) in
+      let w' : World = with_locals (fresh (firsts x.locals.items) b.given) (world b.store report t) in
+      let same_world : w ≡ w' = ap (λ j. with_locals (fresh j b.given) (world b.store report t)) link.locals in
+      let c = body_code link.first x.body.items in
+      let o = body (calls rs n) n x.body.items w' in
+      let runs = (body_run code n (calls rs n) ok link.first x.body.items link.pictures).by e.place [] (f ∷ frames) w' (has_front code.instructions e.place c (Leave ∷ []) link.here) le in
+      nothing_back code (length b.given) (place - 1) stack b.store.locals frames (at e.place [] (f ∷ frames) w) o
+      (back_run code (e.place + length c) f frames (at e.place [] (f ∷ frames) w) o (has_back code.instructions e.place c (Leave ∷ []) link.here).0
+      (subst (λ v. Reaches code (at e.place [] (f ∷ frames) v) (arrive (λ u w. at (e.place + length c) [] (f ∷ frames) w) (f ∷ frames) o)) (sym same_world) runs))
+
+  event_due : (n : ℕ) → CallsRun code n (calls rs n) → (r : OkOr Beginning Blame) (place : ℕ) (stack : List Value) (frames : List Frame) (s : Store) (report : List ℕ) (t : ℕ) → t ≤ n → event_begun s ≡ r → slice_get code.instructions (place + 1) ≡ Some EventFault → Reaches code (record { core = take_event code.entries r (core_of place stack frames s); report = report; ticks = t }) (arrive (λ u w. at (place - 1) stack frames w) frames (then_nothing (begin r (λ b. routine_body (slice_get rs b.routine) (calls rs n) n b.given 0) (world s report t))))
+  event_due n ok (Ok b) place stack frames s report t le q has =
+      enter_event_run n ok b (slice_get rs b.routine) (slice_get code.entries b.routine) (linked.each b.routine) place stack frames s report t le
+  event_due n ok (Err blame) place stack frames s report t le q has =
+      rests code (at (place + 1) stack frames (world s report t)) EventFault (Fault blame.kind blame.line) has
+      (ap (λ r. with_rest report t (event_fault r (core_of (place + 1) stack frames s))) q)
+
   pub calls_run : (n : ℕ) → CallsRun code n (calls rs n)
   calls_run zero = record {
     by = λ r given count vs len.
         record { by = λ place stack frames w has le. out_run code {A = List Value} (Call r given count) place (onto vs stack) frames (λ us w'. at (place + 1) (us ++ stack) frames w') has.0 refl w.store w.report w.ticks le };
     such = λ r count vs w. calls_such rs 0 r count vs w;
+    event = record { by = λ place stack frames s r t lt has. absurd (omega (arith, lt)) };
   }
   calls_run (suc n) = record {
     by = λ r given count vs len.
         record { by = λ place stack frames w has le. call_due n (calls_run n) r given count vs len place stack frames w.store w.report w.ticks le has.0 };
     such = λ r count vs w. calls_such rs (suc n) r count vs w;
+    event = record { by = λ place stack frames s r t lt has. event_due n (calls_run n) (event_begun s) place stack frames s r t (omega (arith, lt)) refl has };
   }

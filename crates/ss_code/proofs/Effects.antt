@@ -11,7 +11,7 @@ use Rattle.ss_resolved.specs.declared.resolved.Condition.{Condition}
 use Rattle.ss_resolved.specs.declared.resolved.Phrase.{Phrase}
 use Rattle.ss_resolved.specs.declared.resolved.Head.{Head}
 use Rattle.ss_resolved.specs.declared.resolved.Head.TheVariants as heads
-use Rattle.ss_resolved.specs.declared.resolved.Statement.{Statement, Let, Change, Print, If', While', For', Find', Call as CallRoutine, Return, Stop, Read, Skip as SkipLines, Create, CreateEvery, Destroy, File, RemoveEnd, Remove, Row_of-Statement, end_of-Statement, more_of-Statement}
+use Rattle.ss_resolved.specs.declared.resolved.Statement.{Statement, Let, Change, Print, If', While', For', Find', Call as CallRoutine, Return, Stop, Read, Skip as SkipLines, Create, CreateEvery, Destroy, File, RemoveEnd, Remove, ScheduleNew, Schedule, Cancel, Simulate, Row_of-Statement, end_of-Statement, more_of-Statement}
 use Rattle.ss_code.specs.declared.instruction.Instruction.{Instruction}
 use Rattle.ss_code.specs.declared.instruction.Instruction.TheVariants.{Jump, Begin, Take, Next, TakeMember, NextMember, Forget, Call, Leave, Halt, Skip as SkipThem, Print as PrintLines}
 use Rattle.ss_code.specs.Store.{Store, World, number_of, printed, empty_lines, yielded}
@@ -25,11 +25,12 @@ use Rattle.ss_code.proofs.Parts.{Runs, same, done, onto, take_them, told, told_p
 use Rattle.std.proofs.lemmas.List.{length-map}
 use Rattle.ss_code.specs.declared.instruction.Operand.{Operand}
 use Rattle.ss_code.proofs.Writing.{look_on, let_run, change_run, reads_run, create_run, creates_run, assigns_run, destroy_run}
+use Rattle.ss_code.proofs.Scheduling.{EventRuns, schedule_new_run, schedule_run, cancel_run, simulate_run}
 use Rattle.ss_code.proofs.Filing.{file_run, remove_run, remove_end_run}
 use Rattle.ss_code.proofs.Branching.{aimed, condition_run}
 use Rattle.ss_code.proofs.Walking.{over_run}
 use Rattle.ss_code.proofs.Looping.{Turns, leads, phrases_run, behind, while_run}
-use Rattle.ss_code.proofs.Expressions.{Holds, same_ok, shelved, holds, expression_run, values_run}
+use Rattle.ss_code.proofs.Expressions.{Holds, same_ok, shelved, holds, expression_run, values_run, values_length}
 
 drop_at : {A : Type 0} (all : List A) (place : ℕ) (i : A) → slice_get all place ≡ Some i → drop place all ≡ i ∷ drop (place + 1) all
 drop_at [] zero i h = absurd cc
@@ -43,16 +44,6 @@ drop_at (x ∷ xs) (suc k) i h =
 pub taken_at : {A : Type 0} (all : List A) (place : ℕ) (is : List A) → HasAt all place is → take (length is) (drop place all) ≡ is
 taken_at all place [] h = refl
 taken_at all place (i ∷ is) h = ap (take (suc (length is))) (drop_at all place i h.0) ∙ ap (λ l. i ∷ l) (taken_at all (place + 1) is h.1)
-
--- as many values as expressions
-values_length : (es : List Expression) (s : Store) (vs : List Value) → values es s ≡ Ok vs → length es ≡ length vs
-values_length [] s vs q = let e : [] ≡ vs = same_ok q in ap length e
-values_length (e ∷ es) s vs q = first (value e s) (values es s) (λ us h. values_length es s us h) q
-  where
-    first : (r : OkOr Value FaultKind) (rs : OkOr (List Value) FaultKind) → ((us : List Value) → rs ≡ Ok us → length es ≡ length us) → if_ok r (λ v. if_ok rs (λ vs. Ok (v ∷ vs))) ≡ Ok vs → length (e ∷ es) ≡ length vs
-    first (Err k) rs h q = absurd cc
-    first (Ok v) (Err k) h q = absurd cc
-    first (Ok v) (Ok us) h q = let e' : v ∷ us ≡ vs = same_ok q in ap suc (h us refl) ∙ ap length e'
 
 -- what follows a part that went on
 follow : (code : Code) (s : State) (k k' : Unit {0} → World → State) (frames : List Frame) (r : Outcome (Unit {0})) → Reaches code s (arrive k frames r) → ((u : Unit {0}) (w : World) → Reaches code (k u w) (Underway (k' u w))) → Reaches code s (arrive k' frames r)
@@ -254,10 +245,11 @@ module _ (code : Code) (n : ℕ) where
       such (Ok vs) q = values_length es w.store vs q
       such (Err kind) q = tt
 
--- the code of a call does what h says
+-- the code of a call, and of an event, does what h says
 pub record CallsRun (code : Code) (n : ℕ) (h : Calls) : Type 0 where
-  pub by : (r given count : ℕ) (vs : List Value) → given ≡ length vs → Runs code n (onto vs) (Call r given count ∷ []) (λ us stack. us ++ stack) (h r vs count)
-  pub such : (r count : ℕ) (vs : List Value) (w : World) → IfWentOn (λ us. length us ≡ count) (h r vs count w)
+  pub by : (r given count : ℕ) (vs : List Value) → given ≡ length vs → Runs code n (onto vs) (Call r given count ∷ []) (λ us stack. us ++ stack) (h.call r vs count)
+  pub such : (r count : ℕ) (vs : List Value) (w : World) → IfWentOn (λ us. length us ≡ count) (h.call r vs count w)
+  pub event : EventRuns code n h.event
 
 module _ (code : Code) (n : ℕ) (h : Calls) (ok : CallsRun code n h) where
   mutual
@@ -290,6 +282,10 @@ module _ (code : Code) (n : ℕ) (h : Calls) (ok : CallsRun code n h) where
     statement_run first (File l set e position owner) p = file_run code n l position set e owner
     statement_run first (RemoveEnd l set end t owner) p = remove_end_run code n l set end t owner
     statement_run first (Remove l set e owner) p = remove_run code n l set e owner
+    statement_run first (ScheduleNew l class t given when) p = schedule_new_run code n l class t given.items when
+    statement_run first (Schedule l class e given when) p = schedule_run code n l class e given.items when
+    statement_run first (Cancel l class e) p = cancel_run code n l class e
+    statement_run first Simulate p = simulate_run code n h.event ok.event
 
     row_run : {m : _} (first : ℕ) (r : Row_of-Statement m) → HasAt code.pictures first (row_pictures r) → Runs code n same (row_code first r) done (effects h n r)
     row_run first end_of-Statement p = none code n tt

@@ -1,5 +1,5 @@
 -- The code of expressions.
-use Rattle.std.proofs.Common.{◌≡◌, ℕ, ◌+◌, false, List, [], ◌∷◌, ◌++◌, length, Option, Some, None, Ok, Err, refl, ap, ◌∙◌, subst, arith, length-append}
+use Rattle.std.proofs.Common.{◌≡◌, ℕ, suc, ◌+◌, false, List, [], ◌∷◌, ◌++◌, length, Option, Some, None, Ok, Err, refl, ap, ◌∙◌, subst, arith, length-append}
 use Rattle.std.specs.Prelude.{slice_get, pos, Result as OkOr}
 use Rattle.ss_base.specs.declared.line.Line.{Line}
 use Rattle.ss_base.specs.declared.fault.FaultKind.{FaultKind}
@@ -7,7 +7,7 @@ use Rattle.ss_base.specs.declared.value.Value.{Value}
 use Rattle.ss_base.specs.declared.value.Value.TheVariants.{Whole, Text}
 use Rattle.ss_resolved.specs.declared.resolved.Variable.{Variable}
 use Rattle.ss_resolved.specs.declared.resolved.Variable.TheVariants.{Global, Local}
-use Rattle.ss_resolved.specs.declared.resolved.Expression.{Expression, Constant, Fetch, Signed', Sum', Product', Applied', Absolute', Attribute', Made, Derived', Row_of-Expression, end_of-Expression, more_of-Expression, Row_of-Expression-Sum-1-2, end_of-Expression-Sum-1-2, more_of-Expression-Sum-1-2}
+use Rattle.ss_resolved.specs.declared.resolved.Expression.{Expression, Constant, Fetch, Signed', Sum', Product', Applied', Absolute', Attribute', Made, Derived', Clock, TimeOf', Row_of-Expression, end_of-Expression, more_of-Expression, Row_of-Expression-Sum-1-2, end_of-Expression-Sum-1-2, more_of-Expression-Sum-1-2}
 use Rattle.ss_code.specs.declared.instruction.Operand.{Operand}
 use Rattle.ss_code.specs.declared.instruction.Operand.TheVariants.{Popped, Number, FromGlobal, FromLocal}
 use Rattle.ss_code.specs.declared.instruction.Destination.{Destination}
@@ -15,11 +15,12 @@ use Rattle.ss_code.specs.declared.instruction.Destination.TheVariants.{Pushed, T
 use Rattle.ss_code.specs.declared.instruction.Operator.{Operator}
 use Rattle.ss_code.specs.declared.instruction.Operator.TheVariants.{Times, Distance}
 use Rattle.ss_code.specs.declared.instruction.Instruction.{Instruction}
-use Rattle.ss_code.specs.declared.instruction.Instruction.TheVariants.{Load, Move, Calculate, Get, CountMade, Ask}
+use Rattle.ss_code.specs.declared.instruction.Instruction.TheVariants.{Load, Move, Calculate, Get, CountMade, Ask, Clock as ClockTime, TimeOf}
 use Rattle.ss_code.specs.Store.{Store, World, fetched, assigned, computed, zero_value}
 use Rattle.ss_resolved.specs.declared.resolved.Derived.{Derived}
 use Rattle.ss_code.specs.Sets.{asked}
 use Rattle.ss_code.specs.Entities.{attribute, made_count}
+use Rattle.ss_code.specs.Events.{clock, time_of}
 use Rattle.ss_code.specs.Meaning.{Fault, if_ok, operator_of, operator_for, value, sum_from, product_from, values}
 use Rattle.ss_code.specs.Machine.{Frame, Core, State, Code, Moved, To, Stepped, Goes, act, is_due, next, did, with_operand, delivered, with_rest, when_due}
 use Rattle.ss_code.specs.Translation.{variable_operand, constant_operand, operand_of, placed, constant_code, fetch_code, onwards_code, expression_code, sum_code, terms_code, product_code, factors_code, values_code}
@@ -67,6 +68,8 @@ holds (Absolute' p e) v s q = holds_popped v s
 holds (Attribute' class field p e) v s q = holds_popped v s
 holds (Made class) v s q = holds_popped v s
 holds (Derived' derived set p e) v s q = holds_popped v s
+holds Clock v s q = holds_popped v s
+holds (TimeOf' p e) v s q = holds_popped v s
 
 -- the state after a value came to its destination
 abbrev pub at_destination : Destination → Value → ℕ → List Value → List Frame → World → State
@@ -94,7 +97,7 @@ module _ (code : Code) (l : Line) (frames : List Frame) (w : World) where
   untimed i c m x free e f = ap (λ b. when_due b w.report w.ticks (act code i c)) free ∙ ap (with_rest w.report w.ticks) e ∙ f
 
   -- one instruction that looks, and leaves what it found at its destination
-  did_told : (i : Instruction) (into : Destination) (place : ℕ) (stack above : List Value) (r : OkOr Value FaultKind) → slice_get code.instructions place ≡ Some i → is_due i ≡ false → act code i (core_of place above frames w.store) ≡ did l r (λ v. delivered into v stack (core_of place above frames w.store)) → Reaches code (at place above frames w) (told l w (λ v. at_destination into v (place + 1) stack frames w) r)
+  pub did_told : (i : Instruction) (into : Destination) (place : ℕ) (stack above : List Value) (r : OkOr Value FaultKind) → slice_get code.instructions place ≡ Some i → is_due i ≡ false → act code i (core_of place above frames w.store) ≡ did l r (λ v. delivered into v stack (core_of place above frames w.store)) → Reaches code (at place above frames w) (told l w (λ v. at_destination into v (place + 1) stack frames w) r)
   did_told i into place stack above (Ok v) has free e =
       goes code (at place above frames w) (at_destination into v (place + 1) stack frames w) i _ has
       (untimed i (core_of place above frames w.store) _ _ free e (delivers into v place stack above)) here
@@ -102,7 +105,7 @@ module _ (code : Code) (l : Line) (frames : List Frame) (w : World) where
       rests code (at place above frames w) i (Fault kind l) has (untimed i (core_of place above frames w.store) _ _ free e refl)
 
   -- one instruction that moves a value to its destination
-  delivered_told : (i : Instruction) (into : Destination) (v : Value) (place : ℕ) (stack above : List Value) → slice_get code.instructions place ≡ Some i → is_due i ≡ false → act code i (core_of place above frames w.store) ≡ To (delivered into v stack (core_of place above frames w.store)) → Reaches code (at place above frames w) (Underway (at_destination into v (place + 1) stack frames w))
+  pub delivered_told : (i : Instruction) (into : Destination) (v : Value) (place : ℕ) (stack above : List Value) → slice_get code.instructions place ≡ Some i → is_due i ≡ false → act code i (core_of place above frames w.store) ≡ To (delivered into v stack (core_of place above frames w.store)) → Reaches code (at place above frames w) (Underway (at_destination into v (place + 1) stack frames w))
   delivered_told i into v place stack above has free e =
       goes code (at place above frames w) (at_destination into v (place + 1) stack frames w) i _ has
       (untimed i (core_of place above frames w.store) _ _ free e (delivers into v place stack above)) here
@@ -156,6 +159,13 @@ module _ (code : Code) (l : Line) (frames : List Frame) (w : World) where
       did_told (Ask derived set o l) Pushed place stack (shelved o x stack) (asked derived set x w.store) has refl
       (hx.by stack (λ x rest. did l (asked derived set x w.store) (λ v. next (v ∷ rest) c)))
 
+  -- TIME.A of a notice, on top of the stack
+  times : (o : Operand) (x : Value) (place : ℕ) (stack : List Value) → Holds o x w.store → slice_get code.instructions place ≡ Some (TimeOf o l) → Reaches code (at place (shelved o x stack) frames w) (told l w (λ v. at (place + 1) (v ∷ stack) frames w) (time_of x w.store))
+  times o x place stack hx has =
+      let c = core_of place (shelved o x stack) frames w.store in
+      did_told (TimeOf o l) Pushed place stack (shelved o x stack) (time_of x w.store) has refl
+      (hx.by stack (λ x rest. did l (time_of x w.store) (λ v. next (v ∷ rest) c)))
+
   -- on from the top of the stack
   onwards_run : (into : Option Destination) (v : Value) (place end : ℕ) (stack : List Value) → HasAt code.instructions place (onwards_code into) → place + length (onwards_code into) ≡ end → Reaches code (at place (v ∷ stack) frames w) (Underway (landed into Popped v end stack frames w))
   onwards_run None v place end stack has len = let e : place ≡ end = omega (arith, len) in moved_to _ _ _ (ap (λ p. at p (v ∷ stack) frames w) e) here
@@ -181,6 +191,17 @@ module _ (code : Code) (l : Line) (frames : List Frame) (w : World) where
       told_on (at place (shelved o x stack) frames w) (λ v. at (place + 1) (v ∷ stack) frames w) (λ v. landed into Popped v end stack frames w) (asked derived set x w.store)
       (asks derived set o x place stack hx has.0)
       (λ v. onwards_run into v (place + 1) end stack has.1 len)
+
+  time_run : (o : Operand) (into : Option Destination) (x : Value) (place end : ℕ) (stack : List Value) → Holds o x w.store → HasAt code.instructions place (TimeOf o l ∷ onwards_code into) → place + 1 + length (onwards_code into) ≡ end → Reaches code (at place (shelved o x stack) frames w) (told l w (λ v. landed into Popped v end stack frames w) (time_of x w.store))
+  time_run o into x place end stack hx has len =
+      told_on (at place (shelved o x stack) frames w) (λ v. at (place + 1) (v ∷ stack) frames w) (λ v. landed into Popped v end stack frames w) (time_of x w.store)
+      (times o x place stack hx has.0)
+      (λ v. onwards_run into v (place + 1) end stack has.1 len)
+
+  clock_run : (into : Option Destination) (place end : ℕ) (stack : List Value) → slice_get code.instructions place ≡ Some (ClockTime (placed into)) → place + 1 ≡ end → Reaches code (at place stack frames w) (Underway (landed into Popped (clock w.store) end stack frames w))
+  clock_run into place end stack has len =
+      moved_to _ _ _ (landed_popped into (clock w.store) (place + 1) end stack len)
+      (delivered_told (ClockTime (placed into)) (placed into) (clock w.store) place stack stack has refl refl)
 
   made_run : (class : ℕ) (into : Option Destination) (place end : ℕ) (stack : List Value) → slice_get code.instructions place ≡ Some (CountMade class (placed into)) → place + 1 ≡ end → Reaches code (at place stack frames w) (Underway (landed into Popped (made_count class w.store) end stack frames w))
   made_run class into place end stack has len =
@@ -247,6 +268,14 @@ module _ (code : Code) (l : Line) (frames : List Frame) (w : World) where
         told_join l w (at place stack frames w) (λ v. at (place + length c) (shelved (operand_of e) v stack) frames w) _ (value e w.store) (λ x. asked derived set x w.store)
         (expression_run e None place stack (has_front code.instructions place c tail has))
         (λ x q. asked_run derived set (operand_of e) into x (place + length c) (place + length (c ++ tail)) stack (holds e x w.store q) (has_back code.instructions place c tail has) len)
+    expression_run Clock into place stack has = clock_run into place (place + 1) stack has.0 refl
+    expression_run (TimeOf' p e) into place stack has =
+        let c = expression_code l None e in
+        let tail = TimeOf (operand_of e) l ∷ onwards_code into in
+        let len : place + length c + 1 + length (onwards_code into) ≡ place + length (c ++ tail) = omega (arith, length-append c tail) in
+        told_join l w (at place stack frames w) (λ v. at (place + length c) (shelved (operand_of e) v stack) frames w) _ (value e w.store) (λ x. time_of x w.store)
+        (expression_run e None place stack (has_front code.instructions place c tail has))
+        (λ x q. time_run (operand_of e) into x (place + length c) (place + length (c ++ tail)) stack (holds e x w.store q) (has_back code.instructions place c tail has) len)
 
     sum_run : {m : _} (terms : Row_of-Expression-Sum-1-2 m) (into : Option Destination) (first : Operand) (x : Value) (place end : ℕ) (stack : List Value) → Holds first x w.store → HasAt code.instructions place (sum_code l into first terms) → place + length (sum_code l into first terms) ≡ end → Reaches code (at place (shelved first x stack) frames w) (told l w (λ v. landed into Popped v end stack frames w) (sum_from x terms w.store))
     sum_run end_of-Expression-Sum-1-2 into first x place end stack hx has len =
@@ -309,3 +338,13 @@ module _ (code : Code) (l : Line) (frames : List Frame) (w : World) where
       (expression_run e (Some Pushed) place stack (has_front code.instructions place c tail has))
       (λ v q. told_join l w (at (place + length c) (v ∷ stack) frames w) (λ vs. at end (onto vs (v ∷ stack)) frames w) _ (values es w.store) (λ vs. Ok (v ∷ vs))
       (values_run es (place + length c) end (v ∷ stack) (has_back code.instructions place c tail has) len') (λ vs q'. here))
+
+-- as many values as expressions
+pub values_length : (es : List Expression) (s : Store) (vs : List Value) → values es s ≡ Ok vs → length es ≡ length vs
+values_length [] s vs q = let e : [] ≡ vs = same_ok q in ap length e
+values_length (e ∷ es) s vs q = first (value e s) (values es s) (λ us h. values_length es s us h) q
+  where
+    first : (r : OkOr Value FaultKind) (rs : OkOr (List Value) FaultKind) → ((us : List Value) → rs ≡ Ok us → length es ≡ length us) → if_ok r (λ v. if_ok rs (λ vs. Ok (v ∷ vs))) ≡ Ok vs → length (e ∷ es) ≡ length vs
+    first (Err k) rs h q = absurd cc
+    first (Ok v) (Err k) h q = absurd cc
+    first (Ok v) (Ok us) h q = let e' : v ∷ us ≡ vs = same_ok q in ap suc (h us refl) ∙ ap length e'

@@ -5,7 +5,7 @@ use Rattle.ss_base.specs.declared.line.Line.{Line}
 use Rattle.ss_base.specs.declared.fault.FaultKind.{FaultKind}
 use Rattle.ss_base.specs.declared.value.Value.{Value}
 use Rattle.ss_resolved.specs.declared.resolved.Variable.{Variable}
-use Rattle.ss_resolved.specs.declared.resolved.Expression.{Expression, Constant, Fetch, Signed', Sum', Product', Applied', Absolute', Attribute', Made, Derived'}
+use Rattle.ss_resolved.specs.declared.resolved.Expression.{Expression, Constant, Fetch, Signed', Sum', Product', Applied', Absolute', Attribute', Made, Derived', Clock, TimeOf'}
 use Rattle.ss_resolved.specs.declared.resolved.End.{End}
 use Rattle.ss_resolved.specs.declared.resolved.Place.{Place}
 use Rattle.ss_resolved.specs.declared.resolved.Place.TheVariants.{Variable as PlainVariable, Attribute as AttributePlace, Count}
@@ -84,6 +84,8 @@ plain_value (Absolute' p e) s q = absurd cc
 plain_value (Attribute' class field p e) s q = absurd cc
 plain_value (Made class) s q = absurd cc
 plain_value (Derived' derived set p e) s q = absurd cc
+plain_value Clock s q = absurd cc
+plain_value (TimeOf' p e) s q = absurd cc
 
 module _ (code : Code) (n : ℕ) (l : Line) where
   -- ## A member and its owner

@@ -35,7 +35,7 @@ use Rattle.ss_code.proofs.Steps.{HasAt, has_front, has_back, core_of}
 use Rattle.ss_code.proofs.Safety.{Safe, Now, ActSafe, one, up, down, variable_up, variable_down, moved_now, top_safe, operand_safe, deliver_safe, did_safe, calculate_safe, move_safe, expression_safe, look_member_safe, member_safe}
 
 module _ (code : Code) (k : ℕ) (frames : List Frame) where
-  settled_safe : (j : ℕ) (l : Line) (r : OkOr Store FaultKind) (rest above : List Value) (place h : ℕ) (s : Store) → length rest ≡ h → Safe code j (place + 1) h frames → ActSafe code (Safe code j) (settled l r rest (core_of place above frames s))
+  pub settled_safe : (j : ℕ) (l : Line) (r : OkOr Store FaultKind) (rest above : List Value) (place h : ℕ) (s : Store) → length rest ≡ h → Safe code j (place + 1) h frames → ActSafe code (Safe code j) (settled l r rest (core_of place above frames s))
   settled_safe j l r rest above place h s len p = did_safe code (Safe code j) l r _ (λ s. subst (λ m. Safe code j (place + 1) m frames) (sym len) p)
 
   look_safe : (class : ℕ) (o : Operand) (l : Line) (place h : ℕ) → slice_get code.instructions place ≡ Some (Look class o l) → Now code k (place + 1) (suc h) frames → Now code k place (up code o h) frames
@@ -58,7 +58,7 @@ module _ (code : Code) (k : ℕ) (frames : List Frame) where
       top_safe code (Safe code j) stack (up code o h) _ len (λ x above la. operand_safe code (Safe code j) o above h s _ la (λ y rest lr.
       settled_safe j l (changed op class field x y s) rest stack place h s lr (n.upto j (omega (arith, lt))))))
 
-  set_count_safe : (class number : ℕ) (o : Operand) (l : Line) (place h : ℕ) → slice_get code.instructions place ≡ Some (SetCount class number o l) → Now code k (place + 1) h frames → Now code k place (up code o h) frames
+  pub set_count_safe : (class number : ℕ) (o : Operand) (l : Line) (place h : ℕ) → slice_get code.instructions place ≡ Some (SetCount class number o l) → Now code k (place + 1) h frames → Now code k place (up code o h) frames
   set_count_safe class number o l place h has n = one code (SetCount class number o l) k place _ frames has (λ j lt stack s len.
       operand_safe code (Safe code j) o stack h s _ len (λ v rest lr.
       settled_safe j l (counted class number v s) rest stack place h s lr (n.upto j (omega (arith, lt)))))
@@ -83,7 +83,7 @@ module _ (code : Code) (k : ℕ) (frames : List Frame) where
       deliver_safe code (Safe code j) into g.value stack (record (core_of place stack frames s) { store = record s { input = g.rest } }) h len (n.upto j (omega (arith, lt)))))
 
   module _ (l : Line) where
-    reference_safe : (class : ℕ) (e : Expression) (place end h : ℕ) → HasAt code.instructions place (reference_code l class e) → place + length (reference_code l class e) ≡ end → Now code k end (suc h) frames → Now code k place h frames
+    pub reference_safe : (class : ℕ) (e : Expression) (place end h : ℕ) → HasAt code.instructions place (reference_code l class e) → place + length (reference_code l class e) ≡ end → Now code k end (suc h) frames → Now code k place h frames
     reference_safe class e place end h has len n =
         let c = expression_code l None e in
         let tail = Look class (operand_of e) l ∷ [] in

@@ -5,7 +5,7 @@ use Rattle.ss_base.specs.declared.line.Line.{Line}
 use Rattle.ss_base.specs.declared.value.Value.{Value}
 use Rattle.ss_base.specs.declared.value.Value.TheVariants.{Whole, Text}
 use Rattle.ss_resolved.specs.declared.resolved.Variable.{Variable}
-use Rattle.ss_resolved.specs.declared.resolved.Expression.{Expression, Constant, Fetch, Signed', Sum', Product', Applied', Absolute', Attribute', Made, Derived', Row_of-Expression, end_of-Expression, more_of-Expression, Row_of-Expression-Sum-1-2, end_of-Expression-Sum-1-2, more_of-Expression-Sum-1-2}
+use Rattle.ss_resolved.specs.declared.resolved.Expression.{Expression, Constant, Fetch, Signed', Sum', Product', Applied', Absolute', Attribute', Made, Derived', Clock, TimeOf', Row_of-Expression, end_of-Expression, more_of-Expression, Row_of-Expression-Sum-1-2, end_of-Expression-Sum-1-2, more_of-Expression-Sum-1-2}
 use Rattle.ss_resolved.specs.declared.resolved.Test.{Test}
 use Rattle.ss_resolved.specs.declared.resolved.Test.TheVariants.{Compare, DataEnded, Empty, Member}
 use Rattle.ss_resolved.specs.declared.resolved.Conjunction.{Conjunction}
@@ -31,10 +31,12 @@ use Rattle.ss_resolved.specs.declared.resolved.Place.{Place}
 use Rattle.ss_resolved.specs.declared.resolved.Place.TheVariants.{Variable as PlainVariable, Attribute as AttributePlace, Count}
 use Rattle.ss_resolved.specs.declared.resolved.Target.{Target}
 use Rattle.ss_resolved.specs.declared.resolved.Counted.{Counted}
+use Rattle.ss_resolved.specs.declared.resolved.When.{When}
+use Rattle.ss_resolved.specs.declared.resolved.When.TheVariants as whens
 use Rattle.ss_base.specs.declared.layout.Mode.{Mode}
 use Rattle.ss_code.specs.declared.instruction.Destination.TheVariants.{Pushed, ToGlobal, ToLocal}
 use Rattle.ss_resolved.specs.declared.resolved.Section.{Section}
-use Rattle.ss_resolved.specs.declared.resolved.Statement.{Statement, Let, Change, Print, If', While', For', Find', Call as CallRoutine, Return, Stop, Read, Skip as SkipLines, Create, CreateEvery, Destroy, File, RemoveEnd, Remove, Row_of-Statement, end_of-Statement, more_of-Statement}
+use Rattle.ss_resolved.specs.declared.resolved.Statement.{Statement, Let, Change, Print, If', While', For', Find', Call as CallRoutine, Return, Stop, Read, Skip as SkipLines, Create, CreateEvery, Destroy, File, RemoveEnd, Remove, ScheduleNew, Schedule, Cancel, Simulate, Row_of-Statement, end_of-Statement, more_of-Statement}
 use Rattle.ss_resolved.specs.declared.resolved.Resolved.{Resolved}
 use Rattle.ss_code.specs.declared.instruction.Operand.{Operand}
 use Rattle.ss_code.specs.declared.instruction.Destination.{Destination}
@@ -43,7 +45,7 @@ use Rattle.ss_code.specs.declared.instruction.Instruction.{Instruction}
 use Rattle.ss_code.specs.declared.instruction.Instruction.TheVariants.{Turn, Next, Jump, Begin, Take, TakeMember, NextMember, FileOne, RemoveOne, Forget, Leave}
 use Rattle.ss_code.specs.Machine.{Code, is_due}
 use Rattle.ss_code.specs.Running.{TicksAt, goes_back, Sound}
-use Rattle.ss_code.specs.Translation.{operand_of, constant_code, fetch_code, onwards_code, expression_code, sum_code, terms_code, product_code, factors_code, values_code, test_code, tests_code, alternatives_code, some_code, condition_code, negated_code, guard_code, guards_code, phrase_code, phrases_code, if_code, while_code, step_code, bounds_code, range_code, member_code, owner_code, outset_code, members_code, is_plain, early_code, pair_code, beside_code, file_code, end_code, remove_end_code, for_code, find_code, reference_code, let_code, change_code, read_code, reads_code, create_code, creates_code, assign_code, assigns_code, statement_code, statement_pictures, row_code, row_pictures, body_code, body_pictures, section_code, routines_code, code_of}
+use Rattle.ss_code.specs.Translation.{operand_of, constant_code, fetch_code, onwards_code, expression_code, sum_code, terms_code, product_code, factors_code, values_code, test_code, tests_code, alternatives_code, some_code, condition_code, negated_code, guard_code, guards_code, phrase_code, phrases_code, if_code, while_code, step_code, bounds_code, range_code, member_code, owner_code, outset_code, members_code, is_plain, early_code, pair_code, beside_code, file_code, end_code, remove_end_code, for_code, find_code, reference_code, let_code, change_code, read_code, reads_code, create_code, creates_code, when_code, notice_code, spot_code, kept_code, schedule_new_code, schedule_code, assign_code, assigns_code, statement_code, statement_pictures, row_code, row_pictures, body_code, body_pictures, section_code, routines_code, code_of}
 use Rattle.ss_code.specs.Meaning.{operator_of}
 use Rattle.ss_code.proofs.Steps.{HasAt, has_front, has_back, has_all}
 use Rattle.ss_code.proofs.Secure.{never_stuck}
@@ -87,6 +89,8 @@ module _ (l : Line) where
     expression_straight into (Attribute' class field p e) = straight_both (expression_code l None e) _ (expression_straight None e) (refl, onwards_straight into)
     expression_straight into (Made class) = (refl, tt)
     expression_straight into (Derived' derived set p e) = straight_both (expression_code l None e) _ (expression_straight None e) (refl, onwards_straight into)
+    expression_straight into Clock = (refl, tt)
+    expression_straight into (TimeOf' p e) = straight_both (expression_code l None e) _ (expression_straight None e) (refl, onwards_straight into)
 
     sum_straight : {m : _} (into : Option Destination) (first : Operand) (r : Row_of-Expression-Sum-1-2 m) → Straight (sum_code l into first r)
     sum_straight into first end_of-Expression-Sum-1-2 = (refl, tt)
@@ -234,6 +238,32 @@ module _ (l : Line) where
       straight_both (reference_code l class r) _ (reference_straight class r) (straight_both (end_code l set end owner _) _ (end_straight set end owner _) (refl, tt))
   remove_end_straight set end (Count class number) owner = straight_both (end_code l set end owner _) _ (end_straight set end owner _) (refl, tt)
 
+  when_straight : (when : When) → Straight (when_code l when)
+  when_straight (whens.At e) = straight_both (expression_code l None e) _ (expression_straight None e) (refl, tt)
+  when_straight (whens.In e) = straight_both (expression_code l None e) _ (expression_straight None e) (refl, tt)
+  when_straight whens.Now = (refl, tt)
+
+  notice_straight : (class : ℕ) (given : List Expression) (when : When) → Straight (notice_code l class given when)
+  notice_straight class given when = straight_both (values_code l given) _ (values_straight given) (straight_both (when_code l when) _ (when_straight when) (refl, tt))
+
+  spot_straight : (t : Place) → Straight (spot_code l t)
+  spot_straight (PlainVariable x) = tt
+  spot_straight (AttributePlace class field r) = reference_straight class r
+  spot_straight (Count class number) = tt
+
+  kept_straight : (t : Place) → Straight (kept_code l t)
+  kept_straight (PlainVariable x) = (refl, (refl, tt))
+  kept_straight (AttributePlace class field r) = (refl, tt)
+  kept_straight (Count class number) = (refl, (refl, tt))
+
+  schedule_new_straight : (class : ℕ) (t : Place) (given : List Expression) (when : When) → Straight (schedule_new_code l class t given when)
+  schedule_new_straight class t given when =
+      straight_both (spot_code l t) _ (spot_straight t) (straight_both (notice_code l class given when) _ (notice_straight class given when) (straight_both (kept_code l t) _ (kept_straight t) (refl, tt)))
+
+  schedule_straight : (class : ℕ) (e : Expression) (given : List Expression) (when : When) → Straight (schedule_code l class e given when)
+  schedule_straight class e given when =
+      straight_both (reference_code l class e) _ (reference_straight class e) (straight_both (values_code l given) _ (values_straight given) (straight_both (when_code l when) _ (when_straight when) (refl, tt)))
+
   assign_straight : (t : Place) → Straight (assign_code l t)
   assign_straight (PlainVariable x) = (refl, tt)
   assign_straight (AttributePlace class field r) = straight_both (expression_code l None r) _ (expression_straight None r) (refl, tt)
@@ -365,6 +395,10 @@ module _ (all : List Instruction) where
     statement_lands first (File l set e position owner) place has = lands_straight place (statement_code first (File l set e position owner)) (file_straight l position set e owner)
     statement_lands first (RemoveEnd l set end t owner) place has = lands_straight place (statement_code first (RemoveEnd l set end t owner)) (remove_end_straight l set end t owner)
     statement_lands first (Remove l set e owner) place has = lands_straight place (statement_code first (Remove l set e owner)) (remove_straight l set e owner)
+    statement_lands first (ScheduleNew l class t given when) place has = lands_straight place (statement_code first (ScheduleNew l class t given when)) (schedule_new_straight l class t given.items when)
+    statement_lands first (Schedule l class e given when) place has = lands_straight place (statement_code first (Schedule l class e given when)) (schedule_straight l class e given.items when)
+    statement_lands first (Cancel l class e) place has = lands_straight place (statement_code first (Cancel l class e)) (straight_both (expression_code l None e) _ (expression_straight l None e) (refl, tt))
+    statement_lands first Simulate place has = lands_straight place (statement_code first Simulate) (refl, (refl, (refl, tt)))
 
     row_lands : {m : _} (first : ℕ) (r : Row_of-Statement m) (place : ℕ) → HasAt all place (row_code first r) → Lands all place (row_code first r)
     row_lands first end_of-Statement place has = tt

@@ -7,6 +7,7 @@ pub mod Looping
 pub mod Walking
 pub mod Writing
 pub mod Filing
+pub mod Scheduling
 pub mod Effects
 pub mod Calling
 pub mod Whole
@@ -15,6 +16,7 @@ pub mod Rows
 pub mod Sizes
 pub mod Safety
 pub mod Guarded
+pub mod Timely
 pub mod Secure
 pub mod Landing
 pub mod Alike

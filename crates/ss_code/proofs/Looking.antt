@@ -33,7 +33,7 @@ module _ (code : Code) (l : Line) (frames : List Frame) (w : World) where
         knows (i o) x place stack (shelved o x stack) (known x w.store) has (free o)
         (acts o c ∙ h.by stack (λ x rest. did l (known x w.store) (λ u. next (x ∷ rest) c)))
 
-    look_run : (e : Expression) (place end : ℕ) (stack : List Value) → HasAt code.instructions place (expression_code l None e ++ i (operand_of e) ∷ []) → place + length (expression_code l None e ++ i (operand_of e) ∷ []) ≡ end → Reaches code (at place stack frames w) (told l w (λ x. at end (x ∷ stack) frames w) (looked_as known e w.store))
+    pub look_run : (e : Expression) (place end : ℕ) (stack : List Value) → HasAt code.instructions place (expression_code l None e ++ i (operand_of e) ∷ []) → place + length (expression_code l None e ++ i (operand_of e) ∷ []) ≡ end → Reaches code (at place stack frames w) (told l w (λ x. at end (x ∷ stack) frames w) (looked_as known e w.store))
     look_run e place end stack has len =
         let c = expression_code l None e in
         let tail = i (operand_of e) ∷ [] in

@@ -1,5 +1,5 @@
 -- What a program means does not depend on where its layout lies in memory: l is another one that says the same.
-use Rattle.std.proofs.Common.{◌≡◌, ℕ, zero, suc, Bool, true, false, List, [], ◌∷◌, length, map, Option, Some, None, Ok, Err, refl, sym, ap, ◌∙◌, subst}
+use Rattle.std.proofs.Common.{◌≡◌, ℕ, zero, suc, ◌+◌, Bool, true, false, List, [], ◌∷◌, length, map, Option, Some, None, Ok, Err, refl, sym, ap, ◌∙◌, subst}
 use Rattle.std.specs.Prelude.{ℤ, nat_lt, ◌&&◌, is_some, slice_get, Result as OkOr}
 use Rattle.std.specs.List.{list_all}
 use Rattle.ss_base.specs.declared.layout.RankKey.{RankKey}
@@ -10,10 +10,17 @@ use Rattle.ss_base.specs.declared.value.Value.{Value}
 use Rattle.ss_base.specs.declared.layout.Mode.{Mode}
 use Rattle.ss_base.specs.declared.layout.Layout.{Layout}
 use Rattle.ss_input.specs.Words.{Given, value_given}
-use Rattle.ss_records.specs.State.{State, value_in, known_in, created, is_made, not_made}
+use Rattle.ss_base.specs.declared.layout.ClassKind.{ClassKind}
+use Rattle.ss_base.specs.declared.layout.ClassKind.TheVariants as kinds
+use Rattle.ss_sets.specs.Disciplines.{value_of}
+use Rattle.ss_events.specs.declared.key.Tie.{Tie}
+use Rattle.ss_events.specs.declared.key.TieShape.{TieShape}
+use Rattle.ss_events.specs.SortKey.{SortKey}
+use Rattle.ss_events.specs.PendingList.{PendingList, none_pending, is_pending, scheduled, cancelled, next, after_next}
+use Rattle.ss_records.specs.State.{State, kind_of, time_in, first_state, value_in, known_in, created, is_made, not_made}
 use Rattle.ss_resolved.specs.declared.resolved.Variable.{Variable}
 use Rattle.ss_resolved.specs.declared.resolved.Variable.TheVariants.{Global, Local}
-use Rattle.ss_resolved.specs.declared.resolved.Expression.{Expression, Constant, Fetch, Signed', Sum', Product', Applied', Absolute', Attribute', Made, Derived', Row_of-Expression, end_of-Expression, more_of-Expression, Row_of-Expression-Sum-1-2, end_of-Expression-Sum-1-2, more_of-Expression-Sum-1-2}
+use Rattle.ss_resolved.specs.declared.resolved.Expression.{Expression, Constant, Fetch, Signed', Sum', Product', Applied', Absolute', Attribute', Made, Derived', Clock, TimeOf', Row_of-Expression, end_of-Expression, more_of-Expression, Row_of-Expression-Sum-1-2, end_of-Expression-Sum-1-2, more_of-Expression-Sum-1-2}
 use Rattle.ss_resolved.specs.declared.resolved.Test.{Test}
 use Rattle.ss_resolved.specs.declared.resolved.Test.TheVariants.{Compare, DataEnded, Empty, Member}
 use Rattle.ss_resolved.specs.declared.resolved.Conjunction.{Conjunction}
@@ -37,8 +44,10 @@ use Rattle.ss_resolved.specs.declared.resolved.Place.{Place}
 use Rattle.ss_resolved.specs.declared.resolved.Place.TheVariants.{Variable as PlainVariable, Attribute as AttributePlace, Count}
 use Rattle.ss_resolved.specs.declared.resolved.Target.{Target}
 use Rattle.ss_resolved.specs.declared.resolved.Counted.{Counted}
+use Rattle.ss_resolved.specs.declared.resolved.When.{When}
+use Rattle.ss_resolved.specs.declared.resolved.When.TheVariants as whens
 use Rattle.ss_resolved.specs.declared.resolved.Section.{Section}
-use Rattle.ss_resolved.specs.declared.resolved.Statement.{Statement, Let, Change, Print, If', While', For', Find', Call, Return, Stop, Read, Skip, Create, CreateEvery, Destroy, File, RemoveEnd, Remove, Row_of-Statement, end_of-Statement, more_of-Statement}
+use Rattle.ss_resolved.specs.declared.resolved.Statement.{Statement, Let, Change, Print, If', While', For', Find', Call, Return, Stop, Read, Skip, Create, CreateEvery, Destroy, File, RemoveEnd, Remove, ScheduleNew, Schedule, Cancel, Simulate, Row_of-Statement, end_of-Statement, more_of-Statement}
 use Rattle.ss_resolved.specs.declared.resolved.Resolved.{Resolved}
 use Rattle.ss_resolved.specs.Lines.{lines_of}
 use Rattle.ss_code.specs.declared.instruction.Operator.TheVariants.{Times, Distance}
@@ -48,15 +57,17 @@ use Rattle.ss_code.specs.declared.instruction.Side.{Side}
 use Rattle.ss_code.specs.declared.instruction.Side.TheVariants as sides_of
 use Rattle.ss_code.specs.Orders.{Order, Queue, Stack, ByRank}
 use Rattle.ss_code.specs.Sets.{set_at, about, known_owner, known_member, membership, answered, asked, is_none, is_empty, is_in, is_field, are_fields, settle, filed_at_first, filed_at_last, filed_in_order, filed, filed_beside, removed_one, end_removed, removed_at, outset, beside, or_none, coming, begun, if_filed, from_or_after, begun_at, is_member, if_still, if_any, goes_on}
+use Rattle.ss_code.specs.EventClasses.{EventClass, events_said, mode_at, shape_at, shapes}
+use Rattle.ss_code.specs.Events.{time_of, due_at, with_pending, endowed, with_time, prepared, made_notice, Standing, standing_from, tie_of, filed_as, filed_notice, unless_filed, refiled, unscheduled, is_awaited, Beginning, attributes, saved_or_gone, if_of_class, class_of, Blame, blamed, begun_by, begun_with, event_begun}
 use Rattle.ss_code.specs.Layouts.{SameLayout, Said}
 use Rattle.ss_code.specs.Store.{Store, World, if_ok, zero_value, number_of, fetched, assigned, computed, printed, related, step_of, is_within, item_after, empty_lines, fresh, yielded}
-use Rattle.ss_code.specs.Entities.{class_at, field_at, has_numbers, has_indices, if_so, turned, with_heap, born, known, attribute, fitted, if_field, with_attribute, unless_made, counted, made_all, without}
-use Rattle.ss_code.specs.Meaning.{Exit, Returned, Stopped, Faulted, OutOfTicks, Outcome, WentOn, Left, Part, and_then, look, looked, assign, send, operator_of, operator_for, value, sum_from, product_from, values, firsts, both, either, test_holds, all_hold, some_hold, holds, unless, passes, all_pass, tick_from, take_tick, choose, turns, Turn, GoesOn, EndsLoop, IsFound, phrase, phrases, after_turn, items, step_value, bounds, over_range, looked_as, member_value, owner_value, outset_at, outset_by, after_member, next_member, members, over, file, file_beside, file_by, remove, remove_end, given_by, take_word, stored, change, Spot, InVariable, InAttribute, InCount, spot_of, held, written, give_to, reads, assign_each, born_by, create, create_every, Calls, effect, effects, body, with_locals, come_back, routine_body, calls, run_of, first_world, meaning}
+use Rattle.ss_code.specs.Entities.{class_at, field_at, has_numbers, has_indices, if_so, turned, with_heap, born, known, attribute, fitted, if_field, with_attribute, unless_made, counted, made_one, made_all, gone, unless_scheduled, may_go, without}
+use Rattle.ss_code.specs.Meaning.{Exit, Returned, Stopped, Faulted, OutOfTicks, Outcome, WentOn, Left, Part, and_then, look, looked, assign, send, operator_of, operator_for, value, sum_from, product_from, values, firsts, both, either, test_holds, all_hold, some_hold, holds, unless, passes, all_pass, tick_from, take_tick, choose, turns, Turn, GoesOn, EndsLoop, IsFound, phrase, phrases, after_turn, items, step_value, bounds, over_range, looked_as, member_value, owner_value, outset_at, outset_by, after_member, next_member, members, over, file, file_beside, file_by, remove, remove_end, notice_value, time_value, create_notice, schedule_new, schedule, events, simulate, begin, then_nothing, given_by, take_word, stored, change, Spot, InVariable, InAttribute, InCount, spot_of, held, written, give_to, reads, assign_each, born_by, create, create_every, Calls, effect, effects, body, with_locals, come_back, routine_body, calls, run_of, first_world, meaning}
 use Rattle.ss_code.specs.Machine.{Code}
 use Rattle.ss_code.specs.Translation.{code_of}
 use Rattle.ss_code.specs.Running.{Ends, Behaves}
 use Rattle.ss_code.proofs.Whole.{behaves_so}
-use Rattle.ss_code.proofs.Alike.{set_same, member_class_same, modes_same, joiner_same, owner_same, first_in_same, last_in_same, count_in_same, next_in_same, previous_in_same, owner_of_member_same, member_test_same, filed_first_same, filed_last_same, filed_before_same, filed_after_same, removed_same, filed_ranked_same, first_removed_same, last_removed_same, nones, moved_state, Carried, there_same, numbers_same, indices_same, field_same, known_same, value_same, assigned_same, CarriedPair, created_same, created_all_same, destroyed_same}
+use Rattle.ss_code.proofs.Alike.{mode_same, kind_same, time_same, timed_same, of_value_same, set_same, member_class_same, modes_same, joiner_same, owner_same, first_in_same, last_in_same, count_in_same, next_in_same, previous_in_same, owner_of_member_same, member_test_same, filed_first_same, filed_last_same, filed_before_same, filed_after_same, removed_same, filed_ranked_same, first_removed_same, last_removed_same, nones, moved_state, Carried, there_same, numbers_same, indices_same, field_same, known_same, value_same, assigned_same, CarriedPair, created_same, created_all_same, destroyed_same}
 
 module _ (l : Layout) where
   -- with the other layout
@@ -207,13 +218,185 @@ module _ (l : Layout) where
         (if_carried (has_indices (class_at s.heap class)) _ q (heap_so s _ _ (created_all_same l s.heap fit class n)));
   }
 
+  gone_so : (class : ℕ) (x : Value) → Changes (gone class x)
+  gone_so class x = record {
+    by = λ s fit.
+        let q = turned (with_heap (moved s)) (Rattle.ss_records.specs.State.destroyed (moved_state l s.heap) class (number_of x)) in
+        subst (λ b. CarriedStore (gone class x s) (if_so b q)) (sym (numbers_same l s.heap fit class))
+        (if_carried (has_numbers (class_at s.heap class)) _ q (heap_so s _ _ (destroyed_same l s.heap fit class (number_of x))));
+  }
+
+  may_go_so : (k : ClassKind) (class : ℕ) (x : Value) (s : Store) → Fits s → may_go k class x (moved s) ≡ may_go k class x s
+  may_go_so kinds.Permanent class x s fit = refl
+  may_go_so kinds.Temporary class x s fit = refl
+  may_go_so kinds.Notice class x s fit = ap (λ r. if_ok r (λ u. unless_scheduled (is_pending (number_of x) s.pending.entries))) (known_so class x s fit)
+
   without_so : (class : ℕ) (x : Value) → Changes (without class x)
   without_so class x = record {
     by = λ s fit.
-        let q = turned (with_heap (moved s)) (Rattle.ss_records.specs.State.destroyed (moved_state l s.heap) class (number_of x)) in
-        subst (λ b. CarriedStore (without class x s) (if_so b q)) (sym (numbers_same l s.heap fit class))
-        (if_carried (has_numbers (class_at s.heap class)) _ q (heap_so s _ _ (destroyed_same l s.heap fit class (number_of x))));
+        let k = kind_of s.heap.layout class in
+        let same : may_go (kind_of l class) class x (moved s) ≡ may_go k class x s = ap (λ k. may_go k class x (moved s)) (kind_same l s.heap fit class) ∙ may_go_so k class x s fit in
+        ok_carried (may_go k class x s) (may_go (kind_of l class) class x (moved s)) _ _ same (λ u. (gone_so class x).by s fit);
   }
+
+  -- ## Notices
+
+  time_of_so : (x : Value) (s : Store) → Fits s → time_of x (moved s) ≡ time_of x s
+  time_of_so x s fit = ap (turned Whole) (time_same l s.heap fit (number_of x))
+
+  -- one change after another
+  both_so : {f g : Store → OkOr Store FaultKind} → Changes f → Changes g → Changes (λ s. if_ok (f s) g)
+  both_so {f} {g} a b = record { by = λ s fit. sides (f s) (f (moved s)) (a.by s fit) }
+    where
+      sides : (r q : OkOr Store FaultKind) → CarriedStore r q → CarriedStore (if_ok r g) (if_ok q g)
+      sides (Ok s) (Ok t) c = subst (λ t. CarriedStore (g s) (g t)) (sym c.0) (b.by s c.1)
+      sides (Ok s) (Err k) c = absurd c
+      sides (Err j) (Ok t) c = absurd c
+      sides (Err j) (Err k) c = c
+
+  endowed_so : (class field : ℕ) (x : Value) (vs : List Value) → Changes (endowed class field x vs)
+  endowed_so class field x [] = record { by = λ s fit. (refl, fit) }
+  endowed_so class field x (v ∷ vs) = both_so (with_attribute_so class field x v) (endowed_so class (field + 1) x vs)
+
+  with_time_so : (x t : Value) → Changes (with_time x t)
+  with_time_so x t = record { by = λ s fit. heap_so s _ _ (timed_same l s.heap fit (number_of x) (number_of t)) }
+
+  prepared_so : (class : ℕ) (x : Value) (given : List Value) (t : Value) → Changes (prepared class x given t)
+  prepared_so class x given t = both_so (endowed_so class 0 x given) (with_time_so x t)
+
+  abbrev CarriedBorn : OkOr (Value × Store) FaultKind → OkOr (Value × Store) FaultKind → Type 0
+  CarriedBorn (Ok a) (Ok b) = (b.0 ≡ a.0) × ((b.1 ≡ moved a.1) × Fits a.1)
+  CarriedBorn (Ok a) (Err k) = ⊥
+  CarriedBorn (Err j) (Ok b) = ⊥
+  CarriedBorn (Err j) (Err k) = k ≡ j
+
+  one_born : (b : Bool) (r q : OkOr (ℤ × State) FaultKind) (s : Store) (fit : Fits s) → CarriedPair l s.heap fit r q → CarriedBorn (if_so b (turned (born s) r)) (if_so b (turned (born (moved s)) q))
+  one_born false r q s fit c = refl
+  one_born true (Ok a) (Ok b) s fit c = (ap Whole c.0, (ap (with_heap s) c.1.0, c.1.1))
+  one_born true (Ok a) (Err k) s fit c = absurd c
+  one_born true (Err j) (Ok b) s fit c = absurd c
+  one_born true (Err j) (Err k) s fit c = c
+
+  made_one_so : (class : ℕ) (s : Store) (fit : Fits s) → CarriedBorn (made_one class s) (made_one class (moved s))
+  made_one_so class s fit =
+      let h = s.heap in
+      subst (λ b. CarriedBorn (made_one class s) (if_so b (turned (born (moved s)) (created (moved_state l h) class)))) (sym (numbers_same l h fit class))
+      (one_born (has_numbers (class_at h class)) (created h class) (created (moved_state l h) class) s fit (created_same l h fit class))
+
+  made_notice_so : (class : ℕ) (given : List Value) (t : Value) (s : Store) → Fits s → CarriedBorn (made_notice class given t s) (made_notice class given t (moved s))
+  made_notice_so class given t s fit = sides (made_one class s) (made_one class (moved s)) (made_one_so class s fit)
+    where
+      last : (v : Value) (r q : OkOr Store FaultKind) → CarriedStore r q → CarriedBorn (turned (λ s. (v, s)) r) (turned (λ s. (v, s)) q)
+      last v (Ok a) (Ok b) c = (refl, c)
+      last v (Ok a) (Err k) c = absurd c
+      last v (Err j) (Ok b) c = absurd c
+      last v (Err j) (Err k) c = c
+
+      go : Value × Store → OkOr (Value × Store) FaultKind
+      go b = turned (λ s. (b.0, s)) (prepared class b.0 given t b.1)
+
+      sides : (r q : OkOr (Value × Store) FaultKind) → CarriedBorn r q → CarriedBorn (if_ok r go) (if_ok q go)
+      sides (Ok a) (Ok b) c =
+          subst (λ v. CarriedBorn (go a) (go (v, b.1))) (sym c.0)
+          (subst (λ s. CarriedBorn (go a) (go (a.0, s))) (sym c.1.0) (last a.0 (prepared class a.0 given t a.1) (prepared class a.0 given t (moved a.1)) ((prepared_so class a.0 given t).by a.1 c.1.1)))
+      sides (Ok a) (Err k) c = absurd c
+      sides (Err j) (Ok b) c = absurd c
+      sides (Err j) (Err k) c = c
+
+  born_by_so : (line : Line) (r q : OkOr (Value × Store) FaultKind) (w : World) → Fits w.store → CarriedBorn r q → CarriedOutcome (born_by line r w) (born_by line q (moved_world w))
+  born_by_so line (Ok a) (Ok b) w fit c = (c.0, (ap (λ (s : Store). let v : World = record { store = s; report = w.report; ticks = w.ticks } in v) c.1.0, c.1.1))
+  born_by_so line (Ok a) (Err k) w fit c = absurd c
+  born_by_so line (Err j) (Ok b) w fit c = absurd c
+  born_by_so line (Err j) (Err k) w fit c = (ap (λ k. Faulted k line) c, (refl, fit))
+
+  -- filing
+  pending_so : (s : Store) (r : OkOr PendingList FaultKind) → Fits s → CarriedStore (turned (with_pending s) r) (turned (with_pending (moved s)) r)
+  pending_so s (Ok p) fit = (refl, fit)
+  pending_so s (Err k) fit = refl
+
+  tie_so : (class : ℕ) (x : Value) (key : RankKey) (s : Store) → Fits s → tie_of class x (moved s) key ≡ tie_of class x s key
+  tie_so class x key s fit =
+      ap (λ m. let t : Tie = record { value = fitted m (value_of (moved_state l s.heap) class key.field (number_of x)); high = key.high } in t) (mode_same l s.heap fit class key.field)
+      ∙ ap (λ v. let t : Tie = record { value = fitted (mode_at s.heap.layout class key.field) v; high = key.high } in t) (of_value_same l s.heap fit class key.field (number_of x))
+
+  ties_so : (class : ℕ) (x : Value) (keys : List RankKey) (s : Store) → Fits s → map (tie_of class x (moved s)) keys ≡ map (tie_of class x s) keys
+  ties_so class x [] s fit = refl
+  ties_so class x (k ∷ ks) s fit = ap (λ t. t ∷ map (tie_of class x (moved s)) ks) (tie_so class x k s fit) ∙ ap (λ ts. tie_of class x s k ∷ ts) (ties_so class x ks s fit)
+
+  filed_as_so : (o : Option Standing) (class : ℕ) (x : Value) → Changes (filed_as o class x)
+  filed_as_so None class x = record { by = λ s fit. refl }
+  filed_as_so (Some standing) class x = record {
+    by = λ s fit. ok_carried (time_in s.heap (number_of x)) (time_in (moved_state l s.heap) (number_of x)) _ _ (time_same l s.heap fit (number_of x)) (λ t.
+        let f = λ (ties : List Tie). let k : SortKey = record { time = t; rank = standing.rank; ties = ties } in scheduled k (number_of x) s.pending in
+        subst (λ ties. CarriedStore (turned (with_pending s) (f (map (tie_of class x s) standing.ties))) (turned (with_pending (moved s)) (f ties))) (sym (ties_so class x standing.ties s fit))
+        (pending_so s (f (map (tie_of class x s) standing.ties)) fit));
+  }
+
+  filed_notice_so : (class : ℕ) (x : Value) → Changes (filed_notice class x)
+  filed_notice_so class x = record { by = λ s fit. (filed_as_so (standing_from 0 s.events class) class x).by s fit }
+
+  refiled_so : (class : ℕ) (x : Value) (given : List Value) (t : Value) → Changes (refiled class x given t)
+  refiled_so class x given t = record {
+    by = λ s fit. sides (is_pending (number_of x) s.pending.entries) _ _ ((both_so (prepared_so class x given t) (filed_notice_so class x)).by s fit);
+  }
+    where
+      sides : (b : Bool) (r q : OkOr Store FaultKind) → CarriedStore r q → CarriedStore (unless_filed b r) (unless_filed b q)
+      sides true r q c = refl
+      sides false r q c = c
+
+  unscheduled_so : (class : ℕ) (x : Value) → Changes (unscheduled class x)
+  unscheduled_so class x = record {
+    by = λ s fit. ok_carried (known class x s) (known class x (moved s)) _ _ (known_so class x s fit) (λ u. pending_so s (cancelled (number_of x) s.pending) fit);
+  }
+
+  -- events
+  abbrev CarriedBegun : OkOr Beginning Blame → OkOr Beginning Blame → Type 0
+  CarriedBegun (Ok a) (Ok b) = (b ≡ record a { store = moved a.store }) × Fits a.store
+  CarriedBegun (Ok a) (Err k) = ⊥
+  CarriedBegun (Err j) (Ok b) = ⊥
+  CarriedBegun (Err j) (Err k) = k ≡ j
+
+  attributes_so : (class field count : ℕ) (x : Value) (s : Store) → Fits s → attributes class field count x (moved s) ≡ attributes class field count x s
+  attributes_so class field zero x s fit = refl
+  attributes_so class field (suc count) x s fit =
+      ap (λ v. v ∷ attributes class (field + 1) count x (moved s)) (of_value_same l s.heap fit class field (number_of x))
+      ∙ ap (λ vs. value_of s.heap class field (number_of x) ∷ vs) (attributes_so class (field + 1) count x s fit)
+
+  saved_so : (o : Option ℕ) (class : ℕ) (x : Value) → Changes (saved_or_gone o class x)
+  saved_so (Some number) class x = record { by = λ s fit. (refl, fit) }
+  saved_so None class x = record { by = λ s fit. (gone_so class x).by s fit }
+
+  class_so : (es : List EventClass) (x : Value) (s : Store) → Fits s → class_of es x (moved s) ≡ class_of es x s
+  class_so [] x s fit = refl
+  class_so (e ∷ es) x s fit =
+      ap (λ r. if_of_class r e (class_of es x (moved s))) (known_so e.class x s fit) ∙ ap (if_of_class (known e.class x s) e) (class_so es x s fit)
+
+  begins_so : (line : Line) (routine : ℕ) (vs us : List Value) (r q : OkOr Store FaultKind) → us ≡ vs → CarriedStore r q → CarriedBegun (blamed line (turned (λ s. let b : Beginning = record { routine = routine; given = vs; store = s } in b) r)) (blamed line (turned (λ s. let b : Beginning = record { routine = routine; given = us; store = s } in b) q))
+  begins_so line routine vs us (Ok a) (Ok b) e c =
+      (ap (λ us. let y : Beginning = record { routine = routine; given = us; store = b } in y) e ∙ ap (λ s. let y : Beginning = record { routine = routine; given = vs; store = s } in y) c.0, c.1)
+  begins_so line routine vs us (Ok a) (Err k) e c = absurd c
+  begins_so line routine vs us (Err j) (Ok b) e c = absurd c
+  begins_so line routine vs us (Err j) (Err k) e c = ap (λ k. let b : Blame = record { kind = k; line = line } in b) c
+
+  begun_by_so : (o : Option EventClass) (x : Value) (s : Store) → Fits s → CarriedBegun (begun_by o x s) (begun_by o x (moved s))
+  begun_by_so None x s fit = refl
+  begun_by_so (Some e) x s fit =
+      begins_so e.line e.routine (attributes e.class 0 e.given x s) (attributes e.class 0 e.given x (moved s)) (saved_or_gone e.saved e.class x s) (saved_or_gone e.saved e.class x (moved s))
+      (attributes_so e.class 0 e.given x s fit) ((saved_so e.saved e.class x).by s fit)
+
+  begun_with_so : (o : Option (ℤ × ℤ)) (s : Store) → Fits s → CarriedBegun (begun_with o s) (begun_with o (moved s))
+  begun_with_so None s fit = refl
+  begun_with_so (Some n) s fit =
+      let r : Store = record s { time = n.0; pending = after_next s.pending } in
+      let x = Whole n.1 in
+      subst (λ o. CarriedBegun (begun_by (class_of r.events x r) x r) (begun_by o x (moved r))) (sym (class_so r.events x r fit)) (begun_by_so (class_of r.events x r) x r fit)
+
+  begin_so : {A : Type 0} (r q : OkOr Beginning Blame) (go : ℕ → List Value → Part A) → ((routine : ℕ) (vs : List Value) → Natural (go routine vs)) → (w : World) → Fits w.store → CarriedBegun r q → CarriedOutcome (begin r (λ b. go b.routine b.given) w) (begin q (λ b. go b.routine b.given) (moved_world w))
+  begin_so (Ok a) (Ok b) go h w fit c =
+      subst (λ (b : Beginning). CarriedOutcome (go a.routine a.given (record w { store = a.store })) (go b.routine b.given (record w { store = b.store }))) (sym c.0) ((h a.routine a.given).by (record w { store = a.store }) c.1)
+  begin_so (Ok a) (Err k) go h w fit c = absurd c
+  begin_so (Err j) (Ok b) go h w fit c = absurd c
+  begin_so (Err j) (Err k) go h w fit c = (ap (λ (b : Blame). Faulted b.kind b.line) c, (refl, fit))
 
   -- ## Sets
 
@@ -361,6 +544,8 @@ module _ (l : Layout) where
     value_so (Attribute' class field p e) s fit = ok_same (value e s) (value e (moved s)) _ _ (value_so e s fit) (λ x. attribute_so class field x s fit)
     value_so (Made class) s fit = refl
     value_so (Derived' derived set p e) s fit = ok_same (value e s) (value e (moved s)) _ _ (value_so e s fit) (λ x. asked_so derived set x s fit)
+    value_so Clock s fit = refl
+    value_so (TimeOf' p e) s fit = ok_same (value e s) (value e (moved s)) _ _ (value_so e s fit) (λ x. time_of_so x s fit)
 
     sum_so : {m : _} (terms : Row_of-Expression-Sum-1-2 m) (x : Value) (s : Store) → Fits s → sum_from x terms (moved s) ≡ sum_from x terms s
     sum_so end_of-Expression-Sum-1-2 x s fit = refl
@@ -558,10 +743,50 @@ module _ (l : Layout) where
   remove_end_so : (line : Line) (set : ℕ) (end : End) (owner : Expression) → Natural (remove_end line set end owner)
   remove_end_so line set end owner = then_so (value_look line owner) (λ o. removed_at_so line end set o)
 
+  -- ## Scheduling
+
+  due_so : (later : Bool) (v : Value) (s : Store) → due_at later v (moved s) ≡ due_at later v s
+  due_so false v s = refl
+  due_so true v s = refl
+
+  time_value_so : (when : When) (s : Store) → Fits s → time_value when (moved s) ≡ time_value when s
+  time_value_so (whens.At e) s fit = ok_same (value e s) (value e (moved s)) _ _ (value_so e s fit) (λ v. due_so false v s)
+  time_value_so (whens.In e) s fit = ok_same (value e s) (value e (moved s)) _ _ (value_so e s fit) (λ v. due_so true v s)
+  time_value_so whens.Now s fit = refl
+
+  values_look : (line : Line) (es : List Expression) → Natural (look line (values es))
+  values_look line es = look_so line (record { by = λ s fit. values_so es s fit })
+
+  time_look : (line : Line) (when : When) → Natural (look line (time_value when))
+  time_look line when = look_so line (record { by = λ s fit. time_value_so when s fit })
+
+  create_notice_so : (line : Line) (class : ℕ) (given : List Expression) (when : When) → Natural (create_notice line class given when)
+  create_notice_so line class given when =
+      then_so (values_look line given) (λ vs. then_so (time_look line when) (λ t.
+      record { by = λ w fit. born_by_so line (made_notice class vs t w.store) (made_notice class vs t (moved w.store)) w fit (made_notice_so class vs t w.store fit) }))
+
+  schedule_new_so : (line : Line) (class : ℕ) (t : Place) (given : List Expression) (when : When) → Natural (schedule_new line class t given when)
+  schedule_new_so line class t given when =
+      then_so (look_so line (spot_so t)) (λ p. then_so (create_notice_so line class given when) (λ x.
+      then_so (change_so line (written_so p x)) (λ u. change_so line (filed_notice_so class x))))
+
+  schedule_so : (line : Line) (class : ℕ) (e : Expression) (given : List Expression) (when : When) → Natural (schedule line class e given when)
+  schedule_so line class e given when =
+      then_so (look_so line (record { by = λ s fit. looked_so (known class) (known_so class) e s fit })) (λ x. then_so (values_look line given) (λ vs.
+      then_so (time_look line when) (λ t. change_so line (refiled_so class x vs t))))
+
+  events_so : (n : ℕ) (event : Part (Unit {0})) → Natural event → Natural (events n event)
+  events_so zero event h = leaves OutOfTicks
+  events_so (suc n) event h = tick_so (then_so h (λ u. record { by = λ w fit. (choose_so (is_awaited w.store) (events_so n event h) (went tt)).by w fit }))
+
+  simulate_so : (n : ℕ) (event : Part (Unit {0})) → Natural event → Natural (simulate n event)
+  simulate_so n event h = record { by = λ w fit. (choose_so (is_awaited w.store) (events_so n event h) (went tt)).by w fit }
+
   -- ## Statements
 
   record NaturalCalls (h : Calls) : Type 0 where
-    pub by : (r : ℕ) (vs : List Value) (count : ℕ) → Natural (h r vs count)
+    pub by : (r : ℕ) (vs : List Value) (count : ℕ) → Natural (h.call r vs count)
+    pub event : Natural h.event
 
   module _ (h : Calls) (n : ℕ) (hs : NaturalCalls h) where
     mutual
@@ -590,6 +815,10 @@ module _ (l : Layout) where
       effect_so (File line set e position owner) = file_by_so line position set e owner
       effect_so (RemoveEnd line set end t owner) = give_so line t (remove_end line set end owner) (remove_end_so line set end owner)
       effect_so (Remove line set e owner) = remove_so line set e owner
+      effect_so (ScheduleNew line class t given when) = schedule_new_so line class t given.items when
+      effect_so (Schedule line class e given when) = schedule_so line class e given.items when
+      effect_so (Cancel line class e) = then_so (value_look line e) (λ x. change_so line (unscheduled_so class x))
+      effect_so Simulate = simulate_so n h.event hs.event
 
       effects_so : {m : _} (r : Row_of-Statement m) → Natural (effects h n r)
       effects_so end_of-Statement = went tt
@@ -623,14 +852,32 @@ module _ (l : Layout) where
   }
 
   calls_so : (rs : List Section) (n : ℕ) → NaturalCalls (calls rs n)
-  calls_so rs zero = record { by = λ r vs count. leaves OutOfTicks }
-  calls_so rs (suc n) = record { by = λ r vs count. tick_so (routine_so (slice_get rs r) (calls rs n) n (calls_so rs n) vs count) }
+  calls_so rs zero = record { by = λ r vs count. leaves OutOfTicks; event = leaves OutOfTicks }
+  calls_so rs (suc n) =
+      let go = λ (r : ℕ) (vs : List Value). routine_body (slice_get rs r) (calls rs n) n vs 0 in
+      record {
+        by = λ r vs count. tick_so (routine_so (slice_get rs r) (calls rs n) n (calls_so rs n) vs count);
+        event = then_so {m = λ w. begin (event_begun w.store) (λ b. go b.routine b.given) w} (record {
+          by = λ w fit. begin_so (event_begun w.store) (event_begun (moved w.store)) go (λ r vs. routine_so (slice_get rs r) (calls rs n) n (calls_so rs n) vs 0) w fit (begun_with_so (next w.store.pending) w.store fit);
+        }) (λ us. went tt);
+      }
 
   run_so : (o q : Outcome (Unit {0})) → CarriedOutcome o q → run_of q ≡ run_of o
   run_so (WentOn u w) (WentOn v x) c = ap (λ (y : World). run_of (WentOn tt y)) c.1.0
   run_so (WentOn u w) (Left e x) c = absurd c
   run_so (Left e w) (WentOn v x) c = absurd c
   run_so (Left e w) (Left f x) c = ap (λ f. run_of (Left f x)) c.0 ∙ ap (λ (y : World). run_of (Left e y)) c.1.0
+
+  -- nothing is pending at first, with ties of the same shapes
+  tie_shapes_so : (h : State) (class : ℕ) (keys : List RankKey) → SameLayout h.layout l → map (shape_at l class) keys ≡ map (shape_at h.layout class) keys
+  tie_shapes_so h class [] fit = refl
+  tie_shapes_so h class (k ∷ ks) fit =
+      ap (λ m. let t : TieShape = record { mode = m; high = k.high } in t ∷ map (shape_at l class) ks) (mode_same l h fit class k.field)
+      ∙ ap (λ ts. shape_at h.layout class k ∷ ts) (tie_shapes_so h class ks fit)
+
+  shapes_so : (h : State) (es : List EventClass) → SameLayout h.layout l → map (shapes l) es ≡ map (shapes h.layout) es
+  shapes_so h [] fit = refl
+  shapes_so h (e ∷ es) fit = ap (λ ts. ts ∷ map (shapes l) es) (tie_shapes_so h e.class e.ties fit) ∙ ap (λ all. shapes h.layout e ∷ all) (shapes_so h es fit)
 
   -- a program with the other layout means the same
   pub meaning_so : (p : Resolved) (input : List ℕ) (n : ℕ) → SameLayout p.layout l → meaning (record p { layout = l }) input n ≡ meaning p input n
@@ -639,7 +886,8 @@ module _ (l : Layout) where
       let m = body (calls p.routines.items n) n p.main.body.items in
       let none : map not_made l.classes.items ≡ map not_made p.layout.classes.items = nones l.classes.items p.layout.classes.items (sym (ap (λ (s : Said). s.classes) e)) in
       let first : first_world (record p { layout = l }) input n ≡ moved_world w =
-      ap (λ ps. let h : State = record { layout = l; records = []; permanents = ps; lists = [] } in let v : World = record w { store = record w.store { heap = h } } in v) none in
+      ap (λ ps. let h : State = record { layout = l; records = []; permanents = ps; lists = [] } in let v : World = record w { store = record w.store { heap = h; pending = none_pending (map (shapes l) (events_said p.events.items)) } } in v) none
+      ∙ ap (λ all. let v : World = record w { store = record w.store { heap = moved_state l w.store.heap; pending = none_pending all } } in v) (shapes_so (first_state p.layout) (events_said p.events.items) e) in
       ap (λ w. run_of (m w)) first ∙ run_so (m w) (m (moved_world w)) ((body_so (calls p.routines.items n) n (calls_so p.routines.items n) p.main.body.items).by w e)
 
 -- code with a copy of the program's layout

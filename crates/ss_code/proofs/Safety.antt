@@ -7,7 +7,7 @@ use Rattle.ss_base.specs.declared.value.Value.{Value}
 use Rattle.ss_base.specs.declared.value.Value.TheVariants.{Whole, Text}
 use Rattle.ss_resolved.specs.declared.resolved.Variable.{Variable}
 use Rattle.ss_resolved.specs.declared.resolved.Variable.TheVariants.{Global, Local}
-use Rattle.ss_resolved.specs.declared.resolved.Expression.{Expression, Constant, Fetch, Signed', Sum', Product', Applied', Absolute', Attribute', Made, Derived', Row_of-Expression, end_of-Expression, more_of-Expression, Row_of-Expression-Sum-1-2, end_of-Expression-Sum-1-2, more_of-Expression-Sum-1-2}
+use Rattle.ss_resolved.specs.declared.resolved.Expression.{Expression, Constant, Fetch, Signed', Sum', Product', Applied', Absolute', Attribute', Made, Derived', Clock, TimeOf', Row_of-Expression, end_of-Expression, more_of-Expression, Row_of-Expression-Sum-1-2, end_of-Expression-Sum-1-2, more_of-Expression-Sum-1-2}
 use Rattle.ss_resolved.specs.declared.resolved.Test.{Test}
 use Rattle.ss_resolved.specs.declared.resolved.Test.TheVariants.{Compare, DataEnded, Empty, Member}
 use Rattle.ss_resolved.specs.declared.resolved.Conjunction.{Conjunction}
@@ -22,11 +22,12 @@ use Rattle.ss_code.specs.declared.instruction.Destination.TheVariants.{Pushed, T
 use Rattle.ss_code.specs.declared.instruction.Operator.{Operator}
 use Rattle.ss_code.specs.declared.instruction.Operator.TheVariants.{Times, Distance}
 use Rattle.ss_code.specs.declared.instruction.Instruction.{Instruction}
-use Rattle.ss_code.specs.declared.instruction.Instruction.TheVariants.{Load, Move, Calculate, Compare as CompareThem, TestData, TestEmpty, TestMember, LookOwner, LookMember, Ask, Jump, Get, CountMade}
+use Rattle.ss_code.specs.declared.instruction.Instruction.TheVariants.{Load, Move, Calculate, Compare as CompareThem, TestData, TestEmpty, TestMember, LookOwner, LookMember, Ask, Jump, Get, CountMade, Clock as ClockTime, TimeOf}
 use Rattle.ss_input.specs.Words.{is_ended}
 use Rattle.ss_code.specs.Store.{Store, computed, related}
 use Rattle.ss_resolved.specs.declared.resolved.Derived.{Derived}
 use Rattle.ss_code.specs.Entities.{attribute, made_count}
+use Rattle.ss_code.specs.Events.{clock, time_of}
 use Rattle.ss_code.specs.Sets.{known_owner, known_member, asked, is_empty, is_in}
 use Rattle.ss_code.specs.Meaning.{operator_of, operator_for, unless}
 use Rattle.ss_code.specs.Machine.{Frame, Core, State, Code, Moved, To, Sends, Rest, Stuck, Taken, take_off, with_taken, with_top, with_three, with_operand, delivered, next, did, sent, branch, where_next, act, is_due, Stepped, Goes, Over, NoStep, with_rest, when_due, step_at, step}
@@ -212,6 +213,14 @@ module _ (code : Code) where
     made_safe class into place h has n = one (CountMade class into) k place h frames has (λ j lt stack s len.
         deliver_safe (Safe j) into (made_count class s) stack (core_of place stack frames s) h len (n.upto j (omega (arith, lt))))
 
+    pub clock_safe : (into : Destination) (place h : ℕ) → slice_get code.instructions place ≡ Some (ClockTime into) → Now k (place + 1) (down into h) frames → Now k place h frames
+    clock_safe into place h has n = one (ClockTime into) k place h frames has (λ j lt stack s len.
+        deliver_safe (Safe j) into (clock s) stack (core_of place stack frames s) h len (n.upto j (omega (arith, lt))))
+
+    time_safe : (o : Operand) (l : Line) (place h : ℕ) → slice_get code.instructions place ≡ Some (TimeOf o l) → Now k (place + 1) (suc h) frames → Now k place (up o h) frames
+    time_safe o l place h has n = one (TimeOf o l) k place _ frames has (λ j lt stack s len.
+        operand_safe (Safe j) o stack h s _ len (λ x rest len2. pushed_safe j place h l (time_of x s) rest stack s len2 (n.upto j (omega (arith, lt)))))
+
     onwards_safe : (into : Option Destination) (place end h : ℕ) → HasAt code.instructions place (onwards_code into) → place + length (onwards_code into) ≡ end → Now k end (landed into Popped h) frames → Now k place (suc h) frames
     onwards_safe None place end h has len n = moved_now (omega (arith, len)) refl n
     onwards_safe (Some Pushed) place end h has len n = moved_now (omega (arith, len)) refl n
@@ -271,6 +280,14 @@ module _ (code : Code) where
             let hh = has_back code.instructions place c tail has in
             expression_safe e None place (place + length c) h (has_front code.instructions place c tail has) refl
             (asked_safe derived set (operand_of e) l (place + length c) h hh.0 (onwards_safe into (place + length c + 1) end h hh.1 e' n))
+        expression_safe Clock into place end h has len n = clock_safe (placed into) place h has.0 (moved_now (sym len) (sym (placed_is into h)) n)
+        expression_safe (TimeOf' p e) into place end h has len n =
+            let c = expression_code l None e in
+            let tail = TimeOf (operand_of e) l ∷ onwards_code into in
+            let e' : place + length c + 1 + length (onwards_code into) ≡ end = omega (arith, len, length-append c tail) in
+            let hh = has_back code.instructions place c tail has in
+            expression_safe e None place (place + length c) h (has_front code.instructions place c tail has) refl
+            (time_safe (operand_of e) l (place + length c) h hh.0 (onwards_safe into (place + length c + 1) end h hh.1 e' n))
 
         sum_safe : {m : _} (terms : Row_of-Expression-Sum-1-2 m) (into : Option Destination) (first : Operand) (place end h : ℕ) → HasAt code.instructions place (sum_code l into first terms) → place + length (sum_code l into first terms) ≡ end → Now k end (landed into Popped h) frames → Now k place (up first h) frames
         sum_safe end_of-Expression-Sum-1-2 into first place end h has len n = move_safe first (placed into) place h has.0 (moved_now (sym len) (sym (placed_is into h)) n)

@@ -20,21 +20,23 @@ use Rattle.ss_resolved.specs.declared.resolved.Head.TheVariants as heads
 use Rattle.ss_resolved.specs.declared.resolved.Place.{Place}
 use Rattle.ss_resolved.specs.declared.resolved.Section.{Section}
 use Rattle.ss_resolved.specs.declared.resolved.Resolved.{Resolved}
-use Rattle.ss_resolved.specs.declared.resolved.Statement.{Statement, Let, Change, Print, If', While', For', Find', Call as CallRoutine, Return, Stop, Read, Skip as SkipLines, Create, CreateEvery, Destroy, File, RemoveEnd, Remove, Row_of-Statement, end_of-Statement, more_of-Statement}
+use Rattle.ss_resolved.specs.declared.resolved.Statement.{Statement, Let, Change, Print, If', While', For', Find', Call as CallRoutine, Return, Stop, Read, Skip as SkipLines, Create, CreateEvery, Destroy, File, RemoveEnd, Remove, ScheduleNew, Schedule, Cancel, Simulate, Row_of-Statement, end_of-Statement, more_of-Statement}
 use Rattle.ss_code.specs.declared.instruction.Operand.TheVariants.{Number}
 use Rattle.ss_code.specs.declared.instruction.Destination.TheVariants.{Pushed}
 use Rattle.ss_code.specs.declared.instruction.Instruction.{Instruction}
-use Rattle.ss_code.specs.declared.instruction.Instruction.TheVariants.{Jump, Turn, Repeat, Begin, Take, Next, Forget, Call, Leave, Halt, Skip as SkipThem, Print as PrintLines, BeginSet, BeginAt, TakeMember, NextMember}
+use Rattle.ss_code.specs.declared.instruction.Instruction.TheVariants.{Jump, Turn, Repeat, Begin, Take, Next, Forget, Call, Leave, Halt, Skip as SkipThem, Print as PrintLines, BeginSet, BeginAt, TakeMember, NextMember, Await, TakeEvent, EventFault}
 use Rattle.ss_code.specs.Sets.{begun, begun_at, is_member, goes_on}
+use Rattle.ss_code.specs.Events.{Beginning, Blame, is_awaited, event_begun}
 use Rattle.ss_code.specs.Store.{Store, number_of, step_of, is_within, item_after, empty_lines, yielded}
 use Rattle.ss_code.specs.Meaning.{operator_of}
-use Rattle.ss_code.specs.Machine.{Frame, Core, State, Code, Entry, To, enter, sent, did, branch, next, Goes, NoStep, where_next, where_member, step}
+use Rattle.ss_code.specs.Machine.{Frame, Core, State, Code, Entry, To, enter, enter_event, take_event, event_fault, sent, did, branch, next, Goes, NoStep, where_next, where_member, step}
 use Rattle.ss_code.specs.Translation.{operand_of, expression_code, values_code, condition_code, negated_code, guards_code, phrase_code, phrases_code, if_code, while_code, step_code, bounds_code, range_code, owner_code, outset_code, members_code, for_code, find_code, assigns_code, statement_code, statement_pictures, row_code, row_pictures, body_code, section_code, code_of}
-use Rattle.ss_code.specs.Running.{Reachable, begins, onwards, changed, peopled}
+use Rattle.ss_code.specs.Running.{Reachable, begins, onwards, changed, peopled, noticed}
 use Rattle.ss_code.proofs.Steps.{HasAt, has_front, has_back, core_of}
 use Rattle.ss_code.proofs.Calling.{yielded_length, LinkedAt, Linked}
 use Rattle.ss_code.proofs.Safety.{SafeStep, Safe, Now, now_less, ActSafe, one, moved_now, top_safe, operand_safe, three_safe, off_safe, did_safe, move_safe, jump_safe, branch_safe, expression_safe, owner_safe, values_safe, condition_safe, negated_safe, guards_safe}
 use Rattle.ss_code.proofs.Guarded.{let_safe, change_safe, reads_safe, create_safe, creates_safe, destroy_safe, file_safe, remove_safe, remove_end_safe, assigns_safe}
+use Rattle.ss_code.proofs.Timely.{schedule_new_safe, schedule_safe, cancel_safe}
 use Rattle.ss_code.proofs.Effects.{next_at, for_length, forgets}
 use Rattle.ss_code.proofs.Whole.{linked, instructions_at}
 
@@ -405,6 +407,36 @@ module _ (code : Code) where
             enter_safe k j lt le r (length xs) mid h frames n' vs rest stack s lr (slice_get code.entries r) refl)));
       }
 
+      -- events
+      begun_event_safe : (j : ℕ) → j < K → (b : Beginning) (place h : ℕ) (frames : List Frame) → Now code j (place - 1) h frames → (stack : List Value) (s : Store) → length stack ≡ h → (o : Option Entry) → slice_get code.entries b.routine ≡ o → ActSafe code (Safe code j) (To (enter_event o b (core_of place stack frames s)))
+      begun_event_safe j lt b place h frames n stack s len None q = subst (λ m. Safe code j (place - 1) m frames) (sym len) (n.upto j (omega arith))
+      begun_event_safe j lt b place h frames n stack s len (Some e) q =
+          let f : Frame = record { back = place - 1; operands = stack; locals = b.store.locals; first = length b.given; count = 0 } in
+          let back : Now code j (place - 1) (0 + length stack) frames = moved_now code {place = place - 1} refl (omega (arith, len)) n in
+          (routines j lt b.routine e f frames q back).upto j (omega arith)
+
+      taken_safe : (j : ℕ) → j < K → (place h : ℕ) (frames : List Frame) → Now code j (place - 1) h frames → Now code j (place + 1) h frames → (stack : List Value) (s : Store) → length stack ≡ h → (r : OkOr Beginning Blame) → ActSafe code (Safe code j) (To (take_event code.entries r (core_of place stack frames s)))
+      taken_safe j lt place h frames n q stack s len (Ok b) = begun_event_safe j lt b place h frames n stack s len (slice_get code.entries b.routine) refl
+      taken_safe j lt place h frames n q stack s len (Err blame) = subst (λ m. Safe code j (place + 1) m frames) (sym len) (q.upto j (omega arith))
+
+      fault_safe : (k place h : ℕ) (frames : List Frame) → slice_get code.instructions place ≡ Some EventFault → Now code k (place + 1) h frames → Now code k place h frames
+      fault_safe k place h frames has n = one code EventFault k place h frames has (λ j lt stack s len. sides j (omega (arith, lt)) (event_begun s) stack s len)
+        where
+          sides : (j : ℕ) → j ≤ k → (r : OkOr Beginning Blame) (stack : List Value) (s : Store) → length stack ≡ h → ActSafe code (Safe code j) (event_fault r (core_of place stack frames s))
+          sides j le (Ok b) stack s len = subst (λ m. Safe code j (place + 1) m frames) (sym len) (n.upto j le)
+          sides j le (Err blame) stack s len = tt
+
+      awaits_safe : (k : ℕ) → k ≤ K → (place end h : ℕ) (frames : List Frame) → HasAt code.instructions place (Await 2 ∷ TakeEvent ∷ EventFault ∷ []) → place + 3 ≡ end → Now code k end h frames → Now code k place h frames
+      awaits_safe zero le place end h frames has len n = now_zero place h frames
+      awaits_safe (suc k) le place end h frames has len n =
+          let ih = awaits_safe k (omega (arith, le)) place end h frames has len (now_less code k (omega arith) n) in
+          let back : Now code k (place + 1 - 1) h frames = moved_now code {place = place} (omega arith) refl ih in
+          let fault : Now code (suc k) (place + 1 + 1) h frames = fault_safe (suc k) (place + 1 + 1) h frames has.1.1.0 (moved_now code {place = end} (omega (arith, len)) refl n) in
+          let take : Now code (suc k) (place + 1) h frames = one code TakeEvent (suc k) (place + 1) h frames has.1.0 (λ j lt stack s ls.
+          taken_safe j (omega (arith, lt, le)) (place + 1) h frames (now_less code j (omega (arith, lt)) back) (now_less code j (omega (arith, lt)) fault) stack s ls (event_begun s)) in
+          one code (Await 2) (suc k) place h frames has.0 (λ j lt stack s ls.
+          branch_safe code (suc k) frames j (is_awaited s) 2 place h stack stack s ls (take.upto j (omega (arith, lt))) ((moved_now code {place = end} {place' = place + 1 + 2} (omega (arith, len)) refl n).upto j (omega (arith, lt))))
+
       both_safe : (a b : List Instruction) → Piece a → Piece b → Piece (a ++ b)
       both_safe a b pa pb = record {
         by = λ k le place end h frames has len back n.
@@ -432,6 +464,10 @@ module _ (code : Code) where
         statement_safe first (File l set e position owner) = record { by = λ k le place end h frames has len back n. file_safe code k frames l position set e owner place end h has len n }
         statement_safe first (RemoveEnd l set e t owner) = record { by = λ k le place end h frames has len back n. remove_end_safe code k frames l set e t owner place end h has len n }
         statement_safe first (Remove l set e owner) = record { by = λ k le place end h frames has len back n. remove_safe code k frames l set e owner place end h has len n }
+        statement_safe first (ScheduleNew l class t given when) = record { by = λ k le place end h frames has len back n. schedule_new_safe code k frames l class t given.items when place end h has len n }
+        statement_safe first (Schedule l class e given when) = record { by = λ k le place end h frames has len back n. schedule_safe code k frames l class e given.items when place end h has len n }
+        statement_safe first (Cancel l class e) = record { by = λ k le place end h frames has len back n. cancel_safe code k frames l class e place end h has len n }
+        statement_safe first Simulate = record { by = λ k le place end h frames has len back n. awaits_safe k le place end h frames has len n }
 
         row_safe : {m : _} (first : ℕ) (r : Row_of-Statement m) → Piece (row_code first r)
         row_safe first end_of-Statement = record { by = λ k le place end h frames has len back n. moved_now code (omega (arith, len)) refl n }
@@ -474,6 +510,7 @@ module _ (code : Code) where
   reached h t (onwards {s = s} r e) k = next_all s t (reached h s r) e k
   reached h t (changed {s = s} r input report ticks) k = reached h s r k
   reached h t (peopled {s = s} r entities) k = reached h s r k
+  reached h t (noticed {s = s} r time pending) k = reached h s r k
 
   pub no_stuck : ((k : ℕ) → Safe code k 0 0 []) → (s : State) → Reachable code s → step code s ≡ NoStep → ⊥
   no_stuck h s r e = subst (SafeStep code (Safe code 0)) e (reached h s r 1 s.core.operands s.core.store s.report s.ticks refl)

@@ -4,7 +4,7 @@ use Rattle.ss_base.specs.declared.line.Line.{Line}
 use Rattle.ss_base.specs.declared.value.Value.{Value}
 use Rattle.ss_base.specs.declared.value.Value.TheVariants.{Whole, Text}
 use Rattle.ss_resolved.specs.declared.resolved.Variable.{Variable}
-use Rattle.ss_resolved.specs.declared.resolved.Expression.{Expression, Constant, Fetch, Signed', Sum', Product', Applied', Absolute', Attribute', Made, Derived', Row_of-Expression, end_of-Expression, more_of-Expression, Row_of-Expression-Sum-1-2, end_of-Expression-Sum-1-2, more_of-Expression-Sum-1-2}
+use Rattle.ss_resolved.specs.declared.resolved.Expression.{Expression, Constant, Fetch, Signed', Sum', Product', Applied', Absolute', Attribute', Made, Derived', Clock, TimeOf', Row_of-Expression, end_of-Expression, more_of-Expression, Row_of-Expression-Sum-1-2, end_of-Expression-Sum-1-2, more_of-Expression-Sum-1-2}
 use Rattle.ss_resolved.specs.declared.resolved.Test.{Test}
 use Rattle.ss_resolved.specs.declared.resolved.Test.TheVariants.{Compare, DataEnded, Empty, Member}
 use Rattle.ss_resolved.specs.declared.resolved.Conjunction.{Conjunction}
@@ -31,9 +31,11 @@ use Rattle.ss_resolved.specs.declared.resolved.Place.{Place}
 use Rattle.ss_resolved.specs.declared.resolved.Place.TheVariants.{Variable as PlainVariable, Attribute as AttributePlace, Count}
 use Rattle.ss_resolved.specs.declared.resolved.Target.{Target}
 use Rattle.ss_resolved.specs.declared.resolved.Counted.{Counted}
+use Rattle.ss_resolved.specs.declared.resolved.When.{When}
+use Rattle.ss_resolved.specs.declared.resolved.When.TheVariants as whens
 use Rattle.ss_base.specs.declared.layout.Mode.{Mode}
 use Rattle.ss_resolved.specs.declared.resolved.Section.{Section}
-use Rattle.ss_resolved.specs.declared.resolved.Statement.{Statement, Let, Change, Print, If', While', For', Find', Call as CallRoutine, Return, Stop, Read, Skip as SkipLines, Create, CreateEvery, Destroy, File, RemoveEnd, Remove, Row_of-Statement, end_of-Statement, more_of-Statement}
+use Rattle.ss_resolved.specs.declared.resolved.Statement.{Statement, Let, Change, Print, If', While', For', Find', Call as CallRoutine, Return, Stop, Read, Skip as SkipLines, Create, CreateEvery, Destroy, File, RemoveEnd, Remove, ScheduleNew, Schedule, Cancel, Simulate, Row_of-Statement, end_of-Statement, more_of-Statement}
 use Rattle.ss_code.specs.declared.instruction.Instruction.{Instruction}
 use Rattle.ss_resolved.specs.declared.resolved.Resolved.{Resolved}
 use Rattle.ss_code.specs.declared.instruction.Operand.{Operand}
@@ -42,11 +44,11 @@ use Rattle.ss_code.specs.declared.instruction.Destination.{Destination}
 use Rattle.ss_code.specs.declared.instruction.Operator.{Operator}
 use Rattle.ss_code.specs.declared.instruction.Operator.TheVariants.{Distance}
 use Rattle.ss_code.specs.declared.instruction.Destination.TheVariants.{Pushed, ToGlobal, ToLocal}
-use Rattle.ss_code.specs.declared.instruction.Instruction.TheVariants.{Calculate, Compare as CompareThem, Jump, Turn, Repeat, Begin, Take, Next, Forget, Call, Leave, Read as ReadWord, Skip as SkipThem, Print as PrintLines, Look, Get, Put, Give, ChangeField, CreateOne, SetCount, DestroyOne, Ask, LookOwner, LookMember, TestEmpty, TestMember, FileOne, FileBeside, RemoveAt, RemoveOne, BeginSet, BeginAt, TakeMember, NextMember}
+use Rattle.ss_code.specs.declared.instruction.Instruction.TheVariants.{Calculate, Compare as CompareThem, Jump, Turn, Repeat, Begin, Take, Next, Forget, Call, Leave, Read as ReadWord, Skip as SkipThem, Print as PrintLines, Look, Get, Put, Give, ChangeField, CreateOne, SetCount, DestroyOne, Ask, LookOwner, LookMember, TestEmpty, TestMember, FileOne, FileBeside, RemoveAt, RemoveOne, BeginSet, BeginAt, TakeMember, NextMember, TimeOf, When as WhenDue, MakeNotice, FileNotice, Refile, CancelNotice}
 use Rattle.std.specs.Prelude.{pos}
 use Rattle.ss_code.specs.Meaning.{operator_of, operator_for}
-use Rattle.ss_resolved.specs.Nodes.{unless_meant, set_nodes, start_nodes, members_nodes, head_nodes, position_nodes, unless_plain, expression_nodes, sum_nodes, terms_nodes, product_nodes, factors_nodes, expressions_nodes, test_nodes, tests_nodes, alternative_nodes, alternatives_nodes, some_nodes, condition_nodes, guards_nodes, phrases_nodes, place_nodes, places_nodes, targets_nodes, step_nodes, ends_nodes, range_nodes, statement_nodes, row_nodes, body_nodes, sections_nodes, nodes}
-use Rattle.ss_code.specs.Translation.{destination_of, operand_of, placed, constant_code, fetch_code, onwards_code, expression_code, sum_code, terms_code, product_code, factors_code, values_code, test_code, tests_code, alternatives_code, some_code, condition_code, negated_code, guard_code, guards_code, phrase_code, phrases_code, if_code, while_code, step_code, bounds_code, range_code, member_code, owner_code, outset_code, members_code, is_plain, early_code, early_operand, pair_code, beside_code, file_code, end_code, remove_end_code, for_code, find_code, reference_code, let_code, change_code, read_code, reads_code, create_code, creates_code, assign_code, assigns_code, statement_code, statement_pictures, row_code, row_pictures, body_code, body_pictures, section_code, routines_code, code_of}
+use Rattle.ss_resolved.specs.Nodes.{unless_meant, set_nodes, start_nodes, members_nodes, head_nodes, position_nodes, unless_plain, expression_nodes, sum_nodes, terms_nodes, product_nodes, factors_nodes, expressions_nodes, test_nodes, tests_nodes, alternative_nodes, alternatives_nodes, some_nodes, condition_nodes, guards_nodes, phrases_nodes, place_nodes, places_nodes, targets_nodes, step_nodes, when_nodes, ends_nodes, range_nodes, statement_nodes, row_nodes, body_nodes, sections_nodes, nodes}
+use Rattle.ss_code.specs.Translation.{destination_of, operand_of, placed, constant_code, fetch_code, onwards_code, expression_code, sum_code, terms_code, product_code, factors_code, values_code, test_code, tests_code, alternatives_code, some_code, condition_code, negated_code, guard_code, guards_code, phrase_code, phrases_code, if_code, while_code, step_code, bounds_code, range_code, member_code, owner_code, outset_code, members_code, is_plain, early_code, early_operand, pair_code, beside_code, file_code, end_code, remove_end_code, for_code, find_code, reference_code, let_code, change_code, read_code, reads_code, create_code, creates_code, when_code, notice_code, spot_code, kept_code, schedule_new_code, schedule_code, assign_code, assigns_code, statement_code, statement_pictures, row_code, row_pictures, body_code, body_pictures, section_code, routines_code, code_of}
 
 constant_size : (into : Option Destination) (v : Value) → length (constant_code into v) ≤ 1
 constant_size None (Whole z) = omega arith
@@ -76,6 +78,8 @@ plain_size (Absolute' p e) l h = h
 plain_size (Attribute' class field p e) l h = h
 plain_size (Made class) l h = h
 plain_size (Derived' derived set p e) l h = h
+plain_size Clock l h = h
+plain_size (TimeOf' p e) l h = h
 
 pushed_size : (e : Expression) (n : ℕ) → n ≤ 2 * expression_nodes e → n ≤ 2 + 2 * unless_plain e (expression_nodes e)
 pushed_size (Constant v) n h = omega (arith, h)
@@ -88,6 +92,8 @@ pushed_size (Absolute' p e) n h = omega (arith, h)
 pushed_size (Attribute' class field p e) n h = omega (arith, h)
 pushed_size (Made class) n h = omega (arith, h)
 pushed_size (Derived' derived set p e) n h = omega (arith, h)
+pushed_size Clock n h = omega (arith, h)
+pushed_size (TimeOf' p e) n h = omega (arith, h)
 
 -- the ends of a FOR
 limit_size : (v : Value) (f : Expression) (a b : ℕ) → a ≤ 2 → b ≤ 2 * expression_nodes f → a + b ≤ 4 + 2 * ends_nodes (Constant v) f
@@ -101,6 +107,8 @@ limit_size v (Absolute' p e) a b h k = omega (arith, h, k)
 limit_size v (Attribute' class field p e) a b h k = omega (arith, h, k)
 limit_size v (Made class) a b h k = omega (arith, h, k)
 limit_size v (Derived' derived set p e) a b h k = omega (arith, h, k)
+limit_size v Clock a b h k = omega (arith, h, k)
+limit_size v (TimeOf' p e) a b h k = omega (arith, h, k)
 
 ends_size : (e f : Expression) (a b : ℕ) → a ≤ 2 * expression_nodes e → b ≤ 2 * expression_nodes f → a + b ≤ 4 + 2 * ends_nodes e f
 ends_size (Constant v) f a b h k = limit_size v f a b h k
@@ -113,6 +121,8 @@ ends_size (Absolute' p e) f a b h k = omega (arith, h, k)
 ends_size (Attribute' class field p e) f a b h k = omega (arith, h, k)
 ends_size (Made class) f a b h k = omega (arith, h, k)
 ends_size (Derived' derived set p e) f a b h k = omega (arith, h, k)
+ends_size Clock f a b h k = omega (arith, h, k)
+ends_size (TimeOf' p e) f a b h k = omega (arith, h, k)
 
 -- so many instructions for an owner, where one that is meant has one at most
 meant_size : (e : Expression) (l : Line) → length (expression_code l None e) ≤ 2 * expression_nodes e → length (expression_code l None e) ≤ 1 + 2 * unless_meant e (expression_nodes e)
@@ -126,6 +136,8 @@ meant_size (Absolute' p e) l h = omega (arith, h)
 meant_size (Attribute' class field p e) l h = omega (arith, h)
 meant_size (Made class) l h = omega (arith, h)
 meant_size (Derived' derived set p e) l h = omega (arith, h)
+meant_size Clock l h = omega (arith, h)
+meant_size (TimeOf' p e) l h = omega (arith, h)
 
 module _ (l : Line) where
   mutual
@@ -142,6 +154,8 @@ module _ (l : Line) where
     expression_size into (Attribute' class field p e) = omega (arith, plain_size e l (omega (arith, expression_size None e)), length-append (expression_code l None e) (Get class field (operand_of e) l ∷ onwards_code into))
     expression_size into (Made class) = omega arith
     expression_size into (Derived' derived set p e) = omega (arith, meant_size e l (omega (arith, expression_size None e)), length-append (expression_code l None e) (Ask derived set (operand_of e) l ∷ onwards_code into))
+    expression_size into Clock = omega arith
+    expression_size into (TimeOf' p e) = omega (arith, expression_size None e, length-append (expression_code l None e) (TimeOf (operand_of e) l ∷ onwards_code into))
 
     sum_size : {m : _} (into : Option Destination) (first : Operand) (r : Row_of-Expression-Sum-1-2 m) → length (sum_code l into first r) ≤ 2 * sum_nodes r
     sum_size into first end_of-Expression-Sum-1-2 = omega arith
@@ -342,6 +356,42 @@ module _ (l : Line) where
       omega (arith, reference_size class r, end_size set end owner Pushed, length-append (reference_code l class r) (end_code l set end owner Pushed ++ tail), length-append (end_code l set end owner Pushed) tail)
   remove_end_size set end (Count class number) owner = omega (arith, end_size set end owner Pushed, length-append (end_code l set end owner Pushed) (SetCount class number Popped l ∷ []))
 
+  when_size : (when : When) → length (when_code l when) ≤ 1 + 2 * when_nodes when
+  when_size (whens.At e) = omega (arith, operand_size e, length-append (expression_code l None e) (WhenDue (operand_of e) false l ∷ []))
+  when_size (whens.In e) = omega (arith, operand_size e, length-append (expression_code l None e) (WhenDue (operand_of e) true l ∷ []))
+  when_size whens.Now = omega arith
+
+  notice_size : (class : ℕ) (given : List Expression) (when : When) → length (notice_code l class given when) ≤ 2 + 2 * expressions_nodes given + 2 * when_nodes when
+  notice_size class given when =
+      let tail = MakeNotice class (length given) l ∷ [] in
+      omega (arith, values_size given, when_size when, length-append (values_code l given) (when_code l when ++ tail), length-append (when_code l when) tail)
+
+  spot_size : (t : Place) → length (spot_code l t) ≤ 2 * place_nodes t
+  spot_size (PlainVariable x) = omega arith
+  spot_size (AttributePlace class field r) = omega (arith, reference_size class r)
+  spot_size (Count class number) = omega arith
+
+  kept_size : (t : Place) → length (kept_code l t) ≤ 2
+  kept_size (PlainVariable x) = omega arith
+  kept_size (AttributePlace class field r) = omega arith
+  kept_size (Count class number) = omega arith
+
+  schedule_new_size : (class : ℕ) (t : Place) (given : List Expression) (when : When) → length (schedule_new_code l class t given when) ≤ 5 + 2 * place_nodes t + 2 * expressions_nodes given + 2 * when_nodes when
+  schedule_new_size class t given when =
+      let cs = spot_code l t in
+      let cn = notice_code l class given when in
+      let ck = kept_code l t in
+      let tail = FileNotice class l ∷ [] in
+      omega (arith, spot_size t, notice_size class given when, kept_size t, length-append cs (cn ++ (ck ++ tail)), length-append cn (ck ++ tail), length-append ck tail)
+
+  schedule_size : (class : ℕ) (e : Expression) (given : List Expression) (when : When) → length (schedule_code l class e given when) ≤ 3 + 2 * expression_nodes e + 2 * expressions_nodes given + 2 * when_nodes when
+  schedule_size class e given when =
+      let cr = reference_code l class e in
+      let cv = values_code l given in
+      let cw = when_code l when in
+      let tail = Refile class (length given) l ∷ [] in
+      omega (arith, operand_size e, values_size given, when_size when, length-append (expression_code l None e) (Look class (operand_of e) l ∷ []), length-append cr (cv ++ (cw ++ tail)), length-append cv (cw ++ tail), length-append cw tail)
+
   assign_size : (t : Place) → length (assign_code l t) ≤ 2 * place_nodes t
   assign_size (PlainVariable x) = omega arith
   assign_size (AttributePlace class field r) = omega (arith, plain_size r l (operand_size r), length-append (expression_code l None r) (Give class field (operand_of r) l ∷ []))
@@ -371,6 +421,10 @@ mutual
   statement_size first (File l set e position owner) = omega (arith, file_size l position set e owner)
   statement_size first (RemoveEnd l set end t owner) = omega (arith, remove_end_size l set end t owner)
   statement_size first (Remove l set e owner) = omega (arith, pair_size l set e owner (λ m o. RemoveOne set m o l))
+  statement_size first (ScheduleNew l class t given when) = omega (arith, schedule_new_size l class t given.items when)
+  statement_size first (Schedule l class e given when) = omega (arith, schedule_size l class e given.items when)
+  statement_size first (Cancel l class e) = omega (arith, operand_size l e, length-append (expression_code l None e) (CancelNotice class (operand_of e) l ∷ []))
+  statement_size first Simulate = omega arith
 
   row_size : {m : _} (first : ℕ) (r : Row_of-Statement m) → length (row_code first r) ≤ 16 * row_nodes r
   row_size first end_of-Statement = omega arith

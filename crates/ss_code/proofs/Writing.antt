@@ -57,7 +57,7 @@ module _ (code : Code) where
       (h.by (x ∷ stack) (λ v above. with_top above (λ x rest. settled l (with_attribute class field x v w.store) rest c))) q
 
   -- a write to the variable that says how many entities a class gets
-  sets_count : (l : Line) (class number : ℕ) (o : Operand) (v : Value) (place end : ℕ) (stack : List Value) (frames : List Frame) (w : World) → Holds o v w.store → slice_get code.instructions place ≡ Some (SetCount class number o l) → place + 1 ≡ end → Reaches code (at place (shelved o v stack) frames w) (arrive (λ u w'. at end stack frames w') frames (change l (counted class number v) w))
+  pub sets_count : (l : Line) (class number : ℕ) (o : Operand) (v : Value) (place end : ℕ) (stack : List Value) (frames : List Frame) (w : World) → Holds o v w.store → slice_get code.instructions place ≡ Some (SetCount class number o l) → place + 1 ≡ end → Reaches code (at place (shelved o v stack) frames w) (arrive (λ u w'. at end stack frames w') frames (change l (counted class number v) w))
   sets_count l class number o v place end stack frames w h has q =
       let c = core_of place (shelved o v stack) frames w.store in
       settles (SetCount class number o l) l (counted class number v w.store) place end (shelved o v stack) stack frames w has refl
@@ -78,7 +78,7 @@ module _ (code : Code) where
       ∙ ap (λ r. with_rest w.report w.ticks (did l r (λ u. next (x ∷ stack) c))) q)
 
   -- an attribute as a target is resolved, and what follows
-  reference_run : {B : Type 0} (l : Line) (class field : ℕ) (e : Expression) (place end : ℕ) (stack : List Value) (frames : List Frame) (w : World) (k' : B → World → State) (go : Spot → Part B) → HasAt code.instructions place (reference_code l class e) → place + length (reference_code l class e) ≡ end → ((x : Value) → Reaches code (at end (x ∷ stack) frames w) (arrive k' frames (go (InAttribute class field x) w))) → Reaches code (at place stack frames w) (arrive k' frames (and_then (look l (spot_of (AttributePlace class field e)) w) go))
+  pub reference_run : {B : Type 0} (l : Line) (class field : ℕ) (e : Expression) (place end : ℕ) (stack : List Value) (frames : List Frame) (w : World) (k' : B → World → State) (go : Spot → Part B) → HasAt code.instructions place (reference_code l class e) → place + length (reference_code l class e) ≡ end → ((x : Value) → Reaches code (at end (x ∷ stack) frames w) (arrive k' frames (go (InAttribute class field x) w))) → Reaches code (at place stack frames w) (arrive k' frames (and_then (look l (spot_of (AttributePlace class field e)) w) go))
   reference_run l class field e place end stack frames w k' go has len more =
       let c = expression_code l None e in
       let tail = Look class (operand_of e) l ∷ [] in
@@ -91,7 +91,7 @@ module _ (code : Code) where
       (λ u p'. subst (λ j. Reaches code (at j (x ∷ stack) frames w) (arrive k' frames (go (InAttribute class field x) w))) (sym q) (more x)))
 
   module _ (n : ℕ) where
-    assigned_is : (x : Variable) (v : Value) (place : ℕ) (stack : List Value) (frames : List Frame) (w : World) → at_destination (destination_of x) v place stack frames w ≡ at place stack frames (record w { store = assigned x v w.store })
+    pub assigned_is : (x : Variable) (v : Value) (place : ℕ) (stack : List Value) (frames : List Frame) (w : World) → at_destination (destination_of x) v place stack frames w ≡ at place stack frames (record w { store = assigned x v w.store })
     assigned_is (Global k) v place stack frames w = refl
     assigned_is (Local k) v place stack frames w = refl
 

@@ -1,4 +1,5 @@
 use Rattle.std.proofs.Common.{◌≡◌, ap, refl, arith, length, sym, subst}
+use Rattle.ss_code.specs.EventClasses.{events_said}
 use Rattle.ss_code.specs.Orders.{orders_said}
 use Rattle.ss_code.specs.Machine.{Code}
 use Rattle.ss_code.specs.Running.{Behaves}
@@ -16,20 +17,20 @@ returns-then-len-gt-INSTRUCTION_LIMIT-clause-small c = λ small q.
 
 pub new-requires : goal.new-requires
 new-requires c =
-    let code : Code = record { layout = c.in_ok-layout.layout; orders = orders_said c.in_ok-disciplines.disciplines.items; instructions = c.emit_routines.new.code.items; pictures = c.emit_routines.new.pictures.items; entries = c.emit_routines.new.entries.items; globals = c.in_ok-globals.globals.items; locals = c.in_ok-locals.locals.items } in
+    let code : Code = record { layout = c.in_ok-layout.layout; orders = orders_said c.in_ok-disciplines.disciplines.items; events = events_said c.in_ok-events.events.items; instructions = c.emit_routines.new.code.items; pictures = c.emit_routines.new.pictures.items; entries = c.emit_routines.new.entries.items; globals = c.in_ok-globals.globals.items; locals = c.in_ok-locals.locals.items } in
     sound_so (record c.args.program.now { layout = c.in_ok-layout.layout }) code
-    (rw (c.in_ok-emit_routines.ensures.code, c.in_ok-emit_routines.ensures.pictures, c.in_ok-emit_routines.ensures.entries, c.in_ok-emit_section.ensures.code, c.in_ok-emit_section.ensures.pictures, c.new-instructions.ensures.items, c.new-pictures.ensures.items, c.new-entries.ensures.items, c.in_ok-globals.ensures, c.in_ok-locals.ensures, c.in_ok-disciplines.ensures, c.deref.ensures.value, c.deref-2.ensures.value, c.deref-3.ensures.value, c.deref-4.ensures.value, c.deref-5.ensures.value) refl)
+    (rw (c.in_ok-emit_routines.ensures.code, c.in_ok-emit_routines.ensures.pictures, c.in_ok-emit_routines.ensures.entries, c.in_ok-emit_section.ensures.code, c.in_ok-emit_section.ensures.pictures, c.new-instructions.ensures.items, c.new-pictures.ensures.items, c.new-entries.ensures.items, c.in_ok-globals.ensures, c.in_ok-locals.ensures, c.in_ok-disciplines.ensures, c.in_ok-events.ensures, c.deref.ensures.value, c.deref-2.ensures.value, c.deref-3.ensures.value, c.deref-4.ensures.value, c.deref-5.ensures.value, c.deref-6.ensures.value) refl)
 
 pub returns-clause-behaves : goal.returns-clause-behaves
 returns-clause-behaves c =
-    let code : Code = record { layout = c.in_ok-layout.layout; orders = orders_said c.in_ok-disciplines.disciplines.items; instructions = c.emit_routines.new.code.items; pictures = c.emit_routines.new.pictures.items; entries = c.emit_routines.new.entries.items; globals = c.in_ok-globals.globals.items; locals = c.in_ok-locals.locals.items } in
+    let code : Code = record { layout = c.in_ok-layout.layout; orders = orders_said c.in_ok-disciplines.disciplines.items; events = events_said c.in_ok-events.events.items; instructions = c.emit_routines.new.code.items; pictures = c.emit_routines.new.pictures.items; entries = c.emit_routines.new.entries.items; globals = c.in_ok-globals.globals.items; locals = c.in_ok-locals.locals.items } in
     let b = behaves_alike c.args.program.now code c.in_ok-layout.layout (c.in_ok-layout.ensures)
-    (rw (c.in_ok-emit_routines.ensures.code, c.in_ok-emit_routines.ensures.pictures, c.in_ok-emit_routines.ensures.entries, c.in_ok-emit_section.ensures.code, c.in_ok-emit_section.ensures.pictures, c.new-instructions.ensures.items, c.new-pictures.ensures.items, c.new-entries.ensures.items, c.in_ok-globals.ensures, c.in_ok-locals.ensures, c.in_ok-disciplines.ensures, c.deref.ensures.value, c.deref-2.ensures.value, c.deref-3.ensures.value, c.deref-4.ensures.value, c.deref-5.ensures.value) refl) in
+    (rw (c.in_ok-emit_routines.ensures.code, c.in_ok-emit_routines.ensures.pictures, c.in_ok-emit_routines.ensures.entries, c.in_ok-emit_section.ensures.code, c.in_ok-emit_section.ensures.pictures, c.new-instructions.ensures.items, c.new-pictures.ensures.items, c.new-entries.ensures.items, c.in_ok-globals.ensures, c.in_ok-locals.ensures, c.in_ok-disciplines.ensures, c.in_ok-events.ensures, c.deref.ensures.value, c.deref-2.ensures.value, c.deref-3.ensures.value, c.deref-4.ensures.value, c.deref-5.ensures.value, c.deref-6.ensures.value) refl) in
     subst (λ k. Behaves c.args.program.now k) (sym c.new.ensures) b
 
 pub returns-clause-anywhere : goal.returns-clause-anywhere
 returns-clause-anywhere c = λ l e.
-    let code : Code = record { layout = l; orders = orders_said c.in_ok-disciplines.disciplines.items; instructions = c.emit_routines.new.code.items; pictures = c.emit_routines.new.pictures.items; entries = c.emit_routines.new.entries.items; globals = c.in_ok-globals.globals.items; locals = c.in_ok-locals.locals.items } in
+    let code : Code = record { layout = l; orders = orders_said c.in_ok-disciplines.disciplines.items; events = events_said c.in_ok-events.events.items; instructions = c.emit_routines.new.code.items; pictures = c.emit_routines.new.pictures.items; entries = c.emit_routines.new.entries.items; globals = c.in_ok-globals.globals.items; locals = c.in_ok-locals.locals.items } in
     let b = behaves_alike c.args.program.now code l e
-    (rw (c.in_ok-emit_routines.ensures.code, c.in_ok-emit_routines.ensures.pictures, c.in_ok-emit_routines.ensures.entries, c.in_ok-emit_section.ensures.code, c.in_ok-emit_section.ensures.pictures, c.new-instructions.ensures.items, c.new-pictures.ensures.items, c.new-entries.ensures.items, c.in_ok-globals.ensures, c.in_ok-locals.ensures, c.in_ok-disciplines.ensures, c.deref.ensures.value, c.deref-2.ensures.value, c.deref-3.ensures.value, c.deref-4.ensures.value, c.deref-5.ensures.value) refl) in
+    (rw (c.in_ok-emit_routines.ensures.code, c.in_ok-emit_routines.ensures.pictures, c.in_ok-emit_routines.ensures.entries, c.in_ok-emit_section.ensures.code, c.in_ok-emit_section.ensures.pictures, c.new-instructions.ensures.items, c.new-pictures.ensures.items, c.new-entries.ensures.items, c.in_ok-globals.ensures, c.in_ok-locals.ensures, c.in_ok-disciplines.ensures, c.in_ok-events.ensures, c.deref.ensures.value, c.deref-2.ensures.value, c.deref-3.ensures.value, c.deref-4.ensures.value, c.deref-5.ensures.value, c.deref-6.ensures.value) refl) in
     subst (λ k. Behaves c.args.program.now (record k { layout = l })) (sym c.new.ensures) b
