@@ -21,3 +21,5 @@ pub mod Secure
 pub mod Landing
 pub mod Alike
 pub mod Natural
+pub mod Meant
+pub mod Keys

@@ -1,4 +1,4 @@
--- What a program means does not depend on where its layout lies in memory: l is another one that says the same.
+-- What is done with a store does not depend on where its layout lies in memory: l is another one that says the same.
 use Rattle.std.proofs.Common.{◌≡◌, ℕ, zero, suc, ◌+◌, Bool, true, false, List, [], ◌∷◌, length, map, Option, Some, None, Ok, Err, refl, sym, ap, ◌∙◌, subst}
 use Rattle.std.specs.Prelude.{ℤ, nat_lt, ◌&&◌, is_some, slice_get, Result as OkOr}
 use Rattle.std.specs.List.{list_all}
@@ -9,15 +9,13 @@ use Rattle.ss_base.specs.declared.fault.FaultKind.{FaultKind}
 use Rattle.ss_base.specs.declared.value.Value.{Value}
 use Rattle.ss_base.specs.declared.layout.Mode.{Mode}
 use Rattle.ss_base.specs.declared.layout.Layout.{Layout}
-use Rattle.ss_input.specs.Words.{Given, value_given}
 use Rattle.ss_base.specs.declared.layout.ClassKind.{ClassKind}
 use Rattle.ss_base.specs.declared.layout.ClassKind.TheVariants as kinds
 use Rattle.ss_sets.specs.Disciplines.{value_of}
 use Rattle.ss_events.specs.declared.key.Tie.{Tie}
-use Rattle.ss_events.specs.declared.key.TieShape.{TieShape}
 use Rattle.ss_events.specs.SortKey.{SortKey}
-use Rattle.ss_events.specs.PendingList.{PendingList, none_pending, is_pending, scheduled, cancelled, next, after_next}
-use Rattle.ss_records.specs.State.{State, kind_of, time_in, first_state, value_in, known_in, created, is_made, not_made}
+use Rattle.ss_events.specs.PendingList.{PendingList, is_pending, scheduled, cancelled, after_next}
+use Rattle.ss_records.specs.State.{State, kind_of, time_in, value_in, known_in, created, is_made}
 use Rattle.ss_resolved.specs.declared.resolved.Variable.{Variable}
 use Rattle.ss_resolved.specs.declared.resolved.Variable.TheVariants.{Global, Local}
 use Rattle.ss_resolved.specs.declared.resolved.Expression.{Expression, Constant, Fetch, Signed', Sum', Product', Applied', Absolute', Attribute', Made, Derived', Clock, TimeOf', Row_of-Expression, end_of-Expression, more_of-Expression, Row_of-Expression-Sum-1-2, end_of-Expression-Sum-1-2, more_of-Expression-Sum-1-2}
@@ -25,31 +23,11 @@ use Rattle.ss_resolved.specs.declared.resolved.Test.{Test}
 use Rattle.ss_resolved.specs.declared.resolved.Test.TheVariants.{Compare, DataEnded, Empty, Member}
 use Rattle.ss_resolved.specs.declared.resolved.Conjunction.{Conjunction}
 use Rattle.ss_resolved.specs.declared.resolved.Guard.{Guard}
-use Rattle.ss_resolved.specs.declared.resolved.PhraseKind.{PhraseKind}
-use Rattle.ss_resolved.specs.declared.resolved.PhraseKind.TheVariants.{With as WithPhrase, Unless as UnlessPhrase, While as WhilePhrase, Until as UntilPhrase}
-use Rattle.ss_resolved.specs.declared.resolved.Phrase.{Phrase}
 use Rattle.ss_resolved.specs.declared.resolved.Range.{Range}
-use Rattle.ss_resolved.specs.declared.resolved.Start.{Start}
-use Rattle.ss_resolved.specs.declared.resolved.Start.TheVariants as starts
-use Rattle.ss_resolved.specs.declared.resolved.Members.{Members}
-use Rattle.ss_resolved.specs.declared.resolved.Head.{Head}
-use Rattle.ss_resolved.specs.declared.resolved.Head.TheVariants as heads
 use Rattle.ss_resolved.specs.declared.resolved.Derived.{Derived}
 use Rattle.ss_resolved.specs.declared.resolved.Derived.TheVariants.{First, Last, Count as CountOf, Predecessor, Successor, Membership}
 use Rattle.ss_resolved.specs.declared.resolved.End.{End}
 use Rattle.ss_resolved.specs.declared.resolved.End.TheVariants as ends
-use Rattle.ss_resolved.specs.declared.resolved.Position.{Position}
-use Rattle.ss_resolved.specs.declared.resolved.Position.TheVariants as positions
-use Rattle.ss_resolved.specs.declared.resolved.Place.{Place}
-use Rattle.ss_resolved.specs.declared.resolved.Place.TheVariants.{Variable as PlainVariable, Attribute as AttributePlace, Count}
-use Rattle.ss_resolved.specs.declared.resolved.Target.{Target}
-use Rattle.ss_resolved.specs.declared.resolved.Counted.{Counted}
-use Rattle.ss_resolved.specs.declared.resolved.When.{When}
-use Rattle.ss_resolved.specs.declared.resolved.When.TheVariants as whens
-use Rattle.ss_resolved.specs.declared.resolved.Section.{Section}
-use Rattle.ss_resolved.specs.declared.resolved.Statement.{Statement, Let, Change, Print, If', While', For', Find', Call, Return, Stop, Read, Skip, Create, CreateEvery, Destroy, File, RemoveEnd, Remove, ScheduleNew, Schedule, Cancel, Simulate, Row_of-Statement, end_of-Statement, more_of-Statement}
-use Rattle.ss_resolved.specs.declared.resolved.Resolved.{Resolved}
-use Rattle.ss_resolved.specs.Lines.{lines_of}
 use Rattle.ss_code.specs.declared.instruction.Operator.TheVariants.{Times, Distance}
 use Rattle.ss_code.specs.declared.instruction.Filing.{Filing}
 use Rattle.ss_code.specs.declared.instruction.Filing.TheVariants as filings
@@ -57,77 +35,73 @@ use Rattle.ss_code.specs.declared.instruction.Side.{Side}
 use Rattle.ss_code.specs.declared.instruction.Side.TheVariants as sides_of
 use Rattle.ss_code.specs.Orders.{Order, Queue, Stack, ByRank}
 use Rattle.ss_code.specs.Sets.{set_at, about, known_owner, known_member, membership, answered, asked, is_none, is_empty, is_in, is_field, are_fields, settle, filed_at_first, filed_at_last, filed_in_order, filed, filed_beside, removed_one, end_removed, removed_at, outset, beside, or_none, coming, begun, if_filed, from_or_after, begun_at, is_member, if_still, if_any, goes_on}
-use Rattle.ss_code.specs.EventClasses.{EventClass, events_said, mode_at, shape_at, shapes}
-use Rattle.ss_code.specs.Events.{time_of, due_at, with_pending, endowed, with_time, prepared, made_notice, Standing, standing_from, tie_of, filed_as, filed_notice, unless_filed, refiled, unscheduled, is_awaited, Beginning, attributes, saved_or_gone, if_of_class, class_of, Blame, blamed, begun_by, begun_with, event_begun}
-use Rattle.ss_code.specs.Layouts.{SameLayout, Said}
-use Rattle.ss_code.specs.Store.{Store, World, if_ok, zero_value, number_of, fetched, assigned, computed, printed, related, step_of, is_within, item_after, empty_lines, fresh, yielded}
+use Rattle.ss_code.specs.EventClasses.{EventClass, mode_at}
+use Rattle.ss_code.specs.Events.{time_of, with_pending, endowed, with_time, prepared, made_notice, Standing, standing_from, tie_of, filed_as, filed_notice, unless_filed, refiled, unscheduled, Beginning, attributes, saved_or_gone, if_of_class, class_of, Blame, blamed, begun_by, begun_with}
+use Rattle.ss_code.specs.Layouts.{SameLayout}
+use Rattle.ss_code.specs.Store.{Store, World, if_ok, zero_value, number_of, fetched, assigned, computed, related, step_of}
 use Rattle.ss_code.specs.Entities.{class_at, field_at, has_numbers, has_indices, if_so, turned, with_heap, born, known, attribute, fitted, if_field, with_attribute, unless_made, counted, made_one, made_all, gone, unless_scheduled, may_go, without}
-use Rattle.ss_code.specs.Meaning.{Exit, Returned, Stopped, Faulted, OutOfTicks, Outcome, WentOn, Left, Part, and_then, look, looked, assign, send, operator_of, operator_for, value, sum_from, product_from, values, firsts, both, either, test_holds, all_hold, some_hold, holds, unless, passes, all_pass, tick_from, take_tick, choose, turns, Turn, GoesOn, EndsLoop, IsFound, phrase, phrases, after_turn, items, step_value, bounds, over_range, looked_as, member_value, owner_value, outset_at, outset_by, after_member, next_member, members, over, file, file_beside, file_by, remove, remove_end, notice_value, time_value, create_notice, schedule_new, schedule, events, simulate, begin, then_nothing, given_by, take_word, stored, change, Spot, InVariable, InAttribute, InCount, spot_of, held, written, give_to, reads, assign_each, born_by, create, create_every, Calls, effect, effects, body, with_locals, come_back, routine_body, calls, run_of, first_world, meaning}
-use Rattle.ss_code.specs.Machine.{Code}
-use Rattle.ss_code.specs.Translation.{code_of}
-use Rattle.ss_code.specs.Running.{Ends, Behaves}
-use Rattle.ss_code.proofs.Whole.{behaves_so}
-use Rattle.ss_code.proofs.Alike.{mode_same, kind_same, time_same, timed_same, of_value_same, set_same, member_class_same, modes_same, joiner_same, owner_same, first_in_same, last_in_same, count_in_same, next_in_same, previous_in_same, owner_of_member_same, member_test_same, filed_first_same, filed_last_same, filed_before_same, filed_after_same, removed_same, filed_ranked_same, first_removed_same, last_removed_same, nones, moved_state, Carried, there_same, numbers_same, indices_same, field_same, known_same, value_same, assigned_same, CarriedPair, created_same, created_all_same, destroyed_same}
+use Rattle.ss_code.specs.Meaning.{Exit, Faulted, Outcome, WentOn, Left, Part, and_then, look, looked, assign, send, operator_of, operator_for, value, sum_from, product_from, values, both, either, test_holds, all_hold, some_hold, holds, unless, passes, all_pass, tick_from, take_tick, choose, items, step_value, bounds, looked_as, member_value, owner_value, events, begin, stored, change, born_by, create}
+use Rattle.ss_code.proofs.Alike.{mode_same, kind_same, time_same, timed_same, of_value_same, set_same, member_class_same, modes_same, joiner_same, owner_same, first_in_same, last_in_same, count_in_same, next_in_same, previous_in_same, owner_of_member_same, member_test_same, filed_first_same, filed_last_same, filed_before_same, filed_after_same, removed_same, filed_ranked_same, first_removed_same, last_removed_same, moved_state, Carried, there_same, numbers_same, indices_same, field_same, known_same, value_same, assigned_same, CarriedPair, created_same, created_all_same, destroyed_same}
 
 module _ (l : Layout) where
   -- with the other layout
-  abbrev moved : Store → Store
+  abbrev pub moved : Store → Store
   moved s = record s { heap = moved_state l s.heap }
 
-  abbrev moved_world : World → World
+  abbrev pub moved_world : World → World
   moved_world w = record w { store = moved w.store }
 
-  abbrev Fits : Store → Type 0
+  abbrev pub Fits : Store → Type 0
   Fits s = SameLayout s.heap.layout l
 
   -- a look that finds the same
-  record Looks {A : Type 0} (f : Store → OkOr A FaultKind) : Type 0 where
+  pub record Looks {A : Type 0} (f : Store → OkOr A FaultKind) : Type 0 where
     pub by : (s : Store) → Fits s → f (moved s) ≡ f s
 
-  abbrev CarriedStore : OkOr Store FaultKind → OkOr Store FaultKind → Type 0
+  abbrev pub CarriedStore : OkOr Store FaultKind → OkOr Store FaultKind → Type 0
   CarriedStore (Ok a) (Ok b) = (b ≡ moved a) × Fits a
   CarriedStore (Ok a) (Err k) = ⊥
   CarriedStore (Err j) (Ok b) = ⊥
   CarriedStore (Err j) (Err k) = k ≡ j
 
   -- a change that makes the same
-  record Changes (f : Store → OkOr Store FaultKind) : Type 0 where
+  pub record Changes (f : Store → OkOr Store FaultKind) : Type 0 where
     pub by : (s : Store) → Fits s → CarriedStore (f s) (f (moved s))
 
   -- two outcomes, the second with the other layout
-  abbrev CarriedOutcome : {A : Type 0} → Outcome A → Outcome A → Type 0
+  abbrev pub CarriedOutcome : {A : Type 0} → Outcome A → Outcome A → Type 0
   CarriedOutcome (WentOn a w) (WentOn b v) = (b ≡ a) × ((v ≡ moved_world w) × Fits w.store)
   CarriedOutcome (WentOn a w) (Left e v) = ⊥
   CarriedOutcome (Left e w) (WentOn b v) = ⊥
   CarriedOutcome (Left e w) (Left f v) = (f ≡ e) × ((v ≡ moved_world w) × Fits w.store)
 
-  record Natural {A : Type 0} (m : Part A) : Type 0 where
+  pub record Natural {A : Type 0} (m : Part A) : Type 0 where
     pub by : (w : World) → Fits w.store → CarriedOutcome (m w) (m (moved_world w))
 
-  went : {A : Type 0} (a : A) → Natural (WentOn a)
+  pub went : {A : Type 0} (a : A) → Natural (WentOn a)
   went a = record { by = λ w fit. (refl, (refl, fit)) }
 
-  leaves : {A : Type 0} (e : Exit) → Natural {A = A} (Left e)
+  pub leaves : {A : Type 0} (e : Exit) → Natural {A = A} (Left e)
   leaves e = record { by = λ w fit. (refl, (refl, fit)) }
 
-  outcomes : {A B : Type 0} (o o' : Outcome A) (f : A → Part B) → CarriedOutcome o o' → ((a : A) → Natural (f a)) → CarriedOutcome (and_then o f) (and_then o' f)
+  pub outcomes : {A B : Type 0} (o o' : Outcome A) (f : A → Part B) → CarriedOutcome o o' → ((a : A) → Natural (f a)) → CarriedOutcome (and_then o f) (and_then o' f)
   outcomes (WentOn a w) (WentOn b v) f c h =
       subst (λ b. CarriedOutcome (f a w) (f b v)) (sym c.0) (subst (λ v. CarriedOutcome (f a w) (f a v)) (sym c.1.0) ((h a).by w c.1.1))
   outcomes (WentOn a w) (Left e v) f c h = absurd c
   outcomes (Left e w) (WentOn b v) f c h = absurd c
   outcomes (Left e w) (Left g v) f c h = c
 
-  then_so : {A B : Type 0} {m : Part A} {f : A → Part B} → Natural m → ((a : A) → Natural (f a)) → Natural (λ w. and_then (m w) f)
+  pub then_so : {A B : Type 0} {m : Part A} {f : A → Part B} → Natural m → ((a : A) → Natural (f a)) → Natural (λ w. and_then (m w) f)
   then_so {m = m} {f = f} n h = record { by = λ w fit. outcomes (m w) (m (moved_world w)) f (n.by w fit) h }
 
-  look_so : {A : Type 0} (line : Line) {f : Store → OkOr A FaultKind} → Looks f → Natural (look line f)
+  pub look_so : {A : Type 0} (line : Line) {f : Store → OkOr A FaultKind} → Looks f → Natural (look line f)
   look_so {A} line {f} h = record { by = λ w fit. subst (λ r. CarriedOutcome (looked line (f w.store) w) (looked line r (moved_world w))) (sym (h.by w.store fit)) (sides (f w.store) w fit) }
     where
       sides : (r : OkOr A FaultKind) (w : World) → Fits w.store → CarriedOutcome (looked line r w) (looked line r (moved_world w))
       sides (Ok a) w fit = (refl, (refl, fit))
       sides (Err k) w fit = (refl, (refl, fit))
 
-  change_so : (line : Line) {f : Store → OkOr Store FaultKind} → Changes f → Natural (change line f)
+  pub change_so : (line : Line) {f : Store → OkOr Store FaultKind} → Changes f → Natural (change line f)
   change_so line {f} h = record { by = λ w fit. sides (f w.store) (f (moved w.store)) w fit (h.by w.store fit) }
     where
       sides : (r q : OkOr Store FaultKind) (w : World) → Fits w.store → CarriedStore r q → CarriedOutcome (stored line r w) (stored line q (moved_world w))
@@ -136,18 +110,18 @@ module _ (l : Layout) where
       sides (Err j) (Ok b) w fit c = absurd c
       sides (Err j) (Err k) w fit c = (ap (λ k. Faulted k line) c, (refl, fit))
 
-  assign_so : (x : Variable) (v : Value) → Natural (assign x v)
+  pub assign_so : (x : Variable) (v : Value) → Natural (assign x v)
   assign_so (Global k) v = record { by = λ w fit. (refl, (refl, fit)) }
   assign_so (Local k) v = record { by = λ w fit. (refl, (refl, fit)) }
 
-  send_so : (bytes : List ℕ) → Natural (send bytes)
+  pub send_so : (bytes : List ℕ) → Natural (send bytes)
   send_so bytes = record { by = λ w fit. (refl, (refl, fit)) }
 
-  choose_so : {A : Type 0} (b : Bool) {m n : Part A} → Natural m → Natural n → Natural (choose b m n)
+  pub choose_so : {A : Type 0} (b : Bool) {m n : Part A} → Natural m → Natural n → Natural (choose b m n)
   choose_so true h k = record { by = λ w fit. h.by w fit }
   choose_so false h k = record { by = λ w fit. k.by w fit }
 
-  tick_so : {A : Type 0} {go : Part A} → Natural go → Natural (take_tick go)
+  pub tick_so : {A : Type 0} {go : Part A} → Natural go → Natural (take_tick go)
   tick_so {A} {go} h = record { by = λ w fit. sides w.ticks w fit }
     where
       sides : (t : ℕ) (w : World) → Fits w.store → CarriedOutcome (tick_from t go w) (tick_from t go (moved_world w))
@@ -155,7 +129,7 @@ module _ (l : Layout) where
       sides (suc t) w fit = h.by (record w { ticks = t }) fit
 
   -- one look after another
-  ok_same : {A B : Type 0} (r q : OkOr A FaultKind) (f g : A → OkOr B FaultKind) → q ≡ r → ((a : A) → g a ≡ f a) → if_ok q g ≡ if_ok r f
+  pub ok_same : {A B : Type 0} (r q : OkOr A FaultKind) (f g : A → OkOr B FaultKind) → q ≡ r → ((a : A) → g a ≡ f a) → if_ok q g ≡ if_ok r f
   ok_same {A} {B} r q f g e h = subst (λ q. if_ok q g ≡ if_ok r f) (sym e) (sides r)
     where
       sides : (r : OkOr A FaultKind) → if_ok r g ≡ if_ok r f
@@ -164,36 +138,36 @@ module _ (l : Layout) where
 
   -- ## Entities
 
-  known_so : (class : ℕ) (x : Value) (s : Store) → Fits s → known class x (moved s) ≡ known class x s
+  pub known_so : (class : ℕ) (x : Value) (s : Store) → Fits s → known class x (moved s) ≡ known class x s
   known_so class x s fit = ap (λ b. if_so b (known_in (moved_state l s.heap) class (number_of x))) (there_same l s.heap fit class) ∙ ap (if_so (is_some (class_at s.heap class))) (known_same l s.heap fit class (number_of x))
 
-  attribute_so : (class field : ℕ) (x : Value) (s : Store) → Fits s → attribute class field x (moved s) ≡ attribute class field x s
+  pub attribute_so : (class field : ℕ) (x : Value) (s : Store) → Fits s → attribute class field x (moved s) ≡ attribute class field x s
   attribute_so class field x s fit = ok_same (known class x s) (known class x (moved s)) _ _ (known_so class x s fit)
       (λ u. ap (λ o. if_so (is_some o) (value_in (moved_state l s.heap) class field (number_of x))) (field_same l s.heap fit class field) ∙ ap (if_so (is_some (field_at s.heap class field))) (value_same l s.heap fit class field (number_of x)))
 
-  heap_so : (s : Store) (r q : OkOr State FaultKind) → Carried l r q → CarriedStore (turned (with_heap s) r) (turned (with_heap (moved s)) q)
+  pub heap_so : (s : Store) (r q : OkOr State FaultKind) → Carried l r q → CarriedStore (turned (with_heap s) r) (turned (with_heap (moved s)) q)
   heap_so s (Ok a) (Ok b) c = (ap (with_heap s) c.0, c.1)
   heap_so s (Ok a) (Err k) c = absurd c
   heap_so s (Err j) (Ok b) c = absurd c
   heap_so s (Err j) (Err k) c = c
 
   -- a change behind a look
-  ok_carried : {A : Type 0} (r q : OkOr A FaultKind) (f g : A → OkOr Store FaultKind) → q ≡ r → ((a : A) → CarriedStore (f a) (g a)) → CarriedStore (if_ok r f) (if_ok q g)
+  pub ok_carried : {A : Type 0} (r q : OkOr A FaultKind) (f g : A → OkOr Store FaultKind) → q ≡ r → ((a : A) → CarriedStore (f a) (g a)) → CarriedStore (if_ok r f) (if_ok q g)
   ok_carried {A} r q f g e h = subst (λ q. CarriedStore (if_ok r f) (if_ok q g)) (sym e) (sides r)
     where
       sides : (r : OkOr A FaultKind) → CarriedStore (if_ok r f) (if_ok r g)
       sides (Ok a) = h a
       sides (Err k) = refl
 
-  if_carried : (b : Bool) (r q : OkOr Store FaultKind) → CarriedStore r q → CarriedStore (if_so b r) (if_so b q)
+  pub if_carried : (b : Bool) (r q : OkOr Store FaultKind) → CarriedStore r q → CarriedStore (if_so b r) (if_so b q)
   if_carried true r q c = c
   if_carried false r q c = refl
 
-  field_carried : (o : Option Mode) (f g : Mode → OkOr Store FaultKind) → ((m : Mode) → CarriedStore (f m) (g m)) → CarriedStore (if_field o f) (if_field o g)
+  pub field_carried : (o : Option Mode) (f g : Mode → OkOr Store FaultKind) → ((m : Mode) → CarriedStore (f m) (g m)) → CarriedStore (if_field o f) (if_field o g)
   field_carried None f g h = refl
   field_carried (Some m) f g h = h m
 
-  with_attribute_so : (class field : ℕ) (x v : Value) → Changes (with_attribute class field x v)
+  pub with_attribute_so : (class field : ℕ) (x v : Value) → Changes (with_attribute class field x v)
   with_attribute_so class field x v = record {
     by = λ s fit. ok_carried (known class x s) (known class x (moved s)) _ _ (known_so class x s fit) (λ u.
         let f = λ (mode : Mode). turned (with_heap s) (Rattle.ss_records.specs.State.assigned s.heap class field (number_of x) (fitted mode v)) in
@@ -202,14 +176,14 @@ module _ (l : Layout) where
         (field_carried (field_at s.heap class field) f g (λ mode. heap_so s _ _ (assigned_same l s.heap fit class field (number_of x) (fitted mode v)))));
   }
 
-  counted_so : (class number : ℕ) (v : Value) → Changes (counted class number v)
+  pub counted_so : (class number : ℕ) (v : Value) → Changes (counted class number v)
   counted_so class number v = record { by = λ s fit. sides (is_made s.heap class) (assigned (Global number) v s) fit }
     where
       sides : (b : Bool) (s : Store) → Fits s → CarriedStore (unless_made b s) (unless_made b (moved s))
       sides true s fit = refl
       sides false s fit = (refl, fit)
 
-  made_all_so : (class number : ℕ) → Changes (made_all class number)
+  pub made_all_so : (class number : ℕ) → Changes (made_all class number)
   made_all_so class number = record {
     by = λ s fit.
         let n = number_of (fetched (Global number) s) in
@@ -218,7 +192,7 @@ module _ (l : Layout) where
         (if_carried (has_indices (class_at s.heap class)) _ q (heap_so s _ _ (created_all_same l s.heap fit class n)));
   }
 
-  gone_so : (class : ℕ) (x : Value) → Changes (gone class x)
+  pub gone_so : (class : ℕ) (x : Value) → Changes (gone class x)
   gone_so class x = record {
     by = λ s fit.
         let q = turned (with_heap (moved s)) (Rattle.ss_records.specs.State.destroyed (moved_state l s.heap) class (number_of x)) in
@@ -226,12 +200,12 @@ module _ (l : Layout) where
         (if_carried (has_numbers (class_at s.heap class)) _ q (heap_so s _ _ (destroyed_same l s.heap fit class (number_of x))));
   }
 
-  may_go_so : (k : ClassKind) (class : ℕ) (x : Value) (s : Store) → Fits s → may_go k class x (moved s) ≡ may_go k class x s
+  pub may_go_so : (k : ClassKind) (class : ℕ) (x : Value) (s : Store) → Fits s → may_go k class x (moved s) ≡ may_go k class x s
   may_go_so kinds.Permanent class x s fit = refl
   may_go_so kinds.Temporary class x s fit = refl
   may_go_so kinds.Notice class x s fit = ap (λ r. if_ok r (λ u. unless_scheduled (is_pending (number_of x) s.pending.entries))) (known_so class x s fit)
 
-  without_so : (class : ℕ) (x : Value) → Changes (without class x)
+  pub without_so : (class : ℕ) (x : Value) → Changes (without class x)
   without_so class x = record {
     by = λ s fit.
         let k = kind_of s.heap.layout class in
@@ -241,11 +215,11 @@ module _ (l : Layout) where
 
   -- ## Notices
 
-  time_of_so : (x : Value) (s : Store) → Fits s → time_of x (moved s) ≡ time_of x s
+  pub time_of_so : (x : Value) (s : Store) → Fits s → time_of x (moved s) ≡ time_of x s
   time_of_so x s fit = ap (turned Whole) (time_same l s.heap fit (number_of x))
 
   -- one change after another
-  both_so : {f g : Store → OkOr Store FaultKind} → Changes f → Changes g → Changes (λ s. if_ok (f s) g)
+  pub both_so : {f g : Store → OkOr Store FaultKind} → Changes f → Changes g → Changes (λ s. if_ok (f s) g)
   both_so {f} {g} a b = record { by = λ s fit. sides (f s) (f (moved s)) (a.by s fit) }
     where
       sides : (r q : OkOr Store FaultKind) → CarriedStore r q → CarriedStore (if_ok r g) (if_ok q g)
@@ -254,36 +228,36 @@ module _ (l : Layout) where
       sides (Err j) (Ok t) c = absurd c
       sides (Err j) (Err k) c = c
 
-  endowed_so : (class field : ℕ) (x : Value) (vs : List Value) → Changes (endowed class field x vs)
+  pub endowed_so : (class field : ℕ) (x : Value) (vs : List Value) → Changes (endowed class field x vs)
   endowed_so class field x [] = record { by = λ s fit. (refl, fit) }
   endowed_so class field x (v ∷ vs) = both_so (with_attribute_so class field x v) (endowed_so class (field + 1) x vs)
 
-  with_time_so : (x t : Value) → Changes (with_time x t)
+  pub with_time_so : (x t : Value) → Changes (with_time x t)
   with_time_so x t = record { by = λ s fit. heap_so s _ _ (timed_same l s.heap fit (number_of x) (number_of t)) }
 
-  prepared_so : (class : ℕ) (x : Value) (given : List Value) (t : Value) → Changes (prepared class x given t)
+  pub prepared_so : (class : ℕ) (x : Value) (given : List Value) (t : Value) → Changes (prepared class x given t)
   prepared_so class x given t = both_so (endowed_so class 0 x given) (with_time_so x t)
 
-  abbrev CarriedBorn : OkOr (Value × Store) FaultKind → OkOr (Value × Store) FaultKind → Type 0
+  abbrev pub CarriedBorn : OkOr (Value × Store) FaultKind → OkOr (Value × Store) FaultKind → Type 0
   CarriedBorn (Ok a) (Ok b) = (b.0 ≡ a.0) × ((b.1 ≡ moved a.1) × Fits a.1)
   CarriedBorn (Ok a) (Err k) = ⊥
   CarriedBorn (Err j) (Ok b) = ⊥
   CarriedBorn (Err j) (Err k) = k ≡ j
 
-  one_born : (b : Bool) (r q : OkOr (ℤ × State) FaultKind) (s : Store) (fit : Fits s) → CarriedPair l s.heap fit r q → CarriedBorn (if_so b (turned (born s) r)) (if_so b (turned (born (moved s)) q))
+  pub one_born : (b : Bool) (r q : OkOr (ℤ × State) FaultKind) (s : Store) (fit : Fits s) → CarriedPair l s.heap fit r q → CarriedBorn (if_so b (turned (born s) r)) (if_so b (turned (born (moved s)) q))
   one_born false r q s fit c = refl
   one_born true (Ok a) (Ok b) s fit c = (ap Whole c.0, (ap (with_heap s) c.1.0, c.1.1))
   one_born true (Ok a) (Err k) s fit c = absurd c
   one_born true (Err j) (Ok b) s fit c = absurd c
   one_born true (Err j) (Err k) s fit c = c
 
-  made_one_so : (class : ℕ) (s : Store) (fit : Fits s) → CarriedBorn (made_one class s) (made_one class (moved s))
+  pub made_one_so : (class : ℕ) (s : Store) (fit : Fits s) → CarriedBorn (made_one class s) (made_one class (moved s))
   made_one_so class s fit =
       let h = s.heap in
       subst (λ b. CarriedBorn (made_one class s) (if_so b (turned (born (moved s)) (created (moved_state l h) class)))) (sym (numbers_same l h fit class))
       (one_born (has_numbers (class_at h class)) (created h class) (created (moved_state l h) class) s fit (created_same l h fit class))
 
-  made_notice_so : (class : ℕ) (given : List Value) (t : Value) (s : Store) → Fits s → CarriedBorn (made_notice class given t s) (made_notice class given t (moved s))
+  pub made_notice_so : (class : ℕ) (given : List Value) (t : Value) (s : Store) → Fits s → CarriedBorn (made_notice class given t s) (made_notice class given t (moved s))
   made_notice_so class given t s fit = sides (made_one class s) (made_one class (moved s)) (made_one_so class s fit)
     where
       last : (v : Value) (r q : OkOr Store FaultKind) → CarriedStore r q → CarriedBorn (turned (λ s. (v, s)) r) (turned (λ s. (v, s)) q)
@@ -303,27 +277,27 @@ module _ (l : Layout) where
       sides (Err j) (Ok b) c = absurd c
       sides (Err j) (Err k) c = c
 
-  born_by_so : (line : Line) (r q : OkOr (Value × Store) FaultKind) (w : World) → Fits w.store → CarriedBorn r q → CarriedOutcome (born_by line r w) (born_by line q (moved_world w))
+  pub born_by_so : (line : Line) (r q : OkOr (Value × Store) FaultKind) (w : World) → Fits w.store → CarriedBorn r q → CarriedOutcome (born_by line r w) (born_by line q (moved_world w))
   born_by_so line (Ok a) (Ok b) w fit c = (c.0, (ap (λ (s : Store). let v : World = record { store = s; report = w.report; ticks = w.ticks } in v) c.1.0, c.1.1))
   born_by_so line (Ok a) (Err k) w fit c = absurd c
   born_by_so line (Err j) (Ok b) w fit c = absurd c
   born_by_so line (Err j) (Err k) w fit c = (ap (λ k. Faulted k line) c, (refl, fit))
 
   -- filing
-  pending_so : (s : Store) (r : OkOr PendingList FaultKind) → Fits s → CarriedStore (turned (with_pending s) r) (turned (with_pending (moved s)) r)
+  pub pending_so : (s : Store) (r : OkOr PendingList FaultKind) → Fits s → CarriedStore (turned (with_pending s) r) (turned (with_pending (moved s)) r)
   pending_so s (Ok p) fit = (refl, fit)
   pending_so s (Err k) fit = refl
 
-  tie_so : (class : ℕ) (x : Value) (key : RankKey) (s : Store) → Fits s → tie_of class x (moved s) key ≡ tie_of class x s key
+  pub tie_so : (class : ℕ) (x : Value) (key : RankKey) (s : Store) → Fits s → tie_of class x (moved s) key ≡ tie_of class x s key
   tie_so class x key s fit =
       ap (λ m. let t : Tie = record { value = fitted m (value_of (moved_state l s.heap) class key.field (number_of x)); high = key.high } in t) (mode_same l s.heap fit class key.field)
       ∙ ap (λ v. let t : Tie = record { value = fitted (mode_at s.heap.layout class key.field) v; high = key.high } in t) (of_value_same l s.heap fit class key.field (number_of x))
 
-  ties_so : (class : ℕ) (x : Value) (keys : List RankKey) (s : Store) → Fits s → map (tie_of class x (moved s)) keys ≡ map (tie_of class x s) keys
+  pub ties_so : (class : ℕ) (x : Value) (keys : List RankKey) (s : Store) → Fits s → map (tie_of class x (moved s)) keys ≡ map (tie_of class x s) keys
   ties_so class x [] s fit = refl
   ties_so class x (k ∷ ks) s fit = ap (λ t. t ∷ map (tie_of class x (moved s)) ks) (tie_so class x k s fit) ∙ ap (λ ts. tie_of class x s k ∷ ts) (ties_so class x ks s fit)
 
-  filed_as_so : (o : Option Standing) (class : ℕ) (x : Value) → Changes (filed_as o class x)
+  pub filed_as_so : (o : Option Standing) (class : ℕ) (x : Value) → Changes (filed_as o class x)
   filed_as_so None class x = record { by = λ s fit. refl }
   filed_as_so (Some standing) class x = record {
     by = λ s fit. ok_carried (time_in s.heap (number_of x)) (time_in (moved_state l s.heap) (number_of x)) _ _ (time_same l s.heap fit (number_of x)) (λ t.
@@ -332,10 +306,10 @@ module _ (l : Layout) where
         (pending_so s (f (map (tie_of class x s) standing.ties)) fit));
   }
 
-  filed_notice_so : (class : ℕ) (x : Value) → Changes (filed_notice class x)
+  pub filed_notice_so : (class : ℕ) (x : Value) → Changes (filed_notice class x)
   filed_notice_so class x = record { by = λ s fit. (filed_as_so (standing_from 0 s.events class) class x).by s fit }
 
-  refiled_so : (class : ℕ) (x : Value) (given : List Value) (t : Value) → Changes (refiled class x given t)
+  pub refiled_so : (class : ℕ) (x : Value) (given : List Value) (t : Value) → Changes (refiled class x given t)
   refiled_so class x given t = record {
     by = λ s fit. sides (is_pending (number_of x) s.pending.entries) _ _ ((both_so (prepared_so class x given t) (filed_notice_so class x)).by s fit);
   }
@@ -344,54 +318,54 @@ module _ (l : Layout) where
       sides true r q c = refl
       sides false r q c = c
 
-  unscheduled_so : (class : ℕ) (x : Value) → Changes (unscheduled class x)
+  pub unscheduled_so : (class : ℕ) (x : Value) → Changes (unscheduled class x)
   unscheduled_so class x = record {
     by = λ s fit. ok_carried (known class x s) (known class x (moved s)) _ _ (known_so class x s fit) (λ u. pending_so s (cancelled (number_of x) s.pending) fit);
   }
 
   -- events
-  abbrev CarriedBegun : OkOr Beginning Blame → OkOr Beginning Blame → Type 0
+  abbrev pub CarriedBegun : OkOr Beginning Blame → OkOr Beginning Blame → Type 0
   CarriedBegun (Ok a) (Ok b) = (b ≡ record a { store = moved a.store }) × Fits a.store
   CarriedBegun (Ok a) (Err k) = ⊥
   CarriedBegun (Err j) (Ok b) = ⊥
   CarriedBegun (Err j) (Err k) = k ≡ j
 
-  attributes_so : (class field count : ℕ) (x : Value) (s : Store) → Fits s → attributes class field count x (moved s) ≡ attributes class field count x s
+  pub attributes_so : (class field count : ℕ) (x : Value) (s : Store) → Fits s → attributes class field count x (moved s) ≡ attributes class field count x s
   attributes_so class field zero x s fit = refl
   attributes_so class field (suc count) x s fit =
       ap (λ v. v ∷ attributes class (field + 1) count x (moved s)) (of_value_same l s.heap fit class field (number_of x))
       ∙ ap (λ vs. value_of s.heap class field (number_of x) ∷ vs) (attributes_so class (field + 1) count x s fit)
 
-  saved_so : (o : Option ℕ) (class : ℕ) (x : Value) → Changes (saved_or_gone o class x)
+  pub saved_so : (o : Option ℕ) (class : ℕ) (x : Value) → Changes (saved_or_gone o class x)
   saved_so (Some number) class x = record { by = λ s fit. (refl, fit) }
   saved_so None class x = record { by = λ s fit. (gone_so class x).by s fit }
 
-  class_so : (es : List EventClass) (x : Value) (s : Store) → Fits s → class_of es x (moved s) ≡ class_of es x s
+  pub class_so : (es : List EventClass) (x : Value) (s : Store) → Fits s → class_of es x (moved s) ≡ class_of es x s
   class_so [] x s fit = refl
   class_so (e ∷ es) x s fit =
       ap (λ r. if_of_class r e (class_of es x (moved s))) (known_so e.class x s fit) ∙ ap (if_of_class (known e.class x s) e) (class_so es x s fit)
 
-  begins_so : (line : Line) (routine : ℕ) (vs us : List Value) (r q : OkOr Store FaultKind) → us ≡ vs → CarriedStore r q → CarriedBegun (blamed line (turned (λ s. let b : Beginning = record { routine = routine; given = vs; store = s } in b) r)) (blamed line (turned (λ s. let b : Beginning = record { routine = routine; given = us; store = s } in b) q))
+  pub begins_so : (line : Line) (routine : ℕ) (vs us : List Value) (r q : OkOr Store FaultKind) → us ≡ vs → CarriedStore r q → CarriedBegun (blamed line (turned (λ s. let b : Beginning = record { routine = routine; given = vs; store = s } in b) r)) (blamed line (turned (λ s. let b : Beginning = record { routine = routine; given = us; store = s } in b) q))
   begins_so line routine vs us (Ok a) (Ok b) e c =
       (ap (λ us. let y : Beginning = record { routine = routine; given = us; store = b } in y) e ∙ ap (λ s. let y : Beginning = record { routine = routine; given = vs; store = s } in y) c.0, c.1)
   begins_so line routine vs us (Ok a) (Err k) e c = absurd c
   begins_so line routine vs us (Err j) (Ok b) e c = absurd c
   begins_so line routine vs us (Err j) (Err k) e c = ap (λ k. let b : Blame = record { kind = k; line = line } in b) c
 
-  begun_by_so : (o : Option EventClass) (x : Value) (s : Store) → Fits s → CarriedBegun (begun_by o x s) (begun_by o x (moved s))
+  pub begun_by_so : (o : Option EventClass) (x : Value) (s : Store) → Fits s → CarriedBegun (begun_by o x s) (begun_by o x (moved s))
   begun_by_so None x s fit = refl
   begun_by_so (Some e) x s fit =
       begins_so e.line e.routine (attributes e.class 0 e.given x s) (attributes e.class 0 e.given x (moved s)) (saved_or_gone e.saved e.class x s) (saved_or_gone e.saved e.class x (moved s))
       (attributes_so e.class 0 e.given x s fit) ((saved_so e.saved e.class x).by s fit)
 
-  begun_with_so : (o : Option (ℤ × ℤ)) (s : Store) → Fits s → CarriedBegun (begun_with o s) (begun_with o (moved s))
+  pub begun_with_so : (o : Option (ℤ × ℤ)) (s : Store) → Fits s → CarriedBegun (begun_with o s) (begun_with o (moved s))
   begun_with_so None s fit = refl
   begun_with_so (Some n) s fit =
       let r : Store = record s { time = n.0; pending = after_next s.pending } in
       let x = Whole n.1 in
       subst (λ o. CarriedBegun (begun_by (class_of r.events x r) x r) (begun_by o x (moved r))) (sym (class_so r.events x r fit)) (begun_by_so (class_of r.events x r) x r fit)
 
-  begin_so : {A : Type 0} (r q : OkOr Beginning Blame) (go : ℕ → List Value → Part A) → ((routine : ℕ) (vs : List Value) → Natural (go routine vs)) → (w : World) → Fits w.store → CarriedBegun r q → CarriedOutcome (begin r (λ b. go b.routine b.given) w) (begin q (λ b. go b.routine b.given) (moved_world w))
+  pub begin_so : {A : Type 0} (r q : OkOr Beginning Blame) (go : ℕ → List Value → Part A) → ((routine : ℕ) (vs : List Value) → Natural (go routine vs)) → (w : World) → Fits w.store → CarriedBegun r q → CarriedOutcome (begin r (λ b. go b.routine b.given) w) (begin q (λ b. go b.routine b.given) (moved_world w))
   begin_so (Ok a) (Ok b) go h w fit c =
       subst (λ (b : Beginning). CarriedOutcome (go a.routine a.given (record w { store = a.store })) (go b.routine b.given (record w { store = b.store }))) (sym c.0) ((h a.routine a.given).by (record w { store = a.store }) c.1)
   begin_so (Ok a) (Err k) go h w fit c = absurd c
@@ -400,16 +374,16 @@ module _ (l : Layout) where
 
   -- ## Sets
 
-  about_so : {A : Type 0} (set : ℕ) (s : Store) → Fits s → (a b : OkOr A FaultKind) → b ≡ a → about set (moved s) b ≡ about set s a
+  pub about_so : {A : Type 0} (set : ℕ) (s : Store) → Fits s → (a b : OkOr A FaultKind) → b ≡ a → about set (moved s) b ≡ about set s a
   about_so set s fit a b q = ap (λ o. if_so (is_some o) b) (set_same l s.heap fit set) ∙ ap (if_so (is_some (set_at s.heap set))) q
 
-  known_owner_so : (set : ℕ) (o : Value) (s : Store) → Fits s → known_owner set o (moved s) ≡ known_owner set o s
+  pub known_owner_so : (set : ℕ) (o : Value) (s : Store) → Fits s → known_owner set o (moved s) ≡ known_owner set o s
   known_owner_so set o s fit = about_so set s fit _ _ (ap Rattle.ss_records.specs.State.no_value (owner_same l s.heap fit set (number_of o)))
 
-  known_member_so : (set : ℕ) (x : Value) (s : Store) → Fits s → known_member set x (moved s) ≡ known_member set x s
+  pub known_member_so : (set : ℕ) (x : Value) (s : Store) → Fits s → known_member set x (moved s) ≡ known_member set x s
   known_member_so set x s fit = about_so set s fit _ _ (ap Rattle.ss_records.specs.State.no_value (joiner_same l s.heap fit set (number_of x)))
 
-  answered_so : (d : Derived) (set : ℕ) (x : ℤ) (s : Store) → Fits s → answered d (moved_state l s.heap) set x ≡ answered d s.heap set x
+  pub answered_so : (d : Derived) (set : ℕ) (x : ℤ) (s : Store) → Fits s → answered d (moved_state l s.heap) set x ≡ answered d s.heap set x
   answered_so First set x s fit = ap (turned Whole) (first_in_same l s.heap fit set x)
   answered_so Last set x s fit = ap (turned Whole) (last_in_same l s.heap fit set x)
   answered_so CountOf set x s fit = ap (turned Whole) (count_in_same l s.heap fit set x)
@@ -417,61 +391,61 @@ module _ (l : Layout) where
   answered_so Successor set x s fit = ap (turned Whole) (next_in_same l s.heap fit set x)
   answered_so Membership set x s fit = ap (turned membership) (owner_of_member_same l s.heap fit set x)
 
-  asked_so : (d : Derived) (set : ℕ) (x : Value) (s : Store) → Fits s → asked d set x (moved s) ≡ asked d set x s
+  pub asked_so : (d : Derived) (set : ℕ) (x : Value) (s : Store) → Fits s → asked d set x (moved s) ≡ asked d set x s
   asked_so d set x s fit = about_so set s fit _ _ (answered_so d set (number_of x) s fit)
 
-  is_empty_so : (set : ℕ) (o : Value) (s : Store) → Fits s → is_empty set o (moved s) ≡ is_empty set o s
+  pub is_empty_so : (set : ℕ) (o : Value) (s : Store) → Fits s → is_empty set o (moved s) ≡ is_empty set o s
   is_empty_so set o s fit = about_so set s fit _ _ (ap (turned is_none) (count_in_same l s.heap fit set (number_of o)))
 
-  is_in_so : (set : ℕ) (x o : Value) (s : Store) → Fits s → is_in set x o (moved s) ≡ is_in set x o s
+  pub is_in_so : (set : ℕ) (x o : Value) (s : Store) → Fits s → is_in set x o (moved s) ≡ is_in set x o s
   is_in_so set x o s fit = about_so set s fit _ _ (member_test_same l s.heap fit set (number_of o) (number_of x))
 
-  outset_so : (b : Bool) (set : ℕ) (o : ℤ) (s : Store) → Fits s → outset b (moved_state l s.heap) set o ≡ outset b s.heap set o
+  pub outset_so : (b : Bool) (set : ℕ) (o : ℤ) (s : Store) → Fits s → outset b (moved_state l s.heap) set o ≡ outset b s.heap set o
   outset_so false set o s fit = first_in_same l s.heap fit set o
   outset_so true set o s fit = last_in_same l s.heap fit set o
 
-  begun_so : (b : Bool) (set : ℕ) (o : Value) (s : Store) → Fits s → begun b set o (moved s) ≡ begun b set o s
+  pub begun_so : (b : Bool) (set : ℕ) (o : Value) (s : Store) → Fits s → begun b set o (moved s) ≡ begun b set o s
   begun_so b set o s fit = about_so set s fit _ _ (ap (turned Whole) (outset_so b set (number_of o) s fit))
 
-  beside_so : (b : Bool) (set : ℕ) (x : ℤ) (s : Store) → Fits s → beside b (moved_state l s.heap) set x ≡ beside b s.heap set x
+  pub beside_so : (b : Bool) (set : ℕ) (x : ℤ) (s : Store) → Fits s → beside b (moved_state l s.heap) set x ≡ beside b s.heap set x
   beside_so false set x s fit = next_in_same l s.heap fit set x
   beside_so true set x s fit = previous_in_same l s.heap fit set x
 
-  coming_so : (b : Bool) (set : ℕ) (x : Value) (s : Store) → Fits s → coming b set x (moved s) ≡ coming b set x s
+  pub coming_so : (b : Bool) (set : ℕ) (x : Value) (s : Store) → Fits s → coming b set x (moved s) ≡ coming b set x s
   coming_so b set x s fit = ap or_none (about_so set s fit _ _ (beside_so b set (number_of x) s fit))
 
-  from_so : (b after : Bool) (set : ℕ) (x : Value) (s : Store) → Fits s → from_or_after b after set x (moved s) ≡ from_or_after b after set x s
+  pub from_so : (b after : Bool) (set : ℕ) (x : Value) (s : Store) → Fits s → from_or_after b after set x (moved s) ≡ from_or_after b after set x s
   from_so b false set x s fit = refl
   from_so b true set x s fit = coming_so b set x s fit
 
-  begun_at_so : (b after : Bool) (set : ℕ) (x o : Value) (s : Store) → Fits s → begun_at b after set x o (moved s) ≡ begun_at b after set x o s
+  pub begun_at_so : (b after : Bool) (set : ℕ) (x o : Value) (s : Store) → Fits s → begun_at b after set x o (moved s) ≡ begun_at b after set x o s
   begun_at_so b after set x o s fit =
       ok_same (is_in set x o s) (is_in set x o (moved s)) _ _ (is_in_so set x o s fit) (λ t. ap (if_filed t) (from_so b after set x s fit))
 
-  goes_on_so : (set : ℕ) (x o : Value) (s : Store) → Fits s → goes_on set x o (moved s) ≡ goes_on set x o s
+  pub goes_on_so : (set : ℕ) (x o : Value) (s : Store) → Fits s → goes_on set x o (moved s) ≡ goes_on set x o s
   goes_on_so set x o s fit = ap (λ r. if_any (is_member x) (if_still r)) (is_in_so set x o s fit)
 
   -- a change of a set
-  about_carried : (set : ℕ) (s : Store) → Fits s → (r q : OkOr Store FaultKind) → CarriedStore r q → CarriedStore (about set s r) (about set (moved s) q)
+  pub about_carried : (set : ℕ) (s : Store) → Fits s → (r q : OkOr Store FaultKind) → CarriedStore r q → CarriedStore (about set s r) (about set (moved s) q)
   about_carried set s fit r q c =
       subst (λ o. CarriedStore (about set s r) (if_so (is_some o) q)) (sym (set_same l s.heap fit set)) (if_carried (is_some (set_at s.heap set)) r q c)
 
-  filed_at_first_so : (set : ℕ) (x o : Value) → Changes (filed_at_first set x o)
+  pub filed_at_first_so : (set : ℕ) (x o : Value) → Changes (filed_at_first set x o)
   filed_at_first_so set x o = record { by = λ s fit. about_carried set s fit _ _ (heap_so s _ _ (filed_first_same l s.heap fit set (number_of o) (number_of x))) }
 
-  filed_at_last_so : (set : ℕ) (x o : Value) → Changes (filed_at_last set x o)
+  pub filed_at_last_so : (set : ℕ) (x o : Value) → Changes (filed_at_last set x o)
   filed_at_last_so set x o = record { by = λ s fit. about_carried set s fit _ _ (heap_so s _ _ (filed_last_same l s.heap fit set (number_of o) (number_of x))) }
 
-  field_so : (h : State) (keys : List RankKey) (c : ℕ) → SameLayout h.layout l → list_all (is_field l c) keys ≡ list_all (is_field h.layout c) keys
+  pub field_so : (h : State) (keys : List RankKey) (c : ℕ) → SameLayout h.layout l → list_all (is_field l c) keys ≡ list_all (is_field h.layout c) keys
   field_so h [] c fit = refl
   field_so h (k ∷ ks) c fit =
       ap (λ ms. nat_lt k.field (length ms) && list_all (is_field l c) ks) (modes_same l h fit c)
       ∙ ap (λ b. is_field h.layout c k && b) (field_so h ks c fit)
 
-  fields_so : (h : State) (set : ℕ) (keys : List RankKey) → SameLayout h.layout l → are_fields l set keys ≡ are_fields h.layout set keys
+  pub fields_so : (h : State) (set : ℕ) (keys : List RankKey) → SameLayout h.layout l → are_fields l set keys ≡ are_fields h.layout set keys
   fields_so h set keys fit = ap (λ c. list_all (is_field l c) keys) (member_class_same l h fit set) ∙ field_so h keys (Rattle.ss_records.specs.Sets.member_class h.layout set) fit
 
-  order_so : (order : Option Order) (set : ℕ) (x o : Value) → Changes (filed_in_order order set x o)
+  pub order_so : (order : Option Order) (set : ℕ) (x o : Value) → Changes (filed_in_order order set x o)
   order_so None set x o = record {
     by = λ s fit. ok_carried (known_member set x s) (known_member set x (moved s)) _ _ (known_member_so set x s fit) (λ u. refl);
   }
@@ -485,31 +459,31 @@ module _ (l : Layout) where
         (if_carried (are_fields s.heap.layout set keys) r q (heap_so s _ _ (filed_ranked_same l s.heap fit keys set (number_of o) (number_of x)))));
   }
 
-  filed_so : (f : Filing) (set : ℕ) (x o : Value) → Changes (filed f set x o)
+  pub filed_so : (f : Filing) (set : ℕ) (x o : Value) → Changes (filed f set x o)
   filed_so filings.ByDiscipline set x o = record { by = λ s fit. (order_so (slice_get s.orders set) set x o).by s fit }
   filed_so filings.First set x o = filed_at_first_so set x o
   filed_so filings.Last set x o = filed_at_last_so set x o
 
-  filed_beside_so : (side : Side) (set : ℕ) (x y o : Value) → Changes (filed_beside side set x y o)
+  pub filed_beside_so : (side : Side) (set : ℕ) (x y o : Value) → Changes (filed_beside side set x y o)
   filed_beside_so sides_of.Before set x y o = record { by = λ s fit. about_carried set s fit _ _ (heap_so s _ _ (filed_before_same l s.heap fit set (number_of o) (number_of x) (number_of y))) }
   filed_beside_so sides_of.After set x y o = record { by = λ s fit. about_carried set s fit _ _ (heap_so s _ _ (filed_after_same l s.heap fit set (number_of o) (number_of x) (number_of y))) }
 
-  removed_one_so : (set : ℕ) (x o : Value) → Changes (removed_one set x o)
+  pub removed_one_so : (set : ℕ) (x o : Value) → Changes (removed_one set x o)
   removed_one_so set x o = record { by = λ s fit. about_carried set s fit _ _ (heap_so s _ _ (removed_same l s.heap fit set (number_of o) (number_of x))) }
 
   -- a value, and the store with it
-  born_so : (line : Line) (b : Bool) (r q : OkOr (ℤ × State) FaultKind) (w : World) (fit : Fits w.store) → CarriedPair l w.store.heap fit r q → CarriedOutcome (born_by line (if_so b (turned (born w.store) r)) w) (born_by line (if_so b (turned (born (moved w.store)) q)) (moved_world w))
+  pub born_so : (line : Line) (b : Bool) (r q : OkOr (ℤ × State) FaultKind) (w : World) (fit : Fits w.store) → CarriedPair l w.store.heap fit r q → CarriedOutcome (born_by line (if_so b (turned (born w.store) r)) w) (born_by line (if_so b (turned (born (moved w.store)) q)) (moved_world w))
   born_so line false r q w fit c = (refl, (refl, fit))
   born_so line true (Ok a) (Ok b) w fit c = (ap Whole c.0, (ap (λ (h : State). let v : World = record { store = with_heap w.store h; report = w.report; ticks = w.ticks } in v) c.1.0, c.1.1))
   born_so line true (Ok a) (Err k) w fit c = absurd c
   born_so line true (Err j) (Ok b) w fit c = absurd c
   born_so line true (Err j) (Err k) w fit c = (ap (λ k. Faulted k line) c, (refl, fit))
 
-  end_so : (end : End) (set : ℕ) (o : ℤ) (s : Store) (fit : Fits s) → CarriedPair l s.heap fit (end_removed end s.heap set o) (end_removed end (moved_state l s.heap) set o)
+  pub end_so : (end : End) (set : ℕ) (o : ℤ) (s : Store) (fit : Fits s) → CarriedPair l s.heap fit (end_removed end s.heap set o) (end_removed end (moved_state l s.heap) set o)
   end_so ends.First set o s fit = first_removed_same l s.heap fit set o
   end_so ends.Last set o s fit = last_removed_same l s.heap fit set o
 
-  removed_at_so : (line : Line) (end : End) (set : ℕ) (o : Value) → Natural (λ w. born_by line (removed_at end set o w.store) w)
+  pub removed_at_so : (line : Line) (end : End) (set : ℕ) (o : Value) → Natural (λ w. born_by line (removed_at end set o w.store) w)
   removed_at_so line end set o = record {
     by = λ w fit.
         let h = w.store.heap in
@@ -518,7 +492,7 @@ module _ (l : Layout) where
         (born_so line (is_some (set_at h set)) (end_removed end h set n) (end_removed end (moved_state l h) set n) w fit (end_so end set n w.store fit));
   }
 
-  create_so : (line : Line) (class : ℕ) → Natural (create line class)
+  pub create_so : (line : Line) (class : ℕ) → Natural (create line class)
   create_so line class = record {
     by = λ w fit.
         let h = w.store.heap in
@@ -528,12 +502,12 @@ module _ (l : Layout) where
 
   -- ## Values
 
-  fetched_so : (x : Variable) (s : Store) → fetched x (moved s) ≡ fetched x s
+  pub fetched_so : (x : Variable) (s : Store) → fetched x (moved s) ≡ fetched x s
   fetched_so (Global k) s = refl
   fetched_so (Local k) s = refl
 
   mutual
-    value_so : (e : Expression) (s : Store) → Fits s → value e (moved s) ≡ value e s
+    pub value_so : (e : Expression) (s : Store) → Fits s → value e (moved s) ≡ value e s
     value_so (Constant v) s fit = refl
     value_so (Fetch x) s fit = ap Ok (fetched_so x s)
     value_so (Signed' sign p e) s fit = ap (λ r. if_ok r (computed (operator_of sign) zero_value)) (value_so e s fit)
@@ -547,31 +521,31 @@ module _ (l : Layout) where
     value_so Clock s fit = refl
     value_so (TimeOf' p e) s fit = ok_same (value e s) (value e (moved s)) _ _ (value_so e s fit) (λ x. time_of_so x s fit)
 
-    sum_so : {m : _} (terms : Row_of-Expression-Sum-1-2 m) (x : Value) (s : Store) → Fits s → sum_from x terms (moved s) ≡ sum_from x terms s
+    pub sum_so : {m : _} (terms : Row_of-Expression-Sum-1-2 m) (x : Value) (s : Store) → Fits s → sum_from x terms (moved s) ≡ sum_from x terms s
     sum_so end_of-Expression-Sum-1-2 x s fit = refl
     sum_so (more_of-Expression-Sum-1-2 sign e rest) x s fit =
         ok_same (value e s) (value e (moved s)) _ _ (value_so e s fit) (λ y. ok_same (computed (operator_of sign) x y) (computed (operator_of sign) x y) _ _ refl (λ z. sum_so rest z s fit))
 
-    product_so : {m : _} (factors : Row_of-Expression m) (x : Value) (s : Store) → Fits s → product_from x factors (moved s) ≡ product_from x factors s
+    pub product_so : {m : _} (factors : Row_of-Expression m) (x : Value) (s : Store) → Fits s → product_from x factors (moved s) ≡ product_from x factors s
     product_so end_of-Expression x s fit = refl
     product_so (more_of-Expression e rest) x s fit =
         ok_same (value e s) (value e (moved s)) _ _ (value_so e s fit) (λ y. ok_same (computed Times x y) (computed Times x y) _ _ refl (λ z. product_so rest z s fit))
 
-  values_so : (es : List Expression) (s : Store) → Fits s → values es (moved s) ≡ values es s
+  pub values_so : (es : List Expression) (s : Store) → Fits s → values es (moved s) ≡ values es s
   values_so [] s fit = refl
   values_so (e ∷ es) s fit =
       ok_same (value e s) (value e (moved s)) _ _ (value_so e s fit) (λ v. ap (λ r. if_ok r (λ vs. Ok (v ∷ vs))) (values_so es s fit))
 
-  looked_so : (known : Value → Store → OkOr (Unit {0}) FaultKind) → ((x : Value) (s : Store) → Fits s → known x (moved s) ≡ known x s) → (e : Expression) (s : Store) → Fits s → looked_as known e (moved s) ≡ looked_as known e s
+  pub looked_so : (known : Value → Store → OkOr (Unit {0}) FaultKind) → ((x : Value) (s : Store) → Fits s → known x (moved s) ≡ known x s) → (e : Expression) (s : Store) → Fits s → looked_as known e (moved s) ≡ looked_as known e s
   looked_so known h e s fit = ok_same (value e s) (value e (moved s)) _ _ (value_so e s fit) (λ x. ap (λ r. if_ok r (λ u. Ok x)) (h x s fit))
 
-  member_so : (set : ℕ) (e : Expression) (s : Store) → Fits s → member_value set e (moved s) ≡ member_value set e s
+  pub member_so : (set : ℕ) (e : Expression) (s : Store) → Fits s → member_value set e (moved s) ≡ member_value set e s
   member_so set e s fit = looked_so (known_member set) (known_member_so set) e s fit
 
-  owner_so : (set : ℕ) (e : Expression) (s : Store) → Fits s → owner_value set e (moved s) ≡ owner_value set e s
+  pub owner_so : (set : ℕ) (e : Expression) (s : Store) → Fits s → owner_value set e (moved s) ≡ owner_value set e s
   owner_so set e s fit = looked_so (known_owner set) (known_owner_so set) e s fit
 
-  test_so : (t : Test) (s : Store) → Fits s → test_holds t (moved s) ≡ test_holds t s
+  pub test_so : (t : Test) (s : Store) → Fits s → test_holds t (moved s) ≡ test_holds t s
   test_so (Compare left relation right) s fit =
       ok_same (value left s) (value left (moved s)) _ _ (value_so left s fit) (λ x. ap (λ r. if_ok r (λ y. Ok (related relation x y))) (value_so right s fit))
   test_so (DataEnded negated) s fit = refl
@@ -581,321 +555,24 @@ module _ (l : Layout) where
       ok_same (member_value set e s) (member_value set e (moved s)) _ _ (member_so set e s fit) (λ x.
       ok_same (value owner s) (value owner (moved s)) _ _ (value_so owner s fit) (λ o. ap (λ r. if_ok r (λ b. Ok (unless negated b))) (is_in_so set x o s fit)))
 
-  tests_so : (ts : List Test) (s : Store) → Fits s → all_hold ts (moved s) ≡ all_hold ts s
+  pub tests_so : (ts : List Test) (s : Store) → Fits s → all_hold ts (moved s) ≡ all_hold ts s
   tests_so [] s fit = refl
   tests_so (t ∷ ts) s fit = ok_same (test_holds t s) (test_holds t (moved s)) _ _ (test_so t s fit) (λ b. ap (both b) (tests_so ts s fit))
 
-  some_so : (cs : List Conjunction) (s : Store) → Fits s → some_hold cs (moved s) ≡ some_hold cs s
+  pub some_so : (cs : List Conjunction) (s : Store) → Fits s → some_hold cs (moved s) ≡ some_hold cs s
   some_so [] s fit = refl
   some_so (c ∷ cs) s fit = ok_same (all_hold c.tests.items s) (all_hold c.tests.items (moved s)) _ _ (tests_so c.tests.items s fit) (λ b. ap (either b) (some_so cs s fit))
 
-  guards_so : (gs : List Guard) (s : Store) → Fits s → all_pass gs (moved s) ≡ all_pass gs s
+  pub guards_so : (gs : List Guard) (s : Store) → Fits s → all_pass gs (moved s) ≡ all_pass gs s
   guards_so [] s fit = refl
   guards_so (g ∷ gs) s fit = ok_same (holds g.condition s) (holds g.condition (moved s)) _ _ (some_so g.condition.alternatives.items s fit) (λ b. ap (both (passes g.kind b)) (guards_so gs s fit))
 
-  step_so : (e : Option Expression) (s : Store) → Fits s → step_value e (moved s) ≡ step_value e s
+  pub step_so : (e : Option Expression) (s : Store) → Fits s → step_value e (moved s) ≡ step_value e s
   step_so None s fit = refl
   step_so (Some e) s fit = value_so e s fit
 
-  bounds_so : (r : Range) (s : Store) → Fits s → bounds r (moved s) ≡ bounds r s
+  pub bounds_so : (r : Range) (s : Store) → Fits s → bounds r (moved s) ≡ bounds r s
   bounds_so r s fit =
       ok_same (value r.first s) (value r.first (moved s)) _ _ (value_so r.first s fit) (λ x.
       ok_same (value r.limit s) (value r.limit (moved s)) _ _ (value_so r.limit s fit) (λ y.
       ap (λ o. if_ok o (λ z. if_ok (step_of z) (λ z. Ok (record { first = x; limit = y; step = z })))) (step_so r.step s fit)))
-
-  -- ## Loops
-
-  turns_so : (n : ℕ) (line : Line) (gs : List Guard) (m : Part (Unit {0})) → Natural m → Natural (turns n line gs m)
-  turns_so zero line gs m h = leaves OutOfTicks
-  turns_so (suc n) line gs m h =
-      tick_so (then_so h (λ u. then_so (look_so line (record { by = λ s fit. guards_so gs s fit })) (λ b. choose_so b (turns_so n line gs m h) (went tt))))
-
-  phrase_so : (kind : PhraseKind) (b : Bool) (more : Part Turn) → Natural more → Natural (phrase kind b more)
-  phrase_so WithPhrase b more h = choose_so b h (went GoesOn)
-  phrase_so UnlessPhrase b more h = choose_so b (went GoesOn) h
-  phrase_so WhilePhrase b more h = choose_so b h (went EndsLoop)
-  phrase_so UntilPhrase b more h = choose_so b (went EndsLoop) h
-
-  phrases_so : (line : Line) (ps : List Phrase) (m : Part Turn) → Natural m → Natural (phrases line ps m)
-  phrases_so line [] m h = record { by = λ w fit. h.by w fit }
-  phrases_so line (p ∷ ps) m h =
-      then_so (look_so line (record { by = λ s fit. some_so p.condition.alternatives.items s fit })) (λ b. phrase_so p.kind b (phrases line ps m) (phrases_so line ps m h))
-
-  after_so : (t : Turn) (next : Option Value) (more : Value → Part Bool) → ((v : Value) → Natural (more v)) → Natural (after_turn t next more)
-  after_so GoesOn None more h = went false
-  after_so GoesOn (Some v) more h = h v
-  after_so EndsLoop next more h = went false
-  after_so IsFound next more h = went true
-
-  items_so : (n : ℕ) (x : Variable) (limit step : Value) (m : Part Turn) → Natural m → (v : Value) → Natural (items n x limit step m v)
-  items_so zero x limit step m h v = leaves OutOfTicks
-  items_so (suc n) x limit step m h v =
-      tick_so (then_so (assign_so x v) (λ u. then_so h (λ t. after_so t (item_after limit step v) (items n x limit step m) (λ d. items_so n x limit step m h d))))
-
-  range_so : (n : ℕ) (line : Line) (r : Range) (m : Part Turn) → Natural m → Natural (over_range n line r m)
-  range_so n line r m h =
-      then_so (look_so line (record { by = λ s fit. bounds_so r s fit })) (λ b. choose_so (is_within b.first b.limit) (items_so n r.variable b.limit b.step m h b.first) (went false))
-
-  outset_at_so : (after : Bool) (m : Members) (e : Expression) (s : Store) → Fits s → outset_at after m e (moved s) ≡ outset_at after m e s
-  outset_at_so after m e s fit =
-      ok_same (owner_value m.set m.owner s) (owner_value m.set m.owner (moved s)) _ _ (owner_so m.set m.owner s fit) (λ o.
-      ok_same (value e s) (value e (moved s)) _ _ (value_so e s fit) (λ y.
-      ap (λ r. if_ok r (λ x. Ok (record { owner = o; first = x }))) (begun_at_so m.reverse after m.set y o s fit)))
-
-  outset_by_so : (m : Members) (t : Start) (s : Store) → Fits s → outset_by m t (moved s) ≡ outset_by m t s
-  outset_by_so m starts.End s fit =
-      ok_same (value m.owner s) (value m.owner (moved s)) _ _ (value_so m.owner s fit) (λ o. ap (λ r. if_ok r (λ x. Ok (record { owner = o; first = x }))) (begun_so m.reverse m.set o s fit))
-  outset_by_so m (starts.From e) s fit = outset_at_so false m e s fit
-  outset_by_so m (starts.After e) s fit = outset_at_so true m e s fit
-
-  after_member_so : (t : Turn) (more : Part Bool) → Natural more → Natural (after_member t more)
-  after_member_so GoesOn more h = h
-  after_member_so EndsLoop more h = went false
-  after_member_so IsFound more h = went true
-
-  members_so : (n : ℕ) (line : Line) (m : Members) (o : Value) (turn : Part Turn) → Natural turn → (v : Value) → Natural (members n line m o turn v)
-  members_so zero line m o turn h v = leaves OutOfTicks
-  members_so (suc n) line m o turn h v = record {
-    by = λ w fit.
-        let more = λ (d : Value). next_member line m.set o d (members n line m o turn) in
-        let go = λ (d : Value). take_tick (λ w. and_then (assign m.variable v w) (λ u w. and_then (turn w) (λ t. after_member t (more d)))) in
-        subst (λ d. CarriedOutcome (go (coming m.reverse m.set v w.store) w) (go d (moved_world w))) (sym (coming_so m.reverse m.set v w.store fit))
-        ((tick_so (then_so (assign_so m.variable v) (λ u. then_so h (λ t. after_member_so t (more (coming m.reverse m.set v w.store))
-        (then_so (look_so line (record { by = λ s fit. goes_on_so m.set (coming m.reverse m.set v w.store) o s fit })) (λ b. choose_so b (members_so n line m o turn h (coming m.reverse m.set v w.store)) (went false))))))).by w fit);
-  }
-
-  over_so : (n : ℕ) (line : Line) (h : Head) (turn : Part Turn) → Natural turn → Natural (over n line h turn)
-  over_so n line (heads.Numbers r) turn h = range_so n line r turn h
-  over_so n line (heads.Members m) turn h =
-      then_so (look_so line (record { by = λ s fit. outset_by_so m m.start s fit })) (λ b. choose_so (is_member b.first) (members_so n line m b.owner turn h b.first) (went false))
-
-  -- ## Targets
-
-  word_so : (line : Line) (mode : Mode) → Natural (take_word line mode)
-  word_so line mode = record { by = λ w fit. sides (value_given mode w.store.input) w fit }
-    where
-      sides : (r : OkOr (Given Value) FaultKind) (w : World) → Fits w.store → CarriedOutcome (given_by line r w) (given_by line r (moved_world w))
-      sides (Ok g) w fit = (refl, (refl, fit))
-      sides (Err k) w fit = (refl, (refl, fit))
-
-  spot_so : (t : Place) → Looks (spot_of t)
-  spot_so (PlainVariable x) = record { by = λ s fit. refl }
-  spot_so (AttributePlace class field e) = record {
-    by = λ s fit. ok_same (value e s) (value e (moved s)) _ _ (value_so e s fit) (λ x. ap (λ r. if_ok r (λ u. Ok (InAttribute class field x))) (known_so class x s fit));
-  }
-  spot_so (Count class number) = record { by = λ s fit. refl }
-
-  held_so : (p : Spot) (s : Store) → Fits s → held p (moved s) ≡ held p s
-  held_so (InVariable x) s fit = ap Ok (fetched_so x s)
-  held_so (InAttribute class field x) s fit = attribute_so class field x s fit
-  held_so (InCount class number) s fit = refl
-
-  set_so : (x : Variable) (v : Value) → Changes (λ s. Ok (assigned x v s))
-  set_so (Global k) v = record { by = λ s fit. (refl, fit) }
-  set_so (Local k) v = record { by = λ s fit. (refl, fit) }
-
-  written_so : (p : Spot) (v : Value) → Changes (written p v)
-  written_so (InVariable x) v = set_so x v
-  written_so (InAttribute class field x) v = with_attribute_so class field x v
-  written_so (InCount class number) v = counted_so class number v
-
-  give_so : (line : Line) (t : Place) (m : Part Value) → Natural m → Natural (give_to line t m)
-  give_so line t m h = then_so (look_so line (spot_so t)) (λ p. then_so h (λ v. change_so line (written_so p v)))
-
-  reads_so : (line : Line) (ts : List Target) → Natural (reads line ts)
-  reads_so line [] = went tt
-  reads_so line (t ∷ ts) = then_so (give_so line t.place (take_word line t.mode) (word_so line t.mode)) (λ u. reads_so line ts)
-
-  each_so : (line : Line) (ts : List Place) (vs : List Value) → Natural (assign_each line ts vs)
-  each_so line [] vs = went tt
-  each_so line (t ∷ ts) [] = went tt
-  each_so line (t ∷ ts) (v ∷ vs) = then_so (give_so line t (WentOn v) (went v)) (λ u. each_so line ts vs)
-
-  every_so : (line : Line) (cs : List Counted) → Natural (create_every line cs)
-  every_so line [] = went tt
-  every_so line (c ∷ cs) = then_so (change_so line (made_all_so c.class c.number)) (λ u. every_so line cs)
-
-  -- ## Members
-
-  value_look : (line : Line) (e : Expression) → Natural (look line (value e))
-  value_look line e = look_so line (record { by = λ s fit. value_so e s fit })
-
-  member_look : (line : Line) (set : ℕ) (e : Expression) → Natural (look line (member_value set e))
-  member_look line set e = look_so line (record { by = λ s fit. member_so set e s fit })
-
-  file_one_so : (line : Line) (f : Filing) (set : ℕ) (e owner : Expression) → Natural (file line f set e owner)
-  file_one_so line f set e owner = then_so (member_look line set e) (λ x. then_so (value_look line owner) (λ o. change_so line (filed_so f set x o)))
-
-  file_beside_so : (line : Line) (side : Side) (set : ℕ) (e f owner : Expression) → Natural (file_beside line side set e f owner)
-  file_beside_so line side set e f owner =
-      then_so (member_look line set e) (λ x. then_so (member_look line set f) (λ y. then_so (value_look line owner) (λ o. change_so line (filed_beside_so side set x y o))))
-
-  file_by_so : (line : Line) (position : Position) (set : ℕ) (e owner : Expression) → Natural (file_by line position set e owner)
-  file_by_so line positions.ByDiscipline set e owner = file_one_so line filings.ByDiscipline set e owner
-  file_by_so line positions.First set e owner = file_one_so line filings.First set e owner
-  file_by_so line positions.Last set e owner = file_one_so line filings.Last set e owner
-  file_by_so line (positions.Before f) set e owner = file_beside_so line sides_of.Before set e f owner
-  file_by_so line (positions.After f) set e owner = file_beside_so line sides_of.After set e f owner
-
-  remove_so : (line : Line) (set : ℕ) (e owner : Expression) → Natural (remove line set e owner)
-  remove_so line set e owner = then_so (member_look line set e) (λ x. then_so (value_look line owner) (λ o. change_so line (removed_one_so set x o)))
-
-  remove_end_so : (line : Line) (set : ℕ) (end : End) (owner : Expression) → Natural (remove_end line set end owner)
-  remove_end_so line set end owner = then_so (value_look line owner) (λ o. removed_at_so line end set o)
-
-  -- ## Scheduling
-
-  due_so : (later : Bool) (v : Value) (s : Store) → due_at later v (moved s) ≡ due_at later v s
-  due_so false v s = refl
-  due_so true v s = refl
-
-  time_value_so : (when : When) (s : Store) → Fits s → time_value when (moved s) ≡ time_value when s
-  time_value_so (whens.At e) s fit = ok_same (value e s) (value e (moved s)) _ _ (value_so e s fit) (λ v. due_so false v s)
-  time_value_so (whens.In e) s fit = ok_same (value e s) (value e (moved s)) _ _ (value_so e s fit) (λ v. due_so true v s)
-  time_value_so whens.Now s fit = refl
-
-  values_look : (line : Line) (es : List Expression) → Natural (look line (values es))
-  values_look line es = look_so line (record { by = λ s fit. values_so es s fit })
-
-  time_look : (line : Line) (when : When) → Natural (look line (time_value when))
-  time_look line when = look_so line (record { by = λ s fit. time_value_so when s fit })
-
-  create_notice_so : (line : Line) (class : ℕ) (given : List Expression) (when : When) → Natural (create_notice line class given when)
-  create_notice_so line class given when =
-      then_so (values_look line given) (λ vs. then_so (time_look line when) (λ t.
-      record { by = λ w fit. born_by_so line (made_notice class vs t w.store) (made_notice class vs t (moved w.store)) w fit (made_notice_so class vs t w.store fit) }))
-
-  schedule_new_so : (line : Line) (class : ℕ) (t : Place) (given : List Expression) (when : When) → Natural (schedule_new line class t given when)
-  schedule_new_so line class t given when =
-      then_so (look_so line (spot_so t)) (λ p. then_so (create_notice_so line class given when) (λ x.
-      then_so (change_so line (written_so p x)) (λ u. change_so line (filed_notice_so class x))))
-
-  schedule_so : (line : Line) (class : ℕ) (e : Expression) (given : List Expression) (when : When) → Natural (schedule line class e given when)
-  schedule_so line class e given when =
-      then_so (look_so line (record { by = λ s fit. looked_so (known class) (known_so class) e s fit })) (λ x. then_so (values_look line given) (λ vs.
-      then_so (time_look line when) (λ t. change_so line (refiled_so class x vs t))))
-
-  events_so : (n : ℕ) (event : Part (Unit {0})) → Natural event → Natural (events n event)
-  events_so zero event h = leaves OutOfTicks
-  events_so (suc n) event h = tick_so (then_so h (λ u. record { by = λ w fit. (choose_so (is_awaited w.store) (events_so n event h) (went tt)).by w fit }))
-
-  simulate_so : (n : ℕ) (event : Part (Unit {0})) → Natural event → Natural (simulate n event)
-  simulate_so n event h = record { by = λ w fit. (choose_so (is_awaited w.store) (events_so n event h) (went tt)).by w fit }
-
-  -- ## Statements
-
-  record NaturalCalls (h : Calls) : Type 0 where
-    pub by : (r : ℕ) (vs : List Value) (count : ℕ) → Natural (h.call r vs count)
-    pub event : Natural h.event
-
-  module _ (h : Calls) (n : ℕ) (hs : NaturalCalls h) where
-    mutual
-      effect_so : (s : Statement) → Natural (effect h n s)
-      effect_so (Let line t e) = give_so line t (look line (value e)) (look_so line (record { by = λ s fit. value_so e s fit }))
-      effect_so (Change line sign t e) =
-          then_so (look_so line (record { by = λ s fit. value_so e s fit })) (λ y. then_so (look_so line (spot_so t)) (λ p.
-          then_so (look_so line (record { by = λ s fit. ap (λ r. if_ok r (λ x. computed (operator_of sign) x y)) (held_so p s fit) })) (λ v. change_so line (written_so p v))))
-      effect_so (Print line them pictures) = then_so (look_so line (record { by = λ s fit. values_so them.items s fit })) (λ vs. send_so (printed (lines_of pictures.items) vs))
-      effect_so (If' line c p a q b) = then_so (look_so line (record { by = λ s fit. some_so c.alternatives.items s fit })) (λ t. choose_so t (effects_so a) (effects_so b))
-      effect_so (While' line guards p a) =
-          then_so (look_so line (record { by = λ s fit. guards_so guards.items s fit })) (λ t. choose_so t (turns_so n line guards.items (effects h n a) (effects_so a)) (went tt))
-      effect_so (For' line r ps p a) =
-          then_so (over_so n line r _ (phrases_so line ps.items _ (then_so (effects_so a) (λ u. went GoesOn)))) (λ b. went tt)
-      effect_so (Find' line r ps p a q b) =
-          then_so (over_so n line r _ (phrases_so line ps.items _ (went IsFound))) (λ t. choose_so t (effects_so a) (effects_so b))
-      effect_so (Call line routine given yielding) =
-          then_so (look_so line (record { by = λ s fit. values_so given.items s fit })) (λ vs. then_so (hs.by routine vs (length yielding.items)) (λ us. each_so line yielding.items us))
-      effect_so Return = leaves Returned
-      effect_so Stop = leaves Stopped
-      effect_so (Read line targets) = reads_so line targets.items
-      effect_so (Skip line e) = then_so (look_so line (record { by = λ s fit. ap (λ r. if_ok r (λ v. empty_lines (number_of v))) (value_so e s fit) })) send_so
-      effect_so (Create line class t) = give_so line t (create line class) (create_so line class)
-      effect_so (CreateEvery line classes) = every_so line classes.items
-      effect_so (Destroy line class e) = then_so (look_so line (record { by = λ s fit. value_so e s fit })) (λ x. change_so line (without_so class x))
-      effect_so (File line set e position owner) = file_by_so line position set e owner
-      effect_so (RemoveEnd line set end t owner) = give_so line t (remove_end line set end owner) (remove_end_so line set end owner)
-      effect_so (Remove line set e owner) = remove_so line set e owner
-      effect_so (ScheduleNew line class t given when) = schedule_new_so line class t given.items when
-      effect_so (Schedule line class e given when) = schedule_so line class e given.items when
-      effect_so (Cancel line class e) = then_so (value_look line e) (λ x. change_so line (unscheduled_so class x))
-      effect_so Simulate = simulate_so n h.event hs.event
-
-      effects_so : {m : _} (r : Row_of-Statement m) → Natural (effects h n r)
-      effects_so end_of-Statement = went tt
-      effects_so (more_of-Statement s rest) = then_so (effect_so s) (λ u. effects_so rest)
-
-    body_so : (ss : List Statement) → Natural (body h n ss)
-    body_so [] = went tt
-    body_so (s ∷ ss) = then_so (effect_so s) (λ u. body_so ss)
-
-  -- ## Calls
-
-  back_so : (given count : ℕ) (ls : List Value) (o q : Outcome (Unit {0})) → CarriedOutcome o q → CarriedOutcome (come_back given count ls o) (come_back given count ls q)
-  back_so given count ls (WentOn u w) (WentOn v x) c = (ap (λ (y : World). yielded given count y.store.locals) c.1.0, (ap (with_locals ls) c.1.0, c.1.1))
-  back_so given count ls (WentOn u w) (Left e x) c = absurd c
-  back_so given count ls (Left e w) (WentOn v x) c = absurd c
-  back_so given count ls (Left e w) (Left f x) c =
-      subst (λ f. CarriedOutcome (come_back given count ls (Left e w)) (come_back given count ls (Left f x))) (sym c.0) (same e)
-    where
-      same : (e : Exit) → CarriedOutcome (come_back given count ls (Left e w)) (come_back given count ls (Left e x))
-      same Returned = (ap (λ (y : World). yielded given count y.store.locals) c.1.0, (ap (with_locals ls) c.1.0, c.1.1))
-      same Stopped = (refl, c.1)
-      same (Faulted kind line) = (refl, c.1)
-      same OutOfTicks = (refl, c.1)
-
-  routine_so : (o : Option Section) (h : Calls) (n : ℕ) → NaturalCalls h → (vs : List Value) (count : ℕ) → Natural (routine_body o h n vs count)
-  routine_so None h n hs vs count = went (yielded 0 count [])
-  routine_so (Some r) h n hs vs count = record {
-    by = λ w fit.
-        let u = with_locals (fresh (firsts r.locals.items) vs) w in
-        back_so (length vs) count w.store.locals (body h n r.body.items u) (body h n r.body.items (moved_world u)) ((body_so h n hs r.body.items).by u fit);
-  }
-
-  calls_so : (rs : List Section) (n : ℕ) → NaturalCalls (calls rs n)
-  calls_so rs zero = record { by = λ r vs count. leaves OutOfTicks; event = leaves OutOfTicks }
-  calls_so rs (suc n) =
-      let go = λ (r : ℕ) (vs : List Value). routine_body (slice_get rs r) (calls rs n) n vs 0 in
-      record {
-        by = λ r vs count. tick_so (routine_so (slice_get rs r) (calls rs n) n (calls_so rs n) vs count);
-        event = then_so {m = λ w. begin (event_begun w.store) (λ b. go b.routine b.given) w} (record {
-          by = λ w fit. begin_so (event_begun w.store) (event_begun (moved w.store)) go (λ r vs. routine_so (slice_get rs r) (calls rs n) n (calls_so rs n) vs 0) w fit (begun_with_so (next w.store.pending) w.store fit);
-        }) (λ us. went tt);
-      }
-
-  run_so : (o q : Outcome (Unit {0})) → CarriedOutcome o q → run_of q ≡ run_of o
-  run_so (WentOn u w) (WentOn v x) c = ap (λ (y : World). run_of (WentOn tt y)) c.1.0
-  run_so (WentOn u w) (Left e x) c = absurd c
-  run_so (Left e w) (WentOn v x) c = absurd c
-  run_so (Left e w) (Left f x) c = ap (λ f. run_of (Left f x)) c.0 ∙ ap (λ (y : World). run_of (Left e y)) c.1.0
-
-  -- nothing is pending at first, with ties of the same shapes
-  tie_shapes_so : (h : State) (class : ℕ) (keys : List RankKey) → SameLayout h.layout l → map (shape_at l class) keys ≡ map (shape_at h.layout class) keys
-  tie_shapes_so h class [] fit = refl
-  tie_shapes_so h class (k ∷ ks) fit =
-      ap (λ m. let t : TieShape = record { mode = m; high = k.high } in t ∷ map (shape_at l class) ks) (mode_same l h fit class k.field)
-      ∙ ap (λ ts. shape_at h.layout class k ∷ ts) (tie_shapes_so h class ks fit)
-
-  shapes_so : (h : State) (es : List EventClass) → SameLayout h.layout l → map (shapes l) es ≡ map (shapes h.layout) es
-  shapes_so h [] fit = refl
-  shapes_so h (e ∷ es) fit = ap (λ ts. ts ∷ map (shapes l) es) (tie_shapes_so h e.class e.ties fit) ∙ ap (λ all. shapes h.layout e ∷ all) (shapes_so h es fit)
-
-  -- a program with the other layout means the same
-  pub meaning_so : (p : Resolved) (input : List ℕ) (n : ℕ) → SameLayout p.layout l → meaning (record p { layout = l }) input n ≡ meaning p input n
-  meaning_so p input n e =
-      let w = first_world p input n in
-      let m = body (calls p.routines.items n) n p.main.body.items in
-      let none : map not_made l.classes.items ≡ map not_made p.layout.classes.items = nones l.classes.items p.layout.classes.items (sym (ap (λ (s : Said). s.classes) e)) in
-      let first : first_world (record p { layout = l }) input n ≡ moved_world w =
-      ap (λ ps. let h : State = record { layout = l; records = []; permanents = ps; lists = [] } in let v : World = record w { store = record w.store { heap = h; pending = none_pending (map (shapes l) (events_said p.events.items)) } } in v) none
-      ∙ ap (λ all. let v : World = record w { store = record w.store { heap = moved_state l w.store.heap; pending = none_pending all } } in v) (shapes_so (first_state p.layout) (events_said p.events.items) e) in
-      ap (λ w. run_of (m w)) first ∙ run_so (m w) (m (moved_world w)) ((body_so (calls p.routines.items n) n (calls_so p.routines.items n) p.main.body.items).by w e)
-
--- code with a copy of the program's layout
-pub behaves_alike : (p : Resolved) (code : Code) (l : Layout) → SameLayout p.layout l → code ≡ code_of (record p { layout = l }) → Behaves p code
-behaves_alike p code l e q =
-    let b = behaves_so (record p { layout = l }) code q in
-    record {
-      ends = λ input n. let x = b.ends input n in (x.0, x.1 ∙ ap Ends (meaning_so l p input n e));
-      only = λ input n m r g. b.only input n m r g ∙ meaning_so l p input n e;
-      never_stuck = b.never_stuck;
-    }

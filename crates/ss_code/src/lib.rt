@@ -9,6 +9,8 @@ mod emit;
 mod entity_tests;
 mod entry;
 mod error;
+#[cfg(test)]
+mod event_tests;
 pub mod generate;
 pub mod instruction;
 pub mod laws;

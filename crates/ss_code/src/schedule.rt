@@ -1,7 +1,7 @@
 //! The instructions that schedule notices.
 
 ghost use Rattle.std.specs.Prelude.{◌≡◌, ◌++◌, true, false, OnOk};
-ghost use Rattle.ss_code.specs.Translation.{when_code, notice_code, spot_code, kept_code, schedule_new_code, schedule_code, statement_code};
+ghost use Rattle.ss_code.specs.Translation.{values_code, when_code, notice_code, spot_code, kept_code, schedule_new_code, schedule_code, statement_code};
 
 use crate::emit::{emit_expression, emit_values, operand, put, to_variable};
 use crate::instruction::{Destination, Instruction, Operand};
@@ -47,6 +47,19 @@ fn emit_when(code: &mut Vec<Instruction>, line: Line, when: &When) -> Result<(),
     }
 }
 
+// The values that are given and, above them, the time.
+fn emit_given(
+    code: &mut Vec<Instruction>,
+    line: Line,
+    given: &[Expression],
+    when: &When,
+) -> Result<(), AllocError>
+    ensures { OnOk result (code.new.items ≡ code.old.items ++ (values_code line given.now ++ when_code line when.now)) }
+{
+    emit_values(code, line, given)?;
+    emit_when(code, line, when)
+}
+
 // The number of a new notice, on top of the stack.
 fn emit_notice(
     code: &mut Vec<Instruction>,
@@ -57,8 +70,7 @@ fn emit_notice(
 ) -> Result<(), AllocError>
     ensures { OnOk result (code.new.items ≡ code.old.items ++ notice_code line class given.now when.now) }
 {
-    emit_values(code, line, given)?;
-    emit_when(code, line, when)?;
+    emit_given(code, line, given, when)?;
     put(
         code,
         Instruction::MakeNotice {
@@ -146,8 +158,7 @@ pub(crate) fn emit_schedule(
     ensures { OnOk result (code.new.items ≡ code.old.items ++ schedule_code line class notice.now given.now when.now) }
 {
     emit_reference(code, line, class, notice)?;
-    emit_values(code, line, given)?;
-    emit_when(code, line, when)?;
+    emit_given(code, line, given, when)?;
     put(
         code,
         Instruction::Refile {

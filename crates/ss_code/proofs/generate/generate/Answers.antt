@@ -4,7 +4,7 @@ use Rattle.ss_code.specs.Orders.{orders_said}
 use Rattle.ss_code.specs.Machine.{Code}
 use Rattle.ss_code.specs.Running.{Behaves}
 use Rattle.ss_code.specs.Translation.{code_of}
-use Rattle.ss_code.proofs.Natural.{behaves_alike}
+use Rattle.ss_code.proofs.Meant.{behaves_alike}
 use Rattle.ss_code.proofs.Landing.{sound_so}
 use Rattle.ss_code.proofs.Sizes.{code_size}
 use Rattle.ss_code.proofs.generate.generate.Goals as goal
