@@ -1,5 +1,5 @@
 -- The code of calls.
-use Rattle.std.proofs.Common.{◌≡◌, ℕ, zero, suc, ◌+◌, ◌-◌, ◌<◌, ◌≤◌, true, List, [], ◌∷◌, ◌++◌, length, Option, Some, None, refl, sym, ap, ◌∙◌, subst, arith, Ok, Err}
+use Rattle.std.proofs.Common.{◌≡◌, ℕ, zero, suc, ◌+◌, ◌-◌, ◌≤◌, true, List, [], ◌∷◌, ◌++◌, length, Option, Some, None, refl, sym, ap, ◌∙◌, subst, arith, Ok, Err}
 use Rattle.std.specs.Prelude.{slice_get, Result as OkOr}
 use Rattle.ss_base.specs.declared.value.Value.{Value}
 use Rattle.ss_resolved.specs.declared.resolved.Section.{Section}
@@ -12,7 +12,6 @@ use Rattle.ss_code.specs.Translation.{body_code, body_pictures, section_code}
 use Rattle.ss_code.proofs.Steps.{HasAt, has_front, has_back, Reaches, here, reaches_on, core_of, at, arrive}
 use Rattle.ss_code.proofs.Parts.{onto, take_them, goes, rests, IfWentOn}
 use Rattle.ss_code.proofs.Looping.{world, out_run}
-use Rattle.ss_code.proofs.Scheduling.{EventRuns}
 use Rattle.ss_code.proofs.Effects.{CallsRun, body_run}
 
 -- the code of the routine that is called stands where its entry says, and its pictures in the table

@@ -14,7 +14,7 @@ use Rattle.ss_resolved.specs.declared.resolved.Head.TheVariants as heads
 use Rattle.ss_resolved.specs.declared.resolved.Statement.{Statement, Let, Change, Print, If', While', For', Find', Call as CallRoutine, Return, Stop, Read, Skip as SkipLines, Create, CreateEvery, Destroy, File, RemoveEnd, Remove, ScheduleNew, Schedule, Cancel, Simulate, Row_of-Statement, end_of-Statement, more_of-Statement}
 use Rattle.ss_code.specs.declared.instruction.Instruction.{Instruction}
 use Rattle.ss_code.specs.declared.instruction.Instruction.TheVariants.{Jump, Begin, Take, Next, TakeMember, NextMember, Forget, Call, Leave, Halt, Skip as SkipThem, Print as PrintLines}
-use Rattle.ss_code.specs.Store.{Store, World, number_of, printed, empty_lines, yielded}
+use Rattle.ss_code.specs.Store.{World, number_of, printed, empty_lines, yielded}
 use Rattle.ss_code.specs.Meaning.{Turn, Returned, Stopped, Fault, Ended, Outcome, WentOn, Left, Part, and_then, if_ok, look, looked, send, value, values, holds as condition_holds, choose, GoesOn, IsFound, phrases, over, then_nothing, Calls, with_locals, effect, effects, body}
 use Rattle.ss_resolved.specs.Lines.{lines_of}
 use Rattle.ss_code.specs.Machine.{Frame, State, Code, sent, with_taken, Sends, next, with_rest}
@@ -30,7 +30,7 @@ use Rattle.ss_code.proofs.Filing.{file_run, remove_run, remove_end_run}
 use Rattle.ss_code.proofs.Branching.{aimed, condition_run}
 use Rattle.ss_code.proofs.Walking.{over_run}
 use Rattle.ss_code.proofs.Looping.{Turns, leads, phrases_run, behind, while_run}
-use Rattle.ss_code.proofs.Expressions.{Holds, same_ok, shelved, holds, expression_run, values_run, values_length}
+use Rattle.ss_code.proofs.Expressions.{Holds, shelved, holds, expression_run, values_run, values_length}
 
 drop_at : {A : Type 0} (all : List A) (place : ℕ) (i : A) → slice_get all place ≡ Some i → drop place all ≡ i ∷ drop (place + 1) all
 drop_at [] zero i h = absurd cc

@@ -24,7 +24,6 @@ use Rattle.ss_resolved.specs.declared.resolved.Start.TheVariants as starts
 use Rattle.ss_resolved.specs.declared.resolved.Members.{Members}
 use Rattle.ss_resolved.specs.declared.resolved.Head.{Head}
 use Rattle.ss_resolved.specs.declared.resolved.Head.TheVariants as heads
-use Rattle.ss_resolved.specs.declared.resolved.Derived.TheVariants.{First, Last}
 use Rattle.ss_resolved.specs.declared.resolved.End.{End}
 use Rattle.ss_resolved.specs.declared.resolved.Position.{Position}
 use Rattle.ss_resolved.specs.declared.resolved.Position.TheVariants as positions

@@ -40,7 +40,7 @@ use Rattle.ss_code.specs.Events.{time_of, with_pending, endowed, with_time, prep
 use Rattle.ss_code.specs.Layouts.{SameLayout}
 use Rattle.ss_code.specs.Store.{Store, World, if_ok, zero_value, number_of, fetched, assigned, computed, related, step_of}
 use Rattle.ss_code.specs.Entities.{class_at, field_at, has_numbers, has_indices, if_so, turned, with_heap, born, known, attribute, fitted, if_field, with_attribute, unless_made, counted, made_one, made_all, gone, unless_scheduled, may_go, without}
-use Rattle.ss_code.specs.Meaning.{Exit, Faulted, Outcome, WentOn, Left, Part, and_then, look, looked, assign, send, operator_of, operator_for, value, sum_from, product_from, values, both, either, test_holds, all_hold, some_hold, holds, unless, passes, all_pass, tick_from, take_tick, choose, items, step_value, bounds, looked_as, member_value, owner_value, events, begin, stored, change, born_by, create}
+use Rattle.ss_code.specs.Meaning.{Exit, Faulted, Outcome, WentOn, Left, Part, and_then, look, looked, assign, send, operator_of, operator_for, value, sum_from, product_from, values, both, either, test_holds, all_hold, some_hold, holds, unless, passes, all_pass, tick_from, take_tick, choose, step_value, bounds, looked_as, member_value, owner_value, begin, stored, change, born_by, create}
 use Rattle.ss_code.proofs.Alike.{mode_same, kind_same, time_same, timed_same, of_value_same, set_same, member_class_same, modes_same, joiner_same, owner_same, first_in_same, last_in_same, count_in_same, next_in_same, previous_in_same, owner_of_member_same, member_test_same, filed_first_same, filed_last_same, filed_before_same, filed_after_same, removed_same, filed_ranked_same, first_removed_same, last_removed_same, moved_state, Carried, there_same, numbers_same, indices_same, field_same, known_same, value_same, assigned_same, CarriedPair, created_same, created_all_same, destroyed_same}
 
 module _ (l : Layout) where

@@ -1,5 +1,5 @@
 -- The code that schedules notices, and the events.
-use Rattle.std.proofs.Common.{◌≡◌, ℕ, zero, suc, ◌+◌, ◌-◌, ◌<◌, ◌≤◌, Bool, true, false, List, [], ◌∷◌, ◌++◌, length, Some, None, Ok, Err, refl, sym, ap, ◌∙◌, subst, arith, length-append}
+use Rattle.std.proofs.Common.{◌≡◌, ℕ, zero, suc, ◌+◌, ◌-◌, ◌<◌, ◌≤◌, Bool, true, false, List, [], ◌∷◌, ◌++◌, length, Some, None, Ok, Err, refl, ap, ◌∙◌, subst, arith, length-append}
 use Rattle.std.specs.Prelude.{slice_get, Result as OkOr}
 use Rattle.ss_base.specs.declared.line.Line.{Line}
 use Rattle.ss_base.specs.declared.fault.FaultKind.{FaultKind}
@@ -10,7 +10,6 @@ use Rattle.ss_resolved.specs.declared.resolved.Place.{Place}
 use Rattle.ss_resolved.specs.declared.resolved.Place.TheVariants.{Variable as PlainVariable, Attribute as AttributePlace, Count}
 use Rattle.ss_resolved.specs.declared.resolved.When.{When}
 use Rattle.ss_resolved.specs.declared.resolved.When.TheVariants as whens
-use Rattle.ss_code.specs.declared.instruction.Operand.{Operand}
 use Rattle.ss_code.specs.declared.instruction.Operand.TheVariants.{Popped}
 use Rattle.ss_code.specs.declared.instruction.Destination.TheVariants.{Pushed}
 use Rattle.ss_code.specs.declared.instruction.Instruction.{Instruction}
@@ -18,13 +17,13 @@ use Rattle.ss_code.specs.declared.instruction.Instruction.TheVariants.{Move, Loo
 use Rattle.ss_code.specs.Store.{Store, World, assigned}
 use Rattle.ss_code.specs.Entities.{known, with_attribute}
 use Rattle.ss_code.specs.Events.{clock, due_at, made_notice, filed_notice, refiled, unscheduled, is_awaited, event_begun}
-use Rattle.ss_code.specs.Meaning.{Fault, Paused, Outcome, WentOn, Part, and_then, if_ok, look, looked, assign, value, values, stored, change, Spot, InVariable, InAttribute, InCount, spot_of, written, born_by, choose, tick_from, notice_value, time_value, create_notice, schedule_new, schedule, events, simulate}
-use Rattle.ss_code.specs.Machine.{Frame, Core, State, Code, To, act, is_due, with_top, with_taken, did, next, settled, branch, take_event, with_rest, when_due}
+use Rattle.ss_code.specs.Meaning.{Fault, Paused, Outcome, WentOn, Part, and_then, if_ok, look, value, values, change, Spot, InVariable, InAttribute, InCount, written, born_by, choose, tick_from, notice_value, time_value, create_notice, schedule_new, schedule, events, simulate}
+use Rattle.ss_code.specs.Machine.{Frame, State, Code, To, with_top, with_taken, did, next, settled, branch, take_event, with_rest}
 use Rattle.ss_code.specs.Running.{Underway}
-use Rattle.ss_code.specs.Translation.{destination_of, operand_of, expression_code, values_code, reference_code, when_code, notice_code, spot_code, kept_code, schedule_new_code, schedule_code}
+use Rattle.ss_code.specs.Translation.{destination_of, operand_of, expression_code, values_code, reference_code, when_code, notice_code, kept_code, schedule_new_code, schedule_code}
 use Rattle.ss_code.proofs.Steps.{HasAt, has_front, has_back, Reaches, here, core_of, at, arrive, join}
 use Rattle.ss_code.proofs.Parts.{Runs, same, done, onto, take_them, told, told_join, told_moved, told_part, goes, rests, seq}
-use Rattle.ss_code.proofs.Expressions.{Holds, shelved, holds, holds_popped, did_told, delivered_told, moves, expression_run, values_run, values_length}
+use Rattle.ss_code.proofs.Expressions.{shelved, holds, holds_popped, did_told, delivered_told, moves, expression_run, values_run, values_length}
 use Rattle.ss_code.proofs.Looking.{look_run}
 use Rattle.ss_code.proofs.Looping.{world, out_run}
 use Rattle.ss_code.proofs.Writing.{settles, sets_count, assigned_is, reference_run}

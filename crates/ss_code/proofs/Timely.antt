@@ -2,7 +2,6 @@
 use Rattle.std.proofs.Common.{◌≡◌, ℕ, suc, ◌+◌, Bool, true, false, List, [], ◌∷◌, ◌++◌, length, Some, None, refl, sym, ap, subst, arith, length-append}
 use Rattle.std.specs.Prelude.{slice_get}
 use Rattle.ss_base.specs.declared.line.Line.{Line}
-use Rattle.ss_base.specs.declared.value.Value.{Value}
 use Rattle.ss_resolved.specs.declared.resolved.Expression.{Expression}
 use Rattle.ss_resolved.specs.declared.resolved.Place.{Place}
 use Rattle.ss_resolved.specs.declared.resolved.Place.TheVariants.{Variable as PlainVariable, Attribute as AttributePlace, Count}
@@ -13,13 +12,12 @@ use Rattle.ss_code.specs.declared.instruction.Operand.TheVariants.{Popped}
 use Rattle.ss_code.specs.declared.instruction.Destination.TheVariants.{Pushed}
 use Rattle.ss_code.specs.declared.instruction.Instruction.{Instruction}
 use Rattle.ss_code.specs.declared.instruction.Instruction.TheVariants.{When as WhenDue, MakeNotice, Duplicate, PutKept, FileNotice, Refile, CancelNotice}
-use Rattle.ss_code.specs.Store.{Store}
 use Rattle.ss_code.specs.Entities.{with_attribute}
 use Rattle.ss_code.specs.Events.{due_at, made_notice, filed_notice, refiled, unscheduled}
 use Rattle.ss_code.specs.Machine.{Frame, Code}
 use Rattle.ss_code.specs.Translation.{destination_of, operand_of, expression_code, values_code, reference_code, when_code, notice_code, spot_code, kept_code, schedule_new_code, schedule_code}
-use Rattle.ss_code.proofs.Steps.{HasAt, has_front, has_back, core_of}
-use Rattle.ss_code.proofs.Safety.{Safe, Now, ActSafe, one, up, variable_down, moved_now, top_safe, operand_safe, off_safe, did_safe, move_safe, pushed_safe, clock_safe, expression_safe, values_safe}
+use Rattle.ss_code.proofs.Steps.{HasAt, has_front, has_back}
+use Rattle.ss_code.proofs.Safety.{Safe, Now, one, up, variable_down, moved_now, top_safe, operand_safe, off_safe, did_safe, move_safe, pushed_safe, clock_safe, expression_safe, values_safe}
 use Rattle.ss_code.proofs.Guarded.{settled_safe, set_count_safe, reference_safe}
 
 module _ (code : Code) (k : ℕ) (frames : List Frame) (l : Line) where

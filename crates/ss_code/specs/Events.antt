@@ -12,7 +12,6 @@ use Rattle.ss_resolved.specs.declared.resolved.Variable.TheVariants.{Global}
 use Rattle.ss_records.specs.State.{time_in, timed}
 use Rattle.ss_sets.specs.Disciplines.{value_of}
 use Rattle.ss_events.specs.declared.key.Tie.{Tie}
-use Rattle.ss_events.specs.SortKey.{SortKey}
 use Rattle.ss_events.specs.PendingList.{PendingList, is_pending, scheduled, cancelled, next, after_next}
 use Rattle.ss_code.specs.EventClasses.{EventClass, mode_at}
 use Rattle.ss_code.specs.Store.{Store, if_ok, number_of, assigned}
