@@ -1,14 +1,16 @@
 -- What is known of a program, by what it says.
-use Rattle.std.proofs.Common.{◌≡◌, List, map, ap, ◌∙◌}
+use Rattle.std.proofs.Common.{◌≡◌, List, map, Option, ap, ◌∙◌}
 use Rattle.std.specs.Map.{keys_of}
 use Rattle.ss_tree.specs.Tree.{PreambleTree, ProgramTree}
 use Rattle.ss_tables.specs.declared.keep.Kept.TheVariants as kept
+use Rattle.ss_tables.specs.declared.kind.Kind.{Kind}
 use Rattle.ss_tables.specs.declared.place.Facts.{Facts}
 use Rattle.ss_tables.specs.declared.saying.Saying.{Saying}
-use Rattle.ss_tables.specs.Declarations.{kept_names}
+use Rattle.ss_tables.specs.Declarations.{NameBytes, kept_names}
 use Rattle.ss_tables.specs.Disciplines.{Order, orders_laid, set_order}
+use Rattle.ss_tables.specs.Events.{EventsSeen, events_by, events_laid}
 use Rattle.ss_tables.specs.Layouts.{class_attributes, class_names, named_sets}
-use Rattle.ss_tables.specs.Marks.{marks_of}
+use Rattle.ss_tables.specs.Marks.{Mark, marks_of}
 use Rattle.ss_tables.specs.Modes.{usual_mode}
 use Rattle.ss_tables.specs.Names.{declared, kind_in}
 use Rattle.ss_tables.specs.Ranks.{members_of}
@@ -27,14 +29,15 @@ pub same_refusal : (p : ProgramTree) (f : Facts) (says : List Saying) → f ≡ 
 same_refusal p f says e is = λ i. refusal_by (e i) (is i) p
 
 -- what is made of them are the tables
-pub are_tables : (p : ProgramTree) (f : Facts) (says : List Saying) (t : TablesSeen) → f ≡ facts_of p → says ≡ sayings p → t.names ≡ f.names.names → t.globals ≡ kept_names kept.Variables f.marks says → t.routines ≡ kept_names kept.Routines f.marks says → t.usual ≡ f.usual → t.says ≡ says → t.disciplines ≡ orders_laid says p.preamble → AreTablesOf p t
-are_tables p f says t e is n g r u s d = record {
+pub are_tables : (p : ProgramTree) (f : Facts) (says : List Saying) (t : TablesSeen) → f ≡ facts_of p → says ≡ sayings p → t.names ≡ f.names.names → t.globals ≡ kept_names kept.Variables f.marks says → t.routines ≡ kept_names kept.Routines f.marks says → t.usual ≡ f.usual → t.says ≡ says → t.disciplines ≡ orders_laid says p.preamble → t.events ≡ events_laid f.marks (kind_in f.names.names) says p.preamble → AreTablesOf p t
+are_tables p f says t e is n g r u s d v = record {
   kinds = λ name. ap (λ es. kind_in es name) (n ∙ ap (λ (x : Facts). x.names.names) e);
   globals_are = g ∙ (λ i. kept_names kept.Variables (e i).marks (is i));
   routines_are = r ∙ (λ i. kept_names kept.Routines (e i).marks (is i));
   usual_is = u ∙ ap (λ (x : Facts). x.usual) e;
   says_is = s ∙ is;
   disciplines_are = d ∙ ap (λ (x : List Saying). orders_laid x p.preamble) is;
+  events_are = v ∙ (λ i. events_laid (e i).marks (kind_in (e i).names.names) (is i) p.preamble);
 }
 
 -- what is made with the numbers of a program that says this are the orders of its sets
@@ -44,3 +47,10 @@ orders_are n s t says preamble orders h is it e =
     let attributes = h.attributes_are ∙ ap class_attributes is in
     let sets = h.sets_are ∙ ap named_sets is in
     e ∙ (λ i. map (set_order (classes i) (attributes i) (members_of (it i)) preamble) (keys_of (sets i)))
+
+-- so are the events
+pub events_are : (n : NumbersSeen) (s t says : List Saying) (ms : List Mark) (kind : NameBytes → Option Kind) (preamble : List PreambleTree) (e : EventsSeen) → AreNumbersOf s n → s ≡ says → t ≡ says → e ≡ events_by n.classes n.attributes ms kind t preamble → e ≡ events_laid ms kind says preamble
+events_are n s t says ms kind preamble e h is it made =
+    let classes = h.classes_are ∙ ap class_names is in
+    let attributes = h.attributes_are ∙ ap class_attributes is in
+    made ∙ (λ i. events_by (classes i) (attributes i) ms kind (it i) preamble)

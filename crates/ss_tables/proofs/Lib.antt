@@ -5,5 +5,6 @@ pub mod Rows
 pub mod Known
 pub mod Serves
 pub mod Parts
+mod Ranking
 mod Numbered
 mod Ordered

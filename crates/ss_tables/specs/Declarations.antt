@@ -54,11 +54,12 @@ class_variables class_kinds.Temporary class = class ∷ []
 class_variables class_kinds.EventNotice class = class ∷ []
 
 -- the names that are kept of what is said of a name: variables of a DEFINE, unless it is of an attribute, and of a
--- class; or a routine
+-- class; or a routine; or an event routine, which has the name of its class
 abbrev pub kept_of : Kept → List Mark → Said → NameBytes → List NameBytes
 kept_of kept.Variables ms (said.Variable mode) name = if is_attribute ms name then [] else name ∷ []
 kept_of kept.Variables ms (said.Class kind) name = class_variables kind name
 kept_of kept.Routines ms (said.Routine given yielding) name = name ∷ []
+kept_of kept.Events ms said.Event name = name ∷ []
 kept_of _ ms _ name = []
 
 abbrev pub kept_by : Kept → List Mark → Said → Option NameBytes → List NameBytes

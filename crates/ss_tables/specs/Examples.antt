@@ -1,4 +1,4 @@
--- Worked examples of the numbers of global variables, classes, attributes and sets, and of disciplines.
+-- Worked examples of the numbers of global variables, classes, attributes and sets, of disciplines, and of events.
 use Rattle.std.specs.Prelude.{◌≡◌, ℕ, Bool, true, false, [], ◌∷◌, Some, None}
 use Rattle.std.proofs.Common.{refl}
 use Rattle.ss_base.specs.declared.layout.ClassKind.TheVariants as class_kinds
@@ -8,10 +8,11 @@ use Rattle.ss_base.specs.declared.line.Line.{Line}
 use Rattle.ss_tree.specs.declared.preamble.ClassKind.TheVariants as kinds_said
 use Rattle.ss_tree.specs.declared.preamble.Mode.TheVariants as modes_said
 use Rattle.ss_tree.specs.declared.preamble.Key.{Key}
-use Rattle.ss_tree.specs.Tree.{has, owns, belongs_to, lifo, ranked, permanent_entities, temporary_entities, every, normally, system_owns, define_variables, define_sets, ProgramTree}
+use Rattle.ss_tree.specs.Tree.{has, owns, belongs_to, lifo, ranked, permanent_entities, temporary_entities, event_notices, every, normally, system_owns, define_variables, define_sets, priority_order, break_ties, SectionKindTree, routine, event, SectionTree, ProgramTree}
 use Rattle.ss_tables.specs.declared.kind.Kind.TheVariants as kinds
 use Rattle.ss_tables.specs.Declarations.{NameBytes, globals, kind_of, place_among}
 use Rattle.ss_tables.specs.Disciplines.{files_last, files_first, files_by, disciplines}
+use Rattle.ss_tables.specs.Events.{event_names, event_number, tie_keys}
 use Rattle.ss_tables.specs.Layouts.{class_names, class_number, classes_laid, field_number, set_names, set_number, sets_laid}
 use Rattle.ss_tables.specs.Modes.{usual_mode}
 use Rattle.ss_tables.specs.Names.{count_name}
@@ -125,3 +126,47 @@ three_sets-layout = refl
 -- Q has no DEFINE; of B, T is the field 1 and R the field 0
 pub three_sets-disciplines : disciplines three_sets ≡ files_last ∷ files_by (record { field = 1; high = true } ∷ record { field = 0; high = false } ∷ []) ∷ files_first ∷ []
 three_sets-disciplines = refl
+
+-- ---- events
+
+abbrev pub section : ℕ → SectionKindTree → SectionTree
+section line kind = record { line = line_number line; kind = kind; definitions = []; body = [] }
+
+-- EVENT NOTICES INCLUDE A
+-- EVERY B HAS A R AND A T
+-- EVERY C HAS A D
+-- PRIORITY ORDER IS C AND B
+-- BREAK B TIES BY HIGH T THEN BY LOW R
+-- EVENT B
+-- ROUTINE X
+-- EVENT A
+abbrev pub three_events : ProgramTree
+three_events = record {
+  preamble =
+      event_notices (line_number 1) (letter 65 ∷ [])
+      ∷ every (line_number 2) kinds_said.EventNotice (letter 66) (has (letter 82 ∷ letter 84 ∷ []) ∷ [])
+      ∷ every (line_number 3) kinds_said.EventNotice (letter 67) (has (letter 68 ∷ []) ∷ [])
+      ∷ priority_order (line_number 4) (letter 67 ∷ letter 66 ∷ [])
+      ∷ break_ties (line_number 5) (letter 66) (key true (letter 84) ∷ key false (letter 82) ∷ [])
+      ∷ [];
+  sections = section 6 (event (letter 66) [] false) ∷ section 7 (routine (letter 88) [] []) ∷ section 8 (event (letter 65) [] false) ∷ [];
+}
+
+-- those of PRIORITY ORDER stand before A, which is declared first
+pub three_events-names : event_names three_events ≡ letter 67 ∷ letter 66 ∷ letter 65 ∷ []
+three_events-names = refl
+
+-- of B, T is the field 1 and R the field 0
+pub three_events-ties : tie_keys three_events (letter 66) ≡ record { field = 1; high = true } ∷ record { field = 0; high = false } ∷ []
+three_events-ties = refl
+
+pub three_events-no_ties : tie_keys three_events (letter 67) ≡ []
+three_events-no_ties = refl
+
+-- the routine X does not count among the event routines
+pub three_events-number : event_number three_events (letter 65) ≡ 1
+three_events-number = refl
+
+-- C has no EVENT section
+pub three_events-no_number : event_number three_events (letter 67) ≡ 2
+three_events-no_number = refl

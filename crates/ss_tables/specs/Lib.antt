@@ -9,6 +9,7 @@ pub mod Ranks
 pub mod Declarations
 pub mod Layouts
 pub mod Disciplines
+pub mod Events
 pub mod Repeated
 pub mod Mentions
 pub mod Modes

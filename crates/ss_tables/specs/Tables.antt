@@ -9,12 +9,14 @@ use Rattle.ss_tables.specs.declared.spelling.TheConstants.{SPELLING_LIMIT}
 use Rattle.ss_tables.specs.Declarations.{NameBytes, same_name, kind_of, globals, routines}
 use Rattle.ss_tables.specs.declared.saying.Saying.{Saying}
 use Rattle.ss_tables.specs.Disciplines.{Order, disciplines}
+use Rattle.ss_tables.specs.Events.{EventsSeen, events}
 use Rattle.ss_tables.specs.Layouts.{NamedSet, class_attributes, class_names, named_sets}
 use Rattle.ss_tables.specs.Modes.{usual_mode}
 use Rattle.ss_tables.specs.Sayings.{sayings}
 
 -- tables, as a clause sees them: each global name with what it stands for, the global variables and the routines in
--- the order of their numbers, the mode that NORMALLY gives, what the program says, and how each set is ordered
+-- the order of their numbers, the mode that NORMALLY gives, what the program says, how each set is ordered, and what is
+-- known of events
 pub record TablesSeen : Type 0 where
   pub names : List (NameBytes × Kind)
   pub globals : List NameBytes
@@ -22,6 +24,7 @@ pub record TablesSeen : Type 0 where
   pub usual : Option Mode
   pub says : List Saying
   pub disciplines : List Order
+  pub events : EventsSeen
 
 -- what a name stands for by some entries
 abbrev pub kind_among : List (NameBytes × Kind) → NameBytes → Option Kind
@@ -39,12 +42,18 @@ pub record AreTablesOf (p : ProgramTree) (t : TablesSeen) : Type 0 where
   pub usual_is : t.usual ≡ usual_mode p.preamble
   pub says_is : t.says ≡ sayings p
   pub disciplines_are : t.disciplines ≡ disciplines p
+  pub events_are : t.events ≡ events p
 
 -- what has a number: the classes, the attributes of each, and the sets with their layouts
 pub record NumbersSeen : Type 0 where
   pub classes : List NameBytes
   pub attributes : List (List NameBytes)
   pub sets : List NamedSet
+
+-- the order of each set, and what is known of events
+pub record OrdersSeen : Type 0 where
+  pub disciplines : List Order
+  pub events : EventsSeen
 
 -- the numbers of a program that says this
 pub record AreNumbersOf (says : List Saying) (n : NumbersSeen) : Type 0 where

@@ -61,8 +61,8 @@ fn member_field(numbers: &Numbers, class: &Option<Name>, name: Name) -> usize
     }
 }
 
-/// The keys by which members of a class are ranked.
-fn rank_keys(
+/// The keys that stand for attributes of a class, as numbers.
+pub fn rank_keys(
     alloc: Global,
     numbers: &Numbers,
     class: &Option<Name>,

@@ -1,8 +1,8 @@
-//! The global variables and the routines of a program.
+//! The global variables, the routines and the event routines of a program.
 
 ghost use Rattle.std.specs.Prelude.{◌≡◌, [], ◌∷◌, if◌then◌else◌, OnOk, IfOk};
 ghost use Rattle.ss_tables.specs.Marks.{is_attribute};
-ghost use Rattle.ss_tables.specs.Declarations.{class_variables, kept_of, kept_names, with_kept, with_name, with_names};
+ghost use Rattle.ss_tables.specs.Declarations.{class_variables, kept_of, kept_names, place_among, with_kept, with_name, with_names};
 
 use crate::mark::Marks;
 use crate::saying::{Said, Saying};
@@ -17,6 +17,17 @@ use std::alloc::{AllocError, Global};
 pub enum Kept {
     Variables,
     Routines,
+    Events,
+}
+
+/// The place of a name among some, or how many there are where it is none of them.
+pub fn place_in(names: &IndexSet<Spelling>, name: Spelling) -> usize
+    ensures { result ≡ place_among names.now.keys name }
+{
+    match names.get_index_of(&name) {
+        Some(place) => place,
+        None => names.len(),
+    }
 }
 
 /// Keeps a spelling.
@@ -76,6 +87,10 @@ fn keep_of(
         },
         Kept::Routines => match said {
             Said::Routine { .. } => keep_spelling(names, Spelling::of_name(name)),
+            _ => Ok(()),
+        },
+        Kept::Events => match said {
+            Said::Event => keep_spelling(names, Spelling::of_name(name)),
             _ => Ok(()),
         },
     }

@@ -65,7 +65,8 @@ pub fn is_unmoded(mode: Option<Mode>) -> bool
     }
 }
 
-fn is_notice_kind(kind: Option<Kind>) -> bool
+/// Whether this is a class of notices.
+pub fn is_notice_kind(kind: Option<Kind>) -> bool
     ensures { result ≡ is_notice_kind kind }
 {
     match kind {

@@ -5,23 +5,24 @@ ghost use Rattle.std.specs.Map.{keys_of};
 ghost use Rattle.ss_tree.specs.View.{view_preamble, view_program};
 ghost use Rattle.ss_tables.specs.Declarations.{place_among, kept_names};
 ghost use Rattle.ss_tables.specs.Disciplines.{discipline_said, orders_laid};
+ghost use Rattle.ss_tables.specs.Events.{events_laid, ties_among};
 ghost use Rattle.ss_tables.specs.Layouts.{shape_of, class_names, class_number, classes_laid, field_number, set_names, set_number, sets_laid};
 ghost use Rattle.ss_tables.specs.Marks.{marks_of};
-ghost use Rattle.ss_tables.specs.Names.{count_name, declared};
+ghost use Rattle.ss_tables.specs.Names.{count_name, declared, kind_in};
 ghost use Rattle.ss_tables.specs.Refusals.{refusal};
 ghost use Rattle.ss_tables.specs.Served.{served_program};
 ghost use Rattle.ss_tables.specs.Tables.{kind_among, found_among, AreTablesOf};
 
 use crate::attributes::attributes_in;
-use crate::discipline::{copies_of, disciplines_in};
 use crate::error::TableError;
-use crate::keep::{Kept, kept_names};
+use crate::keep::{Kept, kept_names, place_in};
 use crate::kind::Kind;
 use crate::layout::{class_layouts, modes_of};
 use crate::mark::marks_of;
 use crate::mode::usual_mode;
 use crate::names::{Names, names_of};
 use crate::numbers::{Numbers, numbers_of};
+use crate::order::{Orders, orders_of};
 use crate::place::Facts;
 use crate::refusal::refusal;
 use crate::saying::Saying;
@@ -29,7 +30,7 @@ use crate::sayings::sayings;
 use crate::served::served;
 use crate::spelling::Spelling;
 use indexmap::IndexSet;
-use ss_base::{Discipline, Layout};
+use ss_base::{Discipline, Layout, RankKey};
 use ss_lex::Name;
 use ss_tree::preamble::{Mode, PreambleStatement};
 use ss_tree::program::Program;
@@ -45,29 +46,17 @@ pub struct Tables {
     usual: Option<Mode>,
     sayings: Vec<Saying>,
     numbers: Numbers,
-    disciplines: Vec<Discipline>,
+    orders: Orders,
 }
 
 impl Model for Tables {
-    ghost use Rattle.std.specs.Prelude.{map};
-    ghost use Rattle.ss_tables.specs.Disciplines.{discipline_said};
     ghost use Rattle.ss_tables.specs.Tables.{AreNumbersOf, TablesSeen};
 
     ghost Value = { TablesSeen };
 
-    ghost view = { λ t. record { names = t.names.names; globals = t.globals.keys; routines = t.routines.keys; usual = t.usual; says = t.sayings.items; disciplines = map discipline_said t.disciplines.items } };
+    ghost view = { λ t. record { names = t.names.names; globals = t.globals.keys; routines = t.routines.keys; usual = t.usual; says = t.sayings.items; disciplines = t.orders.disciplines; events = t.orders.events } };
 
     ghost invariant = { λ t. AreNumbersOf t.sayings.items t.numbers };
-}
-
-// The place of a name among some, or how many there are where it is none of them.
-fn place_in(names: &IndexSet<Spelling>, name: Spelling) -> usize
-    ensures { result ≡ place_among names.now.keys name }
-{
-    match names.get_index_of(&name) {
-        Some(place) => place,
-        None => names.len(),
-    }
 }
 
 // What each of some names stands for.
@@ -117,11 +106,12 @@ fn made(
     ensures usual { IfOk result (λ t. t.usual ≡ facts.usual) }
     ensures says { IfOk result (λ t. t.says ≡ sayings.items) }
     ensures disciplines { IfOk result (λ t. t.disciplines ≡ orders_laid sayings.items (map view_preamble preamble.now)) }
+    ensures events { IfOk result (λ t. t.events ≡ events_laid facts.marks (kind_in facts.names.names) sayings.items (map view_preamble preamble.now)) }
 {
     let globals = kept_names(alloc, Kept::Variables, &facts.marks, &sayings)?;
     let routines = kept_names(alloc, Kept::Routines, &facts.marks, &sayings)?;
     let numbers = numbers_of(alloc, &sayings)?;
-    let disciplines = disciplines_in(alloc, &numbers, &sayings, preamble)?;
+    let orders = orders_of(alloc, &facts, &numbers, &sayings, preamble)?;
     Ok(Tables {
         names: facts.names,
         globals,
@@ -129,7 +119,7 @@ fn made(
         usual: facts.usual,
         sayings,
         numbers,
-        disciplines,
+        orders,
     })
 }
 
@@ -258,7 +248,7 @@ impl Tables {
     pub fn disciplines(&self, alloc: Global) -> Result<Vec<Discipline>, AllocError>
         ensures { IfOk result (λ all. map discipline_said all.items ≡ self.now.disciplines) }
     {
-        copies_of(alloc, &self.disciplines)
+        self.orders.disciplines(alloc)
     }
 
     /// What each global variable stands for, in the order of their numbers.
@@ -276,6 +266,33 @@ impl Tables {
         ensures { result ≡ place_among self.now.routines name }
     {
         place_in(&self.routines, Spelling::of_name(&name))
+    }
+
+    /// The classes of notices, in the order in which notices for one time come: those of PRIORITY ORDER in that
+    /// order, then the others in the order of the text.
+    pub fn events(&self) -> &[Name]
+        ensures { result.now ≡ self.now.events.ranked }
+    {
+        self.orders.events().ranked()
+    }
+
+    /// The number of the event routine of a class among the event routines, from 0, in the order of the text; as
+    /// many as there are where the class has none.
+    pub fn event(&self, class: Name) -> usize
+        ensures { result ≡ place_among self.now.events.sections class }
+    {
+        self.orders.events().section(class)
+    }
+
+    /// The keys that decide between notices of a class for one time, the first of which counts most: numbers of
+    /// attributes of the class, and whether a high value comes first. Empty where the class has no BREAK.
+    ///
+    /// # Errors
+    /// `AllocError` where memory is refused.
+    pub fn ties(&self, alloc: Global, class: Name) -> Result<Vec<RankKey>, AllocError>
+        ensures { IfOk result (λ keys. keys.items ≡ ties_among self.now.events.ties class) }
+    {
+        self.orders.events().ties(alloc, class)
     }
 
     /// The mode that NORMALLY gives to every name that has none.

@@ -1,6 +1,8 @@
 use Rattle.std.proofs.Common.{◌≡◌, ap, sym, map, ◌∙◌}
 use Rattle.ss_tree.specs.View.{view_preamble, view_program}
 use Rattle.ss_tables.specs.Disciplines.{orders_laid}
+use Rattle.ss_tables.specs.Events.{events_laid}
+use Rattle.ss_tables.specs.Names.{kind_in}
 use Rattle.ss_tables.specs.Modes.{usual_mode}
 use Rattle.ss_tables.specs.Refusals.{facts_of}
 use Rattle.ss_tables.proofs.Known.{facts_are, same_refusal, are_tables}
@@ -23,6 +25,7 @@ returns-clause-found c =
     are_tables p c.in_ok-facts.facts c.in_ok-sayings.sayings.items c.in_ok-made.field-0 facts c.in_ok-sayings.ensures
     c.in_ok-made.ensures.names c.in_ok-made.ensures.globals c.in_ok-made.ensures.routines c.in_ok-made.ensures.usual c.in_ok-made.ensures.says
     (c.in_ok-made.ensures.disciplines ∙ ap (λ b. orders_laid c.in_ok-sayings.sayings.items (map view_preamble b)) c.deref-4.ensures.value)
+    (c.in_ok-made.ensures.events ∙ ap (λ b. events_laid c.in_ok-facts.facts.marks (kind_in c.in_ok-facts.facts.names.names) c.in_ok-sayings.sayings.items (map view_preamble b)) c.deref-4.ensures.value)
 
 pub returns-clause-kept : goal.returns-clause-kept
 returns-clause-kept c =

@@ -1,5 +1,5 @@
 use Rattle.std.proofs.Common.{sym, ◌∙◌}
-use Rattle.ss_tables.proofs.tables.place_in.Goals as goal
+use Rattle.ss_tables.proofs.keep.place_in.Goals as goal
 use Rattle.ss_tables.proofs.Places.{place_of_none}
 
 pub returns-in-None : goal.returns-in-None
