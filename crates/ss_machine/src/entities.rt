@@ -15,7 +15,7 @@ use std::marker::Model;
 
 /// The entities of a run. A contract sees them as a state of a heap.
 ///
-/// Each call may name any class and field: one that the layout lacks, or a class of another kind, is the
+/// Each call may name any class, field and set: one that the layout lacks, or a class of another kind, is the
 /// fault WRONG CLASS.
 #[derive(Drop)]
 pub struct Entities {

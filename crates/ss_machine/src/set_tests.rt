@@ -212,11 +212,8 @@ fn for_each_job(alloc: Global, line: u32, body: Vec<Statement>) -> Statement {
     }
 }
 
-// FOR ITEM = 1 TO 4; CREATE A JOB; READ RANK; FILE JOB IN POOL; LOOP; FOR EACH JOB IN POOL; PRINT 1 LINE WITH JOB
-// AND RANK.
-fn by_rank(alloc: Global) -> Result<bool, CodeError> {
-    let mut made = Vec::new(alloc);
-    made.push(create(17, THE_JOB))?;
+// READ RANK.
+fn read_rank(alloc: Global) -> Result<Statement, AllocError> {
     let rank = Target {
         place: Place::Attribute {
             class: JOB,
@@ -225,24 +222,42 @@ fn by_rank(alloc: Global) -> Result<bool, CodeError> {
         },
         mode: Mode::Integer,
     };
-    made.push(Statement::Read {
+    Ok(Statement::Read {
         line: Line(18),
         targets: Vec::from_array(alloc, [rank])?,
-    })?;
-    made.push(file(19, POOL, held(THE_JOB), system()))?;
-    let mut items = Vec::new(alloc);
-    items.push(held(THE_JOB))?;
-    items.push(Expression::Attribute {
+    })
+}
+
+// FOR ITEM = 1 TO 4; CREATE A JOB; READ RANK; FILE JOB IN POOL; LOOP.
+fn made_by_rank(alloc: Global) -> Result<Statement, AllocError> {
+    let read = read_rank(alloc)?;
+    let filed = file(19, POOL, held(THE_JOB), system());
+    let body = Vec::from_array(alloc, [create(17, THE_JOB), read, filed])?;
+    Ok(repeat(alloc, 16, 4, body))
+}
+
+// FOR EACH JOB IN POOL; PRINT 1 LINE WITH JOB AND RANK.
+fn shown_by_rank(alloc: Global) -> Result<Statement, AllocError> {
+    let rank = Expression::Attribute {
         class: JOB,
         field: RANK,
         of: Box::new(alloc, held(THE_JOB))?,
-    })?;
-    let mut shown = Vec::new(alloc);
-    shown.push(print(alloc, 22, items, b"* *")?)?;
-    let mut body = Vec::new(alloc);
-    body.push(repeat(alloc, 16, 4, made))?;
-    body.push(for_each_job(alloc, 21, shown))?;
-    let program = program(alloc, ranked(alloc)?, body)?;
+    };
+    let items = Vec::from_array(alloc, [held(THE_JOB), rank])?;
+    let shown = print(alloc, 22, items, b"* *")?;
+    let body = Vec::from_array(alloc, [shown])?;
+    Ok(for_each_job(alloc, 21, body))
+}
+
+fn filed_by_rank(alloc: Global) -> Result<Resolved, AllocError> {
+    let made = made_by_rank(alloc)?;
+    let shown = shown_by_rank(alloc)?;
+    let body = Vec::from_array(alloc, [made, shown])?;
+    program(alloc, ranked(alloc)?, body)
+}
+
+fn by_rank(alloc: Global) -> Result<bool, CodeError> {
+    let program = filed_by_rank(alloc)?;
     let report = b"4 3\n1 2\n3 2\n2 1\n";
     comes_to(alloc, &program, b"2 1 2 3", Stop::Ended, 8, report)
 }
@@ -252,33 +267,40 @@ fn a_ranked_set_is_walked_by_its_ranks(rt: HostRuntime) {
     assert_eq!(rt; by_rank(rt.alloc()), Ok(true));
 }
 
-// What is asked of the POOL and of its JOBs once the second of three is removed.
+// What is asked of the POOL and of its JOBs once the second of three is removed: N., F., L., S. of the third, P. and S.
+// of the first, P. of the third, M. of the second and of the third.
 fn asked(alloc: Global) -> Result<Vec<Expression>, AllocError> {
     let mut items = Vec::new(alloc);
-    items.push(derived(alloc, Derived::Count, POOL, system())?)?;
-    items.push(derived(alloc, Derived::First, POOL, system())?)?;
-    items.push(derived(alloc, Derived::Last, POOL, system())?)?;
-    items.push(derived(alloc, Derived::Successor, POOL, held(THIRD))?)?;
-    items.push(derived(alloc, Derived::Predecessor, POOL, held(ITEM))?)?;
-    items.push(derived(alloc, Derived::Successor, POOL, held(ITEM))?)?;
-    items.push(derived(alloc, Derived::Predecessor, POOL, held(THIRD))?)?;
-    items.push(derived(alloc, Derived::Membership, POOL, held(SECOND))?)?;
-    items.push(derived(alloc, Derived::Membership, POOL, held(THIRD))?)?;
+    for kind in [Derived::Count, Derived::First, Derived::Last] {
+        items.push(derived(alloc, kind, POOL, system())?)?;
+    }
+    for (kind, of) in [
+        (Derived::Successor, THIRD),
+        (Derived::Predecessor, ITEM),
+        (Derived::Successor, ITEM),
+        (Derived::Predecessor, THIRD),
+        (Derived::Membership, SECOND),
+        (Derived::Membership, THIRD),
+    ] {
+        items.push(derived(alloc, kind, POOL, held(of))?)?;
+    }
     Ok(items)
 }
 
 // CREATE A JOB and FILE it IN POOL, three times; REMOVE the second FROM POOL; PRINT 1 LINE.
-fn last_comes_first(alloc: Global) -> Result<bool, CodeError> {
+fn filed_first(alloc: Global) -> Result<Resolved, AllocError> {
     let mut body = Vec::new(alloc);
-    body.push(create(16, ITEM))?;
-    body.push(file(17, POOL, held(ITEM), system()))?;
-    body.push(create(18, SECOND))?;
-    body.push(file(19, POOL, held(SECOND), system()))?;
-    body.push(create(20, THIRD))?;
-    body.push(file(21, POOL, held(THIRD), system()))?;
+    for (line, job) in [(16, ITEM), (18, SECOND), (20, THIRD)] {
+        body.push(create(line, job))?;
+        body.push(file(line, POOL, held(job), system()))?;
+    }
     body.push(remove(22, POOL, held(SECOND), system()))?;
     body.push(print(alloc, 23, asked(alloc)?, b"* * * * * * * * *")?)?;
-    let program = program(alloc, Discipline::Lifo, body)?;
+    program(alloc, Discipline::Lifo, body)
+}
+
+fn last_comes_first(alloc: Global) -> Result<bool, CodeError> {
+    let program = filed_first(alloc)?;
     let report = b"2 3 1 1 3 0 0 0 1\n";
     comes_to(alloc, &program, b"", Stop::Ended, 0, report)
 }
@@ -288,29 +310,61 @@ fn a_set_of_the_last_first_is_asked(rt: HostRuntime) {
     assert_eq!(rt; last_comes_first(rt.alloc()), Ok(true));
 }
 
-// LET N.MACHINE = 2; CREATE EVERY MACHINE; CREATE A JOB; FILE JOB IN QUEUE(1); a last statement at line 20.
-fn in_a_queue(alloc: Global, last: Statement, stop: Stop) -> Result<bool, CodeError> {
-    let mut body = Vec::new(alloc);
-    body.push(Statement::Let {
+// LET N.MACHINE = 2.
+fn two_machines() -> Statement {
+    Statement::Let {
         line: Line(16),
         target: Place::Count {
             class: MACHINE,
             number: COUNT,
         },
         value: number(2),
-    })?;
+    }
+}
+
+// CREATE EVERY MACHINE.
+fn every_machine(alloc: Global) -> Result<Statement, AllocError> {
     let all = Counted {
         class: MACHINE,
         number: COUNT,
     };
-    body.push(Statement::CreateEvery {
+    Ok(Statement::CreateEvery {
         line: Line(17),
         classes: Vec::from_slice(alloc, &[all])?,
-    })?;
-    body.push(create(18, THE_JOB))?;
-    body.push(file(19, QUEUE, held(THE_JOB), number(1)))?;
-    body.push(last)?;
-    let program = program(alloc, ranked(alloc)?, body)?;
+    })
+}
+
+// What happens to the JOB at last.
+#[derive(Clone, Copy)]
+enum Last {
+    Filed { set: u32, owner: i64 },
+    Removed { set: u32, owner: i64 },
+}
+
+fn last_statement(last: Last) -> Statement {
+    match last {
+        Last::Filed { set, owner } => file(20, set, held(THE_JOB), number(owner)),
+        Last::Removed { set, owner } => remove(20, set, held(THE_JOB), number(owner)),
+    }
+}
+
+// LET N.MACHINE = 2; CREATE EVERY MACHINE; CREATE A JOB; FILE JOB IN QUEUE(1); a last statement at line 20.
+fn filed_in_a_queue(alloc: Global, last: Last) -> Result<Resolved, AllocError> {
+    let every = every_machine(alloc)?;
+    let filed = file(19, QUEUE, held(THE_JOB), number(1));
+    let statements = [
+        two_machines(),
+        every,
+        create(18, THE_JOB),
+        filed,
+        last_statement(last),
+    ];
+    let body = Vec::from_array(alloc, statements)?;
+    program(alloc, ranked(alloc)?, body)
+}
+
+fn in_a_queue(alloc: Global, last: Last, stop: Stop) -> Result<bool, CodeError> {
+    let program = filed_in_a_queue(alloc, last)?;
     comes_to(alloc, &program, b"", stop, 0, b"")
 }
 
@@ -320,17 +374,40 @@ fn fault(kind: FaultKind) -> Stop {
 
 // Whether filing and removing in other queues comes to its faults.
 fn queues_are_apart(alloc: Global) -> Result<bool, CodeError> {
-    let job = held(THE_JOB);
-    let twice = file(20, QUEUE, job, number(2));
-    let other = remove(20, QUEUE, held(THE_JOB), number(2));
-    let pool = file(20, POOL, held(THE_JOB), system());
-    let lacking = file(20, QUEUE, held(THE_JOB), number(3));
-    Ok(
-        in_a_queue(alloc, twice, fault(FaultKind::FiledTwice))?
-            && in_a_queue(alloc, other, fault(FaultKind::NotFiled))?
-            && in_a_queue(alloc, pool, Stop::Ended)?
-            && in_a_queue(alloc, lacking, fault(FaultKind::Index))?,
-    )
+    let mut as_wanted = true;
+    for (last, stop) in [
+        (
+            Last::Filed {
+                set: QUEUE,
+                owner: 2,
+            },
+            fault(FaultKind::FiledTwice),
+        ),
+        (
+            Last::Removed {
+                set: QUEUE,
+                owner: 2,
+            },
+            fault(FaultKind::NotFiled),
+        ),
+        (
+            Last::Filed {
+                set: POOL,
+                owner: 0,
+            },
+            Stop::Ended,
+        ),
+        (
+            Last::Filed {
+                set: QUEUE,
+                owner: 3,
+            },
+            fault(FaultKind::Index),
+        ),
+    ] {
+        as_wanted = in_a_queue(alloc, last, stop)? && as_wanted;
+    }
+    Ok(as_wanted)
 }
 
 #[test]
@@ -338,8 +415,36 @@ fn a_job_is_in_one_queue(rt: HostRuntime) {
     assert_eq!(rt; queues_are_apart(rt.alloc()), Ok(true));
 }
 
-// FOR ITEM = 1 TO 3 DO CREATE A JOB; FILE JOB IN POOL; LOOP; FOR EACH JOB IN POOL REMOVE so many behind JOB FROM POOL;
+// FOR ITEM = 1 TO 3 DO CREATE A JOB; FILE JOB IN POOL; LOOP.
+fn three_made(alloc: Global) -> Result<Statement, AllocError> {
+    let filed = file(16, POOL, held(THE_JOB), system());
+    let body = Vec::from_array(alloc, [create(16, THE_JOB), filed])?;
+    Ok(repeat(alloc, 16, 3, body))
+}
+
+// FOR EACH JOB IN POOL REMOVE so many behind JOB FROM POOL.
+fn each_removed(alloc: Global, behind: i64) -> Result<Statement, AllocError> {
+    let first = Box::new(alloc, held(THE_JOB))?;
+    let rest = Vec::from_array(alloc, [(Sign::Plus, number(behind))])?;
+    let one = Expression::Sum { first, rest };
+    let body = Vec::from_array(alloc, [remove(17, POOL, one, system())])?;
+    Ok(for_each_job(alloc, 17, body))
+}
+
 // PRINT 1 LINE WITH N.POOL.
+fn counted(alloc: Global) -> Result<Statement, AllocError> {
+    let count = derived(alloc, Derived::Count, POOL, system())?;
+    print(alloc, 18, Vec::from_array(alloc, [count])?, b"*")
+}
+
+fn removed(alloc: Global, behind: i64) -> Result<Resolved, AllocError> {
+    let made = three_made(alloc)?;
+    let removed = each_removed(alloc, behind)?;
+    let shown = counted(alloc)?;
+    let body = Vec::from_array(alloc, [made, removed, shown])?;
+    program(alloc, ranked(alloc)?, body)
+}
+
 fn removing(
     alloc: Global,
     behind: i64,
@@ -347,24 +452,7 @@ fn removing(
     used: u64,
     report: &[u8],
 ) -> Result<bool, CodeError> {
-    let mut made = Vec::new(alloc);
-    made.push(create(16, THE_JOB))?;
-    made.push(file(16, POOL, held(THE_JOB), system()))?;
-    let mut rest = Vec::new(alloc);
-    rest.push((Sign::Plus, number(behind)))?;
-    let mut gone = Vec::new(alloc);
-    let one = Expression::Sum {
-        first: Box::new(alloc, held(THE_JOB))?,
-        rest,
-    };
-    gone.push(remove(17, POOL, one, system()))?;
-    let mut items = Vec::new(alloc);
-    items.push(derived(alloc, Derived::Count, POOL, system())?)?;
-    let mut body = Vec::new(alloc);
-    body.push(repeat(alloc, 16, 3, made))?;
-    body.push(for_each_job(alloc, 17, gone))?;
-    body.push(print(alloc, 18, items, b"*")?)?;
-    let program = program(alloc, ranked(alloc)?, body)?;
+    let program = removed(alloc, behind)?;
     comes_to(alloc, &program, b"", stop, used, report)
 }
 

@@ -310,4 +310,3 @@ fn cases_found_in_a_set(rt: HostRuntime) -> Result<(), Fail> {
     try_all(&rt, rt.alloc(), &trials)?;
     Ok(())
 }
-

@@ -1,11 +1,11 @@
 -- How a set is ordered, by the statements of a preamble.
-use Rattle.std.proofs.Common.{◌≡◌, ℕ, ◌+◌, ◌<◌, Bool, true, false, List, [], ◌∷◌, ◌++◌, length, take, map, get_or, Option, Some, None, refl, sym, ap, ◌∙◌}
+use Rattle.std.proofs.Common.{◌≡◌, ℕ, ◌+◌, ◌<◌, Bool, true, false, List, [], ◌∷◌, ◌++◌, length, take, map, get_or, Option, Some, None, refl, ap, ◌∙◌}
 use Rattle.std.specs.Prelude.{◌||◌, option_map, if◌then◌else◌}
-use Rattle.std.specs.List.{list_any, flat_map}
+use Rattle.std.specs.List.{flat_map}
 use Rattle.std.specs.Map.{lookup}
 use Rattle.std.specs.Option.{option_or}
 use Rattle.ss_tree.specs.declared.preamble.PreambleStatement.{PreambleStatement}
-use Rattle.ss_tree.specs.Tree.{OrderTree, PreambleTree}
+use Rattle.ss_tree.specs.Tree.{OrderTree}
 use Rattle.ss_tree.specs.View.{view_preamble}
 use Rattle.ss_tables.specs.Declarations.{NameBytes, is_one_of, same_name}
 use Rattle.ss_tables.specs.Disciplines.{order_of, orders_said}

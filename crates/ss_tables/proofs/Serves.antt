@@ -14,10 +14,6 @@ and_assoc : (a b c : Bool) → ((a && b) && c) ≡ (a && (b && c))
 and_assoc true b c = refl
 and_assoc false b c = refl
 
-and_false : (a : Bool) → (a && false) ≡ false
-and_false true = refl
-and_false false = refl
-
 and_true : (a : Bool) → (a && true) ≡ a
 and_true true = refl
 and_true false = refl
@@ -109,9 +105,10 @@ start_is (after_member e) = expression_is e
 
 members_is : (v : List ℕ) (n : NamedTree) (s : StartTree) (r : Bool) (ps : List PhraseTree) → list_all served_mention (in_head (over_members v n s r ps)) ≡ served_finding (over_members v n s r ps)
 members_is v n s r ps =
-    all_append served_mention (in_named Set n) (in_start s ++ in_phrases ps)
-    ∙ (λ i. set_is n i && all_append served_mention (in_start s) (in_phrases ps) i)
-    ∙ (λ i. served_set n && (start_is s i && phrases_is ps i))
+    all_append served_mention (in_named Set n ++ in_start s) (in_phrases ps)
+    ∙ (λ i. all_append served_mention (in_named Set n) (in_start s) i && phrases_is ps i)
+    ∙ (λ i. (set_is n i && start_is s i) && list_all served_phrase ps)
+    ∙ and_assoc (served_set n) (served_start s) (list_all served_phrase ps)
 
 position_is : (p : PositionTree) → list_all served_mention (in_position p) ≡ served_position p
 position_is by_discipline = refl
@@ -160,9 +157,10 @@ itself_is (create_statement l n c) = called_is c
 itself_is (create_every l ns) = classes_are ns
 itself_is (destroy_statement l n c) = step_is c
 itself_is (file_statement l x p s) =
-    all_append served_mention (in_expression x) (in_position p ++ in_named Set s)
-    ∙ (λ i. expression_is x i && all_append served_mention (in_position p) (in_named Set s) i)
-    ∙ (λ i. served_expression x && (position_is p i && set_is s i))
+    all_append served_mention (in_expression x ++ in_position p) (in_named Set s)
+    ∙ (λ i. all_append served_mention (in_expression x) (in_position p) i && set_is s i)
+    ∙ (λ i. (expression_is x i && position_is p i) && served_set s)
+    ∙ and_assoc (served_expression x) (served_position p) (served_set s)
 itself_is (remove_end l e t s) = all_append served_mention (in_named Target t) (in_named Set s) ∙ (λ i. target_is t i && set_is s i)
 itself_is (remove_statement l x s) = all_append served_mention (in_expression x) (in_named Set s) ∙ (λ i. expression_is x i && set_is s i)
 itself_is (schedule_new l n c g w) = refl

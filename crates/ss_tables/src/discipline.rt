@@ -2,8 +2,6 @@
 
 ghost use Rattle.std.specs.Prelude.{◌≡◌, map, option_map, Some, IfOk};
 ghost use Rattle.ss_tree.specs.View.{view_order, view_preamble};
-ghost use Rattle.ss_tree.specs.Tree.{OrderTree};
-ghost use Rattle.std.specs.List.{flat_map};
 ghost use Rattle.std.specs.Map.{keys_of, lookup};
 ghost use Rattle.ss_tables.specs.Ranks.{members_of};
 ghost use Rattle.ss_tables.specs.Disciplines.{discipline_said, member_field, order_by, order_of, orders_said, rank_key, set_order};
@@ -54,11 +52,7 @@ fn order_of(preamble: &[PreambleStatement], set: Name) -> Option<&SetOrder>
     found
 }
 
-fn member_field(
-    numbers: &Numbers,
-    class: &Option<Name>,
-    name: Name,
-) -> usize
+fn member_field(numbers: &Numbers, class: &Option<Name>, name: Name) -> usize
     ensures { result ≡ member_field numbers.now.classes numbers.now.attributes class.now name }
 {
     match class {
@@ -79,7 +73,10 @@ fn rank_keys(
     let mut ranks = Vec::new(alloc);
     for key in keys {
         let field = member_field(numbers, class, key.name);
-        ranks.push(RankKey { field, high: key.high })?;
+        ranks.push(RankKey {
+            field,
+            high: key.high,
+        })?;
     }
     Ok(ranks)
 }

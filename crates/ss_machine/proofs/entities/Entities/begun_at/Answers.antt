@@ -1,4 +1,4 @@
-use Rattle.std.proofs.Common.{rules, ◌≡◌, true, false, Ok, Err, ap, sym, ◌∙◌, subst}
+use Rattle.std.proofs.Common.{rules, ◌≡◌, true, false, Ok, ap, sym, ◌∙◌}
 use Rattle.ss_code.specs.Entities.{with_heap}
 use Rattle.ss_code.specs.Store.{if_ok}
 use Rattle.ss_code.specs.Sets.{from_or_after, if_filed}

@@ -1,12 +1,9 @@
-use Rattle.std.proofs.Common.{◌≡◌, true, false, ap, sym, ◌∙◌, w64, subst}
+use Rattle.std.proofs.Common.{◌≡◌, true, ap, sym, ◌∙◌, w64, subst}
 use Rattle.std.specs.Prelude.{is_some}
 use Rattle.std.proofs.lemmas.Int.{to_z-of_z}
 use Rattle.ss_base.specs.declared.layout.Layout.{Layout}
-use Rattle.ss_sets.specs.Disciplines as D
 use Rattle.ss_sets.specs.Disciplines.{Fits}
 use Rattle.ss_records.specs.State.{State}
-use Rattle.ss_code.specs.Entities.{turned, with_heap}
-use Rattle.ss_code.specs.Store.{number_of}
 use Rattle.ss_code.specs.Orders.{order_said}
 use Rattle.ss_code.specs.Sets.{set_at, filed_in_order}
 use Rattle.ss_machine.specs.Peopled.{Settles}

@@ -1,8 +1,7 @@
-use Rattle.std.proofs.Common.{◌≡◌, List, ◌∷◌, sym, ap, ◌∙◌, subst}
+use Rattle.std.proofs.Common.{◌≡◌, List, sym, ap, ◌∙◌, subst}
 use Rattle.ss_base.specs.declared.value.Value.{Value}
 use Rattle.ss_code.specs.Sets.{filed}
 use Rattle.ss_code.specs.Machine.{Moved, settled, with_operand}
-use Rattle.ss_machine.specs.declared.working.Working.{Working}
 use Rattle.ss_machine.specs.Holding.{core_of, store_of, Told}
 use Rattle.ss_machine.proofs.Alike.{SameBut, same_but_twice, same_store, settled_alike, found_is}
 use Rattle.ss_machine.proofs.working.Working.file_one.Goals as goal

@@ -2,7 +2,6 @@ use Rattle.std.proofs.Common.{◌≡◌, ◌+◌, ◌-◌, ◌∷◌, List, drop
 use Rattle.ss_base.specs.declared.value.Value.{Value}
 use Rattle.ss_code.specs.Sets.{goes_on}
 use Rattle.ss_code.specs.Machine.{Moved, To, did, where_member, with_three}
-use Rattle.ss_machine.specs.declared.working.Working.{Working}
 use Rattle.ss_machine.specs.Holding.{core_of, store_of}
 use Rattle.ss_machine.proofs.Gathered.{looked_at, stands_at, three_last}
 use Rattle.ss_machine.proofs.working.Working.next_member.Goals as goal

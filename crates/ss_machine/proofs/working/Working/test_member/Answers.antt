@@ -1,4 +1,4 @@
-use Rattle.std.proofs.Common.{◌≡◌, List, ◌∷◌, sym, ap, ◌∙◌, subst}
+use Rattle.std.proofs.Common.{List, sym, ap, ◌∙◌, subst}
 use Rattle.ss_base.specs.declared.value.Value.{Value}
 use Rattle.ss_code.specs.Meaning.{unless}
 use Rattle.ss_code.specs.Sets.{is_in}
