@@ -1,4 +1,6 @@
 pub mod Frames
+pub mod Noted
+pub mod Coming
 pub mod Peopled
 pub mod Holding
 pub mod Sent

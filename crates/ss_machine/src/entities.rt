@@ -1,7 +1,7 @@
-ghost use Rattle.std.specs.Prelude.{◌≡◌, ℕ, length, pos, is_some, Some, None, Err, slice_get, slice_set, replicate, IfOk, IsTrue};
+ghost use Rattle.std.specs.Prelude.{◌≡◌, ℕ, length, pos, is_some, Some, None, Err, slice_get, slice_set, replicate, IfOk, OnErr, IsTrue};
 ghost use Rattle.ss_base.specs.Layout.{is_sound};
 ghost use Rattle.ss_base.specs.declared.value.Value.{Value as ValueSeen};
-ghost use Rattle.ss_code.specs.Entities.{class_at, field_at, has_numbers, has_indices, if_so, turned, with_heap, fitted, known, attribute, with_attribute, made_one, without};
+ghost use Rattle.ss_code.specs.Entities.{class_at, field_at, has_numbers, has_indices, if_so, turned, with_heap, fitted, known, attribute, with_attribute, made_one, gone};
 ghost use Rattle.ss_code.specs.Store.{Store as StoreSeen, computed, if_ok};
 ghost use Rattle.ss_records.specs.State.{first_state, is_made, records_in, created_all};
 ghost use Rattle.ss_machine.specs.Peopled.{Settles, Makes, Bears};
@@ -36,7 +36,7 @@ impl Model for Entities {
 }
 
 // A value of a field's mode.
-fn fitting(mode: Mode, value: Value) -> Value
+pub(crate) fn fitting(mode: Mode, value: Value) -> Value
     ensures { result ≡ fitted mode value }
 {
     match mode {
@@ -75,7 +75,7 @@ impl Entities {
     }
 
     // Whether the entities of a class come and go one by one.
-    fn has_numbers(&self, class: usize) -> bool
+    pub(crate) fn has_numbers(&self, class: usize) -> bool
         ensures { result ≡ has_numbers (class_at self.now class) }
     {
         match self.heap.layout().classes.get(class) {
@@ -129,12 +129,24 @@ impl Entities {
     pub fn put(&mut self, class: u32, field: u32, x: Value, value: Value) -> Result<(), FaultKind>
         ensures { Settles (with_attribute class field x value) result self.old self.new }
     {
-        match self.mode(class as usize, field as usize) {
+        self.assign(class, field as usize, x, value)
+    }
+
+    // Assigns a value to an attribute.
+    pub(crate) fn assign(
+        &mut self,
+        class: u32,
+        field: usize,
+        x: Value,
+        value: Value,
+    ) -> Result<(), FaultKind>
+        ensures { Settles (with_attribute class field x value) result self.old self.new }
+    {
+        match self.mode(class as usize, field) {
             None => Err(self.lacking(class, x)),
             Some(mode) => {
                 let value = fitting(mode, value);
-                self.heap
-                    .set_value(class as usize, field as usize, number(x), value)
+                self.heap.set_value(class as usize, field, number(x), value)
             }
         }
     }
@@ -203,9 +215,10 @@ impl Entities {
         }
     }
 
-    /// An entity goes. Faults: 1 to 4, then 9 and 10.
+    /// An entity goes. Faults: 1 to 4, then 9 and 10; then it is there as before.
     pub fn destroy(&mut self, class: u32, x: Value) -> Result<(), FaultKind>
-        ensures { Settles (without class x) result self.old self.new }
+        ensures settles { Settles (gone class x) result self.old self.new }
+        ensures unchanged { OnErr result (self.new ≡ self.old) }
     {
         if !self.has_numbers(class as usize) {
             return Err(FaultKind::WrongClass);

@@ -166,6 +166,7 @@ fn program(alloc: Global, last: Statement) -> Result<Resolved, AllocError> {
         disciplines: Vec::new(alloc),
         globals: Vec::from_slice(alloc, &[Mode::Integer, Mode::Integer, Mode::Integer])?,
         routines: Vec::new(alloc),
+        events: Vec::new(alloc),
         main: Section {
             locals: Vec::new(alloc),
             body,

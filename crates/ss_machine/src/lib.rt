@@ -6,14 +6,17 @@ pub mod disciplines;
 pub mod entities;
 #[cfg(test)]
 mod entity_tests;
+mod event_serving;
 mod frame;
 mod frames;
 mod machine;
+pub mod notices;
 mod operands;
 mod printing;
 mod quick;
 mod reading;
 pub mod running;
+mod scheduled;
 mod serving;
 mod set_serving;
 #[cfg(test)]

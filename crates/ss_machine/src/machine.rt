@@ -8,6 +8,7 @@ ghost use Rattle.ss_machine.specs.Runs.{Ran};
 use crate::disciplines::Disciplines;
 use crate::entities::Entities;
 use crate::frames::Frames;
+use crate::notices::Notices;
 use crate::operands::Operands;
 use crate::quick::{Quick, quickened};
 use crate::running::Running;
@@ -79,6 +80,7 @@ impl Machine {
         if !layout.is_sound() {
             return Err(AllocError);
         }
+        let notices = Notices::new(alloc, &layout, code.events())?;
         let entities = Entities::new(alloc, layout)?;
         let disciplines = Disciplines::of(alloc, code.disciplines())?;
         let working = Working {
@@ -89,6 +91,7 @@ impl Machine {
             locals,
             entities,
             disciplines,
+            notices,
         };
         Ok(Machine {
             running: Running {

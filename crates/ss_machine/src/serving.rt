@@ -250,6 +250,9 @@ impl Working {
         requires { self.old.place + 1 < 2 ^ 64 }
         ensures { (input : List ℕ) → Told result (settled line (without class x (store_of self.old input)) self.old.operands.here (core_of self.old input)) (core_of self.new input) }
     {
+        if let Err(kind) = self.notices.may_go(&self.entities, class, &x) {
+            return Outcome::Faults(kind, line);
+        }
         match self.entities.destroy(class, x) {
             Ok(()) => {
                 self.place += 1;

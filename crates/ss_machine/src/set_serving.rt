@@ -18,7 +18,7 @@ use std::alloc::AllocError;
 
 impl Working {
     // An answer goes on top of the stack.
-    fn push_answer(
+    pub(crate) fn push_answer(
         &mut self,
         answer: Result<Value, FaultKind>,
         line: Line,

@@ -107,6 +107,7 @@ fn program(alloc: Global, pool: Discipline, body: Vec<Statement>) -> Result<Reso
         disciplines,
         globals: Vec::from_slice(alloc, &[Mode::Integer, Mode::Integer])?,
         routines: Vec::new(alloc),
+        events: Vec::new(alloc),
         main: Section {
             locals: Vec::from_slice(alloc, &[Mode::Integer, Mode::Integer, Mode::Integer])?,
             body,

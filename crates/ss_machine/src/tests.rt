@@ -170,6 +170,7 @@ fn program(alloc: Global) -> Result<Resolved, AllocError> {
         disciplines: Vec::new(alloc),
         globals: Vec::from_slice(alloc, &[Mode::Integer])?,
         routines,
+        events: Vec::new(alloc),
         main: main_section(alloc)?,
     })
 }

@@ -15,7 +15,7 @@ returns c =
     let one = c.taken.new.self in
     let e = c.taken.ensures in
     let two : Working = record one { operands = c.pop.new.self; entities = c.begun_at-answer.new.self } in
-    let same : SameBut old two = record { place = e.place; globals = e.globals; locals = e.locals; frames = e.frames; below = c.in-Some-pop.ensures.below ∙ e.below; entities = c.begun_at-answer.ensures.same ∙ e.entities; disciplines = e.disciplines } in
+    let same : SameBut old two = record { place = e.place; globals = e.globals; locals = e.locals; frames = e.frames; below = c.in-Some-pop.ensures.below ∙ e.below; entities = c.begun_at-answer.ensures.same ∙ e.entities; disciplines = e.disciplines; notices = e.notices } in
     let y = c.in-Some.y in
     let o = c.in-Some-pop.o in
     let rest = c.pop.new.self.here in

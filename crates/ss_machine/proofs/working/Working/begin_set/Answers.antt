@@ -15,7 +15,7 @@ returns c =
     let one = c.taken.new.self in
     let e = c.taken.ensures in
     let two : Working = record one { entities = c.begun-answer.new.self } in
-    let same : SameBut old two = record { place = e.place; globals = e.globals; locals = e.locals; frames = e.frames; below = e.below; entities = c.begun-answer.ensures.same ∙ e.entities; disciplines = e.disciplines } in
+    let same : SameBut old two = record { place = e.place; globals = e.globals; locals = e.locals; frames = e.frames; below = e.below; entities = c.begun-answer.ensures.same ∙ e.entities; disciplines = e.disciplines; notices = e.notices } in
     let o = c.in-Some.o in
     let rest = one.operands.here in
     let r = c.begun-answer.result in

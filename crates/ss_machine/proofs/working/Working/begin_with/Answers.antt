@@ -13,7 +13,7 @@ returns-in_ok-put_members-in-Ok c = λ input.
     let m = c.in-Ok.member in
     let stack = m ∷ m ∷ c.args.owner ∷ old.operands.here in
     let put : Working = record old { operands = record { below = old.operands.below; here = stack } } in
-    let same : SameBut old put = record { place = refl; globals = refl; locals = refl; frames = refl; below = refl; entities = refl; disciplines = refl } in
+    let same : SameBut old put = record { place = refl; globals = refl; locals = refl; frames = refl; below = refl; entities = refl; disciplines = refl; notices = refl } in
     let b = c.is_member-holds.result in
     let go : Value → Core = λ x. branch (is_member x) c.args.skip (x ∷ x ∷ c.args.owner ∷ old.operands.here) (core_of old input) in
     let whole : did c.args.line c.args.answer go ≡ To (branch b c.args.skip stack (core_of put input)) =

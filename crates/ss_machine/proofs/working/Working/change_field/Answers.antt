@@ -13,7 +13,7 @@ returns c code input =
     let one : Working = record old { operands = c.pop.new.self } in
     let two = c.taken.new.self in
     let e = c.taken.ensures in
-    let same : SameBut old two = record { place = e.place; globals = e.globals; locals = e.locals; frames = e.frames; below = e.below ∙ c.in-Some.ensures.below; entities = e.entities; disciplines = e.disciplines } in
+    let same : SameBut old two = record { place = e.place; globals = e.globals; locals = e.locals; frames = e.frames; below = e.below ∙ c.in-Some.ensures.below; entities = e.entities; disciplines = e.disciplines; notices = e.notices } in
     let end : Value → Value → List Value → Moved =
     λ x y rest. settled c.args.line (changed c.args.operator c.args.class c.args.field x y (store_of old input)) rest (core_of old input) in
     let x = c.in-Some.x in

@@ -11,7 +11,7 @@ returns c code input =
     let old = c.args.self.now in
     let one = c.taken.new.self in
     let e = c.taken.ensures in
-    let same : SameBut old one = record { place = e.place; globals = e.globals; locals = e.locals; frames = e.frames; below = e.below; entities = e.entities; disciplines = e.disciplines } in
+    let same : SameBut old one = record { place = e.place; globals = e.globals; locals = e.locals; frames = e.frames; below = e.below; entities = e.entities; disciplines = e.disciplines; notices = e.notices } in
     let go : Value → List Value → Moved =
     λ x rest. settled c.args.line (without c.args.class x (store_of old input)) rest (core_of old input) in
     let x = c.in-Some.x in

@@ -13,7 +13,7 @@ returns c code input =
     let one = c.taken.new.self in
     let e = c.taken.ensures in
     let two : Working = record one { operands = c.pop-2.new.self } in
-    let same : SameBut old two = record { place = e.place; globals = e.globals; locals = e.locals; frames = e.frames; below = c.in-Some-pop-2.ensures.below ∙ (c.in-Some-pop.ensures.below ∙ e.below); entities = e.entities; disciplines = e.disciplines } in
+    let same : SameBut old two = record { place = e.place; globals = e.globals; locals = e.locals; frames = e.frames; below = c.in-Some-pop-2.ensures.below ∙ (c.in-Some-pop.ensures.below ∙ e.below); entities = e.entities; disciplines = e.disciplines; notices = e.notices } in
     let end : Value → Value → Value → List Value → Moved =
     λ o y x rest. settled c.args.line (filed_beside c.args.side c.args.set x y o (store_of old input)) rest (core_of old input) in
     let over : Value → Value → List Value → Moved = λ o y over. with_top over (end o y) in

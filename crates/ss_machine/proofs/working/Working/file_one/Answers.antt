@@ -13,8 +13,8 @@ returns c code input =
     let two = c.taken-2.new.self in
     let e = c.taken.ensures in
     let f = c.taken-2.ensures in
-    let first : SameBut old one = record { place = e.place; globals = e.globals; locals = e.locals; frames = e.frames; below = e.below; entities = e.entities; disciplines = e.disciplines } in
-    let second : SameBut one two = record { place = f.place; globals = f.globals; locals = f.locals; frames = f.frames; below = f.below; entities = f.entities; disciplines = f.disciplines } in
+    let first : SameBut old one = record { place = e.place; globals = e.globals; locals = e.locals; frames = e.frames; below = e.below; entities = e.entities; disciplines = e.disciplines; notices = e.notices } in
+    let second : SameBut one two = record { place = f.place; globals = f.globals; locals = f.locals; frames = f.frames; below = f.below; entities = f.entities; disciplines = f.disciplines; notices = f.notices } in
     let both = same_but_twice first second in
     let end : Value → Value → List Value → Moved =
     λ o x rest. settled c.args.line (filed c.args.filing c.args.set x o (store_of old input)) rest (core_of old input) in

@@ -12,7 +12,7 @@ returns c =
     let old = c.args.self.now in
     let one = c.taken.new.self in
     let e = c.taken.ensures in
-    let same : SameBut old one = record { place = e.place; globals = e.globals; locals = e.locals; frames = e.frames; below = e.below; entities = e.entities; disciplines = e.disciplines } in
+    let same : SameBut old one = record { place = e.place; globals = e.globals; locals = e.locals; frames = e.frames; below = e.below; entities = e.entities; disciplines = e.disciplines; notices = e.notices } in
     let x = c.in-Some.x in
     let rest = one.operands.here in
     IfOk-weaker c.look_at.result _ _ (λ outcome told. λ code input.

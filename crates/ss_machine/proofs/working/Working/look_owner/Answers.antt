@@ -15,7 +15,7 @@ returns c =
     let one = c.taken.new.self in
     let e = c.taken.ensures in
     let two : Working = record one { entities = c.known_owner-known.new.self } in
-    let same : SameBut old two = record { place = e.place; globals = e.globals; locals = e.locals; frames = e.frames; below = e.below; entities = c.known_owner-known.ensures.same ∙ e.entities; disciplines = e.disciplines } in
+    let same : SameBut old two = record { place = e.place; globals = e.globals; locals = e.locals; frames = e.frames; below = e.below; entities = c.known_owner-known.ensures.same ∙ e.entities; disciplines = e.disciplines; notices = e.notices } in
     let owner = c.in-Some.owner in
     let rest = one.operands.here in
     IfOk-weaker c.push_answer.result _ _ (λ outcome told. λ code input.

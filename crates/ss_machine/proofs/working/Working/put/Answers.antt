@@ -13,7 +13,7 @@ returns c code input =
     let one = c.taken.new.self in
     let e = c.taken.ensures in
     let two : Working = record one { operands = c.pop.new.self } in
-    let same : SameBut old two = record { place = e.place; globals = e.globals; locals = e.locals; frames = e.frames; below = c.in-Some-pop.ensures.below ∙ e.below; entities = e.entities; disciplines = e.disciplines } in
+    let same : SameBut old two = record { place = e.place; globals = e.globals; locals = e.locals; frames = e.frames; below = c.in-Some-pop.ensures.below ∙ e.below; entities = e.entities; disciplines = e.disciplines; notices = e.notices } in
     let end : Value → Value → List Value → Moved =
     λ v x rest. settled c.args.line (with_attribute c.args.class c.args.field x v (store_of old input)) rest (core_of old input) in
     let go : Value → List Value → Moved = λ v above. with_top above (end v) in

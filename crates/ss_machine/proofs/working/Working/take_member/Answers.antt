@@ -28,7 +28,7 @@ returns c = λ code input.
     let stack : List Value = n ∷ v ∷ o ∷ rest in
     let here : end.operands.here ≡ stack = ap (λ (s : Stacked). s.here) two ∙ ap (λ l. n ∷ l) (ap (λ (s : Stacked). s.here) one ∙ ap (λ l. v ∷ l) c.in-Some-top.ensures.1) in
     let kept : end.operands.below ≡ old.operands.below = ap (λ (s : Stacked). s.below) two ∙ (ap (λ (s : Stacked). s.below) one ∙ below) in
-    let same : SameBut old (record end { place = old.place }) = record { place = refl; globals = refl; locals = refl; frames = refl; below = kept; entities = c.coming-next.ensures.same; disciplines = refl } in
+    let same : SameBut old (record end { place = old.place }) = record { place = refl; globals = refl; locals = refl; frames = refl; below = kept; entities = c.coming-next.ensures.same; disciplines = refl; notices = refl } in
     let go : Value → Value → Value → List Value → Moved =
     λ v last o rest. To (record (next (coming c.args.reverse c.args.set v (store_of old input) ∷ v ∷ o ∷ rest) (core_of old input)) { store = assigned x v (store_of old input) }) in
     let to : List Value → Moved = λ stack. To (record (next stack (core_of old input)) { store = assigned x v (store_of old input) }) in

@@ -15,7 +15,7 @@ returns c code input =
     let one = c.taken.new.self in
     let e = c.taken.ensures in
     let two : Working = record one { operands = c.pop.new.self; entities = c.is_in-answer.new.self } in
-    let same : SameBut old two = record { place = e.place; globals = e.globals; locals = e.locals; frames = e.frames; below = c.in-Some-pop.ensures.below ∙ e.below; entities = c.is_in-answer.ensures.same ∙ e.entities; disciplines = e.disciplines } in
+    let same : SameBut old two = record { place = e.place; globals = e.globals; locals = e.locals; frames = e.frames; below = c.in-Some-pop.ensures.below ∙ e.below; entities = c.is_in-answer.ensures.same ∙ e.entities; disciplines = e.disciplines; notices = e.notices } in
     let owner = c.in-Some.owner in
     let member = c.in-Some-pop.member in
     let rest = c.pop.new.self.here in

@@ -3,7 +3,7 @@ use Rattle.std.proofs.lemmas.Int.{to_z-of_z}
 use Rattle.ss_code.specs.Entities.{field_at, with_attribute}
 use Rattle.ss_machine.specs.Peopled.{Settles}
 use Rattle.ss_machine.proofs.Peopling.{put_counts, put_settles}
-use Rattle.ss_machine.proofs.entities.Entities.put.Goals as goal
+use Rattle.ss_machine.proofs.entities.Entities.assign.Goals as goal
 
 pub invariant_of-self : goal.invariant_of-self
 invariant_of-self c = c.self.invariant ∙ sym (put_counts c.self.inside.heap.state c.set_value.new.self.state c.set_value.result _ _ _ _ c.set_value.ensures.done)
