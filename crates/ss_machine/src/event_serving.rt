@@ -4,6 +4,7 @@ ghost use Rattle.std.specs.Prelude.{◌≡◌, ◌+◌, ◌-◌, ◌<◌, ◌≤
 ghost use Rattle.ss_records.specs.State.{modes_of};
 ghost use Rattle.ss_code.specs.Machine.{Code as CodeSeen, Moved, To, act, branch, did, next, settled, enter_event, take_event, event_fault};
 ghost use Rattle.ss_code.specs.Events.{filed_notice, refiled, made_notice, unscheduled, attributes, event_begun};
+ghost use Rattle.ss_code.specs.Entities.{with_attribute};
 ghost use Rattle.ss_code.specs.Store.{assigned};
 ghost use Rattle.ss_resolved.specs.declared.resolved.Variable.{Variable as VariableSeen};
 ghost use Rattle.ss_machine.specs.Holding.{store_of, core_of, Told};
@@ -96,6 +97,27 @@ impl Working {
         Ok(Outcome::Went)
     }
 
+    // A value goes to an attribute of an entity, and on top of the stack.
+    fn put_kept_at(
+        &mut self,
+        class: u32,
+        field: u32,
+        x: Value,
+        value: &Value,
+        line: Line,
+    ) -> Result<Outcome, AllocError>
+        requires { self.old.place + 1 < 2 ^ 64 }
+        ensures { IfOk result (λ outcome. (input : List ℕ) → Told outcome (settled line (with_attribute class field x value.now (store_of self.old input)) (value.now ∷ self.old.operands.here) (core_of self.old input)) (core_of self.new input)) }
+    {
+        match self.entities.put(class, field, x, *value) {
+            Err(kind) => Ok(Outcome::Faults(kind, line)),
+            Ok(()) => {
+                self.deliver(Destination::Pushed, *value)?;
+                Ok(Outcome::Went)
+            }
+        }
+    }
+
     // The value on top of the stack goes to an attribute of the entity below it, and stays in place of both.
     pub(crate) fn put_kept(
         &mut self,
@@ -112,13 +134,7 @@ impl Working {
         let Some(x) = self.operands.pop() else {
             return Ok(Outcome::Missing);
         };
-        match self.entities.put(class, field, x, value) {
-            Err(kind) => Ok(Outcome::Faults(kind, line)),
-            Ok(()) => {
-                self.deliver(Destination::Pushed, value)?;
-                Ok(Outcome::Went)
-            }
-        }
+        self.put_kept_at(class, field, x, &value, line)
     }
 
     // Files a notice.

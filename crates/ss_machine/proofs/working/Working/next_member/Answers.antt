@@ -34,7 +34,7 @@ returns-then-goes_on c = λ code input.
     ap (λ l. with_three l go) ops ∙
     ap (λ r. did c.args.line r (λ b. where_member b c.args.back (v ∷ last ∷ o ∷ rest) (core_of old input))) (looked_at old old.entities refl (goes_on c.args.set v o) c.goes_on.result c.goes_on.ensures.value input ∙ c.in-Ok.is) ∙
     ap (λ b. To (where_member b c.args.back (v ∷ last ∷ o ∷ rest) (core_of old input))) c.if-goes_on.true ∙
-    ap To (sym (stands_at old (record old { place = c.saturating_sub-self.result; entities = c.goes_on.new.self }) (old.place - c.args.back) (v ∷ last ∷ o ∷ rest) c.saturating_sub-self.ensures ops refl refl refl refl c.goes_on.ensures.same refl input))
+    ap To (sym (stands_at old (record old { place = c.saturating_sub-self.result; entities = c.goes_on.new.self }) (old.place - c.args.back) (v ∷ last ∷ o ∷ rest) c.saturating_sub-self.ensures ops refl refl refl refl c.goes_on.ensures.same refl refl input))
 
 pub returns-else-goes_on : goal.returns-else-goes_on
 returns-else-goes_on c = λ code input.
@@ -50,4 +50,4 @@ returns-else-goes_on c = λ code input.
     ap (λ l. with_three l go) ops ∙
     ap (λ r. did c.args.line r (λ b. where_member b c.args.back (v ∷ last ∷ o ∷ rest) (core_of old input))) (looked_at old old.entities refl (goes_on c.args.set v o) c.goes_on.result c.goes_on.ensures.value input ∙ c.in-Ok.is) ∙
     ap (λ b. To (where_member b c.args.back (v ∷ last ∷ o ∷ rest) (core_of old input))) c.if-goes_on.false ∙
-    ap To (sym (stands_at old (record old { place = old.place + 1; entities = c.goes_on.new.self }) (old.place + 1) (v ∷ last ∷ o ∷ rest) refl ops refl refl refl refl c.goes_on.ensures.same refl input))
+    ap To (sym (stands_at old (record old { place = old.place + 1; entities = c.goes_on.new.self }) (old.place + 1) (v ∷ last ∷ o ∷ rest) refl ops refl refl refl refl c.goes_on.ensures.same refl refl input))

@@ -35,5 +35,5 @@ returns c = λ code input.
     ap (λ l. with_three l go) ops ∙
     ap (λ y. to (y ∷ v ∷ o ∷ rest)) (looked_at old old.entities refl (coming c.args.reverse c.args.set v) n c.coming-next.ensures.value input) ∙
     ap (λ s. To (record (next stack (core_of old input)) { store = assigned x v s })) (sym (same_store old (record end { place = old.place }) same input)) ∙
-    ap (λ (d : Core). To (record d { store = assigned x v (store_of end input) })) (sym (went_on old end stack refl here kept refl refl refl c.coming-next.ensures.same refl input)) ∙
+    ap (λ (d : Core). To (record d { store = assigned x v (store_of end input) })) (sym (went_on old end stack refl here kept refl refl refl c.coming-next.ensures.same refl refl input)) ∙
     ap To (sym (c.assign.ensures input))
