@@ -1,9 +1,14 @@
 // The instructions that work on time and on notices.
 
-ghost use Rattle.std.specs.Prelude.{◌≡◌, ◌+◌, ◌-◌, ◌<◌, ◌≤◌, ◌^◌, [], ◌∷◌, ◌++◌, length, reverse, pos, List, ℕ, IfOk, OnOk, option_copied, Some};
+ghost use Rattle.std.specs.Prelude.{◌≡◌, ◌+◌, ◌-◌, ◌<◌, ◌≤◌, ◌^◌, [], ◌∷◌, ◌++◌, length, reverse, pos, List, ℕ, ℤ, take, drop, IfOk, IfErr, IsOk, OnOk, OnErr, option_map, option_copied, None, Some, Ok, Err};
 ghost use Rattle.ss_records.specs.State.{modes_of};
 ghost use Rattle.ss_code.specs.Machine.{Code as CodeSeen, Moved, To, act, branch, did, next, settled, enter_event, take_event, event_fault};
-ghost use Rattle.ss_code.specs.Events.{filed_notice, refiled, made_notice, unscheduled, attributes, event_begun};
+ghost use Rattle.ss_code.specs.Events.{filed_notice, refiled, made_notice, unscheduled, attributes, saved_or_gone, class_of, nowhere, event_begun};
+ghost use Rattle.ss_events.specs.PendingList.{next as next_pending};
+ghost use Rattle.ss_base.specs.declared.value.Value.{Value as ValueSeen};
+ghost use Rattle.ss_base.specs.declared.value.Value.TheVariants.{Whole};
+ghost use Rattle.ss_machine.specs.declared.notices.Coming.{Coming as ComingSeen};
+ghost use Rattle.ss_machine.specs.Coming.{coming_of};
 ghost use Rattle.ss_code.specs.Entities.{with_attribute};
 ghost use Rattle.ss_code.specs.Store.{assigned};
 ghost use Rattle.ss_resolved.specs.declared.resolved.Variable.{Variable as VariableSeen};
@@ -255,7 +260,17 @@ impl Working {
     }
 
     // A notice is saved in a global variable, or it is destroyed. Faults, with all as it was: 1 to 5, then 9 and 10.
-    fn save(&mut self, saved: Option<u32>, class: u32, x: Value) -> Result<(), FaultKind> {
+    fn save(&mut self, saved: Option<u32>, class: u32, x: Value) -> Result<(), FaultKind>
+        ensures place { self.new.place ≡ self.old.place }
+        ensures operands { self.new.operands ≡ self.old.operands }
+        ensures locals { self.new.locals ≡ self.old.locals }
+        ensures frames { self.new.frames ≡ self.old.frames }
+        ensures disciplines { self.new.disciplines ≡ self.old.disciplines }
+        ensures notices { self.new.notices ≡ self.old.notices }
+        ensures saved { IfOk result (λ _. (input : List ℕ) → saved_or_gone saved class x (store_of self.old input) ≡ Ok (store_of self.new input)) }
+        ensures fault { IfErr result (λ kind. (input : List ℕ) → saved_or_gone saved class x (store_of self.old input) ≡ Err kind) }
+        ensures unchanged { OnErr result (self.new ≡ self.old) }
+    {
         match saved {
             Some(number) => {
                 self.globals.set(number, x);
@@ -266,7 +281,10 @@ impl Working {
     }
 
     // Calls the routine of an event, which goes back to the instruction before this one.
-    fn enter_event(&mut self, entry: Option<&Entry>, given: usize) -> Result<Outcome, AllocError> {
+    fn enter_event(&mut self, entry: Option<&Entry>, given: usize) -> Result<Outcome, AllocError>
+        requires { given ≤ length self.old.operands.here }
+        ensures { IfOk result (λ outcome. (routine : ℕ) (input : List ℕ) → Told outcome (To (enter_event (option_copied entry.entry) (record { routine = routine; given = reverse (take given self.old.operands.here); store = store_of self.old input }) (record (core_of self.old input) { operands = drop given self.old.operands.here }))) (core_of self.new input)) }
+    {
         let Some(entry) = entry else {
             self.operands.forget(given);
             self.place = self.place.saturating_sub(1);
@@ -290,8 +308,13 @@ impl Working {
         Ok(Outcome::Went)
     }
 
-    // The event of a notice begins: what is taken, and what is to be called. None where it does not begin.
-    fn event(&mut self) -> Option<(i64, Value, Coming)> {
+    // The time, the notice and the class of what comes next; None where nothing is pending, or a notice of no class.
+    fn event(&mut self) -> Option<(i64, Value, Coming)>
+        ensures same { self.new ≡ self.old }
+        ensures none { result ≡ None → (input : List ℕ) → event_begun (store_of self.old input) ≡ nowhere }
+        ensures some { (e : ℤ × ValueSeen × ComingSeen) → result ≡ Some e → (input : List ℕ) → (notice : ℤ) × (next_pending self.old.notices.pending ≡ Some (e.0, notice)) × (e.1 ≡ Whole notice) × (option_map coming_of (class_of self.old.notices.events (Whole notice) (store_of self.old input)) ≡ Some e.2) }
+        ensures fields { Keyed self.old.entities.layout self.old.notices → (e : ℤ × ValueSeen × ComingSeen) → result ≡ Some e → e.2.given ≤ length (modes_of self.old.entities.layout e.2.class) }
+    {
         let (time, notice) = self.notices.coming()?;
         let x = Value::Whole(notice);
         let coming = self.notices.class_of(&self.entities, &x)?;
@@ -320,7 +343,11 @@ impl Working {
     }
 
     // The fault for which the event that comes next does not begin.
-    fn blame(&mut self) -> Result<(), (FaultKind, Line)> {
+    fn blame(&mut self) -> Result<(), (FaultKind, Line)>
+        ensures same { self.new ≡ self.old }
+        ensures fault { IfErr result (λ b. (input : List ℕ) → event_begun (store_of self.old input) ≡ Err (record { kind = b.0; line = b.1 })) }
+        ensures begins { IfOk result (λ _. (input : List ℕ) → IsOk (event_begun (store_of self.old input))) }
+    {
         let Some((_, x, coming)) = self.event() else {
             return Err((FaultKind::WrongClass, Line(0)));
         };

@@ -1,7 +1,7 @@
 // What the entities of a machine are as notices.
 
-ghost use Rattle.std.specs.Prelude.{◌≡◌, ◌<◌, length};
-ghost use Rattle.ss_records.specs.State.{kind_of, is_notice, modes_of, time_in, no_value, destroyed};
+ghost use Rattle.std.specs.Prelude.{◌≡◌, ◌<◌, length, Ok};
+ghost use Rattle.ss_records.specs.State.{kind_of, is_notice, modes_of, time_in, no_value, destroyed, Record, entity, number_in, in_a_set, owns_members};
 ghost use Rattle.ss_sets.specs.Disciplines.{value_of};
 ghost use Rattle.ss_code.specs.Entities.{with_heap, gone, turned};
 ghost use Rattle.ss_code.specs.Events.{time_of, endowed, with_time, prepared, made_notice};
@@ -112,6 +112,7 @@ impl Entities {
     // Whether an entity is in a set.
     fn is_filed(&mut self, class: usize, x: i64) -> bool
         ensures same { self.new ≡ self.old }
+        ensures value { (r : Record) → entity self.old class x ≡ Ok r → result ≡ in_a_set self.old.layout.sets.items 0 self.old.lists class (number_in x) }
     {
         for set in 0..self.heap.layout().sets.len() {
             if self.heap.layout().sets[set].member == class {
@@ -126,6 +127,7 @@ impl Entities {
     // Whether an entity has members in a set.
     fn owns_members(&mut self, class: usize, x: i64) -> bool
         ensures same { self.new ≡ self.old }
+        ensures value { (r : Record) → entity self.old class x ≡ Ok r → result ≡ owns_members self.old.layout.sets.items 0 self.old.lists class (number_in x) }
     {
         for set in 0..self.heap.layout().sets.len() {
             if self.heap.layout().sets[set].owner == Owner::Class(class) {
