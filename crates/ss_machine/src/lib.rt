@@ -7,6 +7,8 @@ pub mod entities;
 #[cfg(test)]
 mod entity_tests;
 mod event_serving;
+#[cfg(test)]
+mod event_tests;
 mod frame;
 mod frames;
 mod machine;
