@@ -5,6 +5,8 @@
 //! standard output; how the run ended, where it didn't simply end, is told on standard error.
 #![tactic(auto)]
 
+#[cfg(test)]
+mod engine_tests;
 mod files;
 mod misuse;
 mod order;

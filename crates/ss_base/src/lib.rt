@@ -10,8 +10,6 @@ mod layout;
 mod line;
 mod memory;
 mod plan;
-#[cfg(test)]
-mod tests;
 mod value;
 
 pub use alpha::{Alpha, TEXT_LIMIT};

@@ -5,8 +5,6 @@ mod backward;
 mod code;
 mod conditions;
 mod emit;
-#[cfg(test)]
-mod entity_tests;
 mod entry;
 mod error;
 pub mod generate;
@@ -15,12 +13,8 @@ pub mod laws;
 pub mod layouts;
 mod listing;
 mod members;
-#[cfg(test)]
-mod set_tests;
 mod statements;
 mod targets;
-#[cfg(test)]
-mod tests;
 
 pub use code::Code;
 pub use entry::Entry;

@@ -8,8 +8,6 @@ mod outcome;
 mod refusal;
 mod run;
 mod session;
-#[cfg(test)]
-mod tests;
 mod whole;
 
 pub use front::compile;

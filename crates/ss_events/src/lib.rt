@@ -10,8 +10,6 @@ mod order;
 mod pending;
 mod places;
 mod sift;
-#[cfg(test)]
-mod tests;
 
 pub use calls::{Answer, Call};
 pub use entry::MOST_SCHEDULINGS;

@@ -11,8 +11,6 @@ mod name;
 mod picture_line;
 mod pieces;
 mod reserved;
-#[cfg(test)]
-mod tests;
 mod text;
 mod token;
 mod token_list;

@@ -4,8 +4,6 @@
 mod burst;
 pub mod disciplines;
 pub mod entities;
-#[cfg(test)]
-mod entity_tests;
 mod frame;
 mod frames;
 mod machine;
@@ -16,13 +14,9 @@ mod reading;
 pub mod running;
 mod serving;
 mod set_serving;
-#[cfg(test)]
-mod set_tests;
 mod sets;
 mod stack;
 mod stop;
-#[cfg(test)]
-mod tests;
 mod variables;
 pub mod working;
 

@@ -4,8 +4,6 @@
 mod error;
 mod parser;
 mod reading;
-#[cfg(test)]
-mod tests;
 
 pub use error::ParseError;
 pub use parser::{one_tree, parse};

@@ -6,8 +6,6 @@ mod items;
 mod laws;
 mod picture;
 mod sink;
-#[cfg(test)]
-mod tests;
 
 pub use laws::pieces_are_the_maximal_runs;
 pub use picture::Picture;

@@ -16,8 +16,6 @@ pub(crate) mod row;
 pub(crate) mod sets;
 pub(crate) mod shape;
 pub(crate) mod store;
-#[cfg(test)]
-mod tests;
 pub(crate) mod ties;
 pub(crate) mod words;
 

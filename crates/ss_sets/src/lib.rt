@@ -4,8 +4,6 @@
 mod fitting;
 mod ranking;
 mod taking;
-#[cfg(test)]
-mod tests;
 
 pub use fitting::fits;
 pub use ranking::file;

@@ -218,6 +218,3 @@ fn weighed(value: i64, time: i64) -> i128
 {
     i128::from(value) * i128::from(time)
 }
-
-#[cfg(test)]
-mod tests;

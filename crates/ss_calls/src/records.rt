@@ -1,0 +1,445 @@
+use ss_base::{ClassKind, ClassLayout, FaultKind, Layout, Mode, Owner, Refused, SetLayout, Value};
+use ss_records::{Answer, Command, Heap};
+use std::alloc::{AllocError, Global};
+use std::rt::HostRuntime;
+use std::test::Fail;
+
+const JOB: usize = 0;
+
+const TOOL: usize = 1;
+
+const BELL: usize = 2;
+
+const MACHINE: usize = 3;
+
+const POOL: usize = 0;
+
+const RACK: usize = 1;
+
+const ROW: usize = 2;
+
+const QUEUE: usize = 3;
+
+const FLOOR: usize = 4;
+
+// Jobs with a rank, tools, bells, and machines with a load, which are permanent. A job may be in the pool of
+// the system, in a rack and in a row, of which each tool owns one, and in the queue of a machine; a machine
+// may be on the floor of the system.
+fn yard(alloc: Global) -> Result<Heap, AllocError> {
+    let job = ClassLayout {
+        kind: ClassKind::Temporary,
+        fields: vec![in alloc; Mode::Integer]?,
+    };
+    let tool = ClassLayout {
+        kind: ClassKind::Temporary,
+        fields: Vec::new(alloc),
+    };
+    let bell = ClassLayout {
+        kind: ClassKind::Notice,
+        fields: Vec::new(alloc),
+    };
+    let machine = ClassLayout {
+        kind: ClassKind::Permanent,
+        fields: vec![in alloc; Mode::Integer]?,
+    };
+    let mut classes = Vec::new(alloc);
+    classes.push(job).map_err(|_| AllocError)?;
+    classes.push(tool).map_err(|_| AllocError)?;
+    classes.push(bell).map_err(|_| AllocError)?;
+    classes.push(machine).map_err(|_| AllocError)?;
+    let pool = SetLayout {
+        owner: Owner::System,
+        member: JOB,
+    };
+    let rack = SetLayout {
+        owner: Owner::Class(TOOL),
+        member: JOB,
+    };
+    let queue = SetLayout {
+        owner: Owner::Class(MACHINE),
+        member: JOB,
+    };
+    let floor = SetLayout {
+        owner: Owner::System,
+        member: MACHINE,
+    };
+    let sets = vec![in alloc; pool, rack, rack, queue, floor]?;
+    Heap::new(alloc, Layout { classes, sets })
+}
+
+// A new entity, where the class is there and its entities are created one by one.
+fn create(heap: &mut Heap, class: usize) -> Option<i64> {
+    let kind = heap.layout().classes.get(class)?.kind;
+    match kind {
+        ClassKind::Permanent => None,
+        ClassKind::Temporary | ClassKind::Notice => heap.create(class).ok(),
+    }
+}
+
+// All machines, where they are a permanent class.
+fn make(heap: &mut Heap, n: i64) -> Option<Result<(), Refused>> {
+    let kind = heap.layout().classes.get(MACHINE)?.kind;
+    match kind {
+        ClassKind::Permanent => Some(heap.create_all(MACHINE, n)),
+        ClassKind::Temporary | ClassKind::Notice => None,
+    }
+}
+
+fn destroy(heap: &mut Heap, class: usize, r: i64) -> Option<Result<(), FaultKind>> {
+    let kind = heap.layout().classes.get(class)?.kind;
+    match kind {
+        ClassKind::Permanent => None,
+        ClassKind::Temporary | ClassKind::Notice => Some(heap.destroy(class, r)),
+    }
+}
+
+fn known(heap: &Heap, class: usize, r: i64) -> Option<Result<(), FaultKind>> {
+    if class >= heap.layout().classes.len() {
+        return None;
+    }
+    Some(heap.known(class, r))
+}
+
+fn value(heap: &Heap, class: usize, r: i64) -> Option<Result<Value, FaultKind>> {
+    let _mode = heap.layout().classes.get(class)?.fields.get(0)?;
+    Some(heap.value(class, 0, r))
+}
+
+fn set_value(heap: &mut Heap, class: usize, r: i64, value: i64) -> Option<Result<(), FaultKind>> {
+    let mode = *heap.layout().classes.get(class)?.fields.get(0)?;
+    match mode {
+        Mode::Integer => Some(heap.set_value(class, 0, r, Value::Whole(value))),
+        Mode::Alpha => None,
+    }
+}
+
+// What a set's calls are asked, or told to do.
+#[derive(Clone, Copy)]
+enum Ask {
+    First(i64),
+    Last(i64),
+    Count(i64),
+    Next(i64),
+    Previous(i64),
+    Owner(i64),
+    FileFirst(i64, i64),
+    FileLast(i64, i64),
+    FileBefore(i64, i64, i64),
+    FileAfter(i64, i64, i64),
+    Remove(i64, i64),
+}
+
+// What a set's call answers, where the set is there: 0 for done, -1 for in no set.
+fn answer(heap: &mut Heap, set: usize, asked: Ask) -> Option<Result<i64, FaultKind>> {
+    if set >= heap.layout().sets.len() {
+        return None;
+    }
+    Some(match asked {
+        Ask::First(o) => heap.first(set, o),
+        Ask::Last(o) => heap.last(set, o),
+        Ask::Count(o) => heap.count(set, o),
+        Ask::Next(x) => heap.next(set, x),
+        Ask::Previous(x) => heap.previous(set, x),
+        Ask::Owner(x) => heap.owner_in(set, x).map(|owner| owner.unwrap_or(-1)),
+        Ask::FileFirst(o, x) => heap.file_first(set, o, x).map(|_| 0),
+        Ask::FileLast(o, x) => heap.file_last(set, o, x).map(|_| 0),
+        Ask::FileBefore(o, x, y) => heap.file_before(set, o, x, y).map(|_| 0),
+        Ask::FileAfter(o, x, y) => heap.file_after(set, o, x, y).map(|_| 0),
+        Ask::Remove(o, x) => heap.remove(set, o, x).map(|_| 0),
+    })
+}
+
+#[test]
+fn numbers_are_never_used_again(rt: HostRuntime) -> Result<(), Fail> {
+    let mut heap = yard(rt.alloc())?;
+    assert_eq!(rt; create(&mut heap, JOB), Some(1));
+    assert_eq!(rt; destroy(&mut heap, JOB, 1), Some(Ok(())));
+    assert_eq!(rt; create(&mut heap, JOB), Some(2));
+    assert_eq!(rt; create(&mut heap, BELL), Some(3));
+    let faults = [
+        (0, FaultKind::NoEntity),
+        (99, FaultKind::NeverCreated),
+        (-1, FaultKind::NeverCreated),
+        (1, FaultKind::DestroyedEntity),
+        (3, FaultKind::WrongClass),
+    ];
+    for (r, fault) in faults {
+        assert_eq!(rt; known(&heap, JOB, r), Some(Err(fault)));
+        assert!(rt; value(&heap, JOB, r) == Some(Err(fault)));
+        assert_eq!(rt; set_value(&mut heap, JOB, r, 5), Some(Err(fault)));
+        assert_eq!(rt; answer(&mut heap, POOL, Ask::Next(r)), Some(Err(fault)));
+    }
+    assert_eq!(rt; heap.known_notice(2), Err(FaultKind::WrongClass));
+    assert_eq!(rt; heap.time_a(3), Ok(0));
+    assert_eq!(rt; heap.set_time_a(3, -7), Ok(()));
+    assert_eq!(rt; heap.time_a(3), Ok(-7));
+    assert_eq!(rt; set_value(&mut heap, JOB, 2, -5), Some(Ok(())));
+    assert!(rt; value(&heap, JOB, 2) == Some(Ok(Value::Whole(-5))));
+    assert_eq!(rt; heap.blocks(), 3);
+    Ok(())
+}
+
+#[test]
+fn an_entity_is_in_three_sets_at_once(rt: HostRuntime) -> Result<(), Fail> {
+    let mut heap = yard(rt.alloc())?;
+    assert_eq!(rt; create(&mut heap, TOOL), Some(1));
+    for x in 2..5 {
+        assert_eq!(rt; create(&mut heap, JOB), Some(x));
+    }
+    let asked = [
+        (POOL, Ask::FileLast(0, 2), Ok(0)),
+        (POOL, Ask::FileLast(0, 3), Ok(0)),
+        (POOL, Ask::FileLast(0, 4), Ok(0)),
+        (RACK, Ask::FileFirst(1, 2), Ok(0)),
+        (RACK, Ask::FileFirst(1, 3), Ok(0)),
+        (RACK, Ask::FileFirst(1, 4), Ok(0)),
+        (ROW, Ask::FileLast(1, 2), Ok(0)),
+        (ROW, Ask::FileBefore(1, 3, 2), Ok(0)),
+        (ROW, Ask::FileAfter(1, 4, 3), Ok(0)),
+        (ROW, Ask::FileAfter(1, 4, 3), Err(FaultKind::FiledTwice)),
+        (POOL, Ask::Remove(0, 3), Ok(0)),
+        (POOL, Ask::Remove(0, 3), Err(FaultKind::NotFiled)),
+        (POOL, Ask::FileBefore(0, 3, 3), Err(FaultKind::NotFiled)),
+        (POOL, Ask::Count(0), Ok(2)),
+        (POOL, Ask::First(0), Ok(2)),
+        (POOL, Ask::Last(0), Ok(4)),
+        (POOL, Ask::Next(2), Ok(4)),
+        (POOL, Ask::Previous(4), Ok(2)),
+        (POOL, Ask::Next(3), Ok(0)),
+        (POOL, Ask::Owner(2), Ok(0)),
+        (POOL, Ask::Owner(3), Ok(-1)),
+        (RACK, Ask::Owner(2), Ok(1)),
+        (RACK, Ask::Next(4), Ok(3)),
+        (RACK, Ask::Next(3), Ok(2)),
+        (RACK, Ask::Next(2), Ok(0)),
+        (ROW, Ask::Next(3), Ok(4)),
+        (ROW, Ask::Next(4), Ok(2)),
+        (ROW, Ask::Previous(3), Ok(0)),
+    ];
+    for (set, what, wanted) in asked {
+        assert_eq!(rt; answer(&mut heap, set, what), Some(wanted));
+    }
+    assert_eq!(rt; destroy(&mut heap, JOB, 3), Some(Err(FaultKind::InASet)));
+    assert_eq!(rt;
+        destroy(&mut heap, TOOL, 1),
+        Some(Err(FaultKind::OwnsMembers))
+    );
+    Ok(())
+}
+
+#[test]
+fn a_member_in_the_middle_of_a_long_set_is_removed_at_once(rt: HostRuntime) -> Result<(), Fail> {
+    let mut heap = yard(rt.alloc())?;
+    for x in 1..10001 {
+        assert_eq!(rt; create(&mut heap, JOB), Some(x));
+        assert_eq!(rt; answer(&mut heap, POOL, Ask::FileLast(0, x)), Some(Ok(0)));
+    }
+    assert_eq!(rt; answer(&mut heap, POOL, Ask::Remove(0, 5000)), Some(Ok(0)));
+    assert!(rt; heap.touches() <= 12);
+    assert_eq!(rt; answer(&mut heap, POOL, Ask::Next(4999)), Some(Ok(5001)));
+    assert_eq!(rt; answer(&mut heap, POOL, Ask::Count(0)), Some(Ok(9999)));
+    assert_eq!(rt; heap.blocks(), 10001);
+    Ok(())
+}
+
+#[test]
+fn a_page_without_a_living_number_is_given_back(rt: HostRuntime) -> Result<(), Fail> {
+    let mut heap = yard(rt.alloc())?;
+    for x in 1..1001 {
+        assert_eq!(rt; create(&mut heap, JOB), Some(x));
+        assert_eq!(rt; destroy(&mut heap, JOB, x), Some(Ok(())));
+        assert!(rt; heap.pages() <= 1);
+    }
+    assert!(rt; value(&heap, JOB, 1) == Some(Err(FaultKind::DestroyedEntity)));
+    assert_eq!(rt; heap.blocks(), 1);
+    for x in 1001..1601 {
+        assert_eq!(rt; create(&mut heap, JOB), Some(x));
+    }
+    assert!(rt; heap.pages() >= 3);
+    for x in 1001..1601 {
+        if x != 1300 {
+            assert_eq!(rt; destroy(&mut heap, JOB, x), Some(Ok(())));
+        }
+    }
+    assert!(rt; heap.pages() <= 2);
+    assert!(rt; value(&heap, JOB, 1300) == Some(Ok(Value::Whole(0))));
+    assert!(rt; value(&heap, JOB, 1299) == Some(Err(FaultKind::DestroyedEntity)));
+    Ok(())
+}
+
+#[test]
+fn machines_are_made_once_and_own_and_join_sets(rt: HostRuntime) -> Result<(), Fail> {
+    let mut heap = yard(rt.alloc())?;
+    assert_eq!(rt; known(&heap, MACHINE, 1), Some(Err(FaultKind::Index)));
+    for n in [-1, 1048577] {
+        let refused = Refused::Fault(FaultKind::BadCount);
+        assert_eq!(rt; make(&mut heap, n), Some(Err(refused)));
+    }
+    assert_eq!(rt; make(&mut heap, 3), Some(Ok(())));
+    let twice = Refused::Fault(FaultKind::CreatedTwice);
+    assert_eq!(rt; make(&mut heap, -1), Some(Err(twice)));
+    assert_eq!(rt; create(&mut heap, JOB), Some(1));
+    assert_eq!(rt; heap.blocks(), 5);
+    for r in [0, 4, -1] {
+        assert_eq!(rt; known(&heap, MACHINE, r), Some(Err(FaultKind::Index)));
+    }
+    assert_eq!(rt; set_value(&mut heap, MACHINE, 3, 8), Some(Ok(())));
+    assert!(rt; value(&heap, MACHINE, 3) == Some(Ok(Value::Whole(8))));
+    assert!(rt; value(&heap, MACHINE, 1) == Some(Ok(Value::Whole(0))));
+    let asked = [
+        (QUEUE, Ask::FileLast(2, 1), Ok(0)),
+        (QUEUE, Ask::FileLast(3, 1), Err(FaultKind::FiledTwice)),
+        (QUEUE, Ask::FileLast(4, 1), Err(FaultKind::Index)),
+        (QUEUE, Ask::Remove(3, 1), Err(FaultKind::NotFiled)),
+        (QUEUE, Ask::Owner(1), Ok(2)),
+        (QUEUE, Ask::First(2), Ok(1)),
+        (QUEUE, Ask::Count(1), Ok(0)),
+        (FLOOR, Ask::FileFirst(0, 1), Ok(0)),
+        (FLOOR, Ask::FileFirst(0, 3), Ok(0)),
+        (FLOOR, Ask::Next(3), Ok(1)),
+        (FLOOR, Ask::Previous(1), Ok(3)),
+        (FLOOR, Ask::Remove(0, 3), Ok(0)),
+        (FLOOR, Ask::Last(0), Ok(1)),
+        (FLOOR, Ask::Next(4), Err(FaultKind::Index)),
+    ];
+    for (set, what, wanted) in asked {
+        assert_eq!(rt; answer(&mut heap, set, what), Some(wanted));
+    }
+    Ok(())
+}
+
+// Creates a job where memory may be refused: then nothing has changed, and the next try succeeds.
+fn is_created(heap: &mut Heap, x: i64) -> bool {
+    let (blocks, pages) = (heap.blocks(), heap.pages());
+    create(heap, JOB) == Some(x)
+        || known(heap, JOB, x) == Some(Err(FaultKind::NeverCreated))
+            && (heap.blocks(), heap.pages()) == (blocks, pages)
+            && create(heap, JOB) == Some(x)
+}
+
+#[test]
+fn refused_memory_leaves_the_heap(rt: HostRuntime) -> Result<(), Fail> {
+    let mut heap = match yard(rt.alloc()) {
+        Ok(heap) => heap,
+        Err(_) => yard(rt.alloc())?,
+    };
+    for x in 1..601 {
+        assert!(rt; is_created(&mut heap, x));
+    }
+    if make(&mut heap, 5) == Some(Err(Refused::Memory)) {
+        assert_eq!(rt; known(&heap, MACHINE, 1), Some(Err(FaultKind::Index)));
+        assert_eq!(rt; heap.blocks(), 601);
+        assert_eq!(rt; make(&mut heap, 5), Some(Ok(())));
+    }
+    assert_eq!(rt; known(&heap, MACHINE, 5), Some(Ok(())));
+    assert_eq!(rt; heap.blocks(), 606);
+    Ok(())
+}
+
+// Whether calls fit a heap and answer this.
+fn answers(
+    alloc: Global,
+    heap: &mut Heap,
+    commands: &[Command],
+    wanted: &[Answer],
+) -> Result<bool, AllocError> {
+    if !heap.fit(commands) {
+        return Ok(false);
+    }
+    let answers = heap.run(alloc, commands)?;
+    Ok(answers.as_slice() == wanted)
+}
+
+// Files a job last in the pool.
+fn pooled(member: i64) -> Command {
+    Command::FileLast {
+        set: POOL,
+        owner: 0,
+        member,
+    }
+}
+
+// Takes a job out of the pool.
+fn unpooled(member: i64) -> Command {
+    Command::Remove {
+        set: POOL,
+        owner: 0,
+        member,
+    }
+}
+
+#[test]
+fn commands_go_on_after_faults(rt: HostRuntime) -> Result<(), Fail> {
+    let mut heap = yard(rt.alloc())?;
+    let commands = [
+        Command::Create { class: JOB },
+        Command::Create { class: JOB },
+        pooled(1),
+        pooled(2),
+        pooled(2),
+        Command::Destroy { class: JOB, r: 1 },
+        unpooled(1),
+        unpooled(1),
+        Command::Destroy { class: JOB, r: 1 },
+    ];
+    let wanted = [
+        Answer::Number(1),
+        Answer::Number(2),
+        Answer::Done,
+        Answer::Done,
+        Answer::Faulted(FaultKind::FiledTwice),
+        Answer::Faulted(FaultKind::InASet),
+        Answer::Done,
+        Answer::Faulted(FaultKind::NotFiled),
+        Answer::Done,
+    ];
+    assert!(rt; answers(rt.alloc(), &mut heap, &commands, &wanted)?);
+    assert_eq!(rt; answer(&mut heap, POOL, Ask::First(0)), Some(Ok(2)));
+    assert_eq!(rt; answer(&mut heap, POOL, Ask::Count(0)), Some(Ok(1)));
+    Ok(())
+}
+
+#[test]
+fn commands_that_do_not_fit_are_told(rt: HostRuntime) -> Result<(), Fail> {
+    let heap = yard(rt.alloc())?;
+    assert!(rt; !heap.fit(&[Command::Create { class: MACHINE }]));
+    assert!(rt; !heap.fit(&[Command::CreateAll { class: JOB, n: 1 }]));
+    assert!(rt;
+        heap.fit(&[
+            Command::CreateAll {
+                class: MACHINE,
+                n: 1
+            },
+            pooled(1)
+        ])
+    );
+    Ok(())
+}
+
+// Creates tools, each with a job in its rack and in the pool.
+fn equip(heap: &mut Heap, tools: u32) -> bool {
+    for _ in 0..tools {
+        let Some(tool) = create(heap, TOOL) else {
+            return false;
+        };
+        let Some(job) = create(heap, JOB) else {
+            return false;
+        };
+        if answer(heap, RACK, Ask::FileLast(tool, job)) != Some(Ok(0))
+            || answer(heap, POOL, Ask::FileFirst(0, job)) != Some(Ok(0))
+        {
+            return false;
+        }
+    }
+    true
+}
+
+#[test]
+fn a_million_linked_records_are_let_go(rt: HostRuntime) -> Result<(), Fail> {
+    let mut heap = yard(rt.alloc())?;
+    assert!(rt; equip(&mut heap, 500_000));
+    assert_eq!(rt; heap.blocks(), 1_000_001);
+    assert_eq!(rt; answer(&mut heap, POOL, Ask::Count(0)), Some(Ok(500_000)));
+    drop(heap);
+    Ok(())
+}
