@@ -1,10 +1,14 @@
-//! What outcomes, refusals and listings are told as.
+//! What outcomes, refusals and listings are told as, and a whole run whose memory is refused.
 
-use ss_base::{FaultKind, Line};
-use ss_engine::{Outcome, Refusal, Stop, compile, outcome_line, outcome_status};
+use ss_base::{FaultKind, Line, MemoryRead, MemoryWrite, Plan, Trouble};
+use ss_engine::{Outcome, Refusal, Stop, compile, outcome_line, outcome_status, simulate};
 use std::test::Fail;
 
 const ANSWER: &[u8] = b"MAIN\nPRINT 1 LINE WITH 6*7 THUS\nANSWER ***\nEND";
+
+// Two numbers that are read, each printed.
+const TWO_WORDS: &[u8] =
+    b"PREAMBLE NORMALLY, MODE IS INTEGER END\nMAIN\nREAD X PRINT 1 LINE WITH X THUS\n*\nREAD X PRINT 1 LINE WITH X THUS\n*\nEND";
 
 const ENDED: Outcome = Outcome::Stopped(Stop::Ended, 0);
 
@@ -107,4 +111,27 @@ fn refusals_have_their_numbers_names_and_lines(rt: HostRuntime) {
         assert!(rt; refusal.name() == name);
         assert_eq!(rt; refusal.line(), line);
     }
+}
+
+// Whatever growth is refused, the run ends for want of memory with the first of the report, or as it
+// should.
+#[test]
+fn want_of_memory_is_never_a_wrong_answer(rt: HostRuntime) -> Result<(), Fail> {
+    let alloc = rt.alloc();
+    let reader = MemoryRead::new(alloc, b"5 7", Plan::smooth(1))?;
+    let writer = MemoryWrite::new(alloc, 2048, Plan::smooth(256), Trouble::Error)?;
+    let (outcome, _, writer) = simulate(alloc, TWO_WORDS, reader, writer, &[0]);
+    assert!(rt; b"5\n7\n".starts_with(writer.bytes()));
+    match outcome {
+        Outcome::Stopped(Stop::Ended, used) => {
+            assert_eq!(rt; used, 0);
+            assert_eq!(rt; writer.bytes(), b"5\n7\n".as_slice());
+        }
+        Outcome::Stopped(Stop::Memory, used) => assert!(rt; used == 0),
+        other => {
+            assert_eq!(rt; other, Outcome::Refused(Refusal::Memory));
+            assert!(rt; writer.bytes().is_empty());
+        }
+    }
+    Ok(())
 }
