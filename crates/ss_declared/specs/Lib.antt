@@ -1,0 +1,16 @@
+pub mod Lines
+pub mod Topics
+pub mod Declarations
+pub mod Twice
+pub mod RealMode
+pub mod Missing
+pub mod UnknownClass
+pub mod UnknownSet
+pub mod NoOwner
+pub mod NoMember
+pub mod RankKey
+pub mod TallyTwice
+pub mod TooMany
+pub mod TieKey
+pub mod Broken
+pub mod Spellings
