@@ -9,7 +9,9 @@ ghost use Rattle.ss_sayings.specs.Sayings.{said_of, said_alone, said_of_all, cla
 use crate::saying::{Said, Saying, SetRule};
 use ss_base::Line;
 use ss_lex::Name;
-use ss_tree::preamble::{ClassKind, Clause, Key, PreambleStatement, SetOrder, Statistic, Weighting};
+use ss_tree::preamble::{
+    ClassKind, Clause, Key, PreambleStatement, SetOrder, Statistic, Weighting,
+};
 use ss_tree::program::{LocalDefinition, Program, Section, SectionKind};
 use std::alloc::{AllocError, Global};
 
@@ -94,11 +96,8 @@ fn say_ties(out: &mut Vec<Saying>, line: Line, class: Name, keys: &[Key]) -> Res
     ensures { OnOk result (out.new.items ≡ out.old.items ++ map (tie_says line class) keys.now) }
 {
     for key in keys {
-        let said = Said::TieKey {
-            class,
-            high: key.high,
-        };
-        say(out, line, said, key.name)?;
+        let high = key.high;
+        say(out, line, Said::TieKey { class, high }, key.name)?;
     }
     Ok(())
 }
@@ -122,11 +121,8 @@ fn say_ranks(
     ensures { OnOk result (out.new.items ≡ out.old.items ++ map (rank_says line statement) keys.now) }
 {
     for key in keys {
-        let said = Said::RankKey {
-            statement,
-            high: key.high,
-        };
-        say(out, line, said, key.name)?;
+        let high = key.high;
+        say(out, line, Said::RankKey { statement, high }, key.name)?;
     }
     Ok(())
 }
