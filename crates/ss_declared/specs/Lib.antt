@@ -14,3 +14,5 @@ pub mod TooMany
 pub mod TieKey
 pub mod Broken
 pub mod Spellings
+pub mod Things
+pub mod Globals

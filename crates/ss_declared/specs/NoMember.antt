@@ -1,4 +1,4 @@
--- Rule 56: a set with an owner has a class of members. The line is that of the statement that owns it.
+-- Refusal 56: a set with an owner has a class of members. The line is that of the statement that owns it.
 use Rattle.std.specs.Prelude.{List}
 use Rattle.ss_base.specs.declared.line.Line.{Line}
 use Rattle.ss_sayings.specs.declared.saying.Saying.{Saying}

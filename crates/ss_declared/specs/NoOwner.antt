@@ -1,4 +1,4 @@
--- Rule 55: a set with members has an owner. The line is that of the EVERY.
+-- Refusal 55: a set with members has an owner. The line is that of the EVERY.
 use Rattle.std.specs.Prelude.{List}
 use Rattle.ss_base.specs.declared.line.Line.{Line}
 use Rattle.ss_sayings.specs.declared.saying.Saying.{Saying}

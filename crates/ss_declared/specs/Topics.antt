@@ -1,7 +1,7 @@
 -- What sayings are about, and what of.
-use Rattle.std.specs.Prelude.{ℕ, nat_eq, Bool, true, false, ◌&&◌, List, find, Option, Some, None}
+use Rattle.std.specs.Prelude.{ℕ, nat_eq, Bool, true, false, ◌&&◌, List, Option, Some, None}
 use Rattle.std.specs.Option.{option_eq}
-use Rattle.std.specs.List.{list_any}
+use Rattle.std.specs.List.{find, list_any}
 use Rattle.std.specs.Cmp.Lexicographic.{pointwise}
 use Rattle.ss_base.specs.declared.line.Line.{Line}
 use Rattle.ss_tree.specs.declared.preamble.ClassKind.TheVariants as class_kinds
@@ -90,9 +90,5 @@ class_told None = None
 class_told (Some s) = class_in s.said
 
 -- the class of an attribute, or of the members of a set: that of the first saying that tells it
-abbrev pub class_of : Topic → List Saying → NameBytes → Option NameBytes
-class_of topic says name = class_told (find (is_said_by topic (global name)) says)
-
--- whether a name is an attribute of the class
-abbrev pub is_attribute_of : List Saying → NameBytes → NameBytes → Bool
-is_attribute_of says class name = option_eq same_name (Some class) (class_of topics.Attribute says name)
+abbrev pub class_of : Topic → List Saying → Thing → Option NameBytes
+class_of topic says thing = class_told (find (is_said_by topic thing) says)

@@ -1,4 +1,4 @@
--- Rule 53: PRIORITY ORDER and BREAK name classes of event notices.
+-- Refusal 53: PRIORITY ORDER and BREAK name classes of event notices.
 use Rattle.std.specs.Prelude.{List, ◌++◌}
 use Rattle.ss_base.specs.declared.line.Line.{Line}
 use Rattle.ss_sayings.specs.declared.saying.Saying.{Saying}

@@ -1,4 +1,4 @@
--- Rule 54: DEFINE as a set names what a clause owns or belongs to.
+-- Refusal 54: DEFINE as a set names what a clause owns or belongs to.
 use Rattle.std.specs.Prelude.{List}
 use Rattle.ss_base.specs.declared.line.Line.{Line}
 use Rattle.ss_sayings.specs.declared.saying.Saying.{Saying}

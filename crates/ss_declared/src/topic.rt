@@ -76,7 +76,10 @@ pub fn is_about(topic: Topic, said: &Said) -> bool
         Said::Given { .. } => matches!(topic, Topic::Parameter),
         Said::Yielding { .. } => matches!(topic, Topic::Parameter),
         Said::Local { .. } => matches!(topic, Topic::Local),
-        _ => false,
+        Said::RankKey { .. } => false,
+        Said::TieKey { .. } => false,
+        Said::Statistic { .. } => false,
+        Said::Routine { .. } => false,
     }
 }
 
