@@ -42,3 +42,7 @@ next_later line_of test xs i x start found b lt is h e =
 -- what is found in two lists of lines, one behind the other
 pub soonest_both : (start : Option Line) (xs ys : List Line) → soonest (soonest start xs) ys ≡ soonest start (xs ++ ys)
 soonest_both start xs ys = sym (fold-append sooner start xs ys)
+
+-- what was found in one list of lines after the other
+pub found_both : (f0 f1 f2 : Option Line) (xs ys : List Line) → f1 ≡ soonest f0 xs → f2 ≡ soonest f1 ys → f2 ≡ soonest f0 (xs ++ ys)
+found_both f0 f1 f2 xs ys h k = k ∙ ap (λ (f : Option Line). soonest f ys) h ∙ soonest_both f0 xs ys

@@ -1,4 +1,6 @@
 pub mod Finding
 pub mod Keeping
 pub mod Telling
+pub mod Classing
+pub mod Counting
 mod Rooms

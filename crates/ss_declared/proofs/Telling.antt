@@ -19,48 +19,39 @@ use Rattle.ss_declared.proofs.Finding.{take_next, later_more, soonest_both}
 
 -- ---- the first entry of a key
 
--- the first of two, where there is one
-abbrev pub first : {V : Type 0} → Option V → Option V → Option V
-first None rest = rest
-first (Some v) rest = Some v
-
-first_none : {V : Type 0} (o : Option V) → o ≡ first o None
+pub first_none : {V : Type 0} (o : Option V) → o ≡ option_or o None
 first_none None = refl
 first_none (Some v) = refl
 
-chosen : {V : Type 0} (same : Bool) (v w : V) (rest : Option V) → cond same (Some v) (first rest (Some w)) ≡ first (cond same (Some v) rest) (Some w)
-chosen true v w rest = refl
-chosen false v w rest = refl
-
-passed_over : {V : Type 0} (same : Bool) (v : V) (xs ys rest : Option V) → xs ≡ first ys rest → cond same (Some v) xs ≡ first (cond same (Some v) ys) rest
+passed_over : {V : Type 0} (same : Bool) (v : V) (xs ys rest : Option V) → xs ≡ option_or ys rest → cond same (Some v) xs ≡ option_or (cond same (Some v) ys) rest
 passed_over true v xs ys rest h = refl
 passed_over false v xs ys rest h = h
 
 -- an entry that goes last
-pub entry_last : {K V : Type 0} (test : K → Bool) (es : List (K × V)) (k : K) (v : V) → lookup test (es ++ (k, v) ∷ []) ≡ first (lookup test es) (cond (test k) (Some v) None)
+pub entry_last : {K V : Type 0} (test : K → Bool) (es : List (K × V)) (k : K) (v : V) → lookup test (es ++ (k, v) ∷ []) ≡ option_or (lookup test es) (cond (test k) (Some v) None)
 entry_last test [] k v = refl
 entry_last test (e ∷ es) k v = passed_over (test e.0) e.1 _ _ _ (entry_last test es k v)
 
 -- an item that goes last
-pub item_last : {A : Type 0} (test : A → Bool) (xs : List A) (x : A) → find test (xs ++ x ∷ []) ≡ first (find test xs) (cond (test x) (Some x) None)
+pub item_last : {A : Type 0} (test : A → Bool) (xs : List A) (x : A) → find test (xs ++ x ∷ []) ≡ option_or (find test xs) (cond (test x) (Some x) None)
 item_last test [] x = refl
 item_last test (y ∷ ys) x = passed_over (test y) y _ _ _ (item_last test ys x)
 
 -- an entry whose key has one
-pub entry_known : {V : Type 0} (es : List (NameBytes × V)) (n name : NameBytes) (v known : V) (same : Bool) → same_name name n ≡ same → lookup (same_name n) es ≡ Some known → lookup (same_name name) es ≡ first (lookup (same_name name) es) (cond same (Some v) None)
-entry_known es n name v known false e h = first_none (lookup (same_name name) es)
-entry_known es n name v known true e h =
-    let here : lookup (same_name name) es ≡ Some known = ap (λ (k : NameBytes). lookup (same_name k) es) ((bytes_decides name n).0 e) ∙ h in
-    here ∙ sym (ap (λ o. first o (Some v)) here)
+pub entry_known : {K V : Type 0} (same : K → K → Bool) (is : (a b : K) → same a b ≡ true → a ≡ b) (es : List (K × V)) (n k : K) (v known : V) (b : Bool) → same k n ≡ b → lookup (same n) es ≡ Some known → lookup (same k) es ≡ option_or (lookup (same k) es) (cond b (Some v) None)
+entry_known same is es n k v known false e h = first_none (lookup (same k) es)
+entry_known {K} same is es n k v known true e h =
+    let here : lookup (same k) es ≡ Some known = ap (λ (m : K). lookup (same m) es) (is k n e) ∙ h in
+    here ∙ sym (ap (λ o. option_or o (Some v)) here)
 
 -- ---- declarations
 
-told_first : (o : Option Declaration) (same : Bool) (d : Declaration) → standing_told (first o (cond same (Some d) None)) ≡ first (standing_told o) (cond same (Some d.standing) None)
+told_first : (o : Option Declaration) (same : Bool) (d : Declaration) → standing_told (option_or o (cond same (Some d) None)) ≡ option_or (standing_told o) (cond same (Some d.standing) None)
 told_first None true d = refl
 told_first None false d = refl
 told_first (Some e) same d = refl
 
-standing_last : (ds : List Declaration) (d : Declaration) (name : NameBytes) → standing_of (ds ++ d ∷ []) name ≡ first (standing_of ds name) (cond (same_name name d.name) (Some d.standing) None)
+standing_last : (ds : List Declaration) (d : Declaration) (name : NameBytes) → standing_of (ds ++ d ∷ []) name ≡ option_or (standing_of ds name) (cond (same_name name d.name) (Some d.standing) None)
 standing_last ds d name = ap standing_told (item_last (declares name) ds d) ∙ told_first (find (declares name) ds) (same_name name d.name) d
 
 clash_last : (ds : List Declaration) (d : Declaration) (found : Option Line) (old : Option Standing) → found ≡ first_line (clashes ds) → old ≡ standing_of ds d.name → soonest found (line_if (is_another old d.standing) d.line) ≡ first_line (clashes (ds ++ d ∷ []))
@@ -73,14 +64,14 @@ clash_last ds d found old h e =
 -- a name that is declared first
 pub told_new : (old new : Globals) (d : Declaration) → found_in old d.name ≡ None → new.map.entries ≡ old.map.entries ++ (d.name, d.standing) ∷ [] → new.clash ≡ old.clash → (ds : List Declaration) → Tells ds old → Tells (ds ++ d ∷ []) new
 told_new old new d none is same ds h = record {
-  standing = λ name. ap (lookup (same_name name)) is ∙ entry_last (same_name name) old.map.entries d.name d.standing ∙ ap (λ o. first o (cond (same_name name d.name) (Some d.standing) None)) (h.standing name) ∙ sym (standing_last ds d name);
+  standing = λ name. ap (lookup (same_name name)) is ∙ entry_last (same_name name) old.map.entries d.name d.standing ∙ ap (λ o. option_or o (cond (same_name name d.name) (Some d.standing) None)) (h.standing name) ∙ sym (standing_last ds d name);
   clash = same ∙ clash_last ds d old.clash None h.clash (sym none ∙ h.standing d.name);
 }
 
 -- a name that is declared again
 pub told_again : (old new : Globals) (d : Declaration) (known : Standing) → found_in old d.name ≡ Some known → new.map.entries ≡ old.map.entries → new.clash ≡ soonest old.clash (line_if (is_another (Some known) d.standing) d.line) → (ds : List Declaration) → Tells ds old → Tells (ds ++ d ∷ []) new
 told_again old new d known some same is ds h = record {
-  standing = λ name. ap (lookup (same_name name)) same ∙ entry_known old.map.entries d.name name d.standing known (same_name name d.name) refl some ∙ ap (λ o. first o (cond (same_name name d.name) (Some d.standing) None)) (h.standing name) ∙ sym (standing_last ds d name);
+  standing = λ name. ap (lookup (same_name name)) same ∙ entry_known same_name (λ a b. (bytes_decides a b).0) old.map.entries d.name name d.standing known (same_name name d.name) refl some ∙ ap (λ o. option_or o (cond (same_name name d.name) (Some d.standing) None)) (h.standing name) ∙ sym (standing_last ds d name);
   clash = is ∙ clash_last ds d old.clash (Some known) h.clash (sym some ∙ h.standing d.name);
 }
 

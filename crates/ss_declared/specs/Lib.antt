@@ -16,3 +16,5 @@ pub mod Broken
 pub mod Spellings
 pub mod Things
 pub mod Globals
+pub mod Classes
+pub mod Counts

@@ -65,27 +65,36 @@ hidings says = lines_where line_of (hides (declarations says)) says
 
 -- ---- the rule
 
--- the lines where the rule is broken
-abbrev pub twice : List Saying → List Line
-twice says =
-    -- a global name is declared twice
-    clashes (declarations says)
-    -- a set has two owners, two classes of members or two DEFINEs
-    ++ again topics.Owner anything says
-    ++ again topics.Member anything says
-    ++ again topics.Discipline (is_said topics.Set says) says
-    -- an attribute has two modes
-    ++ again topics.Variable (is_said topics.Attribute says) says
-    -- NORMALLY, PRIORITY ORDER or MAIN stands twice
-    ++ again topics.Normally anything says
-    ++ again topics.PriorityOrder anything says
-    ++ again topics.Main anything says
-    -- a class is named twice in PRIORITY ORDER, or has two BREAKs or two EVENT sections
-    ++ again topics.Priority (is_said topics.Class says) says
+-- a set has two owners, two classes of members or two DEFINEs
+abbrev pub sets_again : List Saying → List Line
+sets_again says =
+    again topics.Owner anything says ++ again topics.Member anything says ++ again topics.Discipline (is_said topics.Set says) says
+
+-- an attribute has two modes
+abbrev pub modes_again : List Saying → List Line
+modes_again says = again topics.Variable (is_said topics.Attribute says) says
+
+-- NORMALLY, PRIORITY ORDER or MAIN stands twice
+abbrev pub statements_again : List Saying → List Line
+statements_again says =
+    again topics.Normally anything says ++ again topics.PriorityOrder anything says ++ again topics.Main anything says
+
+-- a class is named twice in PRIORITY ORDER, or has two BREAKs or two EVENT sections
+abbrev pub classes_again : List Saying → List Line
+classes_again says =
+    again topics.Priority (is_said topics.Class says) says
     ++ again topics.Ties (is_said topics.Class says) says
     ++ again topics.Event (is_said topics.Class says) says
-    -- a parameter or a local DEFINE repeats one; a DEFINE of a parameter gives its mode
-    ++ again topics.Parameter anything says
-    ++ again topics.Local anything says
-    -- a parameter or a local DEFINE names a global that is neither variable nor class
-    ++ hidings says
+
+-- a parameter repeats one, or a local DEFINE one; a DEFINE of a parameter gives its mode
+abbrev pub locals_again : List Saying → List Line
+locals_again says = again topics.Parameter anything says ++ again topics.Local anything says
+
+-- what may be said once is said again
+abbrev pub repeats : List Saying → List Line
+repeats says =
+    sets_again says ++ modes_again says ++ statements_again says ++ classes_again says ++ locals_again says
+
+-- the lines where the rule is broken
+abbrev pub twice : List Saying → List Line
+twice says = clashes (declarations says) ++ repeats says ++ hidings says

@@ -7,8 +7,8 @@ ghost use Rattle.ss_declared.specs.Declarations.{Declaration, declarations};
 ghost use Rattle.ss_declared.specs.Globals.{Tells};
 ghost use Rattle.ss_declared.specs.Lines.{soonest, first_line};
 ghost use Rattle.ss_declared.specs.Things.{has_thing};
-ghost use Rattle.ss_declared.specs.Topics.{is_about, thing_of};
-ghost use Rattle.ss_declared.specs.Twice.{again, anything, hides, hidings, twice};
+ghost use Rattle.ss_declared.specs.Topics.{is_about, thing_of, is_said};
+ghost use Rattle.ss_declared.specs.Twice.{again, anything, sets_again, statements_again, classes_again, locals_again, repeats, hides, hidings, twice};
 
 use crate::globals::{Globals, may_hide};
 use crate::lines::sooner_if;
@@ -71,6 +71,91 @@ fn again_among(
     Ok(found)
 }
 
+/// The same, where things count of which some saying is about the other.
+fn again_said(
+    alloc: Global,
+    topic: Topic,
+    other: Topic,
+    sayings: &[Saying],
+    found: Option<Line>,
+) -> Result<Option<Line>, AllocError>
+    ensures { IfOk result (λ line. line ≡ soonest found (again topic (is_said other sayings.now) sayings.now)) }
+{
+    let counted = things_said(alloc, other, sayings)?;
+    again_among(alloc, topic, &counted, sayings, found)
+}
+
+/// A set with two owners, two classes of members or two DEFINEs.
+fn sets_again(
+    alloc: Global,
+    sayings: &[Saying],
+    found: Option<Line>,
+) -> Result<Option<Line>, AllocError>
+    ensures { IfOk result (λ line. line ≡ soonest found (sets_again sayings.now)) }
+{
+    let owner = again(alloc, Topic::Owner, sayings, found)?;
+    let member = again(alloc, Topic::Member, sayings, owner)?;
+    let defined = again_said(alloc, Topic::Discipline, Topic::Set, sayings, member)?;
+    Ok(defined)
+}
+
+/// NORMALLY, PRIORITY ORDER or MAIN that stands twice.
+fn statements_again(
+    alloc: Global,
+    sayings: &[Saying],
+    found: Option<Line>,
+) -> Result<Option<Line>, AllocError>
+    ensures { IfOk result (λ line. line ≡ soonest found (statements_again sayings.now)) }
+{
+    let normally = again(alloc, Topic::Normally, sayings, found)?;
+    let order = again(alloc, Topic::PriorityOrder, sayings, normally)?;
+    let main = again(alloc, Topic::Main, sayings, order)?;
+    Ok(main)
+}
+
+/// A class that is named twice in PRIORITY ORDER, or that has two BREAKs or two EVENT sections.
+fn classes_again(
+    alloc: Global,
+    sayings: &[Saying],
+    found: Option<Line>,
+) -> Result<Option<Line>, AllocError>
+    ensures { IfOk result (λ line. line ≡ soonest found (classes_again sayings.now)) }
+{
+    let priority = again_said(alloc, Topic::Priority, Topic::Class, sayings, found)?;
+    let ties = again_said(alloc, Topic::Ties, Topic::Class, sayings, priority)?;
+    let event = again_said(alloc, Topic::Event, Topic::Class, sayings, ties)?;
+    Ok(event)
+}
+
+/// A parameter that repeats one, or a local DEFINE that does.
+fn locals_again(
+    alloc: Global,
+    sayings: &[Saying],
+    found: Option<Line>,
+) -> Result<Option<Line>, AllocError>
+    ensures { IfOk result (λ line. line ≡ soonest found (locals_again sayings.now)) }
+{
+    let parameter = again(alloc, Topic::Parameter, sayings, found)?;
+    let local = again(alloc, Topic::Local, sayings, parameter)?;
+    Ok(local)
+}
+
+/// What may be said once and is said again.
+fn repeats(
+    alloc: Global,
+    sayings: &[Saying],
+    found: Option<Line>,
+) -> Result<Option<Line>, AllocError>
+    ensures { IfOk result (λ line. line ≡ soonest found (repeats sayings.now)) }
+{
+    let sets = sets_again(alloc, sayings, found)?;
+    let modes = again_said(alloc, Topic::Variable, Topic::Attribute, sayings, sets)?;
+    let statements = statements_again(alloc, sayings, modes)?;
+    let classes = classes_again(alloc, sayings, statements)?;
+    let locals = locals_again(alloc, sayings, classes)?;
+    Ok(locals)
+}
+
 /// Whether a saying is about a parameter or a local variable that hides what may not be hidden.
 fn hides(globals: &Globals, saying: &Saying) -> bool
     ensures { (ds : List Declaration) → Tells ds globals.now → result ≡ hides ds saying.now }
@@ -95,4 +180,17 @@ fn hidings(globals: &Globals, sayings: &[Saying], found: Option<Line>) -> Option
         found = sooner_if(found, hides(globals, saying), saying.line);
     }
     found
+}
+
+/// The first line where a name is declared twice, or what may be said once is said again.
+pub fn twice(
+    alloc: Global,
+    globals: &Globals,
+    sayings: &[Saying],
+) -> Result<Option<Line>, AllocError>
+    requires { Tells (declarations sayings.now) globals.now }
+    ensures { IfOk result (λ line. line ≡ first_line (twice sayings.now)) }
+{
+    let repeated = repeats(alloc, sayings, globals.clash())?;
+    Ok(hidings(globals, sayings, repeated))
 }
