@@ -3,4 +3,5 @@ pub mod Keeping
 pub mod Telling
 pub mod Classing
 pub mod Counting
+pub mod Ordering
 mod Rooms

@@ -1,6 +1,7 @@
 //! The rules on what a program declares.
 #![tactic(auto)]
 
+mod broken;
 mod classes;
 mod globals;
 mod lines;
@@ -8,6 +9,7 @@ mod missing;
 mod no_member;
 mod no_owner;
 mod rank_key;
+mod real_mode;
 mod rule;
 mod spelling;
 mod tally_twice;
@@ -19,5 +21,6 @@ mod twice;
 mod unknown_class;
 mod unknown_set;
 
+pub use broken::{refusal, refusal_of};
 pub use rule::{Broken, Rule};
 pub use topic::{Thing, Topic};
