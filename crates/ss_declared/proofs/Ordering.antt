@@ -1,6 +1,6 @@
 -- One section more, and one rule more.
-use Rattle.std.proofs.Common.{◌≡◌, ℕ, ◌+◌, ◌<◌, List, [], ◌∷◌, ◌++◌, append_assoc, length, get_or, take, map, Option, Some, None, refl, sym, ap, ◌∙◌, arith}
-use Rattle.std.proofs.lemmas.List.{append-nil, map-append, length-take-le}
+use Rattle.std.proofs.Common.{◌≡◌, ℕ, ◌+◌, ◌<◌, ◌≤◌, List, [], ◌∷◌, ◌++◌, append_assoc, length, get_or, take, map, Option, Some, None, refl, sym, ap, ◌∙◌, arith}
+use Rattle.std.proofs.lemmas.List.{append-nil, take_more, map-append, length-take-le, length-map}
 use Rattle.ss_base.specs.declared.line.Line.{Line}
 use Rattle.ss_tree.specs.declared.program.Section.{Section}
 use Rattle.ss_tree.specs.Tree.{SectionTree}
@@ -32,7 +32,10 @@ sections_last says number (t ∷ ts) s =
 pub next_section : (says : List Saying) (xs : List Section) (i : ℕ) (x : Section) (start found new : Option Line) → i < length xs → x ≡ get_or xs i x → found ≡ soonest start (unmoded_in says 0 (map view_section (take i xs))) → new ≡ soonest found (in_section says i (view_section x)) → new ≡ soonest start (unmoded_in says 0 (map view_section (take (i + 1) xs)))
 next_section says xs i x start found new lt is h n =
     let seen = map view_section (take i xs) in
-    let number : i ≡ 0 + length seen = ? in
+    let counted : length seen ≡ length (take i xs) = length-map (take i xs) view_section in
+    let fits : i ≤ length xs = omega (arith, lt) in
+    let taken : length (take i xs) ≡ i = length-take-le i xs fits in
+    let number : i ≡ 0 + length seen = omega (arith, counted, taken) in
     n ∙ ap (λ (f : Option Line). soonest f (in_section says i (view_section x))) h ∙ soonest_both start (unmoded_in says 0 seen) (in_section says i (view_section x)) ∙
     ap (soonest start) (ap (λ k. unmoded_in says 0 seen ++ in_section says k (view_section x)) number ∙ sym (sections_last says 0 seen (view_section x)) ∙
     ap (unmoded_in says 0) (sym (ap (map view_section) (take_next xs i x lt is) ∙ map-append view_section (take i xs) (x ∷ []))))
@@ -54,7 +57,8 @@ rules_last says sections (r ∷ rs) rule =
     first_assoc (told r (first_line (broken_by says sections r))) (first_broken says sections rs) (told rule (first_line (broken_by says sections rule)))
 
 -- the next rule
-pub next_rule : (says : List Saying) (sections : List SectionTree) (xs : List Rule) (i : ℕ) (x : Rule) (found new : Option Broken) → i < length xs → x ≡ get_or xs i x → found ≡ first_broken says sections (take i xs) → new ≡ first_of found (told x (first_line (broken_by says sections x))) → new ≡ first_broken says sections (take (i + 1) xs)
-next_rule says sections xs i x found new lt is h n =
+pub next_rule : (says : List Saying) (sections : List SectionTree) (xs : List Rule) (i : ℕ) (d : Rule) (found new : Option Broken) → i < length xs → found ≡ first_broken says sections (take i xs) → new ≡ first_of found (told (get_or xs i d) (first_line (broken_by says sections (get_or xs i d)))) → new ≡ first_broken says sections (take (i + 1) xs)
+next_rule says sections xs i d found new lt h n =
+    let x = get_or xs i d in
     n ∙ ap (λ (b : Option Broken). first_of b (told x (first_line (broken_by says sections x)))) h ∙ sym (rules_last says sections (take i xs) x) ∙
-    ap (first_broken says sections) (sym (take_next xs i x lt is))
+    ap (first_broken says sections) (sym (take_more xs i d lt))

@@ -18,3 +18,4 @@ pub mod Things
 pub mod Globals
 pub mod Classes
 pub mod Counts
+pub mod Examples
