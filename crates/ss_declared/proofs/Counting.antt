@@ -1,5 +1,5 @@
 -- What is kept of numbers and of members, one saying at a time.
-use Rattle.std.proofs.Common.{◌≡◌, ℕ, ◌+◌, ◌<◌, min, nat_eq, Bool, true, false, ◌&&◌, ◌||◌, List, [], ◌∷◌, ◌++◌, length, get_or, take, cond, Option, Some, None, refl, sym, ap, subst, ◌∙◌, arith, add-zero}
+use Rattle.std.proofs.Common.{◌≡◌, ℕ, ◌+◌, ◌<◌, min, nat_eq, Bool, true, false, ◌&&◌, ◌||◌, List, [], ◌∷◌, ◌++◌, length, get_or, take, cond, Option, Some, refl, sym, ap, subst, ◌∙◌, arith, add-zero}
 use Rattle.std.specs.List.{count_by, list_any}
 use Rattle.std.specs.Option.{option_eq}
 use Rattle.std.specs.Cmp.Lexicographic.{bytes_decides}
@@ -17,7 +17,7 @@ use Rattle.ss_declared.specs.Counts.{count_of, AreCounts, CountsOne, is_foreign_
 use Rattle.ss_declared.specs.Lines.{line_if, later_lines, lines_where}
 use Rattle.ss_declared.specs.RankKey.{is_foreign, defines, misranks}
 use Rattle.ss_declared.specs.TooMany.{attribute_class, is_of}
-use Rattle.ss_declared.specs.Topics.{Thing, thing_of, same_name, class_of}
+use Rattle.ss_declared.specs.Topics.{thing_of, same_name, class_of}
 use Rattle.ss_declared.proofs.Finding.{take_next, where_more, later_more}
 use Rattle.ss_declared.proofs.Keeping.{or_none, any_last}
 

@@ -1,5 +1,5 @@
 -- Rules on what is said of a thing of which something else must be said as well.
-use Rattle.std.specs.Prelude.{Bool, not, ◌&&◌, List, ◌++◌}
+use Rattle.std.specs.Prelude.{Bool, not, ◌&&◌, List}
 use Rattle.ss_base.specs.declared.line.Line.{Line}
 use Rattle.ss_sayings.specs.declared.saying.Saying.{Saying}
 use Rattle.ss_declared.specs.declared.topic.Topic.{Topic}

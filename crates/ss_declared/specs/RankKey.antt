@@ -1,5 +1,5 @@
 -- Refusal 57: the keys of a ranked set are attributes of its members' class. The line is that of the DEFINE.
-use Rattle.std.specs.Prelude.{ℕ, nat_eq, Bool, true, false, not, ◌&&◌, List, Option, Some, None}
+use Rattle.std.specs.Prelude.{ℕ, nat_eq, Bool, false, not, ◌&&◌, List, Option, Some, None}
 use Rattle.std.specs.Option.{option_eq}
 use Rattle.std.specs.List.{list_any}
 use Rattle.ss_base.specs.declared.line.Line.{Line}

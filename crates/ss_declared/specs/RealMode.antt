@@ -14,7 +14,7 @@ use Rattle.ss_sayings.specs.declared.saying.Said.{Said}
 use Rattle.ss_sayings.specs.declared.saying.Said.TheVariants as said
 use Rattle.ss_sayings.specs.declared.saying.Saying.{Saying}
 use Rattle.ss_declared.specs.declared.topic.Topic.TheVariants as topics
-use Rattle.ss_declared.specs.Declarations.{Declaration, declarations, standing_of}
+use Rattle.ss_declared.specs.Declarations.{declarations, standing_of}
 use Rattle.ss_declared.specs.Lines.{lines_where}
 use Rattle.ss_declared.specs.Missing.{missing}
 use Rattle.ss_declared.specs.Topics.{line_of, is_said}

@@ -1,5 +1,5 @@
 -- How a spelling lies in its bytes.
-use Rattle.std.specs.Prelude.{◌≡◌, ℕ, ◌-◌, List, ◌++◌, length, take, replicate, nat_lt, Option, Some, None, if◌then◌else◌}
+use Rattle.std.specs.Prelude.{◌≡◌, ℕ, ◌-◌, List, ◌++◌, length, take, replicate}
 use Rattle.ss_declared.specs.declared.spelling.TheConstants.{SPELLING_LIMIT}
 
 -- a spelling with zeros behind it, as many as fill its room

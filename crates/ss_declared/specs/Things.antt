@@ -1,13 +1,10 @@
 -- What the code keeps of sayings.
-use Rattle.std.specs.Prelude.{◌≡◌, ℕ, nat_eq, Bool, false, true, not, List, [], ◌∷◌, ◌++◌, Option, Some, None, if◌then◌else◌}
-use Rattle.std.specs.Option.{option_eq}
+use Rattle.std.specs.Prelude.{◌≡◌, Bool, List, [], ◌∷◌, ◌++◌, if◌then◌else◌}
 use Rattle.std.specs.List.{list_any}
-use Rattle.std.specs.Map.{lookup}
 use Rattle.ss_sayings.specs.declared.saying.Saying.{Saying}
 use Rattle.ss_sayings.specs.Sayings.{NameBytes}
 use Rattle.ss_declared.specs.declared.topic.Topic.{Topic}
-use Rattle.ss_declared.specs.declared.topic.Topic.TheVariants as topics
-use Rattle.ss_declared.specs.Topics.{Thing, global, same_thing, is_said, class_of}
+use Rattle.ss_declared.specs.Topics.{Thing, global, same_thing, is_said}
 
 -- whether a thing is among some
 abbrev pub has_thing : List Thing → Thing → Bool

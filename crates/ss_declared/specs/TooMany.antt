@@ -1,5 +1,5 @@
 -- Refusal 59: there are at most 64 classes, 64 sets, and 64 attributes of a class.
-use Rattle.std.specs.Prelude.{ℕ, nat_le, Bool, true, false, not, ◌&&◌, List, ◌++◌, drop, Option, Some, None}
+use Rattle.std.specs.Prelude.{nat_le, Bool, false, not, ◌&&◌, List, ◌++◌, drop, Option, Some, None}
 use Rattle.std.specs.Option.{option_eq}
 use Rattle.std.specs.List.{count_by}
 use Rattle.ss_base.specs.declared.line.Line.{Line}

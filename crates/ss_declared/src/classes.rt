@@ -66,11 +66,7 @@ impl Classes {
 }
 
 /// The classes that sayings about this tell, each the first.
-pub fn classes_said(
-    alloc: Global,
-    topic: Topic,
-    sayings: &[Saying],
-) -> Result<Classes, AllocError>
+pub fn classes_said(alloc: Global, topic: Topic, sayings: &[Saying]) -> Result<Classes, AllocError>
     ensures { IfOk result (λ classes. AreClasses topic sayings.now classes) }
 {
     let mut classes = Classes::new(alloc);

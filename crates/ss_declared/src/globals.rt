@@ -132,12 +132,7 @@ impl Globals {
         Ok(())
     }
 
-    fn declare_class(
-        &mut self,
-        line: Line,
-        kind: ClassKind,
-        class: &Name,
-    ) -> Result<(), AllocError>
+    fn declare_class(&mut self, line: Line, kind: ClassKind, class: &Name) -> Result<(), AllocError>
         ensures { OnOk result (Adds (class_declares line kind class.now) self.old self.new) }
     {
         self.declare(line, Standing::Class, Spelling::of_name(class))?;

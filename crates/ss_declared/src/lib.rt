@@ -23,4 +23,3 @@ mod unknown_set;
 
 pub use broken::{refusal, refusal_of};
 pub use rule::{Broken, Rule};
-pub use topic::{Thing, Topic};

@@ -11,7 +11,13 @@ pub fn sooner(found: Option<Line>, line: Line) -> Option<Line>
 {
     match found {
         None => Some(line),
-        Some(first) => { if line.0 < first.0 { Some(line) } else { Some(first) } }
+        Some(first) => {
+            if line.0 < first.0 {
+                Some(line)
+            } else {
+                Some(first)
+            }
+        }
     }
 }
 

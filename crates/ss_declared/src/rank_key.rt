@@ -117,7 +117,10 @@ fn is_misranked(ranks: &Ranks, attributes: &Classes, saying: &Saying) -> bool
 {
     match &saying.said {
         Said::RankKey { statement, .. } => {
-            is_foreign_to(&ranks.members(*statement), &attributes.class(thing_of(saying)))
+            is_foreign_to(
+                &ranks.members(*statement),
+                &attributes.class(thing_of(saying)),
+            )
         }
         _ => false,
     }

@@ -66,7 +66,10 @@ fn reals(sayings: &[Saying]) -> Option<Line>
 fn is_variable_role(role: Role) -> bool
     ensures { result ≡ is_variable_role role }
 {
-    matches!(role, Role::Value | Role::Target | Role::Reset | Role::LoopVariable)
+    matches!(
+        role,
+        Role::Value | Role::Target | Role::Reset | Role::LoopVariable
+    )
 }
 
 /// Whether this is a name that isn't global and has no DEFINE in the section of this number.
@@ -101,7 +104,11 @@ fn unmoded_among(
 {
     let mut found = found;
     for mention in mentions {
-        found = sooner_if(found, lacks_mode(globals, locals, number, mention), mention.line);
+        found = sooner_if(
+            found,
+            lacks_mode(globals, locals, number, mention),
+            mention.line,
+        );
     }
     found
 }

@@ -40,7 +40,7 @@ impl Model for Spelling {
 
 impl Spelling {
     ghost use Rattle.std.specs.Prelude.{◌≡◌, ◌≤◌, [], ◌∷◌, length};
-    
+
     /// The spelling of a name.
     pub fn of_name(name: &Name) -> Spelling
         ensures { result ≡ name.now }

@@ -62,11 +62,7 @@ impl Things {
 }
 
 /// What the sayings about this are of.
-pub fn things_said(
-    alloc: Global,
-    topic: Topic,
-    sayings: &[Saying],
-) -> Result<Things, AllocError>
+pub fn things_said(alloc: Global, topic: Topic, sayings: &[Saying]) -> Result<Things, AllocError>
     ensures { IfOk result (λ things. AreSaid topic sayings.now things) }
 {
     let mut things = Things::new(alloc);

@@ -58,7 +58,11 @@ fn classes(alloc: Global, sayings: &[Saying]) -> Result<Vec<Line>, AllocError>
 {
     let mut lines = Vec::new(alloc);
     for saying in sayings {
-        push_if(&mut lines, is_about(Topic::Class, &saying.said), saying.line)?;
+        push_if(
+            &mut lines,
+            is_about(Topic::Class, &saying.said),
+            saying.line,
+        )?;
     }
     Ok(lines)
 }

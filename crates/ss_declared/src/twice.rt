@@ -47,8 +47,7 @@ pub fn again(
 fn is_of_both(topic: Topic, saying: &Saying, first: &Things, second: &Things) -> bool
     ensures { result ≡ (is_about topic saying.now.said && (has_thing first.now (thing_of saying.now) && has_thing second.now (thing_of saying.now))) }
 {
-    is_about(topic, &saying.said)
-        && (first.has(thing_of(saying)) && second.has(thing_of(saying)))
+    is_about(topic, &saying.said) && (first.has(thing_of(saying)) && second.has(thing_of(saying)))
 }
 
 /// The same, where only these things count.

@@ -1,5 +1,4 @@
 use Rattle.std.proofs.Common.{List, ap, ◌∙◌}
-use Rattle.ss_tree.specs.View.{view_section}
 use Rattle.ss_walk.specs.declared.mention.Mention.{Mention}
 use Rattle.ss_declared.specs.Lines.{soonest, lines_where}
 use Rattle.ss_declared.specs.RealMode.{lacks_mode, mentioned_at}

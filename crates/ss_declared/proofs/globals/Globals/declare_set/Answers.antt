@@ -1,4 +1,4 @@
-use Rattle.std.proofs.Common.{[], ◌∷◌, ap, subst}
+use Rattle.std.proofs.Common.{[], ◌∷◌, subst}
 use Rattle.ss_declared.specs.declared.globals.Standing.TheVariants.{Set, OfSet}
 use Rattle.ss_sayings.specs.Sayings.{NameBytes}
 use Rattle.ss_declared.specs.Declarations.{declaration, derived}

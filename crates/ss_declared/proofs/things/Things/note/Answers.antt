@@ -1,6 +1,6 @@
 use Rattle.std.proofs.Common.{ap, sym, ◌∙◌}
 use Rattle.ss_declared.specs.Things.{with_thing}
-use Rattle.ss_declared.proofs.Keeping.{noted, passed}
+use Rattle.ss_declared.proofs.Keeping.{noted}
 use Rattle.ss_declared.proofs.things.Things.note.Goals as goal
 
 pub returns-in_ok-add : goal.returns-in_ok-add
