@@ -32,6 +32,10 @@ firsts all = fold with_first [] all
 abbrev pub with_name : List NameBytes → NameBytes → List NameBytes
 with_name names name = if is_one_of names name then names else names ++ name ∷ []
 
+abbrev pub with_name_if : List NameBytes → Option NameBytes → List NameBytes
+with_name_if names None = names
+with_name_if names (Some name) = with_name names name
+
 -- each name once
 abbrev pub each_once : List NameBytes → List NameBytes
 each_once names = fold with_name [] names

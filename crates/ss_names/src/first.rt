@@ -1,7 +1,8 @@
 //! The first of what is told of each name.
 
 ghost use Rattle.std.specs.Prelude.{◌≡◌, OnOk};
-ghost use Rattle.ss_names.specs.Firsts.{place_in, with_first};
+ghost use Rattle.std.specs.List.{fold};
+ghost use Rattle.ss_names.specs.Firsts.{entry_if, with_first};
 
 use indexmap::IndexMap;
 use ss_lex::Name;
@@ -24,9 +25,16 @@ pub fn keep_first<V: Copy>(
     }
 }
 
-/// The number of a name, if it is there.
-pub fn place_in<V: Copy>(entries: &IndexMap<Name, V>, name: Name) -> Option<usize>
-    ensures { result ≡ place_in entries.now.entries name }
+/// The same, where there is something to tell.
+pub fn keep_if<V: Copy>(
+    entries: &mut IndexMap<Name, V>,
+    name: Name,
+    value: Option<V>,
+) -> Result<(), AllocError>
+    ensures { OnOk result (entries.new.entries ≡ fold with_first entries.old.entries (entry_if name value)) }
 {
-    entries.get_index_of(&name)
+    match value {
+        Some(value) => keep_first(entries, name, value),
+        None => Ok(()),
+    }
 }

@@ -1,9 +1,12 @@
 //! One table of what a program declares.
 #![tactic(auto)]
 
+mod classes;
 mod first;
 mod keys;
 mod meaning;
+mod sections;
+mod sets;
 mod spelling;
 
 pub use keys::{RankedBy, TiedBy};
