@@ -1,13 +1,19 @@
 //! One table of what a program declares.
 #![tactic(auto)]
 
+mod attributes;
 mod classes;
 mod first;
 mod keys;
 mod meaning;
+mod meanings;
+mod numbers;
+mod ranks;
 mod sections;
 mod sets;
 mod spelling;
+mod statistics;
+mod variables;
 
 pub use keys::{RankedBy, TiedBy};
 pub use meaning::{
