@@ -6,4 +6,6 @@ pub mod Variables
 pub mod Statistics
 pub mod Meanings
 pub mod Keys
+pub mod Notices
 pub mod Table
+pub mod Examples

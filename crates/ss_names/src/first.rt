@@ -1,7 +1,8 @@
 //! The first of what is told of each name.
 
-ghost use Rattle.std.specs.Prelude.{◌≡◌, is_some, OnErr, OnOk};
+ghost use Rattle.std.specs.Prelude.{◌≡◌, is_some, slice_get, OnErr, OnOk};
 ghost use Rattle.std.specs.List.{fold};
+ghost use Rattle.std.specs.Map.{keys_of, values_of};
 ghost use Rattle.ss_names.specs.Firsts.{entry_if, told_of, with_first};
 
 use crate::spelling::Spelling;
@@ -63,4 +64,34 @@ pub fn is_told<V: Copy>(entries: &IndexMap<Name, V>, name: &Name) -> bool
     ensures { result ≡ is_some (told_of entries.now.entries name.now) }
 {
     entries.get(name).is_some()
+}
+
+/// The name of this number.
+pub fn key_at<V: Copy>(entries: &IndexMap<Name, V>, number: usize) -> Option<Name>
+    ensures { result ≡ slice_get (keys_of entries.now.entries) number }
+{
+    match entries.get_index(number) {
+        Some((name, _)) => Some(*name),
+        None => None,
+    }
+}
+
+/// What is told of the name of this number.
+pub fn value_at<V: Copy>(entries: &IndexMap<Name, V>, number: usize) -> Option<V>
+    ensures { result ≡ slice_get (values_of entries.now.entries) number }
+{
+    match entries.get_index(number) {
+        Some((_, value)) => Some(*value),
+        None => None,
+    }
+}
+
+/// What is told of the spelling of this number.
+pub fn spelled_at<V: Copy>(entries: &IndexMap<Spelling, V>, number: usize) -> Option<V>
+    ensures { result ≡ slice_get (values_of entries.now.entries) number }
+{
+    match entries.get_index(number) {
+        Some((_, value)) => Some(*value),
+        None => None,
+    }
 }

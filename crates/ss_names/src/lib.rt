@@ -4,9 +4,12 @@
 mod attributes;
 mod classes;
 mod first;
+mod histories;
 mod keys;
 mod meaning;
 mod meanings;
+mod names;
+mod notices;
 mod numbers;
 mod ranks;
 mod sections;
@@ -20,4 +23,5 @@ pub use meaning::{
     Attribute, Class, Derived, Event, History, Meaning, Ordering, Routine, Set, Statistic, Subject,
     Variable, VariableKind,
 };
+pub use names::{NameId, Names};
 pub use spelling::SPELLING_LIMIT;

@@ -8,7 +8,7 @@ ghost use Rattle.ss_names.specs.Firsts.{entry_if, firsts, place_among, place_in,
 ghost use Rattle.ss_names.specs.Meanings.{class_meanings, class_name_meaning, count_meaning, derived_entry, letter_of, meaning_by, meaning_told, meanings_in, set_meanings, variable_meaning};
 ghost use Rattle.ss_names.specs.Variables.{count_name};
 
-use crate::first::keep_spelled;
+use crate::first::{keep_spelled, spelled_at};
 use crate::meaning::{Derived, Meaning};
 use crate::numbers::Numbers;
 use crate::spelling::Spelling;
@@ -173,6 +173,24 @@ impl Meanings {
         ensures { result ≡ told_of self.now name.now }
     {
         self.map.get(&Spelling::of_name(name)).copied()
+    }
+
+    /// The spelling of the name at this place.
+    pub fn spelling(&self, place: usize) -> &[u8]
+        requires { place < length self.now }
+        ensures { slice_get (keys_of self.now) place ≡ Some result.now }
+    {
+        match self.map.get_index(place) {
+            Some((name, _)) => name.bytes(),
+            None => &[],
+        }
+    }
+
+    /// What the name at this place stands for.
+    pub fn at(&self, place: usize) -> Option<Meaning>
+        ensures { result ≡ slice_get (values_of self.now) place }
+    {
+        spelled_at(&self.map, place)
     }
 
     /// How many names there are.
