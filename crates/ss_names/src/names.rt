@@ -3,7 +3,11 @@
 ghost use Rattle.std.specs.Prelude.{◌≡◌, ◌<◌, [], length, slice_get, get_or, option_map, Some, IfOk};
 ghost use Rattle.std.specs.Map.{keys_of, values_of};
 ghost use Rattle.ss_tree.specs.View.{view_program};
+ghost use Rattle.ss_names.specs.Entities.{sets as sets_said};
 ghost use Rattle.ss_names.specs.Firsts.{place_in, told_of};
+ghost use Rattle.ss_names.specs.Meanings.{meanings_in, numbered};
+ghost use Rattle.ss_names.specs.Notices.{notices as notices_said};
+ghost use Rattle.ss_names.specs.Statistics.{histories as histories_said};
 ghost use Rattle.ss_names.specs.Table.{declared, table};
 
 use crate::classes::usual_mode;
@@ -49,22 +53,66 @@ impl Model for Names {
 #[derive(Clone, Copy, PartialEq, Eq, Debug)]
 pub struct NameId(pub usize);
 
+// What is numbered, and what names stand for.
+#[derive(Drop)]
+struct Named {
+    numbers: Numbers,
+    names: Meanings,
+}
+
+// What is numbered, and what names stand for, where this is said.
+fn named_in(alloc: Global, sayings: &[Saying]) -> Result<Named, AllocError>
+    ensures numbers { IfOk result (λ n. n.numbers ≡ numbered sayings.now) }
+    ensures names { IfOk result (λ n. n.names ≡ meanings_in (numbered sayings.now) sayings.now) }
+{
+    let numbers = numbers_of(alloc, sayings)?;
+    let names = meanings_of(alloc, &numbers, sayings)?;
+    Ok(Named { numbers, names })
+}
+
+// What is told of sets, notices and histories.
+#[derive(Drop)]
+struct Told {
+    sets: Vec<Set>,
+    notices: Notices,
+    histories: Vec<History>,
+}
+
+// What is told of sets, notices and histories, where this is said.
+fn told_in(
+    alloc: Global,
+    numbers: &Numbers,
+    names: &Meanings,
+    sayings: &[Saying],
+) -> Result<Told, AllocError>
+    requires { numbers.now ≡ numbered sayings.now }
+    ensures sets { IfOk result (λ t. t.sets.items ≡ sets_said sayings.now) }
+    ensures notices { IfOk result (λ t. t.notices ≡ notices_said sayings.now) }
+    ensures histories { IfOk result (λ t. t.histories.items ≡ histories_said names.now sayings.now) }
+{
+    let sets = sets_in(alloc, &numbers.classes, &numbers.set_names, sayings)?;
+    let notices = notices_of(alloc, &numbers.classes, sayings)?;
+    let histories = histories_of(alloc, names, &numbers.weighings)?;
+    Ok(Told {
+        sets,
+        notices,
+        histories,
+    })
+}
+
 // What is declared where this is said.
 fn declared(alloc: Global, sayings: &[Saying]) -> Result<Names, AllocError>
     ensures { IfOk result (λ n. n ≡ declared sayings.now) }
 {
-    let numbers = numbers_of(alloc, sayings)?;
-    let names = meanings_of(alloc, &numbers, sayings)?;
-    let sets = sets_in(alloc, &numbers.classes, &numbers.set_names, sayings)?;
-    let notices = notices_of(alloc, &numbers.classes, sayings)?;
-    let histories = histories_of(alloc, &names, &numbers.weighings)?;
+    let named = named_in(alloc, sayings)?;
+    let told = told_in(alloc, &named.numbers, &named.names, sayings)?;
     Ok(Names {
-        names,
+        names: named.names,
         usual: usual_mode(sayings),
-        numbers,
-        sets,
-        notices,
-        histories,
+        numbers: named.numbers,
+        sets: told.sets,
+        notices: told.notices,
+        histories: told.histories,
     })
 }
 

@@ -15,4 +15,4 @@ returns c =
     let ordered : c.in_ok-orderings.orderings.entries ≡ orderings says = c.in_ok-orderings.ensures in
     let names : c.as_slice.result.now ≡ set_names says = c.as_slice.ensures.keys ∙ c.requires.names in
     IfOk-weaker c.sets_of.result _ (λ out. out.items ≡ sets says)
-      (λ out e. e ∙ (λ i. map (set_of (owners i) (members i) (ordered i)) (names i))) c.sets_of.ensures
+    (λ out e. e ∙ (λ i. map (set_of (owners i) (members i) (ordered i)) (names i))) c.sets_of.ensures
