@@ -9,12 +9,12 @@ use Rattle.ss_tree.specs.declared.preamble.Mode.{Mode}
 use Rattle.ss_tree.specs.declared.preamble.Mode.TheVariants.{Integer, Alpha}
 use Rattle.ss_tree.specs.declared.preamble.StatisticKind.TheVariants as folds
 use Rattle.ss_tree.specs.declared.preamble.Weighting.TheVariants.{Tally, Accumulate}
-use Rattle.ss_tree.specs.Tree.{has, owns, belongs_to, lifo, ranked, permanent_entities, temporary_entities, event_notices, every, normally, system_owns, define_variables, define_sets, priority_order, break_ties, statistics, main, routine, event, ProgramTree, SectionKindTree, SectionTree}
+use Rattle.ss_tree.specs.Tree.{has, owns, belongs_to, ranked, permanent_entities, temporary_entities, event_notices, every, normally, system_owns, define_variables, define_sets, priority_order, break_ties, statistics, main, routine, event, ProgramTree, SectionKindTree, SectionTree}
 use Rattle.ss_sayings.specs.declared.saying.SetRule.TheVariants as rules
 use Rattle.ss_sayings.specs.Sayings.{NameBytes}
 use Rattle.ss_names.specs.declared.meaning.Attribute.{Attribute}
 use Rattle.ss_names.specs.declared.meaning.Class.{Class}
-use Rattle.ss_names.specs.declared.meaning.Derived.TheVariants.{MemberCount, Predecessor}
+use Rattle.ss_names.specs.declared.meaning.Derived.TheVariants.{Predecessor}
 use Rattle.ss_names.specs.declared.meaning.Meaning.{Meaning}
 use Rattle.ss_names.specs.declared.meaning.Meaning.TheVariants as meanings
 use Rattle.ss_names.specs.declared.meaning.Subject.TheVariants as subjects

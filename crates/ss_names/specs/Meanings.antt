@@ -18,7 +18,7 @@ use Rattle.ss_names.specs.declared.meaning.Routine.{Routine}
 use Rattle.ss_names.specs.declared.meaning.Statistic.{Statistic}
 use Rattle.ss_names.specs.declared.meaning.Variable.{Variable}
 use Rattle.ss_names.specs.Entities.{attributes, classes, fields, set_names}
-use Rattle.ss_names.specs.Firsts.{entry_if, firsts, place_among, place_in, told_of}
+use Rattle.ss_names.specs.Firsts.{entry_if, firsts, place_among, place_in}
 use Rattle.ss_names.specs.Statistics.{statistics, weighings}
 use Rattle.ss_names.specs.Variables.{count_name, routines, variables}
 

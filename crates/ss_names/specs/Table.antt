@@ -1,5 +1,5 @@
 -- One table of what a program declares. What has a number has it by its place in a list.
-use Rattle.std.specs.Prelude.{ℕ, Bool, List, [], ◌∷◌, Option, Some, None}
+use Rattle.std.specs.Prelude.{ℕ, List, Option}
 use Rattle.ss_tree.specs.declared.preamble.Mode.{Mode}
 use Rattle.ss_tree.specs.declared.preamble.Weighting.{Weighting}
 use Rattle.ss_tree.specs.Tree.{ProgramTree}

@@ -1,4 +1,4 @@
-use Rattle.std.proofs.Common.{◌≡◌, length, ◌∙◌}
+use Rattle.std.proofs.Common.{length, ◌∙◌}
 use Rattle.std.specs.List.{flat_map}
 use Rattle.ss_names.specs.Entities.{attribute_by, fields_of}
 use Rattle.ss_names.specs.Firsts.{firsts}

@@ -1,9 +1,9 @@
-use Rattle.std.proofs.Common.{◌≡◌, ℕ, nat_eq, Bool, true, false, List, ◌∷◌, ◌++◌, [], OnOk, length, get_or, map, None, is_some, sym, ap, subst, ◌∙◌}
+use Rattle.std.proofs.Common.{◌≡◌, nat_eq, true, false, ◌∷◌, ◌++◌, [], length, get_or, map, is_some, sym, ap, subst, ◌∙◌}
 use Rattle.std.specs.Cmp.Lexicographic.{pointwise}
 use Rattle.std.proofs.lemmas.Result.{on_ok_weaker}
 use Rattle.indexmap.proofs.CallerLemmas.{insert_entry-new}
 use Rattle.ss_names.specs.declared.meaning.Attribute.{Attribute}
-use Rattle.ss_names.specs.Entities.{AreAttributes, AttributesSeen, attribute_behind, fields_among, mode_of}
+use Rattle.ss_names.specs.Entities.{AreAttributes, AttributesSeen, attribute_behind, fields_among}
 use Rattle.ss_names.specs.Firsts.{told_of}
 use Rattle.ss_names.specs.Rows.{row_of}
 use Rattle.ss_names.proofs.Fields.{attribute_known, attribute_new, none_told, row_length}
