@@ -1,14 +1,14 @@
 -- What a run of the machine says of a program that its code behaves as.
-use Rattle.std.proofs.Common.{◌≡◌, ℕ, suc, ◌+◌, true, false, List, [], ◌++◌, ◌⊎◌, inl, inr, Option, refl, sym, ap, ◌∙◌, subst, append_assoc, append-nil, arith}
+use Rattle.std.proofs.Common.{◌≡◌, ℕ, ◌+◌, false, List, [], ◌++◌, ◌⊎◌, inl, inr, Option, refl, sym, ap, ◌∙◌, subst, append_assoc, append-nil, arith}
 use Rattle.std.proofs.KnownBytes.{Appends-nil, Consumes-nil}
-use Rattle.std.specs.Io.KnownBytes.{Appends, Consumes, IsAtEnd}
+use Rattle.std.specs.Io.KnownBytes.{Consumes, IsAtEnd}
 use Rattle.ss_input.specs.Blocks.{KnowsEnd}
 use Rattle.ss_input.specs.declared.source.Source.{Source}
 use Rattle.ss_input.specs.Inputs.{IsFresh, Finds, Reads, source_block, source_reader}
 use Rattle.ss_resolved.specs.declared.resolved.Resolved.{Resolved}
 use Rattle.ss_code.specs.Meaning.{Ending, Ended as EndedThere, Fault as FaultThere, Paused as PausedThere, Run, meaning}
-use Rattle.ss_code.specs.Machine.{Code, State, Stepped, Goes, Over, NoStep, step}
-use Rattle.ss_code.specs.Running.{Result as Comings, Underway, Ends, IsStuck, Behaves, start, steps, go_on as goes_on}
+use Rattle.ss_code.specs.Machine.{Code, State, Goes, Over, step}
+use Rattle.ss_code.specs.Running.{Underway, Ends, Behaves, start, steps, go_on as goes_on}
 use Rattle.ss_code.specs.Laws.{Grows, OnTheWay, OneTickFewer, Pauses, StepsGoOn}
 use Rattle.ss_machine.specs.declared.stop.Stop.{Stop}
 use Rattle.ss_machine.specs.declared.stop.Stop.TheVariants.{Ended, Fault, Paused, Memory, Output, Input, Failed}

@@ -1,8 +1,5 @@
-use Rattle.std.proofs.Common.{◌≡◌, sym, ap, subst, ◌∙◌, ◌-◌, [], true}
-use Rattle.ss_resolved.specs.declared.resolved.Resolved.{Resolved}
-use Rattle.ss_code.specs.Running.{Behaves, start}
+use Rattle.std.proofs.Common.{◌≡◌, sym, ap, subst, ◌-◌}
 use Rattle.ss_machine.specs.declared.stop.Stop.TheVariants.{Memory}
-use Rattle.ss_machine.specs.Holding.{state_of}
 use Rattle.ss_machine.specs.Runs.{Ran}
 use Rattle.ss_input.specs.Blocks.{KnowsEnd}
 use Rattle.ss_input.specs.Inputs.{source_block}
