@@ -1,10 +1,9 @@
 -- The plain data that a program's value is, without where it lies in memory.
-use Rattle.std.specs.Prelude.{ℕ, List, [], ◌∷◌, map, Option, Some, None}
+use Rattle.std.specs.Prelude.{List, [], ◌∷◌, map, Option, Some, None}
 use Rattle.ss_base.specs.declared.layout.Layout.{Layout as LayoutValue}
 use Rattle.ss_base.specs.declared.layout.ClassLayout.{ClassLayout as ClassValue}
 use Rattle.ss_base.specs.declared.layout.Discipline.{Discipline as DisciplineValue}
 use Rattle.ss_base.specs.declared.layout.Discipline.TheVariants as disciplines
-use Rattle.ss_program.specs.declared.expression.Operation.{Operation}
 use Rattle.ss_program.specs.declared.expression.Expression as expressions
 use Rattle.ss_program.specs.declared.expression.Expression.{Row_of-Operation, end_of-Operation, more_of-Operation}
 use Rattle.ss_program.specs.declared.expression.SetOwner.{SetOwner as OwnerValue}
