@@ -1,5 +1,5 @@
 -- When a program is well typed: each number in it is that of something, and modes, kinds and counts agree.
-use Rattle.std.specs.Prelude.{◌≡◌, ◌≢◌, ◌<◌, ℕ, Bool, true, false, List, ◌++◌, length, map, take, sum, Option, Some, None, slice_get, Contains, IfSome}
+use Rattle.std.specs.Prelude.{◌≡◌, ◌≢◌, ℕ, Bool, true, false, List, ◌++◌, length, map, take, sum, Option, Some, None, slice_get, Contains, IfSome}
 use Rattle.std.specs.List.{AllZip, AllByRecursion as Every}
 use Rattle.std.specs.Option.{option_map, option_and_then}
 use Rattle.ss_base.specs.declared.layout.Mode.{Mode}
@@ -10,7 +10,9 @@ use Rattle.ss_base.specs.declared.layout.Owner.{Owner}
 use Rattle.ss_base.specs.declared.layout.Owner.TheVariants.{System, Class as OfClass}
 use Rattle.ss_base.specs.declared.layout.SetLayout.{SetLayout}
 use Rattle.ss_base.specs.declared.layout.RankKey.{RankKey}
-use Rattle.ss_base.specs.Layout.{mode_of, owns_among}
+use Rattle.ss_base.specs.declared.layout.Discipline.{Discipline}
+use Rattle.ss_base.specs.declared.layout.Discipline.TheVariants.{Fifo, Lifo, Ranked}
+use Rattle.ss_base.specs.Layout.{mode_of, is_sound}
 use Rattle.ss_picture.specs.Pictures.{field_count}
 use Rattle.ss_program.specs.declared.expression.Variable.{Variable}
 use Rattle.ss_program.specs.declared.expression.Variable.TheVariants.{Global, Local}
@@ -18,7 +20,7 @@ use Rattle.ss_program.specs.declared.statement.Counted.{Counted}
 use Rattle.ss_program.specs.declared.sections.Subject.{Subject}
 use Rattle.ss_program.specs.declared.sections.Subject.TheVariants.{OfVariable, OfAttribute, OfCount}
 use Rattle.ss_program.specs.declared.sections.Statistic.{Statistic}
-use Rattle.ss_program.specs.Program.{Expression, Constant, Fetch, Attribute, OfSystemSet, OfSet, OfMember, Clock, TimeOf, Figure, FigureOf, Signed, Absolute, Calculate, SetOwner, TheSystem, Entity, Test, Compare, DataEnded, Empty, Member, Condition, Start, AtEnd, From, After, Head, Numbers, Members, Each, Phrase, Place, ToVariable, ToAttribute, ToCount, Position, ByDiscipline, AsFirst, AsLast, BeforeMember, AfterMember, When, At, In, Now, Statement, Let, Change, Call, Return, Stop, Read, Simulate, If, Loop, For, Find, Create, CreateEvery, Destroy, File, RemoveEnd, Remove, ScheduleNew, Schedule, Cancel, Reset, Print, Skip, Block, Done, Then, Discipline, Fifo, Lifo, Ranked, Routine, Event, Program}
+use Rattle.ss_program.specs.Program.{Expression, Constant, Fetch, Attribute, OfSystemSet, OfSet, OfMember, Clock, TimeOf, Figure, FigureOf, Signed, Absolute, Calculate, SetOwner, TheSystem, Entity, Test, Compare, DataEnded, Empty, Member, Condition, Start, AtEnd, From, After, Head, Numbers, Members, Each, Phrase, Place, ToVariable, ToAttribute, ToCount, Position, ByDiscipline, AsFirst, AsLast, BeforeMember, AfterMember, When, At, In, Now, Statement, Let, Change, Call, Return, Stop, Read, Simulate, If, Loop, For, Find, Create, CreateEvery, Destroy, File, RemoveEnd, Remove, ScheduleNew, Schedule, Cancel, Reset, Print, Skip, Block, Done, Then, Routine, Event, Program}
 
 -- ---- what numbers stand for
 
@@ -203,10 +205,6 @@ abbrev mutual
 
 -- ---- programs
 
--- the owner and the member class of a set are there
-abbrev pub GoodSet : (classes : ℕ) → SetLayout → Type 0
-GoodSet classes set = (owns_among classes set.owner ≡ true) × (set.member < classes)
-
 -- the keys name fields of the class
 abbrev pub GoodKeys : Program → (class : ℕ) → List RankKey → Type 0
 GoodKeys p class = Every (λ key. (m : Mode) × (field_mode p class key.field ≡ Some m))
@@ -241,7 +239,8 @@ pub record GoodEvent (p : Program) (e : Event) : Type 0 where
   pub body : GoodBlock (record { program = p; locals = e.given ++ e.others; is_main = false }) e.body
 
 pub record WellTyped (p : Program) : Type 0 where
-  pub sets : Every (GoodSet (length p.layout.classes)) p.layout.sets
+  -- the owners and member classes of the sets are there
+  pub sets : is_sound p.layout ≡ true
   -- each set has a discipline
   pub disciplines : AllZip (GoodDiscipline p) p.layout.sets p.disciplines
   pub counts : Every (GoodCount p) p.counts
