@@ -1,1 +1,5 @@
 pub mod Program
+pub mod View
+pub mod Views
+pub mod WellTyped
+pub mod Nodes

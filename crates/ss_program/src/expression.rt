@@ -63,3 +63,86 @@ pub enum Fold {
     Maximum,
     Minimum,
 }
+
+/// An operation, and the number on its right.
+#[cycle(expressions)]
+#[derive(Drop)]
+pub struct Operation {
+    pub operator: Operator,
+    pub operand: Expression,
+}
+
+/// What gives a value.
+#[cycle(expressions)]
+#[derive(Drop)]
+pub enum Expression {
+    Constant {
+        value: Value,
+    },
+    /// The value of a variable. N. of a permanent class is a global one.
+    Fetch {
+        variable: Variable,
+    },
+    /// The value of an attribute of an entity of a class.
+    Attribute {
+        class: u32,
+        field: u32,
+        of: Box<Expression>,
+    },
+    /// What is asked of THE SYSTEM's set.
+    OfSystemSet {
+        query: SetQuery,
+        set: u32,
+    },
+    /// What is asked of the set of an owner.
+    OfSet {
+        query: SetQuery,
+        set: u32,
+        owner: Box<Expression>,
+    },
+    /// What is asked of a member.
+    OfMember {
+        query: MemberQuery,
+        set: u32,
+        member: Box<Expression>,
+    },
+    /// TIME.V: the time of the simulation, in units.
+    Clock,
+    /// TIME.A: the time that a notice was last scheduled for, in units; 0 before.
+    TimeOf {
+        notice: Box<Expression>,
+    },
+    /// A statistic of a global variable, or of N. of THE SYSTEM's set.
+    Figure {
+        fold: Fold,
+        statistic: u32,
+    },
+    /// A statistic of an attribute of an entity, or of N. of the set of an owner.
+    FigureOf {
+        fold: Fold,
+        statistic: u32,
+        entity: Box<Expression>,
+    },
+    /// A term behind a sign.
+    Signed {
+        sign: Sign,
+        term: Box<Expression>,
+    },
+    /// ABS.F
+    Absolute {
+        argument: Box<Expression>,
+    },
+    /// A number and operations on it, worked off from left to right: a sum, a product, or a function of two
+    /// numbers.
+    Calculate {
+        first: Box<Expression>,
+        further: Vec<Operation>,
+    },
+}
+
+/// Whose set of a name is meant.
+#[derive(Drop)]
+pub enum SetOwner {
+    TheSystem,
+    Entity { entity: Expression },
+}
