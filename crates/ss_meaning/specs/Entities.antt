@@ -21,7 +21,7 @@ use Rattle.ss_meaning.specs.Histories.{started, all_started}
 
 -- the class of a number
 abbrev pub class_at : ℕ → Store → Option ClassLayout
-class_at class s = slice_get s.scene.heap.layout.classes.items class
+class_at class s = slice_get s.scene.heap.layout.classes class
 
 -- the mode of an attribute
 abbrev pub field_at : (class field : ℕ) → Store → Option Mode
@@ -77,7 +77,7 @@ with_all class s h = let t : Store = with_heap s h in all_started class (made_co
 
 abbrev pub made_all : Counted → Store → Result Store Trouble
 made_all c s =
-    if_ok (sure (fetched (Global c.number) s)) (λ v. if_ok (number_of v) (λ n.
+    if_ok (sure (fetched (Global c.variable) s)) (λ v. if_ok (number_of v) (λ n.
     where_fit (is_permanent (class_at c.class s)) (turned (with_all c.class s) (due (created_all s.scene.heap c.class n)))))
 
 -- ## Destroying

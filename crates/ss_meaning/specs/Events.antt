@@ -114,30 +114,34 @@ abbrev pub saved_or_gone : Option ℕ → (class : ℕ) → (x : Value) → Stor
 saved_or_gone (Some k) class x s = assigned_variable (Global k) x s
 saved_or_gone None class x s = gone class x s
 
--- the event of a notice begins
-abbrev pub begun_as : Ranked → (x : Value) → Store → Result Beginning Trouble
-begun_as r x s =
-    if_ok (attributes r.said.class 0 r.said.given x s) (λ vs.
-    turned (λ t. record { rank = r.rank; given = vs; store = t }) (saved_or_gone r.said.saved r.said.class x s))
-
--- the class of a notice
-abbrev pub class_of : (x : ℤ) → State → Result ℕ Trouble
-class_of x h = turned (λ (r : Record). r.class) (due (notice h x))
-
--- the store once the notice that comes next was taken out, and TIME.V is its time
-abbrev pub at_event : (time : ℤ) → Store → Store
-at_event t s = record s { scene = record s.scene { time = t; pending = after_next s.scene.pending } }
-
--- what comes next: the rank and the line of its class, the notice, and the store at its time
+-- what comes next: what the program says of its class, the notice, and the store once it was taken out and TIME.V is its time
 pub record Coming : Type 0 where
   pub ranked : Ranked
   pub notice : Value
   pub store : Store
 
-abbrev pub coming_with : ℤ × ℤ → Store → Result Coming Trouble
-coming_with n s =
-    if_ok (class_of n.1 s.scene.heap) (λ class. if_ok (sure (ranked class s)) (λ r.
-    Ok (record { ranked = r; notice = Whole n.1; store = at_event n.0 s })))
+abbrev pub at_event : (time : ℤ) → Store → Store
+at_event t s = record s { scene = record s.scene { time = t; pending = after_next s.scene.pending } }
 
-abbrev pub next_event : Store → Result Coming Trouble
-next_event s = if_ok (sure (next s.scene.pending)) (λ n. coming_with n s)
+-- the class of a notice
+abbrev pub ranked_as : Result Record FaultKind → Store → Option Ranked
+ranked_as (Ok r) s = ranked r.class s
+ranked_as (Err kind) s = None
+
+abbrev pub coming_as : Option Ranked → (time notice : ℤ) → Store → Option Coming
+coming_as None t x s = None
+coming_as (Some r) t x s = Some (record { ranked = r; notice = Whole x; store = at_event t s })
+
+abbrev pub coming_with : Option (ℤ × ℤ) → Store → Option Coming
+coming_with None s = None
+coming_with (Some n) s = coming_as (ranked_as (notice s.scene.heap n.1) s) n.0 n.1 s
+
+abbrev pub next_event : Store → Option Coming
+next_event s = coming_with (next s.scene.pending) s
+
+-- an event begins
+abbrev pub begun : Coming → Result Beginning Trouble
+begun c =
+    if_ok (attributes c.ranked.said.class 0 c.ranked.said.given c.notice c.store) (λ vs.
+    turned (λ t. record { rank = c.ranked.rank; given = vs; store = t })
+    (saved_or_gone c.ranked.said.saved c.ranked.said.class c.notice c.store))

@@ -8,7 +8,7 @@ use Rattle.ss_base.specs.declared.value.Value.TheVariants.{Whole}
 use Rattle.ss_program.specs.declared.expression.Variable.{Variable}
 use Rattle.ss_program.specs.declared.head.PhraseKind.{PhraseKind}
 use Rattle.ss_program.specs.declared.head.PhraseKind.TheVariants as kinds
-use Rattle.ss_program.specs.Program.{Expression, SetOwner, Head, Numbers, Members, Each, Start, FromEnd, From, After, Phrase, Guard}
+use Rattle.ss_program.specs.Program.{Expression, SetOwner, Head, Numbers, Members, Each, Start, AtEnd, From, After, Phrase, Guard}
 use Rattle.ss_meaning.specs.Values.{Trouble, Misfit, if_ok, turned, sure, where_fit, unless_fault, number_of}
 use Rattle.ss_meaning.specs.Store.{Store}
 use Rattle.ss_meaning.specs.Entities.{class_at, is_permanent, made_count}
@@ -69,9 +69,9 @@ after_turn EndsLoop later = WentOn false
 after_turn IsFound later = WentOn true
 
 -- the candidates of a list in turn, a tick for each
-abbrev pub over_items : (visit : ℤ → Part Turn) → List ℤ → Part Bool
-over_items visit [] w = WentOn false w
-over_items visit (i ∷ is) w = take_tick (λ w. and_then (visit i w) (λ t. after_turn t (over_items visit is))) w
+abbrev pub over_items : (go : ℤ → Part Turn) → List ℤ → Part Bool
+over_items go [] w = WentOn false w
+over_items go (i ∷ is) w = take_tick (λ w. and_then (go i w) (λ t. after_turn t (over_items go is))) w
 
 -- a number of a FOR, and a step, which is the fault LOOP STEP below 1
 abbrev pub number_value : Expression → Store → Result ℤ Trouble
@@ -103,7 +103,7 @@ from_member after reverse set owner e s =
     turned (λ x. record { first = x; owner = o }) (begun_at reverse after set y o s)))
 
 abbrev pub outset : Start → (reverse : Bool) → (set : ℕ) → SetOwner → Store → Result Outset Trouble
-outset FromEnd reverse set owner s =
+outset AtEnd reverse set owner s =
     if_ok (owner_value owner s) (λ o. turned (λ x. record { first = x; owner = o }) (begun reverse set o s))
 outset (From e) reverse set owner s = from_member false reverse set owner e s
 outset (After e) reverse set owner s = from_member true reverse set owner e s
@@ -115,13 +115,13 @@ next_member l set o x EndsLoop w = WentOn (Over false) w
 next_member l set o x IsFound w = WentOn (Over true) w
 
 -- the turn of a member: the one after it is fixed as the turn begins
-abbrev pub member_turn : Line → (set : ℕ) → (reverse : Bool) → Option Value → (visit : ℤ → Part Turn) → ℤ → Part (Next ℤ Bool)
-member_turn l set reverse o visit x w =
-    and_then (look l (coming reverse set x) w) (λ next w. and_then (visit x w) (next_member l set o next))
+abbrev pub member_turn : Line → (set : ℕ) → (reverse : Bool) → Option Value → (go : ℤ → Part Turn) → ℤ → Part (Next ℤ Bool)
+member_turn l set reverse o go x w =
+    and_then (look l (coming reverse set x) w) (λ next w. and_then (go x w) (next_member l set o next))
 
-abbrev pub over_members : ℕ → Line → (set : ℕ) → (reverse : Bool) → (visit : ℤ → Part Turn) → Outset → Part Bool
-over_members n l set reverse visit b =
-    choose (is_none b.first) (WentOn false) (loop n (member_turn l set reverse b.owner visit) b.first)
+abbrev pub over_members : ℕ → Line → (set : ℕ) → (reverse : Bool) → (go : ℤ → Part Turn) → Outset → Part Bool
+over_members n l set reverse go b =
+    choose (is_none b.first) (WentOn false) (loop n (member_turn l set reverse b.owner go) b.first)
 
 -- ## FOR, and loops led by WHILE or UNTIL
 

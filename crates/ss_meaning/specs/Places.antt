@@ -24,7 +24,7 @@ pub data Spot : Type 0 where
 abbrev pub held : Spot → Store → Result Value Trouble
 held (InVariable x) s = sure (fetched x s)
 held (InAttribute class field x) s = attribute class field x s
-held (InCount c) s = sure (fetched (Global c.number) s)
+held (InCount c) s = sure (fetched (Global c.variable) s)
 
 -- a variable is assigned a value, which the histories of a global one note
 abbrev pub assigned_variable : Variable → Value → Store → Result Store Trouble
@@ -45,7 +45,7 @@ assigned_attribute class field x v s =
 abbrev pub assigned_count : Counted → Value → Store → Result Store Trouble
 assigned_count c v s =
     where_fit (is_permanent (class_at c.class s))
-    (unless_fault (is_made s.scene.heap c.class) CreatedTwice (assigned_variable (Global c.number) v s))
+    (unless_fault (is_made s.scene.heap c.class) CreatedTwice (assigned_variable (Global c.variable) v s))
 
 -- the store once a value was written to a place
 abbrev pub written : Spot → Value → Store → Result Store Trouble

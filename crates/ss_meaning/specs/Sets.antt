@@ -30,7 +30,7 @@ use Rattle.ss_meaning.specs.Histories.{noted}
 
 -- the set of a number
 abbrev pub set_at : ℕ → Store → Option SetLayout
-set_at set s = slice_get s.scene.heap.layout.sets.items set
+set_at set s = slice_get s.scene.heap.layout.sets set
 
 -- the number of an entity that may be a member of a set
 abbrev pub member : (set : ℕ) → Value → Store → Result ℤ Trouble
@@ -103,7 +103,7 @@ is_field l class key = nat_lt key.field (length (modes_of l class))
 abbrev pub is_fit : Layout → ℕ → Discipline → Bool
 is_fit l set Fifo = true
 is_fit l set Lifo = true
-is_fit l set (Ranked keys) = list_all (is_field l (member_class l set)) keys.items
+is_fit l set (Ranked keys) = list_all (is_field l (member_class l set)) keys
 
 -- where a member is filed: by the discipline of the set, first, last, directly before a member, or directly after it
 pub data Filing : Type 0 where
