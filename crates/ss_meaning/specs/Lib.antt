@@ -11,3 +11,5 @@ pub mod Parts
 pub mod Loops
 pub mod Statements
 pub mod Meaning
+pub mod Building
+pub mod Examples

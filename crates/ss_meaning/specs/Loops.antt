@@ -73,18 +73,18 @@ abbrev pub over_items : (go : ℤ → Part Turn) → List ℤ → Part Bool
 over_items go [] w = WentOn false w
 over_items go (i ∷ is) w = take_tick (λ w. and_then (go i w) (λ t. after_turn t (over_items go is))) w
 
--- a number of a FOR, and a step, which is the fault LOOP STEP below 1
-abbrev pub number_value : Expression → Store → Result ℤ Trouble
-number_value e s = if_ok (value e s) number_of
-
 abbrev pub step_number : Option Value → Result ℤ Trouble
 step_number None = Ok (pos 1)
 step_number (Some v) = number_of v
 
+-- the numbers that values say; a step below 1 is the fault LOOP STEP
+abbrev pub range_of : (first limit : Value) → (step : Option Value) → Result Range Trouble
+range_of a b c =
+    if_ok (number_of a) (λ x. if_ok (number_of b) (λ y. if_ok (step_number c) (λ z.
+    unless_fault (int_lt z (pos 1)) LoopStep (Ok (record { first = x; limit = y; step = z })))))
+
 abbrev pub range : (first limit : Expression) → (step : Option Expression) → Store → Result Range Trouble
-range a b c s =
-    if_ok (number_value a s) (λ x. if_ok (number_value b s) (λ y. if_ok (value_if_any c s) (λ v. if_ok (step_number v) (λ z.
-    unless_fault (int_lt z (pos 1)) LoopStep (Ok (record { first = x; limit = y; step = z }))))))
+range a b c s = if_ok (value a s) (λ x. if_ok (value b s) (λ y. if_ok (value_if_any c s) (λ z. range_of x y z)))
 
 -- the indices of the entities of a permanent class
 abbrev pub indices : (class : ℕ) → Store → Result Range Trouble

@@ -18,7 +18,7 @@ use Rattle.ss_records.specs.State.{first_state, modes_of}
 use Rattle.ss_events.specs.declared.key.TieShape.{TieShape}
 use Rattle.ss_events.specs.PendingList.{none_pending}
 use Rattle.ss_program.specs.Program.{Routine, Event, Program, Block}
-use Rattle.ss_meaning.specs.Store.{Notices, Setting, Scene, Store, firsts, taken, yielded}
+use Rattle.ss_meaning.specs.Store.{Notices, Setting, Scene, Store, firsts, opened, yielded}
 use Rattle.ss_meaning.specs.Histories.{started}
 use Rattle.ss_meaning.specs.Events.{Beginning, Coming, next_event, begun}
 use Rattle.ss_meaning.specs.Parts.{World, Exit, Returned, Stopped, Faulted, OutOfTicks, Wrong, Outcome, WentOn, Left, Part, and_then, then_nothing, look, looked, needed, take_tick}
@@ -45,8 +45,7 @@ come_back first count ls (Left Wrong w) = Left Wrong w
 -- a body with variables of its own: those that take the values that are given, and others; then the values of so many variables behind the former
 abbrev pub enclosed : (given others : List Mode) → (body : Part (Unit {0})) → List Value → (count : ℕ) → Part (List Value)
 enclosed given others body vs count w =
-    and_then (needed (taken given vs) w) (λ vs w.
-    come_back (length given) count w.store.locals (body (with_locals (vs ++ firsts others) w)))
+    and_then (needed (opened given others vs) w) (λ ls w. come_back (length given) count w.store.locals (body (with_locals ls w)))
 
 -- a routine yields as many values as it says
 abbrev pub routine_called : Option Routine → Calls → ℕ → List Value → (yielding : ℕ) → Part (List Value)

@@ -93,6 +93,14 @@ taken [] (v ∷ vs) = None
 taken (m ∷ ms) [] = None
 taken (m ∷ ms) (v ∷ vs) = if same_mode (mode_of v) m then behind v (taken ms vs) else None
 
+abbrev pub appended : Option (List Value) → List Value → Option (List Value)
+appended None others = None
+appended (Some vs) others = Some (vs ++ others)
+
+-- the variables of a routine: those that take what is given, and then the others at first
+abbrev pub opened : (given others : List Mode) → List Value → Option (List Value)
+opened given others vs = appended (taken given vs) (firsts others)
+
 -- the values of the first so many variables
 abbrev pub front : (count : ℕ) → List Value → Option (List Value)
 front zero vs = Some []
