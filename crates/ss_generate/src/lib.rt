@@ -2,5 +2,6 @@
 #![tactic(auto)]
 
 mod backward;
+mod conditions;
 mod emit;
 
