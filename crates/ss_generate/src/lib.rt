@@ -4,4 +4,7 @@
 mod backward;
 mod conditions;
 mod emit;
+mod events;
+mod places;
+mod sets;
 
