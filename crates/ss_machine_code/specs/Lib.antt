@@ -1,0 +1,4 @@
+pub mod States
+pub mod Machine
+pub mod Running
+pub mod Translation
