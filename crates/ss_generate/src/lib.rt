@@ -5,6 +5,9 @@ mod backward;
 mod conditions;
 mod emit;
 mod events;
+mod lines;
+mod loops;
 mod places;
 mod sets;
+mod statements;
 
