@@ -6,3 +6,4 @@ pub mod Expressions
 pub mod Conditions
 pub mod Looping
 pub mod Walking
+pub mod Effects

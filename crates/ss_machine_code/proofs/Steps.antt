@@ -140,3 +140,8 @@ ticks_join s t k k' frames (Left e w) f (ends i g) h = g
 pub ticks_reach : {code : Code} {s : State} {t : ℕ} {r : Result} → Ticks code s t r → Reaches code s r
 ticks_reach (onwards x e q g) = more e g
 ticks_reach (ends i g) = g
+
+pub ticks_and : {A B : Type 0} {code : Code} (s : State) (t : ℕ) (k : A → World → State) (k' : B → World → State) (frames : List Frame) (o : Outcome A) (f : A → Part B) → Ticks code s t (arrive k frames o) → ((a : A) (w : World) → (k a w).ticks ≤ t → Reaches code (k a w) (arrive k' frames (f a w))) → Ticks code s t (arrive k' frames (and_then o f))
+ticks_and s t k k' frames o f (onwards x e q g) h = onwards x e q (join x k k' frames o f g (λ a w fewer. h a w (omega (arith, fewer, q))))
+ticks_and s t k k' frames (WentOn a w) f (ends i g) h = absurd i
+ticks_and s t k k' frames (Left e w) f (ends i g) h = ends i g
