@@ -124,9 +124,9 @@ abbrev pub step_code : Line → Option Expression → List Instruction
 step_code l None = i.Push (Whole (pos 1)) ∷ []
 step_code l (Some e) = expression_code l e
 
--- the first number, the limit and the step of a FOR, one above the other
-abbrev pub range_code : Line → (first limit : Expression) → (step : Option Expression) → List Instruction
-range_code l a b c = expression_code l a ++ (expression_code l b ++ step_code l c)
+-- the first number, the limit and the step of a FOR, and the look at them; past so many instructions where there is no item
+abbrev pub range_code : Line → (skip : ℕ) → (first limit : Expression) → (step : Option Expression) → List Instruction
+range_code l skip a b c = expression_code l a ++ (expression_code l b ++ (step_code l c ++ i.Begin skip l ∷ []))
 
 -- the owner of a FOR over members, and the first of them; past so many instructions where there is none
 abbrev pub outset_code : Line → (skip : ℕ) → (set : ℕ) → SetOwner → Start → (reverse : Bool) → List Instruction
@@ -147,8 +147,8 @@ members_code l x set system reverse turn =
     i.TakeMember x reverse set l ∷ (turn ++ (i.NextMember set system (length turn + 1) l ∷ (i.Forget (kept system) ∷ [])))
 
 abbrev pub for_code : Line → Head → (turn : List Instruction) → List Instruction
-for_code l (Numbers x a b c) turn = range_code l a b c ++ (i.Begin (length turn + 2) l ∷ items_code l x turn)
-for_code l (Each x class) turn = i.BeginClass class (length turn + 2) l ∷ items_code l x turn
+for_code l (Numbers x a b c) turn = range_code l (length turn + 2) a b c ++ items_code l x turn
+for_code l (Each x class) turn = (i.BeginClass class (length turn + 2) l ∷ []) ++ items_code l x turn
 for_code l (Members x set owner start reverse) turn =
     outset_code l (length turn + 2) set owner start reverse ++ members_code l x set (is_system owner) reverse turn
 
