@@ -3,7 +3,8 @@
 ghost use Rattle.std.specs.Prelude.{◌≡◌, ◌∷◌, ◌++◌, [], map, IfOk, OnOk};
 ghost use Rattle.ss_program.specs.View.{view_expression, view_option, view_owner, view_start, view_head, view_guard, view_phrase};
 ghost use Rattle.ss_program.specs.Program.{Numbers, Members, Each};
-ghost use Rattle.ss_machine_code.specs.Translation.{range_code, items_code, outset_code, members_code, kept, kept_by, is_system, for_code, find_code, loop_code};
+ghost use Rattle.ss_machine_code.specs.declared.instruction.Instruction.TheVariants.{Begin};
+ghost use Rattle.ss_machine_code.specs.Translation.{expression_code, step_code, items_code, outset_code, members_code, kept, kept_by, is_system, for_code, find_code, loop_code};
 
 use crate::conditions::{emit_guards, emit_phrases, sum};
 use crate::emit::{emit_expression, emit_step, put, system_owns};
@@ -44,7 +45,7 @@ fn emit_range(
     limit: &Expression,
     step: &Option<Expression>,
 ) -> Result<(), AllocError>
-    ensures { OnOk result (code.new.items ≡ code.old.items ++ range_code line skip (view_expression first.now) (view_expression limit.now) (view_option view_expression step.now)) }
+    ensures { OnOk result (code.new.items ≡ code.old.items ++ (expression_code line (view_expression first.now) ++ (expression_code line (view_expression limit.now) ++ (step_code line (view_option view_expression step.now) ++ Begin skip line ∷ [])))) }
 {
     emit_expression(code, line, first)?;
     emit_expression(code, line, limit)?;
