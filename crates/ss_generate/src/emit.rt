@@ -17,7 +17,8 @@ pub(crate) fn put(
 ) -> Result<(), AllocError>
     ensures { OnOk result (code.new.items ≡ code.old.items ++ instruction ∷ []) }
 {
-    let _any: Option<Value> = None;
+    // names the type of values, which the proof of the push needs
+    let _none: Option<Value> = None;
     code.push(instruction)?;
     Ok(())
 }

@@ -2,24 +2,17 @@
 #![tactic(auto)]
 
 mod backward;
-mod code;
+pub mod code;
 mod conditions;
 mod emit;
-mod entry;
-mod error;
+pub mod entry;
+pub mod error;
 mod events;
-mod generate;
-mod lines;
+pub mod generate;
+pub mod lines;
 mod loops;
-mod notices;
+pub mod notices;
 mod places;
 mod sayings;
 mod sets;
 mod statements;
-
-pub use code::Code;
-pub use entry::Entry;
-pub use error::CodeError;
-pub use generate::{INSTRUCTION_LIMIT, generate};
-pub use lines::Lines;
-pub use notices::NoticeClass;
