@@ -1,15 +1,18 @@
 //! The code of a program.
 
-ghost use Rattle.std.specs.Prelude.{◌≡◌, ◌<◌, ◌^◌, length, map, slice_get};
+ghost use Rattle.std.specs.Prelude.{◌≡◌, ◌<◌, ◌^◌, length, map, slice_get, IfOk};
+ghost use Rattle.ss_generate.specs.Listing.{listed};
 ghost use Rattle.ss_generate.specs.Emitted.{IsCode};
 
 use crate::entry::Entry;
 use crate::lines::Lines;
+use crate::listing::listing;
 use crate::notices::NoticeClass;
 use ss_base::{Discipline, Layout, Mode};
 use ss_events::TieShape;
 use ss_machine_code::instruction::Instruction;
 use ss_program::sections::Statistic;
+use std::alloc::{AllocError, Global};
 use std::marker::Model;
 
 /// What a program says of its classes and sets, its notices and its statistics.
@@ -173,5 +176,13 @@ impl Code {
         ensures { result.now ≡ self.now.locals }
     {
         &self.locals
+    }
+
+    /// A line for each instruction, which begins with its number from 0 and a blank. The error comes
+    /// where memory was refused.
+    pub fn listing(&self, alloc: Global) -> Result<Vec<u8>, AllocError>
+        ensures { IfOk result (λ text. text.items ≡ listed 0 self.now.instructions) }
+    {
+        listing(alloc, &self.instructions)
     }
 }

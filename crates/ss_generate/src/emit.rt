@@ -11,10 +11,7 @@ use ss_program::expression::{Expression, MemberQuery, Operation, SetOwner, SetQu
 use std::alloc::AllocError;
 
 /// One more instruction.
-pub(crate) fn put(
-    code: &mut Vec<Instruction>,
-    instruction: Instruction,
-) -> Result<(), AllocError>
+pub(crate) fn put(code: &mut Vec<Instruction>, instruction: Instruction) -> Result<(), AllocError>
     ensures { OnOk result (code.new.items ≡ code.old.items ++ instruction ∷ []) }
 {
     // names the type of values, which the proof of the push needs

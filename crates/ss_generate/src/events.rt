@@ -13,11 +13,7 @@ use ss_program::statement::{Place, Restart, When};
 use std::alloc::AllocError;
 
 // The time to schedule for, on top of the stack.
-fn emit_when(
-    code: &mut Vec<Instruction>,
-    line: Line,
-    when: &When,
-) -> Result<(), AllocError>
+fn emit_when(code: &mut Vec<Instruction>, line: Line, when: &When) -> Result<(), AllocError>
     ensures { OnOk result (code.new.items ≡ code.old.items ++ when_code line (view_when when.now)) }
 {
     match when {

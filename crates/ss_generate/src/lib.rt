@@ -10,6 +10,7 @@ pub mod error;
 mod events;
 pub mod generate;
 pub mod lines;
+mod listing;
 mod loops;
 pub mod notices;
 mod places;

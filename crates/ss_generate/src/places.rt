@@ -47,11 +47,7 @@ pub(crate) fn emit_spot(
 }
 
 // The value on top of the stack goes to a place.
-fn put_assign(
-    code: &mut Vec<Instruction>,
-    line: Line,
-    place: &Place,
-) -> Result<(), AllocError>
+fn put_assign(code: &mut Vec<Instruction>, line: Line, place: &Place) -> Result<(), AllocError>
     ensures { OnOk result (code.new.items ≡ code.old.items ++ Assign (destination_of (view_place place.now)) line ∷ []) }
 {
     put(
@@ -121,11 +117,7 @@ pub(crate) fn emit_gives(
 }
 
 // A target takes a word of input.
-fn emit_read(
-    code: &mut Vec<Instruction>,
-    line: Line,
-    target: &Target,
-) -> Result<(), AllocError>
+fn emit_read(code: &mut Vec<Instruction>, line: Line, target: &Target) -> Result<(), AllocError>
     ensures { OnOk result (code.new.items ≡ code.old.items ++ give_code line (view_target target.now).place (Read target.now.mode line ∷ [])) }
 {
     emit_spot(code, line, &target.place)?;

@@ -103,11 +103,7 @@ fn emit_cancel(
 }
 
 // SKIP.
-fn emit_skip(
-    code: &mut Vec<Instruction>,
-    line: Line,
-    count: &Expression,
-) -> Result<(), AllocError>
+fn emit_skip(code: &mut Vec<Instruction>, line: Line, count: &Expression) -> Result<(), AllocError>
     ensures { OnOk result (code.new.items ≡ code.old.items ++ (expression_code line (view_expression count.now) ++ Skip line ∷ [])) }
 {
     emit_expression(code, line, count)?;
