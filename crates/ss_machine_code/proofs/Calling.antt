@@ -1,7 +1,6 @@
 -- The code of calls and of events.
-use Rattle.std.proofs.Common.{◌≡◌, ℕ, zero, suc, ◌+◌, ◌<◌, ◌≤◌, Bool, true, false, List, [], ◌∷◌, ◌++◌, length, Option, Some, None, Ok, Err, refl, sym, ap, ◌∙◌, subst, arith}
+use Rattle.std.proofs.Common.{◌≡◌, ℕ, zero, suc, ◌+◌, ◌≤◌, Bool, true, false, List, [], ◌∷◌, ◌++◌, length, Option, Some, None, Ok, Err, refl, ap, ◌∙◌, arith}
 use Rattle.std.specs.Prelude.{slice_get, ◌==◌, if◌then◌else◌, Result as OkOr}
-use Rattle.ss_base.specs.declared.line.Line.{Line}
 use Rattle.ss_base.specs.declared.value.Value.{Value}
 use Rattle.ss_base.specs.declared.layout.Mode.{Mode}
 use Rattle.ss_program.specs.Program.{Block, Routine, Event, Program}
@@ -10,15 +9,14 @@ use Rattle.ss_machine_code.specs.declared.instruction.Instruction.TheVariants as
 use Rattle.ss_meaning.specs.Values.{Trouble, Fails, Misfit}
 use Rattle.ss_meaning.specs.Store.{Store, behind, opened, front, yielded}
 use Rattle.ss_meaning.specs.Events.{Beginning, Coming, next_event, begun}
-use Rattle.ss_meaning.specs.Parts.{World, Exit, Returned, Stopped, Faulted, OutOfTicks, Wrong, Outcome, WentOn, Left, Part, and_then, then_nothing, needed, looked, tick_from, take_tick}
+use Rattle.ss_meaning.specs.Parts.{World, Returned, Stopped, Faulted, OutOfTicks, Wrong, Outcome, WentOn, Left, Part, and_then, then_nothing, needed, looked, tick_from}
 use Rattle.ss_meaning.specs.Statements.{Calls, effects}
-use Rattle.ss_meaning.specs.Meaning.{with_locals, go_back, come_back, enclosed, routine_called, event_routine, begin, event_taken, calls, Fault}
-use Rattle.ss_machine_code.specs.States.{Called, ARoutine, AnEvent, Frame, Core, State, Moved, To, Stuck, core_of, did, fit, take_off, with_taken}
+use Rattle.ss_meaning.specs.Meaning.{with_locals, come_back, enclosed, routine_called, event_routine, begin, event_taken, calls, Fault}
+use Rattle.ss_machine_code.specs.States.{Called, ARoutine, AnEvent, Frame, Core, State, Stuck, core_of, did, fit, with_taken}
 use Rattle.ss_machine_code.specs.Machine.{Entry, Code, enter_with, enter_if, enter, take_event, act, is_due, when_due, with_rest, step_at}
-use Rattle.ss_machine_code.specs.Running.{Result}
 use Rattle.ss_machine_code.specs.Translation.{block_code, section_code, block_pictures}
-use Rattle.ss_machine_code.proofs.Steps.{HasAt, has_front, has_back, Reaches, here, reaches_on, at, arrive, landed, Ticks, onwards, ends, ticks_reach}
-use Rattle.ss_machine_code.proofs.Parts.{Runs, IfWentOn, done, onto, take_them, goes, rests, sticks, with_core, ticked, pause_run, out_run}
+use Rattle.ss_machine_code.proofs.Steps.{HasAt, has_front, has_back, Reaches, reaches_on, at, arrive, landed, Ticks, onwards, ends, ticks_reach}
+use Rattle.ss_machine_code.proofs.Parts.{IfWentOn, onto, take_them, rests, sticks, with_core, ticked, pause_run, out_run}
 use Rattle.ss_machine_code.proofs.Statements.{CallsRun, leave_run, block_runs}
 
 -- ## How many values are yielded

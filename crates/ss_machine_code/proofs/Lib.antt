@@ -10,3 +10,4 @@ pub mod Effects
 pub mod Statements
 pub mod Calling
 pub mod Whole
+pub mod Pieces

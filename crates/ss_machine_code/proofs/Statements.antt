@@ -1,23 +1,22 @@
 -- The code of statements.
-use Rattle.std.proofs.Common.{◌≡◌, ℕ, zero, suc, ◌+◌, ◌-◌, ◌≤◌, Bool, true, false, List, [], ◌∷◌, ◌++◌, length, Option, Some, None, refl, sym, ap, ◌∙◌, subst, arith}
+use Rattle.std.proofs.Common.{◌≡◌, ℕ, suc, ◌+◌, ◌-◌, ◌≤◌, Bool, true, false, List, [], ◌∷◌, ◌++◌, length, Option, Some, None, refl, sym, ap, subst, arith}
 use Rattle.std.specs.Prelude.{slice_get}
 use Rattle.ss_base.specs.declared.value.Value.{Value}
 use Rattle.ss_program.specs.Program.{Statement, Let, Change, Call, Return, Stop, Read, Simulate, If, Loop, For, Find, Create, CreateEvery, Destroy, File, RemoveEnd, Remove, ScheduleNew, Schedule, Cancel, Reset, Print, Skip, Block, Done, Then}
 use Rattle.ss_machine_code.specs.declared.instruction.Instruction.{Instruction}
 use Rattle.ss_machine_code.specs.declared.instruction.Instruction.TheVariants as i
-use Rattle.ss_meaning.specs.Store.{Store, yielded}
+use Rattle.ss_meaning.specs.Store.{yielded}
 use Rattle.ss_meaning.specs.Entities.{made_one}
 use Rattle.ss_meaning.specs.Events.{is_awaited}
 use Rattle.ss_meaning.specs.Expressions.{holds}
-use Rattle.ss_meaning.specs.Parts.{World, Returned, Stopped, Outcome, WentOn, Left, Part, and_then, choose, look, Next, Again, Over, loop}
+use Rattle.ss_meaning.specs.Parts.{World, Returned, Stopped, WentOn, Left, choose, look, Again, Over, loop}
 use Rattle.ss_meaning.specs.Statements.{Calls, effect, effects, event_turn, next_due, simulate}
 use Rattle.ss_meaning.specs.Meaning.{Ended, with_locals}
-use Rattle.ss_machine_code.specs.States.{Frame, State, To, core_of, fit, past}
-use Rattle.ss_machine_code.specs.Machine.{Code, act, with_rest, backwards}
-use Rattle.ss_machine_code.specs.Running.{Result, Underway}
+use Rattle.ss_machine_code.specs.States.{Frame, To, core_of, fit, past}
+use Rattle.ss_machine_code.specs.Machine.{Code, with_rest, backwards}
 use Rattle.ss_machine_code.specs.Translation.{condition_code, statement_pictures, block_pictures, statement_code, block_code}
 use Rattle.ss_machine_code.proofs.Steps.{HasAt, has_front, has_back, Reaches, here, at, arrive, left_to, landed, Ticks, ticks_and}
-use Rattle.ss_machine_code.proofs.Parts.{Runs, IfWentOn, same, done, put_on, onto, seq, seq_such, above, none, get_runs, goes, rests, sticks, ticked}
+use Rattle.ss_machine_code.proofs.Parts.{Runs, IfWentOn, same, done, put_on, onto, seq, seq_such, none, get_runs, goes, rests, sticks, ticked}
 use Rattle.ss_machine_code.proofs.Branching.{if_run}
 use Rattle.ss_machine_code.proofs.Loops.{turned, Turns, loop_run}
 use Rattle.ss_machine_code.proofs.Expressions.{value_runs, values_run, values_length}

@@ -1,15 +1,15 @@
 -- A whole program and its code.
-use Rattle.std.proofs.Common.{◌≡◌, ℕ, zero, suc, ◌+◌, List, [], ◌∷◌, ◌++◌, length, map, Option, Some, None, refl, sym, ap, ◌∙◌, subst, arith, length-append}
-use Rattle.std.specs.Prelude.{◌≢◌, slice_get}
-use Rattle.ss_program.specs.Program.{Block, Routine, Event, Program}
+use Rattle.std.proofs.Common.{◌≡◌, ℕ, zero, suc, ◌+◌, List, [], ◌∷◌, ◌++◌, length, Some, refl, sym, subst, arith}
+use Rattle.std.specs.Prelude.{slice_get}
+use Rattle.ss_program.specs.Program.{Routine, Event, Program}
 use Rattle.ss_machine_code.specs.declared.instruction.Instruction.TheVariants as i
-use Rattle.ss_meaning.specs.Parts.{World, Returned, Stopped, Faulted, OutOfTicks, Wrong, Outcome, WentOn, Left}
+use Rattle.ss_meaning.specs.Parts.{Returned, Stopped, Faulted, OutOfTicks, Wrong, Outcome, WentOn, Left}
 use Rattle.ss_meaning.specs.Statements.{effects}
 use Rattle.ss_meaning.specs.Meaning.{Ending, Ended, Fault, Paused, WentWrong, Run, run_of, calls, first_world, meaning}
 use Rattle.ss_machine_code.specs.States.{State}
-use Rattle.ss_machine_code.specs.Machine.{Entry, Code, Stepped, Goes, Over, NoStep, step}
-use Rattle.ss_machine_code.specs.Running.{Result, Underway, Ends, IsStuck, go_on, steps, start, result_at, result_of, Behaves}
-use Rattle.ss_machine_code.specs.Translation.{block_code, section_code, sections_code, sections_pictures, block_pictures, routine_entries, event_entries, routine_body, event_body, routine_bodies, event_bodies, prints_of_main, prints_before_events, main_code, routines_code, events_code, code_of}
+use Rattle.ss_machine_code.specs.Machine.{Code}
+use Rattle.ss_machine_code.specs.Running.{start, result_at, result_of, Behaves}
+use Rattle.ss_machine_code.specs.Translation.{block_code, section_code, sections_code, sections_pictures, block_pictures, routine_entries, event_entries, routine_bodies, event_bodies, prints_of_main, prints_before_events, main_code, routines_code, events_code, code_of}
 use Rattle.ss_machine_code.proofs.Steps.{HasAt, has_front, has_back, has_all, Reaches, reaches_on, in_steps, IsEnd, Agrees, agrees, at, arrive}
 use Rattle.ss_machine_code.proofs.Parts.{rests}
 use Rattle.ss_machine_code.proofs.Statements.{block_runs}
@@ -95,7 +95,7 @@ module _ (p : Program) where
   is_end Paused r = tt
   is_end WentWrong r = tt
 
-  meant_end : (r : Run) → IsEnd (result_of r)
+  pub meant_end : (r : Run) → IsEnd (result_of r)
   meant_end r = is_end r.ending r
 
   pub behaves : Behaves p code
