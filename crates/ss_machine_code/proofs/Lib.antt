@@ -11,3 +11,4 @@ pub mod Statements
 pub mod Calling
 pub mod Whole
 pub mod Pieces
+pub mod Landing
