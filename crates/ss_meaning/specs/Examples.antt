@@ -132,8 +132,8 @@ half = record {
   yielding = integers 2;
   others = [];
   body = block (Let (line 3) (to_local 1) (Calculate Quotient (local 0) (num (pos 2))) ∷
-    If (line 4) (only (Compare Equal (local 0) (num (pos 0)))) (block (Stop ∷ [])) Done ∷
-    Let (line 5) (to_local 2) (Calculate Remainder (local 0) (num (pos 2))) ∷ Return ∷ []);
+      If (line 4) (only (Compare Equal (local 0) (num (pos 0)))) (block (Stop ∷ [])) Done ∷
+      Let (line 5) (to_local 2) (Calculate Remainder (local 0) (num (pos 2))) ∷ Return ∷ []);
 }
 
 -- CALL HALF GIVING 7 YIELDING X, Y; both are printed; CALL HALF GIVING 0 YIELDING X, Y
