@@ -33,11 +33,19 @@ with_seen s e = record s { scene = record {
   input = s.scene.input;
 } }
 
--- an answer, as the meaning tells it
+-- a trouble, as the meaning tells it, and an answer
+abbrev pub meant : Trouble → Meant
+meant (Fault kind) = Fails kind
+meant Misfit = IsMisfit
+
 abbrev pub told : {A : Type 0} → Result A Trouble → Result A Meant
 told (Ok a) = Ok a
-told (Err (Fault kind)) = Err (Fails kind)
-told (Err Misfit) = Err IsMisfit
+told (Err t) = Err (meant t)
+
+-- the trouble of an answer, or else a misfit
+abbrev pub trouble_or_misfit : {A : Type 0} → Result A Meant → Meant
+trouble_or_misfit (Ok a) = IsMisfit
+trouble_or_misfit (Err t) = t
 
 -- an operation looks: in each store with what is seen it has this answer
 abbrev pub Looks : {A : Type 0} → (Store → Result A Meant) → Seen → Result A Trouble → Type 0

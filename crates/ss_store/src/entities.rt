@@ -4,8 +4,9 @@ ghost use Rattle.std.specs.Prelude.{◌≡◌, length, pos, is_some, slice_get};
 ghost use Rattle.ss_records.specs.State.{is_made, records_in};
 ghost use Rattle.ss_meaning.specs.Entities.{class_at, field_at, is_single, is_permanent, entity, attribute, time_of, made_one, gone};
 ghost use Rattle.ss_meaning.specs.Places.{assigned_attribute};
+ghost use Rattle.ss_meaning.specs.Store.{Store as StoreSeen};
 ghost use Rattle.ss_meaning.specs.Values.{turned};
-ghost use Rattle.ss_store.specs.Seen.{Looks, Changes, Gains, Makes, kind_at, mode_at};
+ghost use Rattle.ss_store.specs.Seen.{Looks, Changes, Gains, Makes, kind_at, mode_at, meant, trouble_or_misfit, with_seen};
 
 use crate::scene::Scene;
 use crate::trouble::{Trouble, Unmade, number_of};
@@ -44,14 +45,24 @@ impl Scene {
         }
     }
 
+    // What a field that the layout lacks comes to.
+    fn lacking(&self, class: u32, x: Value) -> Trouble
+        ensures { (s : StoreSeen) → trouble_or_misfit (entity class x (with_seen s self.now)) ≡ meant result }
+    {
+        match self.entity(class, x) {
+            Ok(_) => Trouble::Misfit,
+            Err(trouble) => trouble,
+        }
+    }
+
     /// The value of an attribute. Faults: 1 to 5.
     pub fn attribute(&self, class: u32, field: u32, x: Value) -> Result<Value, Trouble>
         ensures { Looks (attribute class field x) self.now result }
     {
-        let number = number_of(x)?;
         if self.mode(class, field).is_none() {
-            return Err(Trouble::Misfit);
+            return Err(self.lacking(class, x));
         }
+        let number = number_of(x)?;
         match self.heap.value(class as usize, field as usize, number) {
             Ok(value) => Ok(value),
             Err(kind) => Err(Trouble::Fault(kind)),
