@@ -3,3 +3,4 @@ pub mod View
 pub mod Views
 pub mod WellTyped
 pub mod Nodes
+pub mod Examples

@@ -137,8 +137,9 @@ GoodHead s (Numbers x a b step) = TakesMode s (ToVariable x) Integer × HasMode 
 GoodHead s (Members x set owner start reverse) = TakesMode s (ToVariable x) Integer × OwnerFits s set owner × GoodStart s start
 GoodHead s (Each x class) = TakesMode s (ToVariable x) Integer × (kind_of s.program class ≡ Some Permanent)
 
-abbrev pub GoodPhrases : Scope → List Phrase → Type 0
-GoodPhrases s = Every (λ phrase. GoodCondition s phrase.condition)
+-- the same of a phrase's
+abbrev pub GoodPhrase : Scope → Phrase → Type 0
+GoodPhrase s phrase = GoodCondition s phrase.condition
 
 -- ---- statements
 
@@ -184,8 +185,8 @@ abbrev mutual
   Good s Simulate = s.is_main ≡ true
   Good s (If l condition a b) = GoodCondition s condition × GoodBlock s a × GoodBlock s b
   Good s (Loop l guards body) = Every (λ guard. GoodCondition s guard.condition) guards × GoodBlock s body
-  Good s (For l head phrases body) = GoodHead s head × GoodPhrases s phrases × GoodBlock s body
-  Good s (Find l head phrases found none) = GoodHead s head × GoodPhrases s phrases × GoodBlock s found × GoodBlock s none
+  Good s (For l head phrases body) = GoodHead s head × Every (GoodPhrase s) phrases × GoodBlock s body
+  Good s (Find l head phrases found none) = GoodHead s head × Every (GoodPhrase s) phrases × GoodBlock s found × GoodBlock s none
   Good s (Create l class x) = (comes_alone (kind_of s.program class) ≡ true) × TakesMode s x Integer
   Good s (CreateEvery l counts) = Every (Contains s.program.counts) counts
   Good s (Destroy l class e) = (comes_alone (kind_of s.program class) ≡ true) × HasMode s e Integer
