@@ -1,5 +1,5 @@
 -- Code that goes on where something holds, and jumps where it does not.
-use Rattle.std.proofs.Common.{◌≡◌, ℕ, ◌+◌, ◌≤◌, Bool, true, false, not, List, [], ◌∷◌, ◌++◌, length, Some, Ok, Err, refl, ap, subst, arith, length-append}
+use Rattle.std.proofs.Common.{◌≡◌, ℕ, ◌+◌, ◌≤◌, Bool, true, false, not, List, [], ◌∷◌, ◌++◌, length, Some, Ok, refl, subst, arith, length-append}
 use Rattle.std.specs.Prelude.{slice_get, Result as OkOr}
 use Rattle.ss_base.specs.declared.line.Line.{Line}
 use Rattle.ss_base.specs.declared.value.Value.{Value}
@@ -8,13 +8,12 @@ use Rattle.ss_machine_code.specs.declared.instruction.Instruction.TheVariants.{J
 use Rattle.ss_meaning.specs.Values.{Trouble, if_ok}
 use Rattle.ss_meaning.specs.Store.{Store}
 use Rattle.ss_meaning.specs.Expressions.{both, either}
-use Rattle.ss_meaning.specs.Parts.{World, WentOn, Part, and_then, look, choose}
+use Rattle.ss_meaning.specs.Parts.{World, Part, and_then, look, choose}
 use Rattle.ss_machine_code.specs.States.{Frame, past}
 use Rattle.ss_machine_code.specs.Machine.{Code}
 use Rattle.ss_machine_code.specs.Running.{Result, Underway}
 use Rattle.ss_machine_code.proofs.Steps.{HasAt, has_front, has_back, Reaches, here, at, arrive, join, follow}
 use Rattle.ss_machine_code.proofs.Parts.{Lands, Runs, same, done, goes, alike, looks_then}
-
 
 module _ (code : Code) (n : ℕ) where
   -- a jump

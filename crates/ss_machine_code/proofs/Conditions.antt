@@ -1,5 +1,5 @@
 -- The code of conditions.
-use Rattle.std.proofs.Common.{◌≡◌, ℕ, ◌+◌, Bool, true, false, not, List, [], ◌∷◌, ◌++◌, length, Option, Some, None, Ok, Err, refl, subst, arith}
+use Rattle.std.proofs.Common.{◌≡◌, ℕ, ◌+◌, Bool, true, false, not, List, [], ◌∷◌, ◌++◌, length, Option, Ok, Err, refl, subst, arith}
 use Rattle.std.specs.Prelude.{Result as OkOr}
 use Rattle.ss_base.specs.declared.line.Line.{Line}
 use Rattle.ss_base.specs.declared.value.Value.{Value}
@@ -9,11 +9,11 @@ use Rattle.ss_program.specs.declared.head.GuardKind.TheVariants as guards
 use Rattle.ss_program.specs.Program.{SetOwner, Test, Compare, DataEnded, Empty, Member, Condition, Guard}
 use Rattle.ss_machine_code.specs.declared.instruction.Instruction.{Instruction}
 use Rattle.ss_machine_code.specs.declared.instruction.Instruction.TheVariants as i
-use Rattle.ss_meaning.specs.Values.{Trouble, Fails, Misfit, if_ok, turned, due, sure, related}
+use Rattle.ss_meaning.specs.Values.{Trouble, if_ok, turned, due, sure, related}
 use Rattle.ss_meaning.specs.Store.{Store}
 use Rattle.ss_meaning.specs.Sets.{is_empty, is_in}
 use Rattle.ss_meaning.specs.Expressions.{value, member_value, owner_value, unless, passed, both, either, all_hold, holds, passes, all_pass}
-use Rattle.ss_meaning.specs.Parts.{World, WentOn, Part, and_then, looked, look}
+use Rattle.ss_meaning.specs.Parts.{World, WentOn, looked, look}
 use Rattle.ss_machine_code.specs.States.{To, did, core_of, with_top, past}
 use Rattle.ss_machine_code.specs.Machine.{Code}
 use Rattle.ss_machine_code.specs.Translation.{owner_code, is_system, test_code, tests_code, alternatives_code, condition_code, negated_code, guard_code, guards_code}

@@ -1,5 +1,5 @@
 -- The code of what statements do to the store.
-use Rattle.std.proofs.Common.{◌≡◌, ℕ, zero, suc, ◌+◌, ◌≤◌, Bool, true, false, List, [], ◌∷◌, ◌++◌, length, Option, Some, None, Ok, Err, refl, sym, ap, ◌∙◌, arith}
+use Rattle.std.proofs.Common.{◌≡◌, ℕ, ◌+◌, true, false, List, [], ◌∷◌, ◌++◌, length, Some, Ok, Err, refl, ap, ◌∙◌, arith}
 use Rattle.std.specs.Prelude.{slice_get, Result as OkOr, ℤ}
 use Rattle.ss_base.specs.declared.line.Line.{Line}
 use Rattle.ss_base.specs.declared.value.Value.{Value}
@@ -13,22 +13,22 @@ use Rattle.ss_machine_code.specs.declared.instruction.Filing.{Filing}
 use Rattle.ss_machine_code.specs.declared.instruction.Filing.TheVariants as filings
 use Rattle.ss_machine_code.specs.declared.instruction.Instruction.{Instruction}
 use Rattle.ss_machine_code.specs.declared.instruction.Instruction.TheVariants as i
-use Rattle.ss_meaning.specs.Values.{Trouble, Fails, Misfit, if_ok, turned, sure, calculated, operator_of, printed, empty_lines}
+use Rattle.ss_meaning.specs.Values.{Trouble, Fails, Misfit, if_ok, sure, calculated, operator_of, printed, empty_lines}
 use Rattle.ss_meaning.specs.Store.{Store}
 use Rattle.ss_meaning.specs.Entities.{made_all, without}
 use Rattle.ss_meaning.specs.Places.{Spot, held, written}
 use Rattle.ss_meaning.specs.Sets.{Filing as FilingAt, ByRule, Foremost, Hindmost, Ahead, Behind, filed_in, removed_from, removed_at}
 use Rattle.ss_meaning.specs.Events.{time_at, AtTime, Later, AtOnce, made_notice, filed_notice, rescheduled, unscheduled}
 use Rattle.ss_meaning.specs.Statistics.{reset}
-use Rattle.ss_meaning.specs.Expressions.{value, values, value_if_any, entity_value, member_value, owner_value, spot, filing, time_value}
-use Rattle.ss_meaning.specs.Parts.{World, WentOn, Left, Outcome, Part, and_then, looked, look, settle, change, get, write, send}
+use Rattle.ss_meaning.specs.Expressions.{value, values, member_value, owner_value, filing, time_value}
+use Rattle.ss_meaning.specs.Parts.{World, WentOn, Part, and_then, looked, look, settle, change, get, write, send}
 use Rattle.ss_meaning.specs.Statements.{give_to, give_each, change_by, read_word, read_each, print, create_every, destroy, file, remove, remove_end, schedule_new, schedule, cancel, restart_each}
-use Rattle.ss_machine_code.specs.States.{Frame, State, Moved, To, Sends, Stuck, did, fit, core_of, with_taken, take_off, with_top, with_number, with_filing, with_spot, onward}
+use Rattle.ss_machine_code.specs.States.{Frame, Moved, Sends, did, fit, core_of, with_taken, take_off, with_top, with_filing, onward}
 use Rattle.ss_machine_code.specs.Machine.{Code, act, is_due, when_due, with_rest, changed}
-use Rattle.ss_machine_code.specs.Translation.{expression_code, values_code, entity_code, member_code, owner_code, is_system, any_code, is_absent, spot_code, destination_of, give_code, gives_code, reads_code, creates_code, filing_of, beside_code, file_code, when_code, schedule_new_code, schedule_code, restarts_code}
+use Rattle.ss_machine_code.specs.Translation.{expression_code, values_code, member_code, owner_code, is_system, spot_code, destination_of, give_code, gives_code, reads_code, creates_code, filing_of, beside_code, file_code, when_code, schedule_new_code, schedule_code, restarts_code}
 use Rattle.ss_machine_code.proofs.Steps.{Reaches, here, at, arrive}
 use Rattle.ss_machine_code.proofs.Parts.{Lands, Runs, at_end, same, done, put_on, onto, take_them, seq, seq_such, seq_look, above, none, alike, look_lands, change_runs, get_runs, goes, rests, sticks, fit_did}
-use Rattle.ss_machine_code.proofs.Expressions.{Owned, owner_on, Spotted, spot_on, value_runs, values_run, values_length, entity_runs, member_runs, owner_seq, any_seq, spot_seq, turned_then}
+use Rattle.ss_machine_code.proofs.Expressions.{owner_on, Spotted, spot_on, value_runs, values_run, values_length, entity_runs, member_runs, owner_seq, any_seq, spot_seq, turned_then}
 
 -- values on the stack, the first on top
 abbrev pub heap_on : List Value → List Value → List Value

@@ -1,9 +1,8 @@
 -- The code of expressions, of references, and of what is assigned.
-use Rattle.std.proofs.Common.{◌≡◌, ℕ, suc, ◌+◌, Bool, true, false, List, [], ◌∷◌, ◌++◌, length, Option, Some, None, Ok, Err, refl, sym, ap, ◌∙◌, subst}
-use Rattle.std.specs.Prelude.{Result as OkOr, pos}
+use Rattle.std.proofs.Common.{◌≡◌, ℕ, suc, ◌+◌, Bool, true, false, List, [], ◌∷◌, ◌++◌, length, Option, Some, None, Ok, Err, refl, ap, subst}
+use Rattle.std.specs.Prelude.{Result as OkOr}
 use Rattle.ss_base.specs.declared.line.Line.{Line}
 use Rattle.ss_base.specs.declared.value.Value.{Value}
-use Rattle.ss_base.specs.declared.value.Value.TheVariants.{Whole}
 use Rattle.ss_program.specs.Program.{Expression, Constant, Fetch, Attribute, OfSystemSet, OfSet, OfMember, Clock, TimeOf, Figure, FigureOf, Signed, Absolute, Calculate, SetOwner, TheSystem, Entity, Place, ToVariable, ToAttribute, ToCount}
 use Rattle.ss_machine_code.specs.declared.instruction.Destination.{Destination}
 use Rattle.ss_machine_code.specs.declared.instruction.Destination.TheVariants as destinations
@@ -17,10 +16,9 @@ use Rattle.ss_meaning.specs.Sets.{member, of_set, of_member}
 use Rattle.ss_meaning.specs.Events.{clock}
 use Rattle.ss_meaning.specs.Statistics.{figure}
 use Rattle.ss_meaning.specs.Expressions.{value, values, value_if_any, looked_at, entity_value, member_value, owner_value, spot}
-use Rattle.ss_meaning.specs.Parts.{World, Outcome, WentOn, Part, and_then, looked, look}
+use Rattle.ss_meaning.specs.Parts.{World, Part, and_then, looked, look}
 use Rattle.ss_machine_code.specs.States.{Frame, State, Moved, To, did, core_of, take_off, with_taken, with_owner, with_spot}
 use Rattle.ss_machine_code.specs.Machine.{Code, act, is_due}
-use Rattle.ss_machine_code.specs.Running.{Result}
 use Rattle.ss_machine_code.specs.Translation.{expression_code, values_code, entity_code, member_code, owner_code, is_system, any_code, is_absent, kept, destination_of, spot_code}
 use Rattle.ss_machine_code.proofs.Steps.{Reaches, at, arrive}
 use Rattle.ss_machine_code.proofs.Parts.{Lands, Runs, at_end, IfWentOn, same, put_on, onto, seq, seq_look, above, none, alike, look_lands, sure_lands}

@@ -7,3 +7,8 @@ pub mod Conditions
 pub mod Looping
 pub mod Walking
 pub mod Effects
+pub mod Statements
+pub mod Calling
+pub mod Whole
+pub mod Pieces
+pub mod Landing

@@ -1,5 +1,5 @@
 -- The code of loops.
-use Rattle.std.proofs.Common.{◌≡◌, ℕ, zero, suc, ◌+◌, ◌-◌, ◌≤◌, ◌<◌, Bool, true, false, not, List, [], ◌∷◌, ◌++◌, length, Option, Some, None, Ok, Err, refl, sym, ap, ◌∙◌, subst, arith, length-append}
+use Rattle.std.proofs.Common.{◌≡◌, ℕ, zero, suc, ◌+◌, ◌-◌, ◌≤◌, Bool, true, false, not, List, [], ◌∷◌, ◌++◌, length, Option, Some, None, Ok, Err, refl, sym, ap, ◌∙◌, subst, arith, length-append}
 use Rattle.std.specs.Prelude.{slice_get, Result as OkOr, ℤ, pos, int_le, ◌+ℤ◌, if◌then◌else◌}
 use Rattle.std.specs.Int.{int_min}
 use Rattle.ss_base.specs.declared.line.Line.{Line}
@@ -8,23 +8,22 @@ use Rattle.ss_base.specs.declared.value.Value.TheVariants.{Whole}
 use Rattle.ss_program.specs.declared.expression.Variable.{Variable}
 use Rattle.ss_program.specs.declared.head.PhraseKind.{PhraseKind}
 use Rattle.ss_program.specs.declared.head.PhraseKind.TheVariants as kinds
-use Rattle.ss_program.specs.Program.{Expression, SetOwner, Head, Numbers, Members, Each, Start, AtEnd, From, After, Phrase, Guard}
+use Rattle.ss_program.specs.Program.{Expression, Phrase, Guard}
 use Rattle.ss_machine_code.specs.declared.instruction.Instruction.{Instruction}
 use Rattle.ss_machine_code.specs.declared.instruction.Instruction.TheVariants as i
 use Rattle.ss_meaning.specs.Values.{Trouble, Fails, Misfit, if_ok, turned as made_into}
-use Rattle.ss_meaning.specs.Store.{Store}
 use Rattle.ss_meaning.specs.Places.{InVariable, written}
 use Rattle.ss_meaning.specs.Expressions.{value, value_if_any, holds, all_pass}
-use Rattle.ss_meaning.specs.Parts.{World, WentOn, Outcome, Part, and_then, choose, looked, look, settle, change, write, take_tick, Next, Again, Over, loop}
-use Rattle.ss_meaning.specs.Loops.{Turn, GoesOn, EndsLoop, IsFound, phrase, phrases, visit, greatest, Range, items_from, items, after_turn, over_items, range_of, range, indices, over, guarded_turn, guarded}
-use Rattle.ss_machine_code.specs.States.{Frame, Core, State, To, did, core_of, past}
-use Rattle.ss_machine_code.specs.Machine.{Code, act, is_due, Goes, when_due, with_rest, backwards, later, next_item}
+use Rattle.ss_meaning.specs.Parts.{World, WentOn, Part, and_then, choose, looked, look, Again, Over, loop}
+use Rattle.ss_meaning.specs.Loops.{Turn, GoesOn, EndsLoop, IsFound, phrase, phrases, visit, greatest, Range, items_from, items, after_turn, over_items, range_of, range, indices, guarded_turn, guarded}
+use Rattle.ss_machine_code.specs.States.{Frame, To, core_of, past}
+use Rattle.ss_machine_code.specs.Machine.{Code, act, is_due, when_due, with_rest, backwards, later}
 use Rattle.ss_machine_code.specs.Running.{Result, Underway}
-use Rattle.ss_machine_code.specs.Translation.{guards_code, loop_code, phrase_code, phrases_code, items_code, step_code, range_code, for_code, kept_by, expression_code, condition_code, negated_code}
-use Rattle.ss_machine_code.proofs.Steps.{HasAt, has_front, has_back, Reaches, here, reaches_on, at, arrive, join, Ticks, onwards}
-use Rattle.ss_machine_code.proofs.Parts.{Lands, Runs, same, done, put_on, seq_look, above, alike, look_lands, with_core, ticked, goes, tick_run, goes_due, change_due}
+use Rattle.ss_machine_code.specs.Translation.{guards_code, loop_code, phrase_code, phrases_code, items_code, step_code, range_code}
+use Rattle.ss_machine_code.proofs.Steps.{HasAt, has_front, has_back, Reaches, here, at, arrive, join}
+use Rattle.ss_machine_code.proofs.Parts.{Lands, Runs, same, done, put_on, seq_look, above, alike, look_lands, ticked, goes, tick_run, goes_due, change_due}
 use Rattle.ss_machine_code.proofs.Loops.{turned, Turns, loop_run}
-use Rattle.ss_machine_code.proofs.Expressions.{value_runs, turned_then, mapped}
+use Rattle.ss_machine_code.proofs.Expressions.{value_runs}
 use Rattle.ss_machine_code.proofs.Conditions.{condition_lands, negated_lands, guards_land}
 
 -- where a turn of a FOR leads: to its end, behind the next instruction, or to where the case was found

@@ -1,5 +1,5 @@
 -- Loops: the instruction at their head takes a tick, and their end jumps back to it.
-use Rattle.std.proofs.Common.{◌≡◌, ℕ, zero, suc, ◌+◌, ◌≤◌, ◌<◌, Bool, true, false, List, Some, refl, arith}
+use Rattle.std.proofs.Common.{◌≡◌, ℕ, zero, suc, ◌≤◌, true, List, Some, arith}
 use Rattle.std.specs.Prelude.{slice_get}
 use Rattle.ss_base.specs.declared.value.Value.{Value}
 use Rattle.ss_machine_code.specs.declared.instruction.Instruction.{Instruction}

@@ -6,8 +6,8 @@ use Rattle.std.proofs.lemmas.Option.{slice_get-get_or}
 use Rattle.ss_base.specs.declared.value.Value.{Value}
 use Rattle.ss_machine_code.specs.declared.instruction.Instruction.{Instruction}
 use Rattle.ss_meaning.specs.Parts.{World, Exit, Returned, Stopped, Faulted, OutOfTicks, Wrong, Outcome, WentOn, Left, Part, and_then}
-use Rattle.ss_meaning.specs.Meaning.{with_locals, Ending, Ended, Fault, Paused, Run, run_at}
-use Rattle.ss_machine_code.specs.States.{Frame, Core, State, Done, Breaks, Moved, To, Sends, Rest, Stuck, core_of}
+use Rattle.ss_meaning.specs.Meaning.{with_locals, Ending, Ended, Fault, Paused, run_at}
+use Rattle.ss_machine_code.specs.States.{Frame, State, Done, Breaks, Moved, To, Sends, Rest, Stuck, core_of}
 use Rattle.ss_meaning.specs.Store.{yielded}
 use Rattle.ss_machine_code.specs.Machine.{Code, act, is_due, Goes, Over, NoStep, with_rest, when_due, step_at, step}
 use Rattle.ss_machine_code.specs.Running.{Result, Underway, Ends, IsStuck, ended_at, go_on, steps}

@@ -1,5 +1,5 @@
 -- The code of a FOR over the members of a set; and of every FOR and FIND.
-use Rattle.std.proofs.Common.{◌≡◌, ℕ, zero, suc, ◌+◌, ◌-◌, ◌≤◌, ◌<◌, Bool, true, false, not, List, [], ◌∷◌, ◌++◌, length, Option, Some, None, Ok, Err, refl, sym, ap, ◌∙◌, subst, arith, length-append}
+use Rattle.std.proofs.Common.{◌≡◌, ℕ, suc, ◌+◌, ◌-◌, ◌≤◌, Bool, true, false, not, List, [], ◌∷◌, ◌++◌, length, Option, Some, Ok, Err, refl, subst, arith, length-append}
 use Rattle.std.specs.Prelude.{slice_get, Result as OkOr, ℤ, int_le}
 use Rattle.ss_base.specs.declared.line.Line.{Line}
 use Rattle.ss_base.specs.declared.value.Value.{Value}
@@ -13,14 +13,14 @@ use Rattle.ss_meaning.specs.Store.{Store}
 use Rattle.ss_meaning.specs.Places.{InVariable, written}
 use Rattle.ss_meaning.specs.Sets.{known_owner, is_none, begun, begun_at, coming, goes_on}
 use Rattle.ss_meaning.specs.Expressions.{value, member_value, owner_value, owner_looked_at}
-use Rattle.ss_meaning.specs.Parts.{World, WentOn, Outcome, Part, and_then, then_nothing, choose, looked, look, Next, Again, Over, loop}
+use Rattle.ss_meaning.specs.Parts.{World, WentOn, Part, and_then, then_nothing, choose, looked, look, Again, Over, loop}
 use Rattle.ss_meaning.specs.Loops.{Turn, GoesOn, EndsLoop, IsFound, phrases, visit, Range, items, over_items, range, indices, Outset, from_member, outset, next_member, member_turn, over_members, over}
-use Rattle.ss_machine_code.specs.States.{Frame, Core, State, Moved, To, did, core_of, past, with_owner, onward}
-use Rattle.ss_machine_code.specs.Machine.{Code, act, backwards}
-use Rattle.ss_machine_code.specs.Running.{Result, Underway}
+use Rattle.ss_machine_code.specs.States.{Frame, To, did, core_of, past, onward}
+use Rattle.ss_machine_code.specs.Machine.{Code, backwards}
+use Rattle.ss_machine_code.specs.Running.{Underway}
 use Rattle.ss_machine_code.specs.Translation.{owner_code, is_system, member_code, phrases_code, items_code, range_code, outset_code, kept, members_code, for_code, kept_by, find_code}
-use Rattle.ss_machine_code.proofs.Steps.{HasAt, has_front, has_back, Reaches, here, reaches_on, at, arrive, join, follow}
-use Rattle.ss_machine_code.proofs.Parts.{Lands, Runs, at_end, IfWentOn, same, done, put_on, seq_look, above, alike, look_lands, move_lands, with_core, ticked, did_run, found_due, join_such}
+use Rattle.ss_machine_code.proofs.Steps.{HasAt, has_front, has_back, Reaches, here, at, arrive, join, follow}
+use Rattle.ss_machine_code.proofs.Parts.{Lands, Runs, at_end, IfWentOn, same, done, seq_look, above, alike, look_lands, move_lands, ticked, did_run, found_due, join_such}
 use Rattle.ss_machine_code.proofs.Branching.{jumps}
 use Rattle.ss_machine_code.proofs.Loops.{turned, Turns, loop_run}
 use Rattle.ss_machine_code.proofs.Expressions.{Owned, owner_on, owned_system, owned_entity, member_runs, turned_lands}

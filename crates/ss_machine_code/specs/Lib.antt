@@ -2,3 +2,4 @@ pub mod States
 pub mod Machine
 pub mod Running
 pub mod Translation
+pub mod Laws

@@ -2,3 +2,4 @@
 #![tactic(auto)]
 
 pub mod instruction;
+pub mod laws;

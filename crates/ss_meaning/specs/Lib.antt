@@ -13,3 +13,5 @@ pub mod Statements
 pub mod Meaning
 pub mod Building
 pub mod Examples
+pub mod SetExamples
+pub mod EventExamples
