@@ -1,5 +1,5 @@
 -- The parts of the code of a program, one behind the other.
-use Rattle.std.proofs.Common.{◌≡◌, ◌+◌, ◌++◌, length, map, refl, ap, ◌∙◌, append_assoc, length-append}
+use Rattle.std.proofs.Common.{◌≡◌, ◌+◌, ◌++◌, length, map, ap, ◌∙◌, append_assoc, length-append}
 use Rattle.ss_meaning.specs.Meaning.{setting_of, tie_shapes}
 use Rattle.ss_program.specs.Program.{Program}
 use Rattle.ss_machine_code.specs.Machine.{Code}

@@ -1,4 +1,4 @@
-use Rattle.std.proofs.Common.{◌≡◌, ap, refl, arith, length}
+use Rattle.std.proofs.Common.{◌≡◌, ap, arith, length}
 use Rattle.ss_program.specs.View.{view_program}
 use Rattle.ss_machine_code.specs.Translation.{code_of}
 use Rattle.ss_generate.proofs.Sizes.{code_size}
