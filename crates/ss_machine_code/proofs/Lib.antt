@@ -1,0 +1,14 @@
+pub mod Steps
+pub mod Parts
+pub mod Branching
+pub mod Loops
+pub mod Expressions
+pub mod Conditions
+pub mod Looping
+pub mod Walking
+pub mod Effects
+pub mod Statements
+pub mod Calling
+pub mod Whole
+pub mod Pieces
+pub mod Landing

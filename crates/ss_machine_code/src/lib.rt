@@ -1,0 +1,5 @@
+//! The instructions of the machine, and that the code of a program does what the program means.
+#![tactic(auto)]
+
+pub mod instruction;
+pub mod laws;

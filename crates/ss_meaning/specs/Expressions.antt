@@ -1,0 +1,126 @@
+-- Expressions and conditions: their value or truth in a store, from left to right.
+use Rattle.std.specs.Prelude.{ℕ, Bool, true, false, List, [], ◌∷◌, not, ℤ, Option, Some, None, Result, Ok, Err}
+use Rattle.ss_base.specs.declared.value.Value.{Value}
+use Rattle.ss_base.specs.declared.value.Value.TheVariants.{Whole}
+use Rattle.ss_input.specs.Words.{is_ended}
+use Rattle.ss_program.specs.declared.head.GuardKind.{GuardKind}
+use Rattle.ss_program.specs.declared.head.GuardKind.TheVariants.{While, Until}
+use Rattle.ss_program.specs.Program.{Expression, Constant, Fetch, Attribute, OfSystemSet, OfSet, OfMember, Clock, TimeOf, Figure, FigureOf, Signed, Absolute, Calculate, SetOwner, TheSystem, Entity, Test, Compare, DataEnded, Empty, Member, Condition, Guard, Place, ToVariable, ToAttribute, ToCount, Position, ByDiscipline, AsFirst, AsLast, BeforeMember, AfterMember, When, At, In, Now}
+use Rattle.ss_meaning.specs.Values.{Trouble, if_ok, turned, due, sure, calculated, signed, absolute, related}
+use Rattle.ss_meaning.specs.Store.{Store, fetched}
+use Rattle.ss_meaning.specs.Entities.{entity, attribute, time_of}
+use Rattle.ss_meaning.specs.Places.{Spot, InVariable, InAttribute, InCount}
+use Rattle.ss_meaning.specs.Sets.{member, known_owner, of_set, of_member, is_empty, is_in, Filing, ByRule, Foremost, Hindmost, Ahead, Behind}
+use Rattle.ss_meaning.specs.Events.{clock, time_at, Moment, AtTime, Later, AtOnce}
+use Rattle.ss_meaning.specs.Statistics.{figure}
+
+-- ## Expressions
+
+-- the value of an expression
+abbrev pub value : Expression → Store → Result Value Trouble
+value (Constant v) s = Ok v
+value (Fetch x) s = sure (fetched x s)
+value (Attribute class field e) s = if_ok (value e s) (λ x. attribute class field x s)
+value (OfSystemSet query set) s = of_set query set None s
+value (OfSet query set e) s = if_ok (value e s) (λ o. of_set query set (Some o) s)
+value (OfMember query set e) s = if_ok (value e s) (λ x. of_member query set x s)
+value Clock s = Ok (clock s)
+value (TimeOf e) s = if_ok (value e s) (λ x. time_of x s)
+value (Figure fold j) s = figure fold j None s
+value (FigureOf fold j e) s = if_ok (value e s) (λ x. figure fold j (Some x) s)
+value (Signed sign e) s = if_ok (value e s) (signed sign)
+value (Absolute e) s = if_ok (value e s) absolute
+value (Calculate op a b) s = if_ok (value a s) (λ x. if_ok (value b s) (λ y. calculated op x y))
+
+-- several values, from left to right
+abbrev pub values : List Expression → Store → Result (List Value) Trouble
+values [] s = Ok []
+values (e ∷ es) s = if_ok (value e s) (λ v. turned (λ vs. v ∷ vs) (values es s))
+
+abbrev pub value_if_any : Option Expression → Store → Result (Option Value) Trouble
+value_if_any None s = Ok None
+value_if_any (Some e) s = turned Some (value e s)
+
+-- ## References, each looked at where it is written
+
+abbrev pub looked_at : (Value → Result ℤ Trouble) → Value → Result Value Trouble
+looked_at known x = turned (λ n. x) (known x)
+
+-- a reference to an entity of a class, and to one that may be a member of a set
+abbrev pub entity_value : (class : ℕ) → Expression → Store → Result Value Trouble
+entity_value class e s = if_ok (value e s) (looked_at (λ x. entity class x s))
+
+abbrev pub member_value : (set : ℕ) → Expression → Store → Result Value Trouble
+member_value set e s = if_ok (value e s) (looked_at (λ x. member set x s))
+
+-- whose set is meant: of an entity, or of the system
+abbrev pub owner_value : SetOwner → Store → Result (Option Value) Trouble
+owner_value TheSystem s = Ok None
+owner_value (Entity e) s = turned Some (value e s)
+
+-- the same of an owner that was looked at
+abbrev pub owner_looked_at : (set : ℕ) → SetOwner → Store → Result (Option Value) Trouble
+owner_looked_at set owner s = if_ok (owner_value owner s) (λ o. turned (λ n. o) (known_owner set o s))
+
+-- what is assigned
+abbrev pub spot : Place → Store → Result Spot Trouble
+spot (ToVariable x) s = Ok (InVariable x)
+spot (ToAttribute class field e) s = turned (InAttribute class field) (entity_value class e s)
+spot (ToCount c) s = Ok (InCount c)
+
+-- where a member is filed
+abbrev pub filing : (set : ℕ) → Position → Store → Result Filing Trouble
+filing set ByDiscipline s = Ok ByRule
+filing set AsFirst s = Ok Foremost
+filing set AsLast s = Ok Hindmost
+filing set (BeforeMember e) s = turned Ahead (member_value set e s)
+filing set (AfterMember e) s = turned Behind (member_value set e s)
+
+-- the time for which a notice is scheduled
+abbrev pub time_value : When → Store → Result ℤ Trouble
+time_value (At e) s = if_ok (value e s) (λ v. time_at (AtTime v) s)
+time_value (In e) s = if_ok (value e s) (λ v. time_at (Later v) s)
+time_value Now s = time_at AtOnce s
+
+-- ## Conditions
+
+abbrev pub unless : (negated : Bool) → Bool → Bool
+unless true b = not b
+unless false b = b
+
+-- whether a test holds
+abbrev pub passed : Test → Store → Result Bool Trouble
+passed (Compare relation a b) s = if_ok (value a s) (λ x. if_ok (value b s) (λ y. sure (related relation x y)))
+passed (DataEnded negated) s = turned (unless negated) (due (is_ended s.scene.input))
+passed (Empty negated set owner) s = if_ok (owner_value owner s) (λ o. turned (unless negated) (is_empty set o s))
+passed (Member negated set e owner) s =
+    if_ok (member_value set e s) (λ x. if_ok (owner_value owner s) (λ o. turned (unless negated) (is_in set x o s)))
+
+-- a second condition where the first holds, and where it does not
+abbrev pub both : Bool → Result Bool Trouble → Result Bool Trouble
+both true second = second
+both false second = Ok false
+
+abbrev pub either : Bool → Result Bool Trouble → Result Bool Trouble
+either true second = Ok true
+either false second = second
+
+-- whether all tests hold: up to the first that does not
+abbrev pub all_hold : List Test → Store → Result Bool Trouble
+all_hold [] s = Ok true
+all_hold (t ∷ ts) s = if_ok (passed t s) (λ b. both b (all_hold ts s))
+
+-- whether a condition holds, which is one of its alternatives: up to the first that holds
+abbrev pub holds : Condition → Store → Result Bool Trouble
+holds [] s = Ok false
+holds (ts ∷ others) s = if_ok (all_hold ts s) (λ b. either b (holds others s))
+
+-- whether a loop goes on at a condition
+abbrev pub passes : GuardKind → Bool → Bool
+passes While b = b
+passes Until b = not b
+
+-- and at all of them: up to the first at which it does not
+abbrev pub all_pass : List Guard → Store → Result Bool Trouble
+all_pass [] s = Ok true
+all_pass (g ∷ gs) s = if_ok (holds g.condition s) (λ b. both (passes g.kind b) (all_pass gs s))

@@ -1,0 +1,17 @@
+pub mod Values
+pub mod Store
+pub mod Histories
+pub mod Entities
+pub mod Places
+pub mod Sets
+pub mod Events
+pub mod Statistics
+pub mod Expressions
+pub mod Parts
+pub mod Loops
+pub mod Statements
+pub mod Meaning
+pub mod Building
+pub mod Examples
+pub mod SetExamples
+pub mod EventExamples

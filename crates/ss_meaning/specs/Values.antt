@@ -1,0 +1,165 @@
+-- Values, and what is made of them: another value, a fault, or nothing where they do not fit.
+use Rattle.std.specs.Prelude.{ℕ, ◌+◌, ◌==◌, Bool, true, false, List, [], ◌∷◌, ◌++◌, ℤ, pos, negsuc, int_lt, nat_lt, replicate, take, drop, Option, Some, None, Result, Ok, Err, length, if◌then◌else◌}
+use Rattle.std.specs.Int.{int_max, int_min}
+use Rattle.std.specs.declared.cmp.Ordering.{Ordering}
+use Rattle.std.specs.declared.cmp.Ordering.TheVariants.{Less as IsLess, Equal as IsEqual, Greater as IsGreater}
+use Rattle.ss_base.specs.declared.fault.FaultKind.{FaultKind}
+use Rattle.ss_base.specs.declared.fault.FaultKind.TheVariants.{BadCount}
+use Rattle.ss_base.specs.declared.value.Value.{Value}
+use Rattle.ss_base.specs.declared.value.Value.TheVariants.{Whole, Text}
+use Rattle.ss_base.specs.declared.layout.Mode.{Mode}
+use Rattle.ss_base.specs.declared.layout.Mode.TheVariants.{Integer, Alpha}
+use Rattle.ss_base.specs.Arithmetic.{plus_of, minus_of, times_of, quotient_of, remainder_of}
+use Rattle.ss_base.specs.Order.{value_cmp}
+use Rattle.ss_picture.specs.Pictures.{filled, field_count}
+use Rattle.ss_program.specs.declared.expression.Sign.{Sign}
+use Rattle.ss_program.specs.declared.expression.Sign.TheVariants.{Plus, Minus}
+use Rattle.ss_program.specs.declared.expression.Operator.{Operator}
+use Rattle.ss_program.specs.declared.expression.Operator.TheVariants.{Add, Subtract, Multiply, Quotient, Remainder, Least, Greatest}
+use Rattle.ss_program.specs.declared.condition.Relation.{Relation}
+use Rattle.ss_program.specs.declared.condition.Relation.TheVariants.{Equal, NotEqual, Less, Greater, LessOrEqual, GreaterOrEqual}
+
+-- ## Answers
+
+-- why an operation gives nothing: a fault of the run; or numbers, kinds or counts do not fit, which no well-typed program comes to
+pub data Trouble : Type 0 where
+  Fails : (kind : FaultKind) → Trouble
+  Misfit : Trouble
+
+-- what an operation gives
+abbrev pub Answer : Type 0 → Type 0
+Answer A = Result A Trouble
+
+-- a value, and then what is made of it; a trouble stays
+abbrev pub if_ok : {A B : Type 0} → Result A Trouble → (A → Result B Trouble) → Result B Trouble
+if_ok (Ok a) go = go a
+if_ok (Err t) go = Err t
+
+abbrev pub turned : {A B : Type 0} → (A → B) → Result A Trouble → Result B Trouble
+turned f (Ok a) = Ok (f a)
+turned f (Err t) = Err t
+
+-- what gives a value or a fault
+abbrev pub due : {A : Type 0} → Result A FaultKind → Result A Trouble
+due (Ok a) = Ok a
+due (Err kind) = Err (Fails kind)
+
+-- what has to be there
+abbrev pub sure : {A : Type 0} → Option A → Result A Trouble
+sure None = Err Misfit
+sure (Some a) = Ok a
+
+-- an answer where something fits
+abbrev pub where_fit : {A : Type 0} → Bool → Result A Trouble → Result A Trouble
+where_fit true answer = answer
+where_fit false answer = Err Misfit
+
+-- an answer unless there is a fault
+abbrev pub unless_fault : {A : Type 0} → Bool → FaultKind → Result A Trouble → Result A Trouble
+unless_fault true kind answer = Err (Fails kind)
+unless_fault false kind answer = answer
+
+-- ## Modes
+
+abbrev pub same_mode : Mode → Mode → Bool
+same_mode Integer Integer = true
+same_mode Integer Alpha = false
+same_mode Alpha Integer = false
+same_mode Alpha Alpha = true
+
+-- the number that a value is
+abbrev pub number_of : Value → Result ℤ Trouble
+number_of (Whole z) = Ok z
+number_of (Text t) = Err Misfit
+
+-- ## Numbers
+
+-- what an operator makes of two numbers
+abbrev pub made : Operator → ℤ → ℤ → Result ℤ FaultKind
+made Add x y = plus_of x y
+made Subtract x y = minus_of x y
+made Multiply x y = times_of x y
+made Quotient x y = quotient_of x y
+made Remainder x y = remainder_of x y
+made Least x y = Ok (int_min x y)
+made Greatest x y = Ok (int_max x y)
+
+-- the same of two values
+abbrev pub calculated : Operator → Value → Value → Result Value Trouble
+calculated op (Whole x) (Whole y) = turned Whole (due (made op x y))
+calculated op (Whole x) (Text t) = Err Misfit
+calculated op (Text s) (Whole y) = Err Misfit
+calculated op (Text s) (Text t) = Err Misfit
+
+abbrev pub operator_of : Sign → Operator
+operator_of Plus = Add
+operator_of Minus = Subtract
+
+-- a sign is 0 plus or 0 minus its term
+abbrev pub signed : Sign → Value → Result Value Trouble
+signed sign v = calculated (operator_of sign) (Whole (pos 0)) v
+
+-- the distance of a number from 0
+abbrev pub distance : ℤ → Result ℤ FaultKind
+distance z = if int_lt z (pos 0) then minus_of (pos 0) z else Ok z
+
+abbrev pub absolute : Value → Result Value Trouble
+absolute (Whole z) = turned Whole (due (distance z))
+absolute (Text t) = Err Misfit
+
+-- ## Relations
+
+-- whether an order is one of those that a relation allows
+abbrev pub allows : Relation → Ordering → Bool
+allows Equal IsLess = false
+allows Equal IsEqual = true
+allows Equal IsGreater = false
+allows NotEqual IsLess = true
+allows NotEqual IsEqual = false
+allows NotEqual IsGreater = true
+allows Less IsLess = true
+allows Less IsEqual = false
+allows Less IsGreater = false
+allows Greater IsLess = false
+allows Greater IsEqual = false
+allows Greater IsGreater = true
+allows LessOrEqual IsLess = true
+allows LessOrEqual IsEqual = true
+allows LessOrEqual IsGreater = false
+allows GreaterOrEqual IsLess = false
+allows GreaterOrEqual IsEqual = true
+allows GreaterOrEqual IsGreater = true
+
+-- whether two values of one mode stand in a relation: numbers by their size, texts by their bytes
+abbrev pub related : Relation → Value → Value → Option Bool
+related relation (Whole x) (Whole y) = Some (allows relation (value_cmp (Whole x) (Whole y)))
+related relation (Whole x) (Text t) = None
+related relation (Text s) (Whole y) = None
+related relation (Text s) (Text t) = Some (allows relation (value_cmp (Text s) (Text t)))
+
+-- ## Lines
+
+-- the byte at the end of a line
+abbrev pub line_end : ℕ
+line_end = 10
+
+-- how many fields there are in pictures
+abbrev pub fields_in : List (List ℕ) → ℕ
+fields_in [] = 0
+fields_in (picture ∷ pictures) = field_count picture + fields_in pictures
+
+-- the lines of pictures with values in their fields from the left, each with its line end
+abbrev pub lines_with : List (List ℕ) → List Value → List ℕ
+lines_with [] values = []
+lines_with (picture ∷ pictures) values =
+    filled picture (take (field_count picture) values) ++ line_end ∷ lines_with pictures (drop (field_count picture) values)
+
+-- the same where there are as many values as fields
+abbrev pub printed : List (List ℕ) → List Value → Option (List ℕ)
+printed pictures values = if length values == fields_in pictures then Some (lines_with pictures values) else None
+
+-- so many empty lines; below 0 or above 1,000 is the fault BAD COUNT
+abbrev pub empty_lines : Value → Result (List ℕ) Trouble
+empty_lines (Whole (pos n)) = unless_fault (nat_lt 1000 n) BadCount (Ok (replicate n line_end))
+empty_lines (Whole (negsuc n)) = Err (Fails BadCount)
+empty_lines (Text t) = Err Misfit

@@ -1,0 +1,84 @@
+-- What is seen of a scene, and what is said of an operation on it.
+use Rattle.std.specs.Prelude.{◌≡◌, ℕ, slice_get, List, [], map, length, ℤ, pos, Option, Some, None, Result, Ok, Err}
+use Rattle.std.specs.Option.{option_map}
+use Rattle.ss_base.specs.declared.layout.ClassKind.{ClassKind}
+use Rattle.ss_base.specs.declared.layout.Mode.{Mode}
+use Rattle.ss_base.specs.Plain.{PlainLayout}
+use Rattle.ss_base.specs.declared.layout.Discipline.{Discipline}
+use Rattle.ss_records.specs.State.{State, Record, modes_of}
+use Rattle.ss_events.specs.PendingList.{PendingList}
+use Rattle.ss_meaning.specs.Values.{Trouble as Meant, Fails, Misfit as IsMisfit}
+use Rattle.ss_meaning.specs.Store.{Notices, Store}
+use Rattle.ss_store.specs.declared.trouble.Trouble.{Trouble}
+use Rattle.ss_store.specs.declared.trouble.Trouble.TheVariants.{Fault, Misfit}
+use Rattle.ss_store.specs.declared.trouble.Unmade.{Unmade}
+use Rattle.ss_store.specs.declared.trouble.Unmade.TheVariants as unmade
+
+-- what a program says of each set and of each class of notices, the entities, the time, and the notices that are pending
+pub record Seen : Type 0 where
+  pub disciplines : List Discipline
+  pub notices : List Notices
+  pub heap : State
+  pub time : ℤ
+  pub pending : PendingList
+
+-- a store with all of that, in a program without statistics
+abbrev pub with_seen : Store → Seen → Store
+with_seen s e = record s { scene = record {
+  setting = record { disciplines = e.disciplines; notices = e.notices; statistics = [] };
+  heap = e.heap;
+  time = e.time;
+  pending = e.pending;
+  histories = [];
+  input = s.scene.input;
+} }
+
+-- a trouble, as the meaning tells it, and an answer
+abbrev pub meant : Trouble → Meant
+meant (Fault kind) = Fails kind
+meant Misfit = IsMisfit
+
+abbrev pub told : {A : Type 0} → Result A Trouble → Result A Meant
+told (Ok a) = Ok a
+told (Err t) = Err (meant t)
+
+-- the trouble of an answer, or else a misfit
+abbrev pub trouble_or_misfit : {A : Type 0} → Result A Meant → Meant
+trouble_or_misfit (Ok a) = IsMisfit
+trouble_or_misfit (Err t) = t
+
+-- an operation looks: in each store with what is seen it has this answer
+abbrev pub Looks : {A : Type 0} → (Store → Result A Meant) → Seen → Result A Trouble → Type 0
+Looks f e answer = (s : Store) → f (with_seen s e) ≡ told answer
+
+-- an operation changes what is seen, or comes to a trouble and changes nothing
+abbrev pub Changes : (Store → Result Store Meant) → (old new : Seen) → Result (Unit {0}) Trouble → Type 0
+Changes f old new (Ok u) = (s : Store) → f (with_seen s old) ≡ Ok (with_seen s new)
+Changes f old new (Err t) = ((s : Store) → f (with_seen s old) ≡ told {A = Store} (Err t)) × (new ≡ old)
+
+-- the same of one that gives a value as well
+abbrev pub Gains : {A : Type 0} → (Store → Result (A × Store) Meant) → (old new : Seen) → Result A Trouble → Type 0
+Gains f old new (Ok a) = (s : Store) → f (with_seen s old) ≡ Ok (a, with_seen s new)
+Gains {A} f old new (Err t) = ((s : Store) → f (with_seen s old) ≡ told {A = A × Store} (Err t)) × (new ≡ old)
+
+-- the same of one that needs memory, where want of it changes nothing
+abbrev pub Makes : {A : Type 0} → (Store → Result (A × Store) Meant) → (old new : Seen) → Result A Unmade → Type 0
+Makes f old new (Ok a) = (s : Store) → f (with_seen s old) ≡ Ok (a, with_seen s new)
+Makes {A} f old new (Err (unmade.Fault kind)) = ((s : Store) → f (with_seen s old) ≡ told {A = A × Store} (Err (Fault kind))) × (new ≡ old)
+Makes {A} f old new (Err unmade.Misfit) = ((s : Store) → f (with_seen s old) ≡ told {A = A × Store} (Err Misfit)) × (new ≡ old)
+Makes f old new (Err unmade.Memory) = new ≡ old
+
+-- how many entities a permanent class has, where they are made
+abbrev pub count_of : Option (List Record) → Option ℤ
+count_of None = None
+count_of (Some rs) = Some (pos (length rs))
+
+abbrev pub counts_of : List (Option (List Record)) → List (Option ℤ)
+counts_of ps = map count_of ps
+
+-- the kind of a class, and the mode of a field
+abbrev pub kind_at : PlainLayout → ℕ → Option ClassKind
+kind_at l class = option_map (λ c. c.kind) (slice_get l.classes class)
+
+abbrev pub mode_at : PlainLayout → ℕ → ℕ → Option Mode
+mode_at l class field = slice_get (modes_of l class) field

@@ -1,0 +1,2 @@
+//! A well-typed program never goes wrong.
+#![tactic(auto)]
