@@ -1,1 +1,5 @@
 pub mod Fine
+pub mod Lists
+pub mod Heaps
+pub mod Filings
+pub mod Kept
