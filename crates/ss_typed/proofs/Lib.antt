@@ -3,3 +3,4 @@ pub mod Lists
 pub mod Heaps
 pub mod Filings
 pub mod Kept
+pub mod Stores
