@@ -4,3 +4,5 @@ pub mod Heaps
 pub mod Filings
 pub mod Kept
 pub mod Stores
+pub mod Entities
+pub mod Sets
