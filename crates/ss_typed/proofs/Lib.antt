@@ -6,3 +6,4 @@ pub mod Kept
 pub mod Stores
 pub mod Entities
 pub mod Sets
+pub mod Events
