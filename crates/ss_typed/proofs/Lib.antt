@@ -7,3 +7,4 @@ pub mod Stores
 pub mod Entities
 pub mod Sets
 pub mod Events
+pub mod Expressions
