@@ -8,3 +8,4 @@ pub mod Entities
 pub mod Sets
 pub mod Events
 pub mod Expressions
+pub mod Parts
