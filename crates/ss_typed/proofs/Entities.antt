@@ -134,7 +134,7 @@ module _ (p : Program) (typed : WellTyped p) (ms : List Mode) where
   pub count_said : (count : Counted) → Contains p.counts count → GoodCount p count
   count_said count c = let q = contains_get p.counts count c in every_get (GoodCount p) p.counts q.0 count typed.counts q.1
 
-  permanent_here : (s : Store) (c : ℕ) → Fits p ms s → kind_said p c ≡ Some Permanent → is_permanent (class_at c s) ≡ true
+  pub permanent_here : (s : Store) (c : ℕ) → Fits p ms s → kind_said p c ≡ Some Permanent → is_permanent (class_at c s) ≡ true
   permanent_here s c f q =
       let cl = class_said p c Permanent q in
       ap is_permanent (class_here s c cl.0 f cl.1) ∙ ap (λ k. not (comes_singly k)) cl.2

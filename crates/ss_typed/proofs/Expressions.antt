@@ -58,10 +58,10 @@ module _ (p : Program) (typed : WellTyped p) (ms : List Mode) (b : Bool) where
   abbrev here : Scope
   here = record { program = p; locals = ms; is_main = b }
 
-  asked_alone : (k : ℕ) → HasSubject p IsAlone k → AskedStatistic p typed ms k None
+  pub asked_alone : (k : ℕ) → HasSubject p IsAlone k → AskedStatistic p typed ms k None
   asked_alone k h = record { statistic = h.0; there = h.1; fits = h.2 }
 
-  asked_of : (k : ℕ) (x : Value) → HasSubject p IsOfEntities k → mode_of x ≡ Integer → AskedStatistic p typed ms k (Some x)
+  pub asked_of : (k : ℕ) (x : Value) → HasSubject p IsOfEntities k → mode_of x ≡ Integer → AskedStatistic p typed ms k (Some x)
   asked_of k x h m = record { statistic = h.0; there = h.1; fits = (h.2, m) }
 
   -- ## Expressions

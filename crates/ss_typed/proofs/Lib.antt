@@ -9,3 +9,5 @@ pub mod Sets
 pub mod Events
 pub mod Expressions
 pub mod Parts
+pub mod Statements
+pub mod Whole
