@@ -18,8 +18,8 @@ use Rattle.ss_records.specs.State.{Record, State, kind_of, modes_of, first_state
 use Rattle.ss_program.specs.declared.sections.Statistic.{Statistic}
 use Rattle.ss_program.specs.Program.{Routine, Event, Program, Block}
 use Rattle.ss_program.specs.WellTyped.{WellTyped, GoodRoutine, GoodEvent}
-use Rattle.ss_meaning.specs.Values.{Trouble}
-use Rattle.ss_meaning.specs.Store.{Kept, Store, same_mode, behind, firsts, taken, appended, opened, front, yielded}
+use Rattle.ss_meaning.specs.Values.{Trouble, same_mode}
+use Rattle.ss_meaning.specs.Store.{Kept, Store, behind, firsts, taken, appended, opened, front, yielded}
 use Rattle.ss_meaning.specs.Histories.{home, starting, started}
 use Rattle.ss_meaning.specs.Events.{Beginning, Coming, next_event, begun, is_awaited}
 use Rattle.ss_meaning.specs.Parts.{World, Exit, Returned, Stopped, Faulted, OutOfTicks, Wrong, Outcome, WentOn, Left, Part, and_then, then_nothing, looked, needed, take_tick}
