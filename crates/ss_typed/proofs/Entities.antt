@@ -1,21 +1,18 @@
 -- The operations on entities, places and statistics, for a well-typed program.
-use Rattle.std.proofs.Common.{arith, inl, inr, ◌⊎◌, ◌≡◌, ℕ, zero, suc, ◌+◌, ◌<◌, Bool, true, false, List, [], ◌∷◌, ◌++◌, length, Option, Some, None, Ok, Err, ℤ, pos, negsuc, refl, sym, ap, ◌∙◌, subst}
-use Rattle.std.proofs.lemmas.Bool.{eqb-true, eqb-false}
+use Rattle.std.proofs.Common.{◌≡◌, ℕ, Bool, true, false, List, [], ◌∷◌, Option, Some, None, Ok, Err, ℤ, pos, refl, sym, ap, ◌∙◌, subst}
 use Rattle.std.proofs.lemmas.Bool.Decides.{Decides-int_eq}
 use Rattle.std.proofs.lemmas.Option.{slice_get-get_or}
-use Rattle.std.specs.Prelude.{slice_get, slice_index_or, map, ◌==◌, ◌||◌, Result, is_some, Contains, not, if◌then◌else◌}
+use Rattle.std.specs.Prelude.{slice_get, ◌||◌, Result, is_some, Contains, not}
 use Rattle.std.specs.Ordering.{int_eq}
-use Rattle.std.specs.List.{AllByRecursion as Every, list_any}
+use Rattle.std.specs.List.{AllByRecursion as Every}
 use Rattle.std.specs.Option.{option_map, option_and_then}
 use Rattle.ss_base.specs.declared.fault.FaultKind.{FaultKind}
 use Rattle.ss_base.specs.declared.fault.FaultKind.TheVariants.{Scheduled, CreatedTwice}
 use Rattle.ss_base.specs.declared.layout.ClassKind.{ClassKind}
 use Rattle.ss_base.specs.declared.layout.ClassKind.TheVariants.{Permanent, Temporary, Notice}
 use Rattle.ss_base.specs.declared.layout.Mode.{Mode}
-use Rattle.ss_base.specs.declared.layout.Mode.TheVariants.{Integer, Alpha}
+use Rattle.ss_base.specs.declared.layout.Mode.TheVariants.{Integer}
 use Rattle.ss_base.specs.declared.layout.ClassLayout.{ClassLayout}
-use Rattle.ss_base.specs.declared.layout.Owner.TheVariants.{System, Class}
-use Rattle.ss_base.specs.declared.layout.Layout.{Layout}
 use Rattle.ss_base.specs.declared.value.Value.{Value}
 use Rattle.ss_base.specs.declared.value.Value.TheVariants.{Whole, Text}
 use Rattle.ss_base.specs.Layout.{mode_of}
@@ -25,19 +22,19 @@ use Rattle.ss_events.specs.PendingList.{is_pending}
 use Rattle.ss_program.specs.declared.expression.Variable.{Variable}
 use Rattle.ss_program.specs.declared.expression.Variable.TheVariants.{Global, Local}
 use Rattle.ss_program.specs.declared.sections.Subject.{Subject}
-use Rattle.ss_program.specs.declared.sections.Subject.TheVariants.{OfVariable, OfAttribute, OfCount}
+use Rattle.ss_program.specs.declared.sections.Subject.TheVariants.{OfVariable, OfAttribute}
 use Rattle.ss_program.specs.declared.sections.Statistic.{Statistic}
 use Rattle.ss_program.specs.declared.statement.Counted.{Counted}
 use Rattle.ss_program.specs.Program.{Program}
-use Rattle.ss_program.specs.WellTyped.{Scope, WellTyped, mode_at, field_mode, fields_of, kind_of as kind_said, comes_alone, GoodSubject, GoodCount}
-use Rattle.ss_meaning.specs.Values.{Trouble, Misfit, if_ok, turned, due, sure, where_fit, unless_fault, number_of, same_mode}
-use Rattle.ss_meaning.specs.Store.{Kept, Scene, Store, with_heap, with_histories, fetched, put_at, put}
-use Rattle.ss_meaning.specs.Histories.{noted, started, all_started}
-use Rattle.ss_meaning.specs.Entities.{class_at, field_at, entity, attribute, time_of, comes_singly, is_single, is_permanent, made_count, with_new, made_one, with_all, made_all, gone, without}
+use Rattle.ss_program.specs.WellTyped.{WellTyped, mode_at, field_mode, kind_of as kind_said, comes_alone, GoodSubject, GoodCount}
+use Rattle.ss_meaning.specs.Values.{if_ok, turned, due, sure, where_fit, unless_fault, number_of, same_mode}
+use Rattle.ss_meaning.specs.Store.{Store, with_heap, fetched, put_at, put}
+use Rattle.ss_meaning.specs.Histories.{noted}
+use Rattle.ss_meaning.specs.Entities.{class_at, field_at, entity, attribute, time_of, comes_singly, is_single, is_permanent, with_new, made_one, with_all, made_all, gone, without}
 use Rattle.ss_meaning.specs.Places.{Spot, InVariable, InAttribute, InCount, held, is_of_mode, assigned_variable, assigned_attribute, assigned_count, written}
-use Rattle.ss_typed.specs.Fitting.{Hold, HeapFits, living, Lives, IsNotice, SceneFits, Sound, Fits}
-use Rattle.ss_typed.proofs.Fine.{Fine, Sane, There, Any, fine_then, fine_turned, fine_weaker, due_fine, any_due, sure_fine, fit_fine, unless_fine}
-use Rattle.ss_typed.proofs.Lists.{every_get, every_weaker}
+use Rattle.ss_typed.specs.Fitting.{Hold, Lives, IsNotice, Fits}
+use Rattle.ss_typed.proofs.Fine.{Fine, Sane, There, fine_then, fine_turned, due_fine, any_due, sure_fine, fit_fine, unless_fine}
+use Rattle.ss_typed.proofs.Lists.{every_get}
 use Rattle.ss_typed.proofs.Heaps.{Changed, Created, Filled, Gone, IsEntityAs, entity_known, entity_lives, value_sane, assigned_sane, created_sane, created_all_sane, destroyed_sane}
 use Rattle.ss_typed.proofs.Kept.{Noteworthy, number_fine, fit_gone}
 use Rattle.ss_typed.proofs.Stores.{same_is, held_there, put_at_fine, heap_fits, noted_fine, created_fits, filled_fits}

@@ -1,6 +1,6 @@
 -- The operations on time and notices, for a well-typed program.
-use Rattle.std.proofs.Common.{arith, ◌≡◌, ℕ, zero, suc, ◌+◌, ◌<◌, Bool, true, false, List, [], ◌∷◌, ◌++◌, length, Option, Some, None, Ok, Err, ℤ, pos, negsuc, refl, sym, ap, ◌∙◌, subst}
-use Rattle.std.proofs.lemmas.Bool.{eqb-true, eqb-false, eq-eqb}
+use Rattle.std.proofs.Common.{arith, ◌≡◌, ℕ, zero, suc, ◌+◌, Bool, true, false, List, [], ◌∷◌, length, Option, Some, None, Ok, Err, ℤ, pos, negsuc, refl, sym, ap, ◌∙◌, subst}
+use Rattle.std.proofs.lemmas.Bool.{eqb-true, eqb-false}
 use Rattle.std.proofs.lemmas.Bool.Decides.{Decides-int_eq}
 use Rattle.std.specs.Prelude.{slice_get, map, take, fold, not, ◌==◌, int_lt, Result, is_some, if◌then◌else◌}
 use Rattle.std.specs.Ordering.{int_eq}
@@ -11,32 +11,31 @@ use Rattle.ss_base.specs.declared.fault.FaultKind.TheVariants as faults
 use Rattle.ss_base.specs.declared.layout.ClassKind.{ClassKind}
 use Rattle.ss_base.specs.declared.layout.ClassKind.TheVariants.{Permanent, Temporary, Notice}
 use Rattle.ss_base.specs.declared.layout.Mode.{Mode}
-use Rattle.ss_base.specs.declared.layout.Mode.TheVariants.{Integer, Alpha}
+use Rattle.ss_base.specs.declared.layout.Mode.TheVariants.{Integer}
 use Rattle.ss_base.specs.declared.layout.RankKey.{RankKey}
 use Rattle.ss_base.specs.declared.layout.ClassLayout.{ClassLayout}
 use Rattle.ss_base.specs.declared.value.Value.{Value}
-use Rattle.ss_base.specs.declared.value.Value.TheVariants.{Whole, Text}
+use Rattle.ss_base.specs.declared.value.Value.TheVariants.{Whole}
 use Rattle.ss_base.specs.Layout.{mode_of}
 use Rattle.ss_base.specs.Arithmetic.{plus_of}
-use Rattle.ss_records.specs.State.{Record, State, kind_of, kind_in, and_then, numbered, issued_record, of_notice, is_notice, notice, timed}
-use Rattle.ss_events.specs.declared.key.Tie.{Tie}
+use Rattle.ss_records.specs.State.{Record, State, kind_of, kind_in, and_then, issued_record, of_notice, is_notice, notice, timed}
 use Rattle.ss_events.specs.declared.entry.Entry.{Entry}
 use Rattle.ss_events.specs.declared.entry.TheConstants.{MOST_SCHEDULINGS}
 use Rattle.ss_events.specs.SortKey.{SortKey}
 use Rattle.ss_events.specs.Order.{comes_before}
-use Rattle.ss_events.specs.PendingList.{PendingList, is_pending, without, earlier, least, with_entry, scheduled, cancelled, next, after_next}
+use Rattle.ss_events.specs.PendingList.{PendingList, is_pending, without, earlier, least, with_entry, scheduled, cancelled}
 use Rattle.ss_program.specs.declared.expression.Variable.TheVariants.{Global}
 use Rattle.ss_program.specs.Program.{Event, Program}
 use Rattle.ss_program.specs.WellTyped.{WellTyped, field_mode, fields_of, kind_of as kind_said, comes_alone, GoodKeys, GoodEvent, IsPlain}
-use Rattle.ss_meaning.specs.Values.{Trouble, Misfit, if_ok, turned, due, sure, unless_fault, number_of}
+use Rattle.ss_meaning.specs.Values.{if_ok, turned, due, sure, unless_fault, number_of}
 use Rattle.ss_meaning.specs.Store.{Notices, Store, with_heap, with_pending}
-use Rattle.ss_meaning.specs.Entities.{entity, attribute, made_one, gone}
-use Rattle.ss_meaning.specs.Places.{assigned_variable, assigned_attribute}
+use Rattle.ss_meaning.specs.Entities.{entity, attribute, made_one}
+use Rattle.ss_meaning.specs.Places.{assigned_attribute}
 use Rattle.ss_meaning.specs.Events.{Moment, AtTime, Later, AtOnce, not_past, time_at, endowed, with_time, prepared, made_notice, Ranked, ranked_from, ranked, ties_of, filed_notice, rescheduled, unscheduled, is_awaited, Beginning, attributes, saved_or_gone, Coming, at_event, ranked_as, coming_as, coming_with, next_event, begun}
-use Rattle.ss_meaning.specs.Meaning.{said_of, setting_of}
-use Rattle.ss_typed.specs.Fitting.{Hold, class_in, living, LivesAs, Lives, IsNotice, SceneFits, Sound, Fits}
-use Rattle.ss_typed.proofs.Fine.{Fine, Sane, There, Any, fine_then, fine_turned, fine_weaker, due_fine, any_due, sure_fine, unless_fine}
-use Rattle.ss_typed.proofs.Lists.{every_get, every_both, every_filter, every_weaker}
+use Rattle.ss_meaning.specs.Meaning.{said_of}
+use Rattle.ss_typed.specs.Fitting.{Hold, class_in, LivesAs, Lives, IsNotice, Fits}
+use Rattle.ss_typed.proofs.Fine.{Fine, Sane, There, Any, fine_then, fine_turned, due_fine, any_due, sure_fine, unless_fine}
+use Rattle.ss_typed.proofs.Lists.{every_get, every_both, every_filter}
 use Rattle.ss_typed.proofs.Heaps.{Changed, timed_sane}
 use Rattle.ss_typed.proofs.Kept.{number_fine}
 use Rattle.ss_typed.proofs.Stores.{heap_fits}
@@ -280,23 +279,24 @@ module _ (p : Program) (typed : WellTyped p) (ms : List Mode) where
       by (Some d) h = ap Some h
 
   event_fits : (t : ℤ) (s : Store) (e : Entry) → least s.scene.pending.entries ≡ Some e → Fits p ms s → Fits p ms (at_event t s) × Every (λ (i : Entry). e.notice ≡ i.notice → ⊥) (at_event t s).scene.pending.entries
-  event_fits t s e q f =
-      (record {
-        sound = record {
-          globals = f.sound.globals;
-          scene = record {
-            setting = f.sound.scene.setting;
-            layout = f.sound.scene.layout;
-            heap = f.sound.scene.heap;
-            pending = subst (λ o. Every (λ (i : Entry). IsNotice s.scene.heap i.notice) (option_map_or (λ (i : Entry). without i.notice s.scene.pending.entries) o [])) (sym q)
-                (every_filter (λ (i : Entry). IsNotice s.scene.heap i.notice) (λ (i : Entry). IsNotice s.scene.heap i.notice) (λ i. not (int_eq e.notice i.notice)) s.scene.pending.entries f.sound.scene.pending (λ i h t. h));
-            histories = f.sound.scene.histories;
-          };
+  event_fits t s e q f = (
+    record {
+      sound = record {
+        globals = f.sound.globals;
+        scene = record {
+          setting = f.sound.scene.setting;
+          layout = f.sound.scene.layout;
+          heap = f.sound.scene.heap;
+          pending = subst (λ o. Every (λ (i : Entry). IsNotice s.scene.heap i.notice) (option_map_or (λ (i : Entry). without i.notice s.scene.pending.entries) o [])) (sym q)
+              (every_filter (λ (i : Entry). IsNotice s.scene.heap i.notice) (λ (i : Entry). IsNotice s.scene.heap i.notice) (λ i. not (int_eq e.notice i.notice)) s.scene.pending.entries f.sound.scene.pending (λ i h t. h));
+          histories = f.sound.scene.histories;
         };
-        locals = f.locals;
-      },
-      subst (λ o. Every (λ (i : Entry). e.notice ≡ i.notice → ⊥) (option_map_or (λ (i : Entry). without i.notice s.scene.pending.entries) o [])) (sym q)
-      (every_filter (λ (i : Entry). IsNotice s.scene.heap i.notice) (λ (i : Entry). e.notice ≡ i.notice → ⊥) (λ i. not (int_eq e.notice i.notice)) s.scene.pending.entries f.sound.scene.pending (λ i h t same. apart_by i t same)))
+      };
+      locals = f.locals;
+    },
+    subst (λ o. Every (λ (i : Entry). e.notice ≡ i.notice → ⊥) (option_map_or (λ (i : Entry). without i.notice s.scene.pending.entries) o [])) (sym q)
+        (every_filter (λ (i : Entry). IsNotice s.scene.heap i.notice) (λ (i : Entry). e.notice ≡ i.notice → ⊥) (λ i. not (int_eq e.notice i.notice)) s.scene.pending.entries f.sound.scene.pending (λ i h t same. apart_by i t same)),
+  )
     where
       apart_by : (i : Entry) → not (int_eq e.notice i.notice) ≡ true → e.notice ≡ i.notice → ⊥
       apart_by i t same = let are : int_eq e.notice i.notice ≡ true = (Decides-int_eq e.notice i.notice).1 same in let back : not true ≡ true = sym (ap not are) ∙ t in absurd cc

@@ -1,10 +1,10 @@
 -- Expressions, places and conditions of a well-typed program have their values.
-use Rattle.std.proofs.Common.{◌≡◌, ℕ, zero, suc, Bool, true, false, List, [], ◌∷◌, Option, Some, None, Ok, Err, ℤ, pos, refl, sym, ap, ◌∙◌, subst}
+use Rattle.std.proofs.Common.{◌≡◌, ℕ, Bool, true, false, List, [], ◌∷◌, Option, Some, None, ℤ, pos, refl, sym, subst}
 use Rattle.std.specs.Prelude.{Result, int_lt}
 use Rattle.std.specs.List.{AllByRecursion as Every, AllZip}
 use Rattle.std.specs.Option.{IfSome}
 use Rattle.ss_base.specs.declared.layout.Mode.{Mode}
-use Rattle.ss_base.specs.declared.layout.Mode.TheVariants.{Integer, Alpha}
+use Rattle.ss_base.specs.declared.layout.Mode.TheVariants.{Integer}
 use Rattle.ss_base.specs.declared.layout.ClassLayout.{ClassLayout}
 use Rattle.ss_base.specs.declared.value.Value.{Value}
 use Rattle.ss_base.specs.declared.value.Value.TheVariants.{Whole, Text}
@@ -13,22 +13,21 @@ use Rattle.ss_input.specs.Words.{is_ended}
 use Rattle.ss_program.specs.declared.expression.Sign.{Sign}
 use Rattle.ss_program.specs.declared.expression.Operator.{Operator}
 use Rattle.ss_program.specs.declared.condition.Relation.{Relation}
-use Rattle.ss_program.specs.declared.head.GuardKind.{GuardKind}
 use Rattle.ss_program.specs.Program.{Expression, Constant, Fetch, Attribute, OfSystemSet, OfSet, OfMember, Clock, TimeOf, Figure, FigureOf, Signed, Absolute, Calculate, SetOwner, TheSystem, Entity, Test, Compare, DataEnded, Empty, Member, Condition, Guard, Place, ToVariable, ToAttribute, ToCount, Position, ByDiscipline, AsFirst, AsLast, BeforeMember, AfterMember, When, At, In, Now, Program}
-use Rattle.ss_program.specs.WellTyped.{Scope, WellTyped, HasMode, HaveModes, IsSet, OwnerFits, GoodTest, GoodCondition, TakesMode, GoodPosition, GoodWhen, HasSubject, IsAlone, IsOfEntities, field_mode}
-use Rattle.ss_meaning.specs.Values.{Trouble, Misfit, if_ok, turned, due, sure, made, calculated, operator_of, signed, distance, absolute, related, allows}
+use Rattle.ss_program.specs.WellTyped.{Scope, WellTyped, HasMode, HaveModes, IsSet, OwnerFits, GoodTest, GoodCondition, TakesMode, GoodPosition, GoodWhen, HasSubject, IsAlone, IsOfEntities}
+use Rattle.ss_meaning.specs.Values.{Trouble, if_ok, turned, due, sure, made, calculated, operator_of, signed, distance, absolute, related}
 use Rattle.ss_meaning.specs.Store.{Store, fetched}
 use Rattle.ss_meaning.specs.Entities.{entity, attribute, time_of}
-use Rattle.ss_meaning.specs.Places.{Spot, InVariable, InAttribute, InCount}
-use Rattle.ss_meaning.specs.Sets.{member, known_owner, of_set, of_member, is_empty, is_in, Filing, ByRule, Foremost, Hindmost, Ahead, Behind}
-use Rattle.ss_meaning.specs.Events.{Moment, AtTime, Later, AtOnce, time_at}
+use Rattle.ss_meaning.specs.Places.{InAttribute}
+use Rattle.ss_meaning.specs.Sets.{member, known_owner, of_set, of_member, is_empty, is_in, Ahead, Behind}
+use Rattle.ss_meaning.specs.Events.{AtTime, Later, AtOnce, time_at}
 use Rattle.ss_meaning.specs.Statistics.{figure}
 use Rattle.ss_meaning.specs.Expressions.{value, values, value_if_any, looked_at, entity_value, member_value, owner_value, owner_looked_at, spot, filing, time_value, unless, passed, both, either, all_hold, holds, passes, all_pass}
 use Rattle.ss_typed.specs.Fitting.{Hold, Fits}
-use Rattle.ss_typed.proofs.Fine.{Fine, Sane, There, Any, fine_then, fine_turned, fine_weaker, due_fine, any_due, sure_fine}
+use Rattle.ss_typed.proofs.Fine.{Fine, There, Any, fine_then, fine_turned, any_due, sure_fine}
 use Rattle.ss_typed.proofs.Entities.{HasField as FieldThere, field_said, entity_fine, attribute_fine, time_of_fine, fetched_there, SpotTakes}
 use Rattle.ss_typed.proofs.Sets.{OwnerOk, set_of, member_fine, known_owner_fine, of_set_fine, of_member_fine, is_empty_fine, is_in_fine, FilingOk, AskedStatistic, figure_fine}
-use Rattle.ss_typed.proofs.Events.{MomentOk, time_at_fine}
+use Rattle.ss_typed.proofs.Events.{time_at_fine}
 
 abbrev pub HasMode_is : Mode → Value → Type 0
 HasMode_is m v = mode_of v ≡ m

@@ -1,7 +1,7 @@
 -- The operations on entities: the entities that live, and the modes of their attributes.
 use Rattle.std.proofs.Common.{arith, inl, inr, ◌⊎◌, ◌≡◌, ℕ, zero, suc, ◌+◌, ◌-◌, ◌<◌, Bool, true, false, List, [], ◌∷◌, ◌++◌, length, Option, Some, None, Ok, Err, ℤ, pos, negsuc, refl, sym, ap, ◌∙◌, subst}
-use Rattle.std.proofs.lemmas.Bool.{eqb-true, eqb-false, eq-eqb, ltb-true}
-use Rattle.std.specs.Prelude.{slice_get, slice_set, slice_index_or, replicate, map, cond, ◌==◌, nat_lt, nat_le, Result, if◌then◌else◌}
+use Rattle.std.proofs.lemmas.Bool.{eqb-true}
+use Rattle.std.specs.Prelude.{slice_get, slice_set, slice_index_or, replicate, map, ◌==◌, nat_lt, nat_le, Result, if◌then◌else◌}
 use Rattle.std.specs.List.{AllByRecursion as Every}
 use Rattle.ss_base.specs.declared.fault.FaultKind.{FaultKind}
 use Rattle.ss_base.specs.declared.layout.ClassKind.{ClassKind}
@@ -11,8 +11,8 @@ use Rattle.ss_base.specs.declared.layout.Mode.TheVariants.{Integer, Alpha}
 use Rattle.ss_base.specs.declared.layout.Layout.{Layout}
 use Rattle.ss_base.specs.declared.value.Value.{Value}
 use Rattle.ss_base.specs.Layout.{mode_of, first_value}
-use Rattle.ss_records.specs.State.{Record, State, kind_of, modes_of, and_then, issued_record, numbered, indexed_record, indexed, records_in, of_class, of_notice, is_notice, entity, entity_of_kind, notice, number_in, with_value, with_time, with_entity, with_entity_of_kind, with_indexed, value_in, assigned, time_in, timed, created, with_created, first_record, created_all, is_made, with_made, made_many, destroyed, let_go, in_a_set, owns_members, LAST_NUMBER, MOST_ENTITIES}
-use Rattle.ss_typed.specs.Fitting.{Hold, RecordFits, HeapFits, class_in, living, made, IsIndex, LivesAs, Lives, IsNotice}
+use Rattle.ss_records.specs.State.{Record, State, kind_of, modes_of, and_then, issued_record, numbered, indexed_record, indexed, records_in, of_class, of_notice, is_notice, entity, entity_of_kind, notice, number_in, with_value, with_time, with_entity, with_entity_of_kind, with_indexed, value_in, assigned, timed, created, with_created, first_record, created_all, is_made, with_made, made_many, destroyed, let_go, in_a_set, owns_members, LAST_NUMBER, MOST_ENTITIES}
+use Rattle.ss_typed.specs.Fitting.{Hold, RecordFits, HeapFits, class_in, living, made, IsIndex, LivesAs, Lives}
 use Rattle.ss_typed.proofs.Fine.{Sane, sane_then}
 use Rattle.ss_typed.proofs.Lists.{every_get, every_set, every_both, every_replicate}
 
@@ -221,9 +221,10 @@ rows_set (p ∷ ps) modes (suc c) o h g zero = h zero
 rows_set (p ∷ ps) modes (suc c) o h g (suc k) = rows_set ps (λ j. modes (suc j)) c o (λ j. h (suc j)) g k
 
 indexed_changed : (h : State) (c : ℕ) (n : ℕ) (r : Record) → HeapFits h → Hold r.values (modes_of h.layout c) → Changed h (with_entity_of_kind h Permanent c n r)
-indexed_changed h c n r f m =
-    ((f.0, rows_set h.permanents (modes_of h.layout) c (with_indexed (slice_get h.permanents c) n r) f.1 (row_set (modes_of h.layout c) (slice_get h.permanents c) n r (f.1 c) m)),
-    record { layout = refl; living = lives; made = made_at h.permanents c n r })
+indexed_changed h c n r f m = (
+  (f.0, rows_set h.permanents (modes_of h.layout) c (with_indexed (slice_get h.permanents c) n r) f.1 (row_set (modes_of h.layout c) (slice_get h.permanents c) n r (f.1 c) m)),
+  record { layout = refl; living = lives; made = made_at h.permanents c n r },
+)
   where
     lives : (x : ℤ) → living (with_entity_of_kind h Permanent c n r) x ≡ living h x
     lives (pos zero) = refl

@@ -1,8 +1,8 @@
 -- Histories: which are there, and that they stay.
-use Rattle.std.proofs.Common.{arith, inl, inr, ◌⊎◌, ◌≡◌, ℕ, zero, suc, ◌+◌, ◌<◌, Bool, true, false, List, [], ◌∷◌, ◌++◌, Option, Some, None, Ok, Err, ℤ, pos, negsuc, refl, sym, ap, ◌∙◌, subst}
-use Rattle.std.proofs.lemmas.Bool.{eqb-true, eqb-false, eq-eqb}
+use Rattle.std.proofs.Common.{arith, ◌≡◌, ℕ, zero, suc, ◌+◌, Bool, true, false, List, [], ◌∷◌, ◌++◌, Option, Some, None, Ok, ℤ, refl, sym, ap, ◌∙◌, subst}
+use Rattle.std.proofs.lemmas.Bool.{eqb-true, eq-eqb}
 use Rattle.std.proofs.lemmas.Bool.Decides.{Decides-int_eq}
-use Rattle.std.specs.Prelude.{slice_get, ◌==◌, ◌&&◌, Result, if◌then◌else◌}
+use Rattle.std.specs.Prelude.{slice_get, ◌==◌, ◌&&◌, if◌then◌else◌}
 use Rattle.std.specs.Ordering.{int_eq}
 use Rattle.ss_base.specs.declared.layout.ClassKind.{ClassKind}
 use Rattle.ss_base.specs.declared.layout.ClassKind.TheVariants.{Permanent, Temporary, Notice}
@@ -19,12 +19,12 @@ use Rattle.ss_stats.specs.History.{History, is_full, with_value, restarted}
 use Rattle.ss_program.specs.declared.sections.Subject.{Subject}
 use Rattle.ss_program.specs.declared.sections.Subject.TheVariants.{OfVariable, OfAttribute, OfCount}
 use Rattle.ss_program.specs.declared.sections.Statistic.{Statistic}
-use Rattle.ss_meaning.specs.Values.{Trouble, Misfit, if_ok, turned, unless_fault, number_of}
+use Rattle.ss_meaning.specs.Values.{turned, unless_fault, number_of}
 use Rattle.ss_meaning.specs.Store.{Kept}
 use Rattle.ss_meaning.specs.Histories.{same_subject, same_owner, home, at_start, starting, is_about, is_of, noting, all_noting, kept_for, renewed}
 use Rattle.ss_typed.specs.Fitting.{made, IsIndex, living, LivesAs, Lives, BearsBy, Bears, IsKept, HistoriesFit}
 use Rattle.ss_typed.proofs.Fine.{Fine, Any, fine_then, fine_turned, unless_fine}
-use Rattle.ss_typed.proofs.Heaps.{Same, Created, Filled, Gone}
+use Rattle.ss_typed.proofs.Heaps.{Same, Gone}
 
 -- ## Histories that are there stay
 

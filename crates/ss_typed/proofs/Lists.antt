@@ -1,6 +1,6 @@
 -- Lists whose elements all are so.
-use Rattle.std.proofs.Common.{◌≡◌, ℕ, zero, suc, Bool, true, false, List, [], ◌∷◌, ◌++◌, Option, Some, None, refl, sym, ap, ◌∙◌, subst}
-use Rattle.std.specs.Prelude.{slice_get, slice_set, slice_index_or, filter, replicate, map, cond}
+use Rattle.std.proofs.Common.{◌≡◌, ℕ, zero, suc, Bool, true, false, List, [], ◌∷◌, ◌++◌, Some, refl, subst}
+use Rattle.std.specs.Prelude.{slice_get, slice_set, filter, replicate, cond}
 use Rattle.std.specs.List.{AllByRecursion as Every}
 
 pub every_get : {A : Type 0} (P : A → Type 0) (xs : List A) (i : ℕ) (a : A) → Every P xs → slice_get xs i ≡ Some a → P a

@@ -1,5 +1,5 @@
 -- Parts of a well-typed program: they don't go wrong, and keep stores that fit.
-use Rattle.std.proofs.Common.{◌≡◌, ℕ, zero, suc, Bool, true, false, List, [], ◌∷◌, Option, Some, None, Ok, Err, ℤ, pos, refl, sym, ap, ◌∙◌, subst}
+use Rattle.std.proofs.Common.{ℕ, zero, suc, Bool, true, false, List, Ok, Err}
 use Rattle.std.specs.Prelude.{Result}
 use Rattle.ss_base.specs.declared.line.Line.{Line}
 use Rattle.ss_base.specs.declared.layout.Mode.{Mode}
@@ -9,9 +9,9 @@ use Rattle.ss_program.specs.WellTyped.{WellTyped}
 use Rattle.ss_meaning.specs.Values.{Trouble, Fails, Misfit}
 use Rattle.ss_meaning.specs.Store.{Store}
 use Rattle.ss_meaning.specs.Places.{Spot, written}
-use Rattle.ss_meaning.specs.Parts.{World, Exit, Returned, Stopped, Faulted, OutOfTicks, Wrong, Outcome, WentOn, Left, Part, and_then, then_nothing, choose, looked, look, needed, settle, change, settle_with, get, write, send, tick_from, take_tick, Next, Again, Over, go_on, loop}
+use Rattle.ss_meaning.specs.Parts.{World, Returned, Stopped, Faulted, OutOfTicks, Wrong, Outcome, WentOn, Left, Part, and_then, choose, looked, look, change, get, write, send, tick_from, take_tick, Next, Again, Over, go_on, loop}
 use Rattle.ss_typed.specs.Fitting.{Sound, Fits}
-use Rattle.ss_typed.proofs.Fine.{Fine, There, Any}
+use Rattle.ss_typed.proofs.Fine.{Fine, Any}
 use Rattle.ss_typed.proofs.Entities.{SpotTakes, written_fine}
 use Rattle.ss_typed.proofs.Expressions.{HasMode_is}
 

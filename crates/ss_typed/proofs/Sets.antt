@@ -1,28 +1,24 @@
 -- The operations on sets and on statistics, for a well-typed program.
-use Rattle.std.proofs.Common.{arith, ◌≡◌, ℕ, zero, suc, ◌+◌, ◌<◌, Bool, true, false, List, [], ◌∷◌, length, Option, Some, None, Ok, Err, ℤ, pos, negsuc, refl, sym, ap, ◌∙◌, subst}
-use Rattle.std.specs.Prelude.{slice_get, nat_lt, ◌&&◌, Result, is_some, not, if◌then◌else◌}
+use Rattle.std.proofs.Common.{◌≡◌, ℕ, zero, suc, ◌<◌, Bool, true, false, List, [], ◌∷◌, length, Option, Some, None, Ok, Err, ℤ, pos, refl, sym, ap, ◌∙◌, subst}
+use Rattle.std.specs.Prelude.{slice_get, ◌&&◌, Result, is_some, not, if◌then◌else◌}
 use Rattle.std.proofs.lemmas.Bool.{lt-ltb}
-use Rattle.std.specs.List.{AllByRecursion as Every, AllZip, list_all}
+use Rattle.std.specs.List.{AllZip, list_all}
 use Rattle.std.specs.Option.{option_map}
-use Rattle.ss_base.specs.declared.fault.FaultKind.{FaultKind}
 use Rattle.ss_base.specs.declared.fault.FaultKind.TheVariants.{NotFiled}
-use Rattle.ss_base.specs.declared.layout.ClassKind.{ClassKind}
-use Rattle.ss_base.specs.declared.layout.ClassKind.TheVariants.{Permanent, Temporary, Notice}
 use Rattle.ss_base.specs.declared.layout.Mode.{Mode}
-use Rattle.ss_base.specs.declared.layout.Mode.TheVariants.{Integer, Alpha}
+use Rattle.ss_base.specs.declared.layout.Mode.TheVariants.{Integer}
 use Rattle.ss_base.specs.declared.layout.Owner.{Owner}
 use Rattle.ss_base.specs.declared.layout.Owner.TheVariants.{System, Class}
 use Rattle.ss_base.specs.declared.layout.RankKey.{RankKey}
 use Rattle.ss_base.specs.declared.layout.SetLayout.{SetLayout}
-use Rattle.ss_base.specs.declared.layout.Layout.{Layout}
 use Rattle.ss_base.specs.declared.layout.Discipline.{Discipline}
 use Rattle.ss_base.specs.declared.layout.Discipline.TheVariants.{Fifo, Lifo, Ranked}
 use Rattle.ss_base.specs.declared.value.Value.{Value}
 use Rattle.ss_base.specs.declared.value.Value.TheVariants.{Whole, Text}
 use Rattle.ss_base.specs.Layout.{mode_of}
-use Rattle.ss_records.specs.State.{Record, State, kind_of, modes_of, and_then, entity as entity_in, number_in}
+use Rattle.ss_records.specs.State.{State, modes_of, entity as entity_in, number_in}
 use Rattle.ss_records.specs.Sets.{member_class, owner_kind, owner_by as owner_of_kind, joiner, owner, first_in, last_in, count_in, next_in, previous_in, owner_of_member, filed_first, filed_last, filed_before, filed_after, removed}
-use Rattle.ss_sets.specs.Disciplines.{first_removed, last_removed, member_test, filed}
+use Rattle.ss_sets.specs.Disciplines.{member_test, filed}
 use Rattle.ss_program.specs.declared.expression.Fold.{Fold}
 use Rattle.ss_program.specs.declared.expression.Fold.TheVariants.{Number, Sum, Maximum, Minimum}
 use Rattle.ss_program.specs.declared.expression.SetQuery.{SetQuery}
@@ -36,20 +32,20 @@ use Rattle.ss_program.specs.declared.sections.Statistic.{Statistic}
 use Rattle.ss_program.specs.declared.statement.End.{End}
 use Rattle.ss_program.specs.declared.statement.End.TheVariants as ends
 use Rattle.ss_program.specs.Program.{Program}
-use Rattle.ss_program.specs.WellTyped.{WellTyped, IsSet, IsOwned, owner_of, field_mode, GoodDiscipline, GoodKeys, GoodSubject, IsAlone, IsOfEntities}
+use Rattle.ss_program.specs.WellTyped.{WellTyped, IsSet, IsOwned, owner_of, GoodDiscipline, GoodKeys, GoodSubject, IsAlone, IsOfEntities}
 use Rattle.ss_stats.specs.History.{History, sum_of}
 use Rattle.ss_meaning.specs.Values.{Trouble, Misfit, Fails, if_ok, turned, due, sure, where_fit, unless_fault, number_of}
 use Rattle.ss_meaning.specs.Store.{Kept, Store, with_heap, with_histories, fetched}
-use Rattle.ss_meaning.specs.Histories.{home, noted, kept_for, folded, figure_kept, renewed}
-use Rattle.ss_meaning.specs.Entities.{entity, attribute}
+use Rattle.ss_meaning.specs.Histories.{noted, kept_for, folded, figure_kept, renewed}
+use Rattle.ss_meaning.specs.Entities.{entity}
 use Rattle.ss_meaning.specs.Sets.{set_at, member, owner_as, owner_by, owner_number, known_owner, told_of_set, of_set, is_one, of_member, is_none, is_empty, is_in, recounted, is_field, is_fit, Filing, ByRule, Foremost, Hindmost, Ahead, Behind, filed_by, filed_in, removed_from, end_removed, removed_at, outset, beside, begun, coming, from_or_after, begun_at, or_gone, goes_on}
 use Rattle.ss_meaning.specs.Statistics.{subject_of, bearer, present, figure, reset}
-use Rattle.ss_typed.specs.Fitting.{Hold, HeapFits, Lives, BearsBy, Bears, IsKept, HistoriesFit, Fits}
+use Rattle.ss_typed.specs.Fitting.{HeapFits, Lives, BearsBy, Bears, IsKept, Fits}
 use Rattle.ss_typed.proofs.Fine.{Fine, Sane, There, Any, fine_then, fine_turned, fine_weaker, due_fine, any_due, sure_fine, fit_fine, unless_fine, sane_then}
 use Rattle.ss_typed.proofs.Lists.{every_get}
-use Rattle.ss_typed.proofs.Heaps.{Changed, IsEntityAs, entity_known, entity_lives, get_within}
+use Rattle.ss_typed.proofs.Heaps.{Changed, entity_known, entity_lives, get_within}
 use Rattle.ss_typed.proofs.Filings.{first_sane, last_sane, before_sane, after_sane, removed_sane, filed_sane, first_removed_sane, last_removed_sane}
-use Rattle.ss_typed.proofs.Kept.{KeepsAll, Noteworthy, number_fine, renewed_fine}
+use Rattle.ss_typed.proofs.Kept.{number_fine, renewed_fine}
 use Rattle.ss_typed.proofs.Stores.{heap_fits, kept_fit, statistics_are, noted_fine, held_there}
 use Rattle.ss_typed.proofs.Entities.{HasField, field_said, entity_fine, attribute_fine}
 

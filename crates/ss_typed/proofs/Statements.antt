@@ -1,5 +1,5 @@
 -- Loops and statements of a well-typed program don't go wrong, and keep stores that fit.
-use Rattle.std.proofs.Common.{arith, ◌≡◌, ℕ, zero, suc, ◌+◌, Bool, true, false, List, [], ◌∷◌, ◌++◌, length, Option, Some, None, Ok, Err, ℤ, pos, refl, sym, ap, ◌∙◌, subst}
+use Rattle.std.proofs.Common.{◌≡◌, ℕ, zero, suc, ◌+◌, Bool, true, false, List, [], ◌∷◌, length, Option, Some, None, Ok, Err, ℤ, pos, refl, sym, ap, ◌∙◌}
 use Rattle.std.proofs.lemmas.List.Sums.{sum_by-cons}
 use Rattle.std.specs.Prelude.{Result, slice_get, map, sum, take, ◌==◌, int_lt, Contains, if◌then◌else◌}
 use Rattle.std.proofs.lemmas.Bool.{eq-eqb}
@@ -7,7 +7,7 @@ use Rattle.std.specs.List.{AllByRecursion as Every, AllZip}
 use Rattle.std.specs.Option.{IfSome}
 use Rattle.ss_base.specs.declared.line.Line.{Line}
 use Rattle.ss_base.specs.declared.fault.FaultKind.TheVariants.{LoopStep, BadCount}
-use Rattle.ss_base.specs.declared.layout.ClassKind.TheVariants.{Permanent, Temporary, Notice}
+use Rattle.ss_base.specs.declared.layout.ClassKind.TheVariants.{Permanent, Notice}
 use Rattle.ss_base.specs.declared.layout.Mode.{Mode}
 use Rattle.ss_base.specs.declared.layout.Mode.TheVariants.{Integer, Alpha}
 use Rattle.ss_base.specs.declared.value.Value.{Value}
@@ -23,26 +23,26 @@ use Rattle.ss_program.specs.declared.head.PhraseKind.TheVariants as kinds
 use Rattle.ss_program.specs.declared.statement.End.{End}
 use Rattle.ss_program.specs.declared.statement.Counted.{Counted}
 use Rattle.ss_program.specs.Program.{Expression, SetOwner, Head, Numbers, Members, Each, Start, AtEnd, From, After, Phrase, Guard, Place, ToVariable, Target, Position, When, Restart, Statement, Let, Change, Call, Return, Stop, Read, Simulate, If, Loop, For, Find, Create, CreateEvery, Destroy, File, RemoveEnd, Remove, ScheduleNew, Schedule, Cancel, Reset, Print, Skip, Block, Done, Then, Routine, Program}
-use Rattle.ss_program.specs.WellTyped.{Scope, WellTyped, HasMode, HaveModes, OwnerFits, GoodCondition, TakesMode, GoodStart, GoodHead, GoodPhrase, GoodCall, GoodPosition, GoodWhen, GoodGiven, GoodRestart, GoodPrint, Good, GoodBlock, kind_of as kind_said, comes_alone}
-use Rattle.ss_meaning.specs.Values.{Trouble, Misfit, Fails, if_ok, turned, due, sure, where_fit, unless_fault, number_of, calculated, operator_of, fields_in, lines_with, printed, empty_lines}
+use Rattle.ss_program.specs.WellTyped.{Scope, WellTyped, HasMode, OwnerFits, GoodCondition, TakesMode, GoodStart, GoodHead, GoodPhrase, GoodPosition, GoodWhen, GoodGiven, GoodRestart, GoodPrint, Good, GoodBlock, kind_of as kind_said}
+use Rattle.ss_meaning.specs.Values.{if_ok, turned, due, sure, unless_fault, number_of, calculated, operator_of, fields_in, lines_with, printed, empty_lines}
 use Rattle.ss_meaning.specs.Store.{Store}
 use Rattle.ss_meaning.specs.Entities.{class_at, is_permanent, made_count, made_one, made_all, without}
-use Rattle.ss_meaning.specs.Places.{Spot, InVariable, held}
+use Rattle.ss_meaning.specs.Places.{InVariable, held}
 use Rattle.ss_meaning.specs.Sets.{is_none, begun, begun_at, coming, goes_on, filed_in, removed_from, removed_at}
 use Rattle.ss_meaning.specs.Events.{made_notice, filed_notice, rescheduled, unscheduled, is_awaited}
 use Rattle.ss_meaning.specs.Statistics.{reset}
 use Rattle.ss_meaning.specs.Expressions.{value, values, value_if_any, entity_value, member_value, owner_value, owner_looked_at, spot, filing, time_value, holds, all_pass}
-use Rattle.ss_meaning.specs.Parts.{World, Returned, Stopped, Faulted, OutOfTicks, Wrong, Outcome, WentOn, Left, Part, and_then, then_nothing, choose, look, change, get, write, send, take_tick, tick_from, Next, Again, Over, go_on, loop}
-use Rattle.ss_meaning.specs.Loops.{Turn, GoesOn, EndsLoop, IsFound, phrase, phrases, visit, Range, items, after_turn, over_items, step_number, range_of, range, indices, Outset, from_member, outset, next_member, member_turn, over_members, over, guarded_turn, guarded}
-use Rattle.ss_meaning.specs.Statements.{give_to, give_each, change_by, with_input, read_word, read_each, print, create_every, destroy, file, remove, remove_end, schedule_new, schedule, cancel, next_due, event_turn, simulate, restart_each, Calls, effect, effects}
-use Rattle.ss_typed.specs.Fitting.{Hold, Sound, Fits}
-use Rattle.ss_typed.proofs.Fine.{Fine, There, Any, fine_then, fine_turned, fine_weaker, any_due, sure_fine, fit_fine, unless_fine}
+use Rattle.ss_meaning.specs.Parts.{World, Returned, Stopped, Faulted, OutOfTicks, Wrong, Outcome, WentOn, Left, Part, and_then, choose, look, get, tick_from, Again, Over, go_on, loop}
+use Rattle.ss_meaning.specs.Loops.{Turn, GoesOn, EndsLoop, IsFound, phrase, phrases, visit, items, after_turn, over_items, step_number, range_of, range, indices, Outset, from_member, outset, next_member, member_turn, over, guarded}
+use Rattle.ss_meaning.specs.Statements.{give_to, give_each, change_by, with_input, read_word, read_each, print, create_every, file, remove, remove_end, schedule_new, schedule, next_due, event_turn, simulate, restart_each, Calls, effect, effects}
+use Rattle.ss_typed.specs.Fitting.{Hold, Fits}
+use Rattle.ss_typed.proofs.Fine.{Fine, There, Any, fine_then, fine_turned, sure_fine, fit_fine, unless_fine}
 use Rattle.ss_typed.proofs.Kept.{number_fine}
 use Rattle.ss_typed.proofs.Entities.{SpotTakes, permanent_here, made_one_fine, made_all_fine, without_fine, held_fine}
 use Rattle.ss_typed.proofs.Sets.{OwnerOk, FilingOk, begun_fine, begun_at_fine, coming_fine, goes_on_fine, filed_in_fine, removed_from_fine, removed_at_fine, set_of, AskedStatistic, reset_fine}
 use Rattle.ss_typed.proofs.Events.{FieldsAre, fields_are, made_notice_fine, filed_notice_fine, rescheduled_fine, unscheduled_fine}
-use Rattle.ss_typed.proofs.Expressions.{HasMode_is, calculated_fine, OptionOk, value_fine, values_fine, value_if_any_fine, entity_value_fine, member_value_fine, owner_value_fine, owner_looked_at_fine, set_of_owner, spot_fine, filing_fine, time_value_fine, holds_fine, all_pass_fine, asked_alone, asked_of}
-use Rattle.ss_typed.proofs.Parts.{Kept, Safe, kept_then, safe_then, safe_went, safe_looked, safe_look, safe_change, safe_get, safe_write, safe_send, safe_tick, safe_choose, safe_loop}
+use Rattle.ss_typed.proofs.Expressions.{HasMode_is, calculated_fine, value_fine, values_fine, entity_value_fine, member_value_fine, owner_value_fine, owner_looked_at_fine, set_of_owner, spot_fine, filing_fine, time_value_fine, holds_fine, all_pass_fine, asked_alone, asked_of}
+use Rattle.ss_typed.proofs.Parts.{Kept, Safe, safe_then, safe_went, safe_look, safe_change, safe_get, safe_write, safe_send, safe_tick, safe_choose, safe_loop}
 
 -- what a call and an event do
 pub record CallsSafe (p : Program) (h : Calls) : Type 0 where
@@ -210,7 +210,7 @@ module _ (p : Program) (typed : WellTyped p) (ms : List Mode) (b : Bool) where
       safe_then {P = HasMode_is Integer} (safe_look l (value e) (value_fine p typed ms b e Integer h)) (λ y k.
       safe_then {P = λ x. SpotTakes p typed ms b x Integer} (safe_look l (spot t) (spot_fine p typed ms b t Integer g)) (λ x q.
       safe_then {P = HasMode_is Integer} (safe_look l (λ s. if_ok (held x s) (λ v. calculated (operator_of sign) v y)) (λ s f.
-          fine_then (HasMode_is Integer) (held x s) (λ v. calculated (operator_of sign) v y) (held_fine p typed ms b x Integer s q f) (λ v r. calculated_fine (operator_of sign) v y r k))) (λ v r.
+      fine_then (HasMode_is Integer) (held x s) (λ v. calculated (operator_of sign) v y) (held_fine p typed ms b x Integer s q f) (λ v r. calculated_fine (operator_of sign) v y r k))) (λ v r.
       safe_write typed b l x Integer v q r)))
 
   input_fits : (s : Store) (rest : List ℕ) → Fits p ms s → Fits p ms (record s { scene = record s.scene { input = rest } })
@@ -226,7 +226,7 @@ module _ (p : Program) (typed : WellTyped p) (ms : List Mode) (b : Bool) where
   reads_safe l [] g = record { by = λ w fits. (tt, fits) }
   reads_safe l (t ∷ ts) g =
       safe_then {P = Any} (give_safe l t.place t.mode (get l (read_word t.mode)) g.0 (safe_get l (read_word t.mode) t.mode (λ s f.
-          fine_turned (λ r. HasMode_is t.mode r.0 × Fits p ms r.1) (with_input s) (due (value_given t.mode s.scene.input)) (word_fine t.mode s) (λ r q. (q, input_fits s r.rest f))))) (λ u v.
+      fine_turned (λ r. HasMode_is t.mode r.0 × Fits p ms r.1) (with_input s) (due (value_given t.mode s.scene.input)) (word_fine t.mode s) (λ r q. (q, input_fits s r.rest f))))) (λ u v.
       reads_safe l ts g.1)
 
   items_fine : (es : List Expression) → Every (λ e. (m : Mode) × HasMode here e m) es → (s : Store) → Fits p ms s → Fine (λ vs. length vs ≡ length es) (values es s)
@@ -238,7 +238,7 @@ module _ (p : Program) (typed : WellTyped p) (ms : List Mode) (b : Bool) where
   print_safe : (l : Line) (es : List Expression) (pictures : List (List ℕ)) → GoodPrint here es pictures → Safe p ms Any (print l es pictures)
   print_safe l es pictures g =
       safe_then {P = Any} (safe_look l (λ s. if_ok (values es s) (λ vs. sure (printed pictures vs))) (λ s f.
-          fine_then Any (values es s) (λ vs. sure (printed pictures vs)) (items_fine es g.0 s f) (λ vs q. sure_fine Any (printed pictures vs) (printed_there pictures vs (q ∙ sym g.1))))) (λ bytes u.
+      fine_then Any (values es s) (λ vs. sure (printed pictures vs)) (items_fine es g.0 s f) (λ vs q. sure_fine Any (printed pictures vs) (printed_there pictures vs (q ∙ sym g.1))))) (λ bytes u.
       safe_send bytes)
 
   every_safe : (l : Line) (cs : List Counted) → Every (Contains p.counts) cs → Safe p ms Any (create_every l cs)

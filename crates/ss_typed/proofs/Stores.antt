@@ -1,36 +1,27 @@
 -- Stores that fit a program: their variables, and what becomes of the scene.
-use Rattle.std.proofs.Common.{arith, inl, inr, ◌⊎◌, ◌≡◌, ℕ, zero, suc, ◌+◌, ◌<◌, Bool, true, false, List, [], ◌∷◌, ◌++◌, Option, Some, None, Ok, Err, ℤ, pos, negsuc, refl, sym, ap, ◌∙◌, subst}
+use Rattle.std.proofs.Common.{arith, inl, inr, ◌⊎◌, ◌≡◌, ℕ, zero, suc, ◌+◌, ◌<◌, Bool, true, false, List, [], ◌∷◌, ◌++◌, Some, Ok, Err, ℤ, pos, negsuc, refl, sym, ap, ◌∙◌, subst}
 use Rattle.std.proofs.lemmas.Bool.{eqb-true, eqb-false}
-use Rattle.std.specs.Prelude.{slice_get, map, ◌==◌, Result, if◌then◌else◌}
-use Rattle.std.specs.List.{AllByRecursion as Every}
-use Rattle.std.specs.Option.{option_map, option_and_then}
+use Rattle.std.specs.Prelude.{slice_get, ◌==◌, if◌then◌else◌}
 use Rattle.ss_base.specs.declared.layout.ClassKind.{ClassKind}
 use Rattle.ss_base.specs.declared.layout.ClassKind.TheVariants.{Permanent, Temporary, Notice}
 use Rattle.ss_base.specs.declared.layout.Mode.{Mode}
 use Rattle.ss_base.specs.declared.layout.Mode.TheVariants.{Integer, Alpha}
-use Rattle.ss_base.specs.declared.layout.ClassLayout.{ClassLayout}
 use Rattle.ss_base.specs.declared.layout.Owner.{Owner}
 use Rattle.ss_base.specs.declared.layout.Owner.TheVariants.{System, Class}
-use Rattle.ss_base.specs.declared.layout.Layout.{Layout}
 use Rattle.ss_base.specs.declared.value.Value.{Value}
-use Rattle.ss_base.specs.declared.value.Value.TheVariants.{Whole, Text}
 use Rattle.ss_base.specs.Layout.{mode_of}
-use Rattle.ss_records.specs.State.{State, kind_of, modes_of, records_in}
-use Rattle.ss_program.specs.declared.expression.Variable.{Variable}
-use Rattle.ss_program.specs.declared.expression.Variable.TheVariants.{Global, Local}
+use Rattle.ss_records.specs.State.{State, kind_of}
 use Rattle.ss_program.specs.declared.sections.Subject.{Subject}
-use Rattle.ss_program.specs.declared.sections.Subject.TheVariants.{OfVariable, OfAttribute, OfCount}
 use Rattle.ss_program.specs.declared.sections.Statistic.{Statistic}
 use Rattle.ss_program.specs.Program.{Program}
-use Rattle.ss_program.specs.WellTyped.{WellTyped, field_mode, GoodSubject, fields_of, kind_of as kind_said}
-use Rattle.ss_meaning.specs.Values.{Trouble, Misfit, turned, same_mode}
-use Rattle.ss_meaning.specs.Store.{Kept, Scene, Store, with_heap, with_histories, fetched, put_at, put}
+use Rattle.ss_meaning.specs.Values.{Misfit, same_mode}
+use Rattle.ss_meaning.specs.Store.{Kept, Store, with_heap, with_histories, put_at}
 use Rattle.ss_meaning.specs.Histories.{home, starting, started, all_started, all_noting, noted}
-use Rattle.ss_typed.specs.Fitting.{Hold, HeapFits, living, made, IsIndex, LivesAs, Lives, IsNotice, BearsBy, Bears, IsKept, HistoriesFit, SceneFits, Sound, Fits}
+use Rattle.ss_typed.specs.Fitting.{Hold, HeapFits, made, IsIndex, LivesAs, IsNotice, BearsBy, IsKept, HistoriesFit, Fits}
 use Rattle.ss_typed.proofs.Fine.{Fine, There, fine_turned}
-use Rattle.ss_typed.proofs.Lists.{every_get, every_weaker}
-use Rattle.ss_typed.proofs.Heaps.{Same, Created, Filled, Gone}
-use Rattle.ss_typed.proofs.Kept.{KeepsAll, kept_before, kept_behind, Noteworthy, all_noting_fine, starting_kept, lived, fit_on, fit_same, fit_gone}
+use Rattle.ss_typed.proofs.Lists.{every_weaker}
+use Rattle.ss_typed.proofs.Heaps.{Same, Created, Filled}
+use Rattle.ss_typed.proofs.Kept.{KeepsAll, kept_before, kept_behind, Noteworthy, all_noting_fine, starting_kept, fit_same}
 
 -- ## Modes
 

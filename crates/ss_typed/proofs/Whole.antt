@@ -1,9 +1,7 @@
 -- A well-typed program does not go wrong.
-use Rattle.std.proofs.Common.{arith, ◌≡◌, ℕ, zero, suc, ◌+◌, Bool, true, false, List, [], ◌∷◌, ◌++◌, length, Option, Some, None, Ok, Err, ℤ, pos, negsuc, refl, sym, ap, ◌∙◌, subst}
+use Rattle.std.proofs.Common.{arith, ◌≡◌, ℕ, zero, suc, ◌+◌, Bool, true, false, List, [], ◌∷◌, ◌++◌, length, Option, Some, None, ℤ, pos, negsuc, refl, sym, ap, ◌∙◌, subst}
 use Rattle.std.proofs.lemmas.Bool.{eq-eqb}
 use Rattle.std.specs.Prelude.{slice_get, map, ◌==◌, ◌≢◌, if◌then◌else◌}
-use Rattle.std.specs.List.{AllByRecursion as Every}
-use Rattle.ss_base.specs.declared.line.Line.{Line}
 use Rattle.ss_base.specs.declared.layout.ClassKind.{ClassKind}
 use Rattle.ss_base.specs.declared.layout.ClassKind.TheVariants.{Permanent, Temporary, Notice}
 use Rattle.ss_base.specs.declared.layout.Mode.{Mode}
@@ -14,25 +12,26 @@ use Rattle.ss_base.specs.declared.layout.ClassLayout.{ClassLayout}
 use Rattle.ss_base.specs.declared.layout.Layout.{Layout}
 use Rattle.ss_base.specs.declared.value.Value.{Value}
 use Rattle.ss_base.specs.Layout.{mode_of, first_value}
-use Rattle.ss_records.specs.State.{Record, State, kind_of, modes_of, first_state, not_made, records_in}
+use Rattle.ss_records.specs.State.{Record, kind_of, first_state, not_made, records_in}
 use Rattle.ss_program.specs.declared.sections.Statistic.{Statistic}
 use Rattle.ss_program.specs.Program.{Routine, Event, Program, Block}
-use Rattle.ss_program.specs.WellTyped.{WellTyped, GoodRoutine, GoodEvent}
-use Rattle.ss_meaning.specs.Values.{Trouble, same_mode}
-use Rattle.ss_meaning.specs.Store.{Kept, Store, behind, firsts, taken, appended, opened, front, yielded}
-use Rattle.ss_meaning.specs.Histories.{home, starting, started}
+use Rattle.ss_program.specs.WellTyped.{WellTyped, GoodRoutine, GoodEvent, GoodBlock}
+use Rattle.ss_meaning.specs.Values.{same_mode}
+use Rattle.ss_meaning.specs.Store.{Store, behind, firsts, taken, appended, opened, front, yielded}
+use Rattle.ss_meaning.specs.Histories.{home, starting}
 use Rattle.ss_meaning.specs.Events.{Beginning, Coming, next_event, begun, is_awaited}
-use Rattle.ss_meaning.specs.Parts.{World, Exit, Returned, Stopped, Faulted, OutOfTicks, Wrong, Outcome, WentOn, Left, Part, and_then, then_nothing, looked, needed, take_tick}
+use Rattle.ss_meaning.specs.Parts.{World, Returned, Stopped, Faulted, OutOfTicks, Wrong, Outcome, WentOn, Left, Part, and_then, needed, take_tick}
 use Rattle.ss_meaning.specs.Statements.{Calls, effects}
-use Rattle.ss_meaning.specs.Meaning.{with_locals, go_back, come_back, enclosed, routine_called, event_routine, begin, event_taken, calls, Ending, WentWrong, run_of, first_scene, first_store, first_world, meaning}
-use Rattle.ss_typed.specs.Fitting.{Hold, HeapFits, living, made, IsIndex, LivesAs, Lives, BearsBy, Bears, IsKept, HistoriesFit, SceneFits, Sound, Fits}
-use Rattle.ss_typed.proofs.Fine.{Fine, There, Any}
+use Rattle.ss_meaning.specs.Meaning.{with_locals, go_back, come_back, enclosed, routine_called, event_routine, begin, event_taken, calls, WentWrong, run_of, first_store, first_world, meaning}
+use Rattle.ss_typed.specs.Fitting.{Hold, made, LivesAs, BearsBy, IsKept, Sound, Fits}
+use Rattle.ss_typed.specs.Laws.{FitsAfter}
+use Rattle.ss_typed.proofs.Fine.{There, Any}
 use Rattle.ss_typed.proofs.Lists.{every_get}
 use Rattle.ss_typed.proofs.Kept.{starting_kept}
 use Rattle.ss_typed.proofs.Stores.{same_is}
 use Rattle.ss_typed.proofs.Events.{ComingAs, next_event_there, BegunAs, begun_fine}
 use Rattle.ss_typed.proofs.Parts.{Kept as Stays, Safe, safe_then, safe_looked, safe_tick}
-use Rattle.ss_typed.proofs.Statements.{CallsSafe, block_safe, held_length}
+use Rattle.ss_typed.proofs.Statements.{CallsSafe, block_safe}
 
 -- ## Variables of routines
 
@@ -203,7 +202,7 @@ none_lives l Notice c (pos zero) h = absurd cc
 none_lives l Notice c (pos (suc i)) h = absurd cc
 none_lives l Notice c (negsuc k) h = absurd cc
 
-first_fits : (p : Program) (input : List ℕ) → Fits p p.locals (first_store p input)
+pub first_fits : (p : Program) (input : List ℕ) → Fits p p.locals (first_store p input)
 first_fits p input = record {
   sound = record {
     globals = firsts_modes p.globals;
@@ -239,3 +238,15 @@ pub never_wrong : (p : Program) → WellTyped p → (input : List ℕ) (n : ℕ)
 never_wrong p typed input n =
     ending_right p (effects (calls p n) n p.main (first_world p input n))
     ((block_safe p typed p.locals true (calls p n) (calls_safe p typed n) n p.main typed.main).by (first_world p input n) (first_fits p input))
+
+after_fits : (p : Program) (ms : List Mode) (o : Outcome (Unit {0})) → Stays p ms Any o → FitsAfter p ms o
+after_fits p ms (WentOn u w) h = h.1
+after_fits p ms (Left Returned w) h = h
+after_fits p ms (Left Stopped w) h = h
+after_fits p ms (Left (Faulted kind line) w) h = h
+after_fits p ms (Left OutOfTicks w) h = h
+after_fits p ms (Left Wrong w) h = h
+
+pub keeps_modes : (p : Program) → WellTyped p → (main : Bool) (ms : List Mode) (b : Block) → GoodBlock (record { program = p; locals = ms; is_main = main }) b → (n : ℕ) (w : World) → Fits p ms w.store → FitsAfter p ms (effects (calls p n) n b w)
+keeps_modes p typed main ms b good n w fits =
+    after_fits p ms (effects (calls p n) n b w) ((block_safe p typed ms main (calls p n) (calls_safe p typed n) n b good).by w fits)
