@@ -1,7 +1,0 @@
-//! What a run works on beside its variables: the entities, their sets, the time and the notices that are pending.
-#![tactic(auto)]
-
-pub mod entities;
-pub mod notices;
-pub mod scene;
-pub mod trouble;
