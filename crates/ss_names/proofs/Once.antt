@@ -41,7 +41,7 @@ eqb_same n = elim (eqb_tells n n) [ inl h ↦ h.0 | inr h ↦ absurd (h.1 refl) 
 
 -- where a name stands among some and one more
 pushed : (names : List NameBytes) (n name : NameBytes) (k : ℕ) (known same : Bool) → position_or_len (same_name name) names ≡ k → nat_eq k (length names) ≡ known → same_name name n ≡ same →
-  position_or_len (same_name name) (names ++ n ∷ []) ≡ cond known (length names + cond same 0 1) k
+    position_or_len (same_name name) (names ++ n ∷ []) ≡ cond known (length names + cond same 0 1) k
 pushed names n name k known same e f g =
     position_or_len_push (same_name name) names n
     ∙ (λ i. cond (nat_eq (e i) (length names)) (length names + cond (g i) 0 1) (e i))
@@ -70,8 +70,8 @@ last names n name i none e h =
 one_more : (names : List NameBytes) (n : NameBytes) → StandOnce names → position_or_len (same_name n) names ≡ length names → StandOnce (names ++ n ∷ [])
 one_more names n once none i name h =
     elim (cases_lt i (length names)) [
-      inl lt ↦ before names n name i once lt h
-    | inr ge ↦ last names n name i none (omega (arith, ge, slice_get_within (names ++ n ∷ []) i name h, length_more names n)) h
+      | inl lt ↦ before names n name i once lt h
+      | inr ge ↦ last names n name i none (omega (arith, ge, slice_get_within (names ++ n ∷ []) i name h, length_more names n)) h
     ]
 
 beside_once : {V : Type 0} (entries : List (NameBytes × V)) (e : NameBytes × V) (known : Option V) → told_of entries e.0 ≡ known → StandOnce (keys_of entries) → StandOnce (keys_of (entry_beside entries e known))

@@ -97,8 +97,8 @@ count_placed says name = both says meanings.Count _ _ (λ c v l k. (l, k)) (plac
 class_placed : (says : List Saying) (kind : ClassKind) (name : NameBytes) → AllTold (IsPlaced (declared says)) (class_meanings (numbered says) kind name)
 class_placed says class_kinds.Permanent name =
     all_append (IsPlaced (declared says)) (entry_if name (class_name_meaning (numbered says) name)) (entry_if (count_name name) (count_meaning (numbered says) name))
-      (all_entry (IsPlaced (declared says)) name (class_name_meaning (numbered says) name) (name_placed says name))
-      (all_entry (IsPlaced (declared says)) (count_name name) (count_meaning (numbered says) name) (count_placed says name))
+    (all_entry (IsPlaced (declared says)) name (class_name_meaning (numbered says) name) (name_placed says name))
+    (all_entry (IsPlaced (declared says)) (count_name name) (count_meaning (numbered says) name) (count_placed says name))
 class_placed says class_kinds.Temporary name = all_entry (IsPlaced (declared says)) name (class_name_meaning (numbered says) name) (name_placed says name)
 class_placed says class_kinds.EventNotice name = all_entry (IsPlaced (declared says)) name (class_name_meaning (numbered says) name) (name_placed says name)
 
@@ -119,8 +119,8 @@ said_placed says (said.OwnedSet class) (Some name) = set_placed says name _ (pla
 said_placed says (said.MemberSet class) (Some name) = set_placed says name _ (placed (declared says).set_names name)
 said_placed says (said.Variable mode) (Some name) =
     all_entry (IsPlaced (declared says)) name _
-      (unless (IsPlaced (declared says)) (is_some (place_in (declared says).attributes name)) _
-        (mapped (λ i. i < length (declared says).variables) (IsPlaced (declared says)) meanings.Variable _ (λ i h. h) (placed_in (declared says).variables name)))
+    (unless (IsPlaced (declared says)) (is_some (place_in (declared says).attributes name)) _
+    (mapped (λ i. i < length (declared says).variables) (IsPlaced (declared says)) meanings.Variable _ (λ i h. h) (placed_in (declared says).variables name)))
 said_placed says (said.Statistic weighting kind subject) (Some name) =
     all_entry (IsPlaced (declared says)) name _ (mapped (λ i. i < length (declared says).statistics) (IsPlaced (declared says)) meanings.Statistic _ (λ i h. h) (placed_in (declared says).statistics name))
 said_placed says (said.Routine section given yielding) (Some name) =
@@ -147,7 +147,7 @@ statistics_have_histories p name =
     let says = sayings p in
     let names = (declared says).names in
     subst (λ n. IfSome (told_of (declared says).statistics name) (λ s. s.history < n)) (sym (length-map (weighings says) (history_of names)))
-      (firsts_told (λ (s : Statistic). s.history < length (weighings says)) (statistic_by (weighings says)) says name (λ (s : Saying). statistic_said says s.said s.name))
+    (firsts_told (λ (s : Statistic). s.history < length (weighings says)) (statistic_by (weighings says)) says name (λ (s : Saying). statistic_said says s.said s.name))
 
 chosen : {V : Type 0} (P : V → Type 0) (b : Bool) (xs : List (NameBytes × V)) → AllTold P xs → AllTold P (if b then xs else [])
 chosen P true xs h = h
@@ -172,6 +172,6 @@ ranks_are_classes p name =
     let first = flat_map (priority_by cs) says in
     let rest = flat_map (declared_by cs) says in
     told_all P (firsts (first ++ rest)) name
-      (all_folded P [] (first ++ rest) tt
-        (all_append P first rest (all_flat P (priority_by cs) says (λ (s : Saying). priority_placed cs s.said s.name))
-          (all_flat P (declared_by cs) says (λ (s : Saying). declared_placed cs s.said s.name))))
+    (all_folded P [] (first ++ rest) tt
+    (all_append P first rest (all_flat P (priority_by cs) says (λ (s : Saying). priority_placed cs s.said s.name))
+    (all_flat P (declared_by cs) says (λ (s : Saying). declared_placed cs s.said s.name))))

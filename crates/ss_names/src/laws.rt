@@ -7,11 +7,9 @@ pub fn numbers_are_places()
     ensures names { NumbersArePlaces }
     ensures statistics { StatisticsHaveHistories }
     ensures ranks { RanksAreClasses }
-{
-}
+{}
 
 /// Each global and derived name stands once in the table: what stands at a place is found there.
 pub fn names_stand_once()
     ensures { NamesStandOnce }
-{
-}
+{}
