@@ -1,5 +1,5 @@
 -- That each name stands once.
-use Rattle.std.proofs.Common.{◌≡◌, ℕ, suc, inl, inr, ◌+◌, ◌<◌, ◌≤◌, Bool, true, false, not, cond, nat_eq, nat_lt, List, [], ◌∷◌, ◌++◌, length, get_or, Option, Some, None, IfSome, refl, sym, ap, subst, ◌∙◌, arith}
+use Rattle.std.proofs.Common.{◌≡◌, ℕ, inl, inr, ◌+◌, ◌<◌, Bool, true, false, not, cond, nat_eq, nat_lt, List, [], ◌∷◌, ◌++◌, length, get_or, Option, Some, None, refl, sym, ap, subst, ◌∙◌, arith}
 use Rattle.std.specs.Prelude.{slice_get, unwrap_or}
 use Rattle.std.specs.List.{fold, position_or_len}
 use Rattle.std.specs.Map.{keys_of}
@@ -11,7 +11,7 @@ use Rattle.std.proofs.lemmas.List.Folds.{position_or_len_push}
 use Rattle.std.proofs.lemmas.Option.{slice_get-get_or, slice_get_within, unwrap_or-slice_get}
 use Rattle.std.proofs.Math.Seq.{get_or-append_seam}
 use Rattle.ss_sayings.specs.Sayings.{NameBytes, sayings}
-use Rattle.ss_names.specs.Firsts.{entry_beside, place_in, same_name, told_of, with_first}
+use Rattle.ss_names.specs.Firsts.{entry_beside, same_name, told_of, with_first}
 use Rattle.ss_names.specs.Laws.{NamesStandOnce}
 use Rattle.ss_names.specs.Meanings.{meanings_in, meaning_by, numbered}
 use Rattle.std.specs.List.{flat_map}

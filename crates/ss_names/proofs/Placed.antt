@@ -1,10 +1,15 @@
 -- That what a number says is there.
-use Rattle.std.proofs.Common.{◌≡◌, ℕ, suc, ◌<◌, Bool, true, false, cond, nat_lt, List, [], ◌∷◌, ◌++◌, length, map, Option, Some, None, IfSome, refl, sym, ap, subst, ◌∙◌, arith}
-use Rattle.std.specs.Prelude.{option_map, is_some, if◌then◌else◌}
-use Rattle.std.specs.List.{AllByRecursion, flat_map, fold, position_or_len}
-use Rattle.std.specs.Map.{keys_of, lookup}
-use Rattle.std.proofs.lemmas.Bool.Decides.{nat_tests}
-use Rattle.std.proofs.lemmas.List.{length-map}
+use Rattle.std.proofs.Common.{◌≡◌, ℕ, suc, inl, inr, ◌+◌, ◌<◌, Bool, true, false, cond, nat_eq, nat_lt, List, [], ◌∷◌, ◌++◌, length, get_or, Option, Some, None, IfSome, refl, sym, ap, subst, ◌∙◌, append_assoc, arith}
+use Rattle.std.specs.Prelude.{option_map, is_some, slice_get, if◌then◌else◌}
+use Rattle.std.specs.List.{AllByRecursion, filter, flat_map, fold, position_or_len}
+use Rattle.std.specs.Map.{keys_of}
+use Rattle.std.proofs.lemmas.Bool.Decides.{eqb_tells, nat_tests}
+use Rattle.std.proofs.lemmas.List.{length-append, length-map}
+use Rattle.std.proofs.lemmas.List.Elements.{filter-append}
+use Rattle.std.proofs.lemmas.List.FromFn.{get_or-map-range_with_len}
+use Rattle.std.proofs.lemmas.Option.{slice_get-map}
+use Rattle.ss_base.specs.declared.layout.Owner.TheVariants as owners
+use Rattle.ss_tree.specs.declared.preamble.Mode.{Mode}
 use Rattle.ss_tree.specs.declared.preamble.ClassKind.{ClassKind}
 use Rattle.ss_tree.specs.declared.preamble.ClassKind.TheVariants as class_kinds
 use Rattle.ss_tree.specs.declared.preamble.StatisticKind.{StatisticKind}
@@ -12,14 +17,16 @@ use Rattle.ss_sayings.specs.declared.saying.Said.{Said}
 use Rattle.ss_sayings.specs.declared.saying.Said.TheVariants as said
 use Rattle.ss_sayings.specs.declared.saying.Saying.{Saying}
 use Rattle.ss_sayings.specs.Sayings.{NameBytes, sayings}
+use Rattle.ss_names.specs.declared.meaning.Attribute.{Attribute}
 use Rattle.ss_names.specs.declared.meaning.Class.{Class}
+use Rattle.ss_names.specs.declared.meaning.Set.{Set}
 use Rattle.ss_names.specs.declared.meaning.Meaning.{Meaning}
 use Rattle.ss_names.specs.declared.meaning.Meaning.TheVariants as meanings
 use Rattle.ss_names.specs.declared.meaning.Statistic.{Statistic}
-use Rattle.ss_names.specs.Entities.{classes}
+use Rattle.ss_names.specs.Entities.{attribute_by, attribute_classes, attribute_told, attributes_behind, classes, defined_modes, fields_among, fields_of, member_by, member_told, orderings, owner_by, owner_told, set_members, set_names, set_of, set_owners, usual_mode}
 use Rattle.ss_names.specs.Firsts.{entry_beside, entry_if, firsts, place_among, place_in, same_name, told_of, with_first}
-use Rattle.ss_names.specs.Laws.{IsPlaced, NumbersArePlaces, RanksAreClasses, StatisticsHaveHistories}
-use Rattle.ss_names.specs.Meanings.{class_meaning, class_meanings, count_meaning, class_name_meaning, meaning_by, meaning_told, numbered, set_meanings, variable_meaning}
+use Rattle.ss_names.specs.Laws.{AttributesArePlaced, IsClassOrSystem, IsPlaced, NumbersArePlaces, RanksAreClasses, SetsArePlaced, StatisticsHaveHistories}
+use Rattle.ss_names.specs.Meanings.{class_meaning, class_meanings, count_meaning, class_name_meaning, meaning_by, meaning_told, numbered, set_meanings}
 use Rattle.ss_names.specs.Statistics.{history_of, statistic_by, statistic_of, statistic_told, weighings}
 use Rattle.ss_names.specs.Table.{declared}
 use Rattle.ss_names.specs.Variables.{count_name, declared_by, declared_told, is_notice_class, notice, priority_by, priority_told}
@@ -175,3 +182,91 @@ ranks_are_classes p name =
     (all_folded P [] (first ++ rest) tt
     (all_append P first rest (all_flat P (priority_by cs) says (λ (s : Saying). priority_placed cs s.said s.name))
     (all_flat P (declared_by cs) says (λ (s : Saying). declared_placed cs s.said s.name))))
+
+-- ---- attributes
+
+entry_class : (cs : List (NameBytes × Class)) (what : Said) (name : Option NameBytes) → AllTold (λ class. class < length cs) (attribute_told cs what name)
+entry_class cs (said.Attribute class) (Some name) = all_entry (λ class. class < length cs) name (place_in cs class) (placed_in cs class)
+entry_class cs _ _ = tt
+
+owned_classes : (says : List Saying) → AllTold (λ class. class < length (classes says)) (attribute_classes says)
+owned_classes says =
+    let cs = classes says in
+    all_folded (λ class. class < length cs) [] (flat_map (attribute_by cs) says) tt
+    (all_flat (λ class. class < length cs) (attribute_by cs) says (λ (s : Saying). entry_class cs s.said s.name))
+
+-- an attribute of so many classes that is a field among these
+abbrev IsField : ℕ → List (List NameBytes) → Attribute → Type 0
+IsField count rows a = (a.class < count) × (a.field < length (get_or rows a.class []))
+
+keys_of_append : {V : Type 0} (xs ys : List (NameBytes × V)) → keys_of (xs ++ ys) ≡ keys_of xs ++ keys_of ys
+keys_of_append [] ys = refl
+keys_of_append (x ∷ xs) ys = ap (λ l. x.0 ∷ l) (keys_of_append xs ys)
+
+first_of_class : (e : NameBytes × ℕ) (es : List (NameBytes × ℕ)) (same : Bool) → nat_eq e.1 e.1 ≡ same → same ≡ true → 0 < length (fields_among (e ∷ es) e.1)
+first_of_class e es false h k = absurd cc
+first_of_class e es true h k =
+    let here : length (fields_among (e ∷ es) e.1) ≡ suc (length (fields_among es e.1)) =
+    ap (λ b. length (keys_of (cond b (e ∷ filter (λ (f : NameBytes × ℕ). nat_eq f.1 e.1) es) (filter (λ (f : NameBytes × ℕ). nat_eq f.1 e.1) es)))) h in
+    omega (arith, here)
+
+same_number : (n : ℕ) → nat_eq n n ≡ true
+same_number n = elim (eqb_tells n n) [ inl h ↦ h.0 | inr h ↦ absurd (h.1 refl) ]
+
+-- one behind those of its class
+behind : (before es : List (NameBytes × ℕ)) (e : NameBytes × ℕ) → length (fields_among before e.1) < length (fields_among (before ++ e ∷ es) e.1)
+behind before es e =
+    let of : NameBytes × ℕ → Bool = λ f. nat_eq f.1 e.1 in
+    let split : fields_among (before ++ e ∷ es) e.1 ≡ fields_among before e.1 ++ fields_among (e ∷ es) e.1 =
+    ap keys_of (filter-append of before (e ∷ es)) ∙ keys_of_append (filter of before) (filter of (e ∷ es)) in
+    let more = first_of_class e es (nat_eq e.1 e.1) refl (same_number e.1) in
+    let long : length (fields_among (before ++ e ∷ es) e.1) ≡ length (fields_among before e.1) + length (fields_among (e ∷ es) e.1) =
+    ap length split ∙ length-append (fields_among before e.1) (fields_among (e ∷ es) e.1) in
+    omega (arith, more, long)
+
+fields_behind : (usual : Option Mode) (defined : List (NameBytes × Mode)) (count : ℕ) (all before es : List (NameBytes × ℕ)) → all ≡ before ++ es → AllTold (λ class. class < count) es → AllTold (IsField count (fields_of all count)) (attributes_behind usual defined before es)
+fields_behind usual defined count all before [] is h = tt
+fields_behind usual defined count all before (e ∷ es) is h =
+    let row : get_or (fields_of all count) e.1 [] ≡ fields_among all e.1 = get_or-map-range_with_len (fields_among all) 0 count e.1 e.1 [] h.0 (omega arith) in
+    let long : length (get_or (fields_of all count) e.1 []) ≡ length (fields_among (before ++ e ∷ es) e.1) = ap length row ∙ ap (λ l. length (fields_among l e.1)) is in (
+      (h.0, omega (arith, long, behind before es e)),
+      fields_behind usual defined count all (before ++ e ∷ []) es (is ∙ sym (append_assoc before (e ∷ []) es)) h.1,
+    )
+
+pub attributes_are_placed : AttributesArePlaced
+attributes_are_placed p name =
+    let says = sayings p in
+    let count = length (classes says) in
+    let owned = attribute_classes says in
+    told_all (IsField count (fields_of owned count)) (attributes_behind (usual_mode says) (defined_modes says) [] owned) name
+    (fields_behind (usual_mode says) (defined_modes says) count owned [] owned refl (owned_classes says))
+
+-- ---- sets
+
+owner_placed : (cs : List (NameBytes × Class)) (what : Said) (name : Option NameBytes) → AllTold (IsClassOrSystem (length cs)) (owner_told cs what name)
+owner_placed cs said.SystemSet (Some name) = (tt, tt)
+owner_placed cs (said.OwnedSet class) (Some name) =
+    all_entry (IsClassOrSystem (length cs)) name _ (mapped (λ i. i < length cs) (IsClassOrSystem (length cs)) owners.Class (place_in cs class) (λ i h. h) (placed_in cs class))
+owner_placed cs _ _ = tt
+
+member_placed : (cs : List (NameBytes × Class)) (what : Said) (name : Option NameBytes) → AllTold (λ class. class < length cs) (member_told cs what name)
+member_placed cs (said.MemberSet class) (Some name) = all_entry (λ class. class < length cs) name (place_in cs class) (placed_in cs class)
+member_placed cs _ _ = tt
+
+pub sets_are_placed : SetsArePlaced
+sets_are_placed p set =
+    let says = sayings p in
+    let cs = classes says in
+    let made = set_of (set_owners says) (set_members says) (orderings says) in
+    let P : Set → Type 0 = λ s. IfSome s.owner (IsClassOrSystem (length cs)) × IfSome s.member (λ class. class < length cs) in
+    let each : (name : NameBytes) → P (made name) =
+    λ name. (
+      firsts_told (IsClassOrSystem (length cs)) (owner_by cs) says name (λ (s : Saying). owner_placed cs s.said s.name),
+      firsts_told (λ class. class < length cs) (member_by cs) says name (λ (s : Saying). member_placed cs s.said s.name),
+    ) in
+    subst (λ o. IfSome o P) (sym (slice_get-map made (set_names says) set))
+    (mapped (λ name. Unit {0}) P made (slice_get (set_names says) set) (λ name h. each name) (whatever (slice_get (set_names says) set)))
+  where
+    whatever : {X : Type 0} (o : Option X) → IfSome o (λ x. Unit {0})
+    whatever None = tt
+    whatever (Some x) = tt
