@@ -8,4 +8,5 @@ pub mod Meanings
 pub mod Keys
 pub mod Notices
 pub mod Table
+pub mod Laws
 pub mod Examples

@@ -6,6 +6,7 @@ mod classes;
 mod first;
 mod histories;
 mod keys;
+pub mod laws;
 mod meaning;
 mod meanings;
 mod names;
