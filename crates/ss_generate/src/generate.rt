@@ -3,6 +3,7 @@
 ghost use Rattle.std.specs.Prelude.{◌≡◌, ◌≤◌, ◌<◌, ◌++◌, length, map, Err, IfOk, OnOk};
 ghost use Rattle.ss_program.specs.Nodes.{nodes};
 ghost use Rattle.ss_program.specs.View.{view_routine, view_event, view_program};
+ghost use Rattle.ss_machine_code.specs.Running.{Behaves, Lands};
 ghost use Rattle.ss_machine_code.specs.Translation.{code_of, sections_code, sections_pictures, routine_bodies, event_bodies, routine_entry, event_entry, routine_entries, event_entries};
 
 use crate::code::Code;
@@ -13,6 +14,7 @@ use crate::sayings::sayings;
 use crate::statements::emit_section;
 use ss_base::Mode;
 use ss_machine_code::instruction::Instruction;
+use ss_machine_code::laws::laws;
 use ss_program::sections::{Event, Program, Routine};
 use std::alloc::{AllocError, Global};
 
@@ -86,16 +88,20 @@ fn emit_events(
     Ok(())
 }
 
-/// The code of a program.
+/// The code of a program. It does with each input and each number of ticks what the program means, and nothing else, and
+/// each jump back in it leads to an instruction that takes a tick.
 ///
 /// `CodeTooLong` comes only where the code has more than `INSTRUCTION_LIMIT` instructions, and never
 /// for a program of at most 16,384 nodes; `Memory` where memory was refused.
 pub fn generate(alloc: Global, program: &Program) -> Result<Code, CodeError>
     ensures code { IfOk result (λ code. code ≡ code_of (view_program program.now)) }
+    ensures behaves { IfOk result (λ code. Behaves (view_program program.now) code) }
+    ensures lands { IfOk result (λ code. Lands code) }
     ensures limit { IfOk result (λ code. length code.instructions ≤ 1048576) }
     ensures too_long { result ≡ Err CodeError.CodeTooLong → 1048576 < length (code_of (view_program program.now)).instructions }
     ensures small { nodes (view_program program.now) ≤ 16384 → result ≡ Err CodeError.CodeTooLong → ⊥ }
 {
+    laws();
     let mut instructions = Vec::new(alloc);
     let mut pictures = Vec::new(alloc);
     let mut routines = Vec::new(alloc);
