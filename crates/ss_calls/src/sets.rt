@@ -1,6 +1,6 @@
 use ss_base::{
-    Alpha, ClassKind, ClassLayout, Discipline, FaultKind, Layout, Mode, Owner, RankKey, RankKeys, SetLayout,
-    Value,
+    Alpha, ClassKind, ClassLayout, Discipline, FaultKind, Layout, Mode, Owner, RankKey, RankKeys,
+    SetLayout, Value,
 };
 use ss_records::Heap;
 use ss_sets::{file, fits, is_in, remove_first, remove_last};
