@@ -1,0 +1,15 @@
+//! Laws of the table.
+
+ghost use Rattle.ss_names.specs.Laws.{NamesStandOnce, NumbersArePlaces, RanksAreClasses, StatisticsHaveHistories};
+
+/// Each number in the table of a program is that of something in it, whatever the program.
+pub fn numbers_are_places()
+    ensures names { NumbersArePlaces }
+    ensures statistics { StatisticsHaveHistories }
+    ensures ranks { RanksAreClasses }
+{}
+
+/// Each global and derived name stands once in the table: what stands at a place is found there.
+pub fn names_stand_once()
+    ensures { NamesStandOnce }
+{}
