@@ -1,5 +1,5 @@
 -- What the table of a program says of names.
-use Rattle.std.specs.Prelude.{ℕ, Bool, is_some, List, [], map, get_or, slice_get, Option, Some, None}
+use Rattle.std.specs.Prelude.{ℕ, is_some, List, [], map, get_or, slice_get, Option, Some, None}
 use Rattle.std.specs.Map.{keys_of, values_of}
 use Rattle.ss_base.specs.declared.layout.Mode.{Mode as ValueMode}
 use Rattle.ss_base.specs.declared.layout.Mode.TheVariants.{Integer}
