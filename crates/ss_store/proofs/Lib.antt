@@ -1,1 +1,2 @@
-mod Looking
+pub mod Counting
+pub mod Changing

@@ -5,10 +5,15 @@ use Rattle.ss_base.specs.declared.layout.ClassKind.{ClassKind}
 use Rattle.ss_base.specs.declared.layout.Mode.{Mode}
 use Rattle.ss_base.specs.Plain.{PlainLayout}
 use Rattle.ss_base.specs.declared.layout.Discipline.{Discipline}
-use Rattle.ss_records.specs.State.{State, Record, modes_of}
+use Rattle.ss_base.specs.declared.value.Value.{Value}
+use Rattle.ss_records.specs.State.{State, Record, modes_of, assigned}
 use Rattle.ss_events.specs.PendingList.{PendingList}
-use Rattle.ss_meaning.specs.Values.{Trouble as Meant, Fails, Misfit as IsMisfit}
-use Rattle.ss_meaning.specs.Store.{Notices, Store}
+use Rattle.ss_meaning.specs.Values.{Trouble as Meant, Fails, Misfit as IsMisfit, if_ok, due, where_fit}
+use Rattle.ss_meaning.specs.Store.{Notices, Store, with_heap}
+use Rattle.ss_meaning.specs.Histories.{noted}
+use Rattle.ss_meaning.specs.Entities.{field_at}
+use Rattle.ss_meaning.specs.Places.{is_of_mode}
+use Rattle.ss_program.specs.declared.sections.Subject.TheVariants.{OfAttribute}
 use Rattle.ss_store.specs.declared.trouble.Trouble.{Trouble}
 use Rattle.ss_store.specs.declared.trouble.Trouble.TheVariants.{Fault, Misfit}
 use Rattle.ss_store.specs.declared.trouble.Unmade.{Unmade}
@@ -82,3 +87,9 @@ kind_at l class = option_map (λ c. c.kind) (slice_get l.classes class)
 
 abbrev pub mode_at : PlainLayout → ℕ → ℕ → Option Mode
 mode_at l class field = slice_get (modes_of l class) field
+
+-- what an assignment does once the number of the entity is known
+abbrev pub assigned_field : (class field : ℕ) → (number : ℤ) → Value → Store → Result Store Meant
+assigned_field class field n v s =
+    where_fit (is_of_mode v (field_at class field s))
+    (if_ok (due (assigned s.scene.heap class field n v)) (λ h. noted (OfAttribute class field) n v (with_heap s h)))

@@ -1,15 +1,15 @@
 //! Entities: references, attributes, how many of a class there are, creating and destroying.
 
-ghost use Rattle.std.specs.Prelude.{◌≡◌, length, pos, is_some, slice_get};
-ghost use Rattle.ss_records.specs.State.{is_made, records_in};
-ghost use Rattle.ss_meaning.specs.Entities.{class_at, field_at, is_single, is_permanent, entity, attribute, time_of, made_one, gone};
-ghost use Rattle.ss_meaning.specs.Places.{assigned_attribute};
+ghost use Rattle.std.specs.Prelude.{◌≡◌, is_some, pos};
+ghost use Rattle.ss_records.specs.State.{value_in};
+ghost use Rattle.ss_meaning.specs.Entities.{field_at, entity, attribute, time_of, made_count};
 ghost use Rattle.ss_meaning.specs.Store.{Store as StoreSeen};
-ghost use Rattle.ss_meaning.specs.Values.{turned};
-ghost use Rattle.ss_store.specs.Seen.{Looks, Changes, Gains, Makes, kind_at, mode_at, meant, trouble_or_misfit, with_seen};
+ghost use Rattle.ss_meaning.specs.Values.{where_fit, due};
+ghost use Rattle.ss_meaning.specs.Places.{is_of_mode, assigned_attribute};
+ghost use Rattle.ss_store.specs.Seen.{Looks, Changes, told, kind_at, mode_at, assigned_field, with_seen};
 
 use crate::scene::Scene;
-use crate::trouble::{Trouble, Unmade, number_of};
+use crate::trouble::{Trouble, number_of};
 use ss_base::{ClassKind, Mode, Value};
 
 impl Scene {
@@ -17,7 +17,7 @@ impl Scene {
     fn kind(&self, class: u32) -> Option<ClassKind>
         ensures { result ≡ kind_at self.now.heap.layout class }
     {
-        match self.heap.layout().classes.get(class as usize) {
+        match self.population.layout().classes.get(class as usize) {
             None => None,
             Some(class) => Some(class.kind),
         }
@@ -27,7 +27,7 @@ impl Scene {
     fn mode(&self, class: u32, field: u32) -> Option<Mode>
         ensures { result ≡ mode_at self.now.heap.layout class field }
     {
-        let class = self.heap.layout().classes.get(class as usize)?;
+        let class = self.population.layout().classes.get(class as usize)?;
         class.fields.get(field as usize).copied()
     }
 
@@ -39,19 +39,22 @@ impl Scene {
         if self.kind(class).is_none() {
             return Err(Trouble::Misfit);
         }
-        match self.heap.known(class as usize, number) {
+        match self.population.known(class as usize, number) {
             Ok(()) => Ok(number),
             Err(kind) => Err(Trouble::Fault(kind)),
         }
     }
 
-    // What a field that the layout lacks comes to.
-    fn lacking(&self, class: u32, x: Value) -> Trouble
-        ensures { (s : StoreSeen) → trouble_or_misfit (entity class x (with_seen s self.now)) ≡ meant result }
+    // The value of an attribute of an entity by its number, where the layout has the field.
+    fn field_value(&self, class: u32, field: u32, number: i64) -> Result<Value, Trouble>
+        ensures { (s : StoreSeen) → where_fit (is_some (field_at class field (with_seen s self.now))) (due (value_in self.now.heap class field number)) ≡ told result }
     {
-        match self.entity(class, x) {
-            Ok(_) => Trouble::Misfit,
-            Err(trouble) => trouble,
+        if self.mode(class, field).is_none() {
+            return Err(Trouble::Misfit);
+        }
+        match self.population.value(class as usize, field as usize, number) {
+            Ok(value) => Ok(value),
+            Err(kind) => Err(Trouble::Fault(kind)),
         }
     }
 
@@ -59,13 +62,57 @@ impl Scene {
     pub fn attribute(&self, class: u32, field: u32, x: Value) -> Result<Value, Trouble>
         ensures { Looks (attribute class field x) self.now result }
     {
-        if self.mode(class, field).is_none() {
-            return Err(self.lacking(class, x));
-        }
+        let number = self.entity(class, x)?;
+        self.field_value(class, field, number)
+    }
+
+    /// TIME.A of a notice. Faults: 1 to 4.
+    pub fn time_of(&self, x: Value) -> Result<Value, Trouble>
+        ensures { Looks (time_of x) self.now result }
+    {
         let number = number_of(x)?;
-        match self.heap.value(class as usize, field as usize, number) {
-            Ok(value) => Ok(value),
+        match self.population.time_a(number) {
+            Ok(time) => Ok(Value::Whole(time)),
             Err(kind) => Err(Trouble::Fault(kind)),
         }
+    }
+
+    /// How many entities a permanent class has: 0 until they are made.
+    pub fn made_count(&self, class: u32) -> i64
+        ensures { (s : StoreSeen) → pos (made_count class (with_seen s self.now)) ≡ result }
+    {
+        self.population.count(class as usize)
+    }
+
+    // Whether a value has the mode of a field that the layout has.
+    fn fits(&self, class: u32, field: u32, value: Value) -> bool
+        ensures { result ≡ is_of_mode value (mode_at self.now.heap.layout class field) }
+    {
+        match self.mode(class, field) {
+            None => false,
+            Some(Mode::Integer) => matches!(value, Value::Whole(_)),
+            Some(Mode::Alpha) => matches!(value, Value::Text(_)),
+        }
+    }
+
+    // Assigns a value to an attribute of an entity by its number, where it has the mode of the field.
+    fn set_field(&mut self, class: u32, field: u32, number: i64, value: Value) -> Result<(), Trouble>
+        ensures { Changes (assigned_field class field number value) self.old self.new result }
+    {
+        if !self.fits(class, field, value) {
+            return Err(Trouble::Misfit);
+        }
+        match self.population.set_value(class as usize, field as usize, number, value) {
+            Ok(()) => Ok(()),
+            Err(kind) => Err(Trouble::Fault(kind)),
+        }
+    }
+
+    /// Assigns a value to an attribute. Faults: 1 to 5.
+    pub fn set_attribute(&mut self, class: u32, field: u32, x: Value, value: Value) -> Result<(), Trouble>
+        ensures { Changes (assigned_attribute class field x value) self.old self.new result }
+    {
+        let number = self.entity(class, x)?;
+        self.set_field(class, field, number, value)
     }
 }

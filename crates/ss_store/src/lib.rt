@@ -3,5 +3,7 @@
 
 pub mod entities;
 pub mod notices;
+mod population;
 pub mod scene;
+mod sets;
 pub mod trouble;
