@@ -3,6 +3,7 @@ use Rattle.std.specs.Prelude.{◌≡◌, ℕ, slice_get, List, [], map, length, 
 use Rattle.std.specs.Option.{option_map}
 use Rattle.ss_base.specs.declared.layout.ClassKind.{ClassKind}
 use Rattle.ss_base.specs.declared.layout.Mode.{Mode}
+use Rattle.ss_base.specs.declared.layout.SetLayout.{SetLayout}
 use Rattle.ss_base.specs.Plain.{PlainLayout}
 use Rattle.ss_base.specs.declared.layout.Discipline.{Discipline}
 use Rattle.ss_base.specs.declared.value.Value.{Value}
@@ -14,6 +15,7 @@ use Rattle.ss_meaning.specs.Histories.{noted}
 use Rattle.ss_meaning.specs.Entities.{field_at}
 use Rattle.ss_meaning.specs.Places.{is_of_mode}
 use Rattle.ss_program.specs.declared.sections.Subject.TheVariants.{OfAttribute}
+use Rattle.ss_store.specs.declared.known.Known.{Known}
 use Rattle.ss_store.specs.declared.trouble.Trouble.{Trouble}
 use Rattle.ss_store.specs.declared.trouble.Trouble.TheVariants.{Fault, Misfit}
 use Rattle.ss_store.specs.declared.trouble.Unmade.{Unmade}
@@ -47,10 +49,10 @@ abbrev pub told : {A : Type 0} → Result A Trouble → Result A Meant
 told (Ok a) = Ok a
 told (Err t) = Err (meant t)
 
--- the trouble of an answer, or else a misfit
-abbrev pub trouble_or_misfit : {A : Type 0} → Result A Meant → Meant
-trouble_or_misfit (Ok a) = IsMisfit
-trouble_or_misfit (Err t) = t
+-- the number of what was looked at
+abbrev pub numbered : Result Known Trouble → Result ℤ Trouble
+numbered (Ok k) = Ok k.number
+numbered (Err t) = Err t
 
 -- an operation looks: in each store with what is seen it has this answer
 abbrev pub Looks : {A : Type 0} → (Store → Result A Meant) → Seen → Result A Trouble → Type 0
@@ -87,6 +89,10 @@ kind_at l class = option_map (λ c. c.kind) (slice_get l.classes class)
 
 abbrev pub mode_at : PlainLayout → ℕ → ℕ → Option Mode
 mode_at l class field = slice_get (modes_of l class) field
+
+-- a set of a layout
+abbrev pub set_in : PlainLayout → ℕ → Option SetLayout
+set_in l set = slice_get l.sets set
 
 -- what an assignment does once the number of the entity is known
 abbrev pub assigned_field : (class field : ℕ) → (number : ℤ) → Value → Store → Result Store Meant

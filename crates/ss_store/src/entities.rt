@@ -6,9 +6,10 @@ ghost use Rattle.ss_meaning.specs.Entities.{field_at, entity, attribute, time_of
 ghost use Rattle.ss_meaning.specs.Store.{Store as StoreSeen};
 ghost use Rattle.ss_meaning.specs.Values.{where_fit, due};
 ghost use Rattle.ss_meaning.specs.Places.{is_of_mode, assigned_attribute};
-ghost use Rattle.ss_store.specs.Seen.{Looks, Changes, told, kind_at, mode_at, assigned_field, with_seen};
+ghost use Rattle.ss_store.specs.Seen.{Looks, Changes, told, kind_at, mode_at, assigned_field, numbered, with_seen};
 
 use crate::scene::Scene;
+use crate::known::Known;
 use crate::trouble::{Trouble, number_of};
 use ss_base::{ClassKind, Mode, Value};
 
@@ -31,28 +32,38 @@ impl Scene {
         class.fields.get(field as usize).copied()
     }
 
-    /// The number of an entity of a class that a value refers to. Faults: 1 to 5.
-    pub fn entity(&self, class: u32, x: Value) -> Result<i64, Trouble>
-        ensures { Looks (entity class x) self.now result }
+    // The entity of a class that a value refers to.
+    fn find(&self, class: u32, x: Value) -> Result<Known, Trouble>
+        ensures { Looks (entity class x) self.now (numbered result) }
     {
         let number = number_of(x)?;
         if self.kind(class).is_none() {
             return Err(Trouble::Misfit);
         }
         match self.population.known(class as usize, number) {
-            Ok(()) => Ok(number),
+            Ok(()) => Ok(Known { number }),
             Err(kind) => Err(Trouble::Fault(kind)),
         }
     }
 
+    /// The number of an entity of a class that a value refers to. Faults: 1 to 5.
+    pub fn entity(&self, class: u32, x: Value) -> Result<i64, Trouble>
+        ensures { Looks (entity class x) self.now result }
+    {
+        match self.find(class, x) {
+            Ok(known) => Ok(known.number),
+            Err(trouble) => Err(trouble),
+        }
+    }
+
     // The value of an attribute of an entity by its number, where the layout has the field.
-    fn field_value(&self, class: u32, field: u32, number: i64) -> Result<Value, Trouble>
-        ensures { (s : StoreSeen) → where_fit (is_some (field_at class field (with_seen s self.now))) (due (value_in self.now.heap class field number)) ≡ told result }
+    fn field_value(&self, class: u32, field: u32, known: Known) -> Result<Value, Trouble>
+        ensures { (s : StoreSeen) → where_fit (is_some (field_at class field (with_seen s self.now))) (due (value_in self.now.heap class field known.number)) ≡ told result }
     {
         if self.mode(class, field).is_none() {
             return Err(Trouble::Misfit);
         }
-        match self.population.value(class as usize, field as usize, number) {
+        match self.population.value(class as usize, field as usize, known.number) {
             Ok(value) => Ok(value),
             Err(kind) => Err(Trouble::Fault(kind)),
         }
@@ -62,8 +73,8 @@ impl Scene {
     pub fn attribute(&self, class: u32, field: u32, x: Value) -> Result<Value, Trouble>
         ensures { Looks (attribute class field x) self.now result }
     {
-        let number = self.entity(class, x)?;
-        self.field_value(class, field, number)
+        let known = self.find(class, x)?;
+        self.field_value(class, field, known)
     }
 
     /// TIME.A of a notice. Faults: 1 to 4.
@@ -85,8 +96,8 @@ impl Scene {
     }
 
     // Whether a value has the mode of a field that the layout has.
-    fn fits(&self, class: u32, field: u32, value: Value) -> bool
-        ensures { result ≡ is_of_mode value (mode_at self.now.heap.layout class field) }
+    fn fits(&self, class: u32, field: u32, value: &Value) -> bool
+        ensures { result ≡ is_of_mode value.now (mode_at self.now.heap.layout class field) }
     {
         match self.mode(class, field) {
             None => false,
@@ -96,13 +107,13 @@ impl Scene {
     }
 
     // Assigns a value to an attribute of an entity by its number, where it has the mode of the field.
-    fn set_field(&mut self, class: u32, field: u32, number: i64, value: Value) -> Result<(), Trouble>
-        ensures { Changes (assigned_field class field number value) self.old self.new result }
+    fn set_field(&mut self, class: u32, field: u32, known: Known, value: Value) -> Result<(), Trouble>
+        ensures { Changes (assigned_field class field known.number value) self.old self.new result }
     {
-        if !self.fits(class, field, value) {
+        if !self.fits(class, field, &value) {
             return Err(Trouble::Misfit);
         }
-        match self.population.set_value(class as usize, field as usize, number, value) {
+        match self.population.set_value(class as usize, field as usize, known.number, value) {
             Ok(()) => Ok(()),
             Err(kind) => Err(Trouble::Fault(kind)),
         }
@@ -112,7 +123,7 @@ impl Scene {
     pub fn set_attribute(&mut self, class: u32, field: u32, x: Value, value: Value) -> Result<(), Trouble>
         ensures { Changes (assigned_attribute class field x value) self.old self.new result }
     {
-        let number = self.entity(class, x)?;
-        self.set_field(class, field, number, value)
+        let known = self.find(class, x)?;
+        self.set_field(class, field, known, value)
     }
 }

@@ -2,6 +2,7 @@
 #![tactic(auto)]
 
 pub mod entities;
+mod known;
 pub mod notices;
 mod population;
 pub mod scene;
