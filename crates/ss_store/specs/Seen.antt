@@ -4,7 +4,7 @@ use Rattle.std.specs.Option.{option_map}
 use Rattle.ss_base.specs.declared.layout.ClassKind.{ClassKind}
 use Rattle.ss_base.specs.declared.layout.Mode.{Mode}
 use Rattle.ss_base.specs.declared.layout.SetLayout.{SetLayout}
-use Rattle.ss_base.specs.Plain.{PlainLayout}
+use Rattle.ss_base.specs.Plain.{PlainClass, PlainLayout}
 use Rattle.ss_base.specs.declared.layout.Discipline.{Discipline}
 use Rattle.ss_base.specs.declared.value.Value.{Value}
 use Rattle.ss_records.specs.State.{State, Record, modes_of, assigned}
@@ -89,6 +89,10 @@ kind_at l class = option_map (λ c. c.kind) (slice_get l.classes class)
 
 abbrev pub mode_at : PlainLayout → ℕ → ℕ → Option Mode
 mode_at l class field = slice_get (modes_of l class) field
+
+-- a class of a layout
+abbrev pub class_in : PlainLayout → ℕ → Option PlainClass
+class_in l class = slice_get l.classes class
 
 -- a set of a layout
 abbrev pub set_in : PlainLayout → ℕ → Option SetLayout

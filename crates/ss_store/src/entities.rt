@@ -2,16 +2,17 @@
 
 ghost use Rattle.std.specs.Prelude.{◌≡◌, is_some, pos};
 ghost use Rattle.ss_records.specs.State.{value_in};
-ghost use Rattle.ss_meaning.specs.Entities.{field_at, entity, attribute, time_of, made_count};
+ghost use Rattle.ss_meaning.specs.Entities.{field_at, is_single, entity, attribute, time_of, made_count, made_one, gone};
+ghost use Rattle.ss_meaning.specs.Events.{with_time};
 ghost use Rattle.ss_meaning.specs.Store.{Store as StoreSeen};
 ghost use Rattle.ss_meaning.specs.Values.{where_fit, due};
 ghost use Rattle.ss_meaning.specs.Places.{is_of_mode, assigned_attribute};
-ghost use Rattle.ss_store.specs.Seen.{Looks, Changes, told, kind_at, mode_at, assigned_field, numbered, with_seen};
+ghost use Rattle.ss_store.specs.Seen.{Looks, Changes, Makes, told, class_in, kind_at, mode_at, assigned_field, numbered, with_seen};
 
 use crate::scene::Scene;
 use crate::known::Known;
-use crate::trouble::{Trouble, number_of};
-use ss_base::{ClassKind, Mode, Value};
+use crate::trouble::{Trouble, Unmade, number_of};
+use ss_base::{ClassKind, Mode, Refused, Value};
 
 impl Scene {
     // The kind of a class, where the layout has it.
@@ -125,5 +126,54 @@ impl Scene {
     {
         let known = self.find(class, x)?;
         self.set_field(class, field, known, value)
+    }
+
+    // Whether the entities of a class come and go one by one.
+    fn is_single(&self, class: u32) -> bool
+        ensures { result ≡ is_single (class_in self.now.heap.layout class) }
+    {
+        match self.population.layout().classes.get(class as usize) {
+            None => false,
+            Some(class) => class.kind != ClassKind::Permanent,
+        }
+    }
+
+    /// The number of a new entity of a class. Faults: 14 after the last number.
+    pub fn create(&mut self, class: u32) -> Result<Value, Unmade>
+        ensures { Makes (made_one class) self.old self.new result }
+    {
+        if !self.is_single(class) {
+            return Err(Unmade::Misfit);
+        }
+        match self.population.create(class as usize) {
+            Ok(number) => Ok(Value::Whole(number)),
+            Err(Refused::Fault(kind)) => Err(Unmade::Fault(kind)),
+            Err(Refused::Memory) => Err(Unmade::Memory),
+        }
+    }
+
+    /// An entity goes, whether or not it is pending. Faults: 1 to 4, then 9 and 10.
+    pub fn remove_entity(&mut self, class: u32, x: Value) -> Result<(), Trouble>
+        ensures { Changes (gone class x) self.old self.new result }
+    {
+        let number = number_of(x)?;
+        if !self.is_single(class) {
+            return Err(Trouble::Misfit);
+        }
+        match self.population.destroy(class as usize, number) {
+            Ok(()) => Ok(()),
+            Err(kind) => Err(Trouble::Fault(kind)),
+        }
+    }
+
+    /// Sets TIME.A of a notice. Faults: 1 to 4.
+    pub fn set_time(&mut self, x: Value, time: i64) -> Result<(), Trouble>
+        ensures { Changes (with_time x time) self.old self.new result }
+    {
+        let number = number_of(x)?;
+        match self.population.set_time_a(number, time) {
+            Ok(()) => Ok(()),
+            Err(kind) => Err(Trouble::Fault(kind)),
+        }
     }
 }

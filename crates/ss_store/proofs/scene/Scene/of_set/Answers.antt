@@ -19,3 +19,6 @@ returns-in-Ok-clause-value c = λ s.
     ap (λ r. if_ok r (λ n. turned Whole (due (told_of_set c.args.query heap c.args.set n)))) (c.in-Ok.ensures s)
     ∙ sym (ap (λ b. where_fit b (turned Whole (due (told_of_set c.args.query heap c.args.set c.in-Ok.known.number)))) (owned_there (set_in heap.layout c.args.set) c.args.owner c.in-Ok.known.number (c.in-Ok.ensures s)))
     ∙ c.asked.ensures.value
+
+pub returns-in-Err-clause-value : goal.returns-in-Err-clause-value
+returns-in-Err-clause-value c = λ s. ap (λ r. if_ok r (λ n. turned Whole (due (told_of_set c.args.query c.args.self.now.heap c.args.set n)))) (c.in-Err.ensures s)
