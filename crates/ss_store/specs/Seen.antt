@@ -1,18 +1,19 @@
 -- What is seen of a scene, and what is said of an operation on it.
 use Rattle.std.specs.Prelude.{◌≡◌, ℕ, slice_get, List, [], map, length, ℤ, pos, Option, Some, None, Result, Ok, Err}
 use Rattle.std.specs.Option.{option_map}
+use Rattle.ss_base.specs.declared.fault.FaultKind.TheVariants.{Scheduled}
 use Rattle.ss_base.specs.declared.layout.ClassKind.{ClassKind}
 use Rattle.ss_base.specs.declared.layout.Mode.{Mode}
 use Rattle.ss_base.specs.declared.layout.SetLayout.{SetLayout}
 use Rattle.ss_base.specs.Plain.{PlainClass, PlainLayout}
 use Rattle.ss_base.specs.declared.layout.Discipline.{Discipline}
 use Rattle.ss_base.specs.declared.value.Value.{Value}
-use Rattle.ss_records.specs.State.{State, Record, modes_of, assigned}
-use Rattle.ss_events.specs.PendingList.{PendingList}
-use Rattle.ss_meaning.specs.Values.{Trouble as Meant, Fails, Misfit as IsMisfit, if_ok, due, where_fit}
-use Rattle.ss_meaning.specs.Store.{Notices, Store, with_heap}
+use Rattle.ss_records.specs.State.{State, Record, modes_of, assigned, destroyed}
+use Rattle.ss_events.specs.PendingList.{PendingList, is_pending, cancelled}
+use Rattle.ss_meaning.specs.Values.{Trouble as Meant, Fails, Misfit as IsMisfit, if_ok, turned, due, where_fit, unless_fault}
+use Rattle.ss_meaning.specs.Store.{Notices, Store, with_heap, with_pending}
 use Rattle.ss_meaning.specs.Histories.{noted}
-use Rattle.ss_meaning.specs.Entities.{field_at}
+use Rattle.ss_meaning.specs.Entities.{class_at, field_at, is_single}
 use Rattle.ss_meaning.specs.Places.{is_of_mode}
 use Rattle.ss_program.specs.declared.sections.Subject.TheVariants.{OfAttribute}
 use Rattle.ss_store.specs.declared.known.Known.{Known}
@@ -103,3 +104,13 @@ abbrev pub assigned_field : (class field : ℕ) → (number : ℤ) → Value →
 assigned_field class field n v s =
     where_fit (is_of_mode v (field_at class field s))
     (if_ok (due (assigned s.scene.heap class field n v)) (λ h. noted (OfAttribute class field) n v (with_heap s h)))
+
+-- what DESTROY does once the number of the entity is known
+abbrev pub gone_unless_pending : (class : ℕ) → (number : ℤ) → Store → Result Store Meant
+gone_unless_pending class n s =
+    unless_fault (is_pending n s.scene.pending.entries) Scheduled
+    (where_fit (is_single (class_at class s)) (turned (with_heap s) (due (destroyed s.scene.heap class n))))
+
+-- what CANCEL does once the number of the notice is known
+abbrev pub cancelled_known : (number : ℤ) → Store → Result Store Meant
+cancelled_known n s = turned (with_pending s) (due (cancelled n s.scene.pending))

@@ -2,17 +2,17 @@
 
 ghost use Rattle.std.specs.Prelude.{◌≡◌, is_some, pos};
 ghost use Rattle.ss_records.specs.State.{value_in};
-ghost use Rattle.ss_meaning.specs.Entities.{field_at, is_single, entity, attribute, time_of, made_count, made_one, gone};
+ghost use Rattle.ss_meaning.specs.Entities.{field_at, is_single, entity, attribute, time_of, made_count, made_one, gone, without};
 ghost use Rattle.ss_meaning.specs.Events.{with_time};
 ghost use Rattle.ss_meaning.specs.Store.{Store as StoreSeen};
 ghost use Rattle.ss_meaning.specs.Values.{where_fit, due};
 ghost use Rattle.ss_meaning.specs.Places.{is_of_mode, assigned_attribute};
-ghost use Rattle.ss_store.specs.Seen.{Looks, Changes, Makes, told, class_in, kind_at, mode_at, assigned_field, numbered, with_seen};
+ghost use Rattle.ss_store.specs.Seen.{Looks, Changes, Makes, told, class_in, kind_at, mode_at, assigned_field, gone_unless_pending, numbered, with_seen};
 
 use crate::scene::Scene;
 use crate::known::Known;
 use crate::trouble::{Trouble, Unmade, number_of};
-use ss_base::{ClassKind, Mode, Refused, Value};
+use ss_base::{ClassKind, FaultKind, Mode, Refused, Value};
 
 impl Scene {
     // The kind of a class, where the layout has it.
@@ -34,7 +34,7 @@ impl Scene {
     }
 
     // The entity of a class that a value refers to.
-    fn find(&self, class: u32, x: Value) -> Result<Known, Trouble>
+    pub(crate) fn find(&self, class: u32, x: Value) -> Result<Known, Trouble>
         ensures { Looks (entity class x) self.now (numbered result) }
     {
         let number = number_of(x)?;
@@ -175,5 +175,29 @@ impl Scene {
             Ok(()) => Ok(()),
             Err(kind) => Err(Trouble::Fault(kind)),
         }
+    }
+
+    // An entity goes by its number, unless it is pending.
+    fn destroy_known(&mut self, class: u32, known: Known) -> Result<(), Trouble>
+        ensures { Changes (gone_unless_pending class known.number) self.old self.new result }
+    {
+        if self.pending.is_scheduled(known.number) {
+            return Err(Trouble::Fault(FaultKind::Scheduled));
+        }
+        if !self.is_single(class) {
+            return Err(Trouble::Misfit);
+        }
+        match self.population.destroy(class as usize, known.number) {
+            Ok(()) => Ok(()),
+            Err(kind) => Err(Trouble::Fault(kind)),
+        }
+    }
+
+    /// An entity goes, as DESTROY says. Faults: 1 to 4, then 21, then 9 and 10.
+    pub fn destroy(&mut self, class: u32, x: Value) -> Result<(), Trouble>
+        ensures { Changes (without class x) self.old self.new result }
+    {
+        let known = self.find(class, x)?;
+        self.destroy_known(class, known)
     }
 }

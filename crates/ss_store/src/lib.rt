@@ -4,6 +4,7 @@
 pub mod entities;
 mod known;
 pub mod notices;
+mod pending;
 mod population;
 pub mod scene;
 mod sets;
