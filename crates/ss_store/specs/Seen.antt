@@ -8,6 +8,7 @@ use Rattle.ss_base.specs.declared.layout.SetLayout.{SetLayout}
 use Rattle.ss_base.specs.Plain.{PlainClass, PlainLayout}
 use Rattle.ss_base.specs.declared.layout.Discipline.{Discipline}
 use Rattle.ss_base.specs.declared.value.Value.{Value}
+use Rattle.ss_base.specs.declared.value.Value.TheVariants.{Whole}
 use Rattle.ss_records.specs.State.{State, Record, modes_of, assigned, destroyed}
 use Rattle.ss_events.specs.PendingList.{PendingList, is_pending, cancelled}
 use Rattle.ss_meaning.specs.Values.{Trouble as Meant, Fails, Misfit as IsMisfit, if_ok, turned, due, where_fit, unless_fault}
@@ -15,6 +16,10 @@ use Rattle.ss_meaning.specs.Store.{Notices, Store, with_heap, with_pending}
 use Rattle.ss_meaning.specs.Histories.{noted}
 use Rattle.ss_meaning.specs.Entities.{class_at, field_at, is_single}
 use Rattle.ss_meaning.specs.Places.{is_of_mode}
+use Rattle.ss_meaning.specs.Sets.{is_one}
+use Rattle.ss_records.specs.Sets.{next_in, previous_in, owner_of_member}
+use Rattle.ss_program.specs.declared.expression.MemberQuery.{MemberQuery}
+use Rattle.ss_program.specs.declared.expression.MemberQuery.TheVariants.{Predecessor, Successor, Membership}
 use Rattle.ss_program.specs.declared.sections.Subject.TheVariants.{OfAttribute}
 use Rattle.ss_store.specs.declared.known.Known.{Known}
 use Rattle.ss_store.specs.declared.trouble.Trouble.{Trouble}
@@ -32,14 +37,16 @@ pub record Seen : Type 0 where
 
 -- a store with all of that, in a program without statistics
 abbrev pub with_seen : Store → Seen → Store
-with_seen s e = record s { scene = record {
-  setting = record { disciplines = e.disciplines; notices = e.notices; statistics = [] };
-  heap = e.heap;
-  time = e.time;
-  pending = e.pending;
-  histories = [];
-  input = s.scene.input;
-} }
+with_seen s e = record s {
+  scene = record {
+    setting = record { disciplines = e.disciplines; notices = e.notices; statistics = [] };
+    heap = e.heap;
+    time = e.time;
+    pending = e.pending;
+    histories = [];
+    input = s.scene.input;
+  };
+}
 
 -- a trouble, as the meaning tells it, and an answer
 abbrev pub meant : Trouble → Meant
@@ -114,3 +121,9 @@ gone_unless_pending class n s =
 -- what CANCEL does once the number of the notice is known
 abbrev pub cancelled_known : (number : ℤ) → Store → Result Store Meant
 cancelled_known n s = turned (with_pending s) (due (cancelled n s.scene.pending))
+
+-- what is asked of a member, once its number is known
+abbrev pub told_of_member : MemberQuery → State → (set : ℕ) → (number : ℤ) → Result Value Meant
+told_of_member Predecessor h set n = turned Whole (due (previous_in h set n))
+told_of_member Successor h set n = turned Whole (due (next_in h set n))
+told_of_member Membership h set n = turned (λ o. Whole (is_one o)) (due (owner_of_member h set n))

@@ -9,8 +9,8 @@ ghost use Rattle.ss_meaning.specs.Values.{where_fit, due};
 ghost use Rattle.ss_meaning.specs.Places.{is_of_mode, assigned_attribute};
 ghost use Rattle.ss_store.specs.Seen.{Looks, Changes, Makes, told, class_in, kind_at, mode_at, assigned_field, gone_unless_pending, numbered, with_seen};
 
-use crate::scene::Scene;
 use crate::known::Known;
+use crate::scene::Scene;
 use crate::trouble::{Trouble, Unmade, number_of};
 use ss_base::{ClassKind, FaultKind, Mode, Refused, Value};
 
@@ -64,7 +64,10 @@ impl Scene {
         if self.mode(class, field).is_none() {
             return Err(Trouble::Misfit);
         }
-        match self.population.value(class as usize, field as usize, known.number) {
+        match self
+            .population
+            .value(class as usize, field as usize, known.number)
+        {
             Ok(value) => Ok(value),
             Err(kind) => Err(Trouble::Fault(kind)),
         }
@@ -108,20 +111,35 @@ impl Scene {
     }
 
     // Assigns a value to an attribute of an entity by its number, where it has the mode of the field.
-    fn set_field(&mut self, class: u32, field: u32, known: Known, value: Value) -> Result<(), Trouble>
+    fn set_field(
+        &mut self,
+        class: u32,
+        field: u32,
+        known: Known,
+        value: Value,
+    ) -> Result<(), Trouble>
         ensures { Changes (assigned_field class field known.number value) self.old self.new result }
     {
         if !self.fits(class, field, &value) {
             return Err(Trouble::Misfit);
         }
-        match self.population.set_value(class as usize, field as usize, known.number, value) {
+        match self
+            .population
+            .set_value(class as usize, field as usize, known.number, value)
+        {
             Ok(()) => Ok(()),
             Err(kind) => Err(Trouble::Fault(kind)),
         }
     }
 
     /// Assigns a value to an attribute. Faults: 1 to 5.
-    pub fn set_attribute(&mut self, class: u32, field: u32, x: Value, value: Value) -> Result<(), Trouble>
+    pub fn set_attribute(
+        &mut self,
+        class: u32,
+        field: u32,
+        x: Value,
+        value: Value,
+    ) -> Result<(), Trouble>
         ensures { Changes (assigned_attribute class field x value) self.old self.new result }
     {
         let known = self.find(class, x)?;

@@ -4,8 +4,7 @@ ghost use Rattle.std.specs.Prelude.{◌≡◌, ◌<◌, length, pos, IfOk, IsTru
 ghost use Rattle.ss_base.specs.Layout.{is_sound, mode_of};
 ghost use Rattle.ss_records.specs.Kept.{IsPermanent};
 ghost use Rattle.ss_records.specs.State.{first_state, is_made, records_in, known_in, value_in, time_in, assigned, timed, created, created_all, destroyed, kind_of, modes_of, RefusedFor};
-
-ghost use Rattle.ss_records.specs.Sets.{first_in, last_in, count_in};
+ghost use Rattle.ss_records.specs.Sets.{first_in, last_in, count_in, next_in, previous_in, owner_of_member};
 
 use ss_base::{FaultKind, Layout, Refused, Value};
 use ss_records::Heap;
@@ -66,7 +65,13 @@ impl Population {
     }
 
     /// Assigns a value to an attribute. Faults: 1 to 5.
-    pub(crate) fn set_value(&mut self, class: usize, field: usize, n: i64, value: Value) -> Result<(), FaultKind>
+    pub(crate) fn set_value(
+        &mut self,
+        class: usize,
+        field: usize,
+        n: i64,
+        value: Value,
+    ) -> Result<(), FaultKind>
         requires class { class < length self.old.layout.classes }
         requires mode { slice_get (modes_of self.old.layout class) field ≡ Some (mode_of value) }
         ensures { MatchResult result (λ _. assigned self.old class field n value ≡ Ok self.new) (λ e. (assigned self.old class field n value ≡ Err e) × (self.new ≡ self.old)) }
@@ -146,6 +151,33 @@ impl Population {
         ensures same { self.new ≡ self.old }
     {
         self.heap.count(set, o)
+    }
+
+    /// The member behind another one, 0 for none. Faults: 1 to 5.
+    pub(crate) fn next(&mut self, set: usize, n: i64) -> Result<i64, FaultKind>
+        requires set { set < length self.old.layout.sets }
+        ensures value { result ≡ next_in self.old set n }
+        ensures same { self.new ≡ self.old }
+    {
+        self.heap.next(set, n)
+    }
+
+    /// The member before another one, 0 for none. Faults: 1 to 5.
+    pub(crate) fn previous(&mut self, set: usize, n: i64) -> Result<i64, FaultKind>
+        requires set { set < length self.old.layout.sets }
+        ensures value { result ≡ previous_in self.old set n }
+        ensures same { self.new ≡ self.old }
+    {
+        self.heap.previous(set, n)
+    }
+
+    /// The owner in whose set an entity is, if it is in any. Faults: 1 to 5.
+    pub(crate) fn owner_in(&mut self, set: usize, n: i64) -> Result<Option<i64>, FaultKind>
+        requires set { set < length self.old.layout.sets }
+        ensures value { result ≡ owner_of_member self.old set n }
+        ensures same { self.new ≡ self.old }
+    {
+        self.heap.owner_in(set, n)
     }
 
     /// How many entities a permanent class has: 0 until they are made.

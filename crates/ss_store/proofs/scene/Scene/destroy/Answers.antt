@@ -1,10 +1,10 @@
-use Rattle.std.proofs.Common.{◌≡◌, ap, sym, ◌∙◌, Ok, Err}
+use Rattle.std.proofs.Common.{◌≡◌, ap, ◌∙◌, Ok, Err}
 use Rattle.std.specs.Prelude.{ℕ, ℤ, is_some, Result as OkOr}
 use Rattle.ss_base.specs.declared.value.Value.{Value}
 use Rattle.ss_base.specs.declared.fault.FaultKind.TheVariants.{Scheduled}
 use Rattle.ss_events.specs.PendingList.{is_pending}
 use Rattle.ss_records.specs.State.{known_in, destroyed}
-use Rattle.ss_meaning.specs.Values.{Trouble as Meant, if_ok, turned, due, where_fit, unless_fault, number_of}
+use Rattle.ss_meaning.specs.Values.{if_ok, turned, due, where_fit, unless_fault, number_of}
 use Rattle.ss_meaning.specs.Store.{Store, with_heap}
 use Rattle.ss_meaning.specs.Entities.{class_at, is_single, entity, gone, without}
 use Rattle.ss_store.specs.declared.trouble.Trouble.{Trouble}

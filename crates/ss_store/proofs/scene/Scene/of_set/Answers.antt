@@ -1,5 +1,5 @@
-use Rattle.std.proofs.Common.{◌≡◌, true, Option, Some, None, Ok, Err, refl, ap, sym, ◌∙◌}
-use Rattle.std.specs.Prelude.{ℤ, is_some, slice_get}
+use Rattle.std.proofs.Common.{◌≡◌, true, Option, Some, None, Ok, refl, ap, sym, ◌∙◌}
+use Rattle.std.specs.Prelude.{ℤ, is_some}
 use Rattle.ss_base.specs.declared.value.Value.{Value}
 use Rattle.ss_base.specs.declared.value.Value.TheVariants.{Whole}
 use Rattle.ss_base.specs.declared.layout.SetLayout.{SetLayout}
