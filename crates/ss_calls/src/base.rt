@@ -1,7 +1,7 @@
 use ss_base::{
     Alpha, ClassKind, ClassLayout, Counted, Discipline, FaultKind, Faulty, FaultyRead, FaultyWrite,
-    Layout, Line, MemoryRead, MemoryWrite, Mode, Owner, Plan, RankKey, Refused, SetLayout, Trouble,
-    Value, div_f, minus, mod_f, plus, times,
+    Layout, Line, MemoryRead, MemoryWrite, Mode, Owner, Plan, RankKey, RankKeys, Refused,
+    SetLayout, Trouble, Value, div_f, minus, mod_f, plus, times,
 };
 use std::cmp::Ordering;
 use std::io;
@@ -160,7 +160,7 @@ fn sets_name_classes_of_their_layout(rt: HostRuntime) -> Result<(), Fail> {
         field: 0,
         high: true,
     };
-    let ranked = Discipline::Ranked(vec![in rt.alloc(); key]?);
+    let ranked = Discipline::Ranked(RankKeys::new(vec![in rt.alloc(); key]?));
     assert!(rt; !matches!(ranked, Discipline::Fifo | Discipline::Lifo));
     Ok(())
 }

@@ -69,7 +69,9 @@ fn yard(alloc: Global) -> Result<Heap, AllocError> {
 
 // A new entity, where the class is there and its entities are created one by one.
 fn create(heap: &mut Heap, class: usize) -> Option<i64> {
-    let kind = heap.layout().classes.get(class)?.kind;
+    let layout = heap.layout();
+    let found = layout.classes.get(class)?;
+    let kind = found.kind;
     match kind {
         ClassKind::Permanent => None,
         ClassKind::Temporary | ClassKind::Notice => heap.create(class).ok(),
@@ -78,7 +80,9 @@ fn create(heap: &mut Heap, class: usize) -> Option<i64> {
 
 // All machines, where they are a permanent class.
 fn make(heap: &mut Heap, n: i64) -> Option<Result<(), Refused>> {
-    let kind = heap.layout().classes.get(MACHINE)?.kind;
+    let layout = heap.layout();
+    let found = layout.classes.get(MACHINE)?;
+    let kind = found.kind;
     match kind {
         ClassKind::Permanent => Some(heap.create_all(MACHINE, n)),
         ClassKind::Temporary | ClassKind::Notice => None,
@@ -86,7 +90,9 @@ fn make(heap: &mut Heap, n: i64) -> Option<Result<(), Refused>> {
 }
 
 fn destroy(heap: &mut Heap, class: usize, r: i64) -> Option<Result<(), FaultKind>> {
-    let kind = heap.layout().classes.get(class)?.kind;
+    let layout = heap.layout();
+    let found = layout.classes.get(class)?;
+    let kind = found.kind;
     match kind {
         ClassKind::Permanent => None,
         ClassKind::Temporary | ClassKind::Notice => Some(heap.destroy(class, r)),
@@ -94,19 +100,24 @@ fn destroy(heap: &mut Heap, class: usize, r: i64) -> Option<Result<(), FaultKind
 }
 
 fn known(heap: &Heap, class: usize, r: i64) -> Option<Result<(), FaultKind>> {
-    if class >= heap.layout().classes.len() {
+    let layout = heap.layout();
+    if class >= layout.classes.len() {
         return None;
     }
     Some(heap.known(class, r))
 }
 
 fn value(heap: &Heap, class: usize, r: i64) -> Option<Result<Value, FaultKind>> {
-    let _mode = heap.layout().classes.get(class)?.fields.get(0)?;
+    let layout = heap.layout();
+    let found = layout.classes.get(class)?;
+    let _mode = found.fields.get(0)?;
     Some(heap.value(class, 0, r))
 }
 
 fn set_value(heap: &mut Heap, class: usize, r: i64, value: i64) -> Option<Result<(), FaultKind>> {
-    let mode = *heap.layout().classes.get(class)?.fields.get(0)?;
+    let layout = heap.layout();
+    let found = layout.classes.get(class)?;
+    let mode = *found.fields.get(0)?;
     match mode {
         Mode::Integer => Some(heap.set_value(class, 0, r, Value::Whole(value))),
         Mode::Alpha => None,
@@ -131,7 +142,8 @@ enum Ask {
 
 // What a set's call answers, where the set is there: 0 for done, -1 for in no set.
 fn answer(heap: &mut Heap, set: usize, asked: Ask) -> Option<Result<i64, FaultKind>> {
-    if set >= heap.layout().sets.len() {
+    let layout = heap.layout();
+    if set >= layout.sets.len() {
         return None;
     }
     Some(match asked {

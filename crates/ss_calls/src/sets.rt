@@ -1,6 +1,6 @@
 use ss_base::{
-    Alpha, ClassKind, ClassLayout, Discipline, FaultKind, Layout, Mode, Owner, RankKey, SetLayout,
-    Value,
+    Alpha, ClassKind, ClassLayout, Discipline, FaultKind, Layout, Mode, Owner, RankKey, RankKeys,
+    SetLayout, Value,
 };
 use ss_records::Heap;
 use ss_sets::{file, fits, is_in, remove_first, remove_last};
@@ -40,11 +40,13 @@ fn ranked(rt: &HostRuntime, keys: &[(usize, bool)]) -> Result<Discipline, Fail> 
             high: *high,
         })?;
     }
-    Ok(Discipline::Ranked(all))
+    Ok(Discipline::Ranked(RankKeys::new(all)))
 }
 
 fn create(heap: &mut Heap) -> Option<i64> {
-    let kind = heap.layout().classes.get(JOB)?.kind;
+    let layout = heap.layout();
+    let found = layout.classes.get(JOB)?;
+    let kind = found.kind;
     match kind {
         ClassKind::Permanent => None,
         ClassKind::Temporary | ClassKind::Notice => heap.create(JOB).ok(),
@@ -52,7 +54,9 @@ fn create(heap: &mut Heap) -> Option<i64> {
 }
 
 fn set_value(heap: &mut Heap, field: usize, x: i64, value: Value) -> Option<()> {
-    let mode = *heap.layout().classes.get(JOB)?.fields.get(field)?;
+    let layout = heap.layout();
+    let found = layout.classes.get(JOB)?;
+    let mode = *found.fields.get(field)?;
     match (mode, value) {
         (Mode::Integer, Value::Whole(number)) => {
             heap.set_value(JOB, field, x, Value::Whole(number)).ok()
@@ -64,7 +68,8 @@ fn set_value(heap: &mut Heap, field: usize, x: i64, value: Value) -> Option<()> 
 
 // Files x in the line, where the discipline fits it.
 fn put(heap: &mut Heap, discipline: &Discipline, x: i64) -> Option<Result<(), FaultKind>> {
-    if LINE >= heap.layout().sets.len() || !fits(heap.layout(), LINE, discipline) {
+    let layout = heap.layout();
+    if LINE >= layout.sets.len() || !fits(layout, LINE, discipline) {
         return None;
     }
     Some(file(heap, discipline, LINE, SYSTEM, x))
@@ -104,7 +109,8 @@ fn arrive_all(heap: &mut Heap, discipline: &Discipline, numbers: &[(i64, i64)]) 
 
 // The first of the line, or the one behind x.
 fn behind(heap: &mut Heap, x: Option<i64>) -> Option<i64> {
-    if LINE >= heap.layout().sets.len() {
+    let layout = heap.layout();
+    if LINE >= layout.sets.len() {
         return None;
     }
     match x {
@@ -180,7 +186,8 @@ fn a_value_that_changes_later_moves_nothing(rt: HostRuntime) -> Result<(), Fail>
 
 // Takes the first or the last out of the line, where it is there.
 fn take(heap: &mut Heap, first: bool) -> Option<Result<i64, FaultKind>> {
-    if LINE >= heap.layout().sets.len() {
+    let layout = heap.layout();
+    if LINE >= layout.sets.len() {
         return None;
     }
     if first {
@@ -191,7 +198,8 @@ fn take(heap: &mut Heap, first: bool) -> Option<Result<i64, FaultKind>> {
 }
 
 fn is_waiting(heap: &mut Heap, x: i64) -> Option<Result<bool, FaultKind>> {
-    if LINE >= heap.layout().sets.len() {
+    let layout = heap.layout();
+    if LINE >= layout.sets.len() {
         return None;
     }
     Some(is_in(heap, LINE, SYSTEM, x))

@@ -1,14 +1,14 @@
 -- What a run of the machine says of a program that its code behaves as.
-use Rattle.std.proofs.Common.{◌≡◌, ℕ, suc, ◌+◌, true, false, List, [], ◌++◌, ◌⊎◌, inl, inr, Option, refl, sym, ap, ◌∙◌, subst, append_assoc, append-nil, arith}
+use Rattle.std.proofs.Common.{◌≡◌, ℕ, ◌+◌, false, List, [], ◌++◌, ◌⊎◌, inl, inr, Option, refl, sym, ap, ◌∙◌, subst, append_assoc, append-nil, arith}
 use Rattle.std.proofs.KnownBytes.{Appends-nil, Consumes-nil}
-use Rattle.std.specs.Io.KnownBytes.{Appends, Consumes, IsAtEnd}
+use Rattle.std.specs.Io.KnownBytes.{Consumes, IsAtEnd}
 use Rattle.ss_input.specs.Blocks.{KnowsEnd}
 use Rattle.ss_input.specs.declared.source.Source.{Source}
 use Rattle.ss_input.specs.Inputs.{IsFresh, Finds, Reads, source_block, source_reader}
 use Rattle.ss_resolved.specs.declared.resolved.Resolved.{Resolved}
 use Rattle.ss_code.specs.Meaning.{Ending, Ended as EndedThere, Fault as FaultThere, Paused as PausedThere, Run, meaning}
-use Rattle.ss_code.specs.Machine.{Code, State, Stepped, Goes, Over, NoStep, step}
-use Rattle.ss_code.specs.Running.{Result as Comings, Underway, Ends, IsStuck, Behaves, start, steps, go_on as goes_on}
+use Rattle.ss_code.specs.Machine.{Code, State, Goes, Over, step}
+use Rattle.ss_code.specs.Running.{Underway, Ends, Behaves, start, steps, go_on as goes_on}
 use Rattle.ss_code.specs.Laws.{Grows, OnTheWay, OneTickFewer, Pauses, StepsGoOn}
 use Rattle.ss_machine.specs.declared.stop.Stop.{Stop}
 use Rattle.ss_machine.specs.declared.stop.Stop.TheVariants.{Ended, Fault, Paused, Memory, Output, Input, Failed}
@@ -24,42 +24,20 @@ no_more n = omega arith
 grows_first : (a b c : List ℕ) (part : List ℕ) → b ≡ a ++ part → Grows b c → Grows a c
 grows_first a b c part e g = record { by = (part ++ g.by.0, g.by.1 ∙ ap (λ l. l ++ g.by.0) e ∙ append_assoc a part g.by.0) }
 
--- how a run that is over ended
-abbrev ending_in : Comings → Ending
-ending_in (Underway s) = EndedThere
-ending_in (Ends r) = r.ending
-ending_in IsStuck = EndedThere
-
--- two codes whose steps come to the same make the same steps
-stepped_alike : (code run : Code) (s : State) (x y : Stepped) → goes_on x s (steps code 0) ≡ goes_on y s (steps run 0) → x ≡ y
-stepped_alike code run s (Goes a) (Goes b) e = let same : a ≡ b = cc in ap Goes same
-stepped_alike code run s (Over a) (Over b) e = let same : a ≡ b = ap ending_in e in ap Over same
-stepped_alike code run s NoStep NoStep e = refl
-stepped_alike code run s (Goes a) (Over b) e = absurd cc
-stepped_alike code run s (Goes a) NoStep e = absurd cc
-stepped_alike code run s (Over a) (Goes b) e = absurd cc
-stepped_alike code run s (Over a) NoStep e = absurd cc
-stepped_alike code run s NoStep (Goes b) e = absurd cc
-stepped_alike code run s NoStep (Over b) e = absurd cc
-
--- The code that runs makes the steps of the code that behaves as the program means: it has another copy of the layout, at
--- which no step looks.
-module _ (on_the_way : OnTheWay) (fewer_ticks : OneTickFewer) (pauses : Pauses) (go_on : StepsGoOn) (p : Resolved) (code : Code) (behaves : Behaves p code) (run : Code) (alike : (m : ℕ) (s : State) → steps code m s ≡ steps run m s) where
-  step_alike : (s : State) → step code s ≡ step run s
-  step_alike s = stepped_alike code run s (step code s) (step run s) (alike 1 s)
-
+-- what a run of the code of a program says of what the program means
+module _ (on_the_way : OnTheWay) (fewer_ticks : OneTickFewer) (pauses : Pauses) (go_on : StepsGoOn) (p : Resolved) (code : Code) (behaves : Behaves p code) where
   -- a run that comes to its end comes to what the program means
-  finished : (input : List ℕ) (n m : ℕ) (s : State) (bytes : List ℕ) (ending : Ending) (ticks : ℕ) → s ≡ start code input n → Finishes run s m bytes ending ticks → meaning p input n ≡ record { report = bytes; ending = ending; ticks = ticks }
+  finished : (input : List ℕ) (n m : ℕ) (s : State) (bytes : List ℕ) (ending : Ending) (ticks : ℕ) → s ≡ start code input n → Finishes code s m bytes ending ticks → meaning p input n ≡ record { report = bytes; ending = ending; ticks = ticks }
   finished input n m s bytes ending ticks same f =
       let r : Run = record { report = bytes; ending = ending; ticks = ticks } in
-      sym (behaves.only input n m r (subst (λ x. steps code m x ≡ Ends r) same (alike m s ∙ f)))
+      sym (behaves.only input n m r (subst (λ x. steps code m x ≡ Ends r) same f))
 
   -- the state behind a step
   one_step : (m : ℕ) (s x next : State) → steps code m s ≡ Underway x → step code x ≡ Goes next → steps code (m + 1) s ≡ Underway next
   one_step m s x next e f = go_on code m 1 s x e ∙ ap (λ r. goes_on r x (steps code 0)) f
 
   -- a run that is cut wrote bytes between the report for a tick fewer and that for its ticks
-  cut_between : (input : List ℕ) (n m : ℕ) (s : State) (bytes : List ℕ) → s ≡ start code input n → IsCut run s m bytes 0 → IsBetween p input n bytes
+  cut_between : (input : List ℕ) (n m : ℕ) (s : State) (bytes : List ℕ) → s ≡ start code input n → IsCut code s m bytes 0 → IsBetween p input n bytes
   cut_between input n m s bytes same c = record {
     within = by-part c.cut.within;
     beyond = λ fewer e.
@@ -67,14 +45,14 @@ module _ (on_the_way : OnTheWay) (fewer_ticks : OneTickFewer) (pauses : Pauses) 
         record { by = (g.by.0 ++ c.cut.part, c.cut.begins ∙ ap (λ l. l ++ c.cut.part) g.by.1 ∙ append_assoc (meaning p input fewer).report g.by.0 c.cut.part) };
   } where
     passed : steps code m (start code input n) ≡ Underway c.state
-    passed = subst (λ x. steps code m x ≡ Underway c.state) same (alike m s ∙ c.passed)
+    passed = subst (λ x. steps code m x ≡ Underway c.state) same c.passed
 
-    by-part : (c.cut.part ≡ []) ⊎ ((next : State) × (rest : List ℕ) × (step run c.state ≡ Goes next) × (next.report ≡ bytes ++ rest)) → Grows bytes (meaning p input n).report
+    by-part : (c.cut.part ≡ []) ⊎ ((next : State) × (rest : List ℕ) × (step code c.state ≡ Goes next) × (next.report ≡ bytes ++ rest)) → Grows bytes (meaning p input n).report
     by-part (inl e) =
         let whole : bytes ≡ c.state.report = c.cut.begins ∙ ap (λ l. c.state.report ++ l) e ∙ append-nil c.state.report in
         subst (λ l. Grows l (meaning p input n).report) (sym whole) (on_the_way p code behaves input n m c.state passed)
     by-part (inr f) =
-        let next = one_step m (start code input n) c.state f.0 passed (step_alike c.state ∙ f.2) in
+        let next = one_step m (start code input n) c.state f.0 passed f.2 in
         grows_first bytes f.0.report (meaning p input n).report f.1 f.3 (on_the_way p code behaves input n (m + 1) f.0 next)
 
   module _ {R W : Type 0} (remaining : R → Option (List ℕ)) (contents : W → Option (List ℕ)) (reader last_reader : R) (writer last_writer : W) (w new : Working) (source last : Source R) (used made : ℕ)
@@ -98,42 +76,42 @@ module _ (on_the_way : OnTheWay) (fewer_ticks : OneTickFewer) (pauses : Pauses) 
     }
 
     over : (stop : Stop) (ending : Ending) → ((bytes input : List ℕ) → ((more : ℕ) → meaning p input (used + more) ≡ record { report = bytes; ending = ending; ticks = more }) → Means stop p used bytes input)
-        → TookLast remaining source last (contents writer) (contents last_writer) (λ bytes input report ticks. Finishes run (state_of w input report (used + ticks)) made (report ++ bytes) ending ticks)
+        → TookLast remaining source last (contents writer) (contents last_writer) (λ bytes input report ticks. Finishes code (state_of w input report (used + ticks)) made (report ++ bytes) ending ticks)
         → Simulated remaining contents p stop used reader last_reader writer last_writer
     over stop ending to h = record {
       bytes = h.bytes;
       took = h.took;
-      means = gave (λ input. (report : List ℕ) (ticks : ℕ) → Finishes run (state_of w input report (used + ticks)) made (report ++ h.bytes) ending ticks) (Means stop p used h.bytes)
+      means = gave (λ input. (report : List ℕ) (ticks : ℕ) → Finishes code (state_of w input report (used + ticks)) made (report ++ h.bytes) ending ticks) (Means stop p used h.bytes)
           (λ input s. to h.bytes input (λ more. finished input (used + more) made (state_of w input [] (used + more)) h.bytes ending more (first input (used + more)) (s [] more)))
           h.says;
     }
 
     cut : (stop : Stop) → ((bytes input : List ℕ) → IsBetween p input used bytes → Means stop p used bytes input)
-        → TookLast remaining source last (contents writer) (contents last_writer) (λ bytes input report ticks. IsCut run (state_of w input report (used + ticks)) made (report ++ bytes) ticks)
+        → TookLast remaining source last (contents writer) (contents last_writer) (λ bytes input report ticks. IsCut code (state_of w input report (used + ticks)) made (report ++ bytes) ticks)
         → Simulated remaining contents p stop used reader last_reader writer last_writer
     cut stop to h = record {
       bytes = h.bytes;
       took = h.took;
-      means = gave (λ input. (report : List ℕ) (ticks : ℕ) → IsCut run (state_of w input report (used + ticks)) made (report ++ h.bytes) ticks) (Means stop p used h.bytes)
+      means = gave (λ input. (report : List ℕ) (ticks : ℕ) → IsCut code (state_of w input report (used + ticks)) made (report ++ h.bytes) ticks) (Means stop p used h.bytes)
           (λ input s. to h.bytes input (cut_between input used made (state_of w input [] (used + 0)) h.bytes (first input (used + 0) ∙ ap (start code input) (no_more used)) (s [] 0)))
           h.says;
     }
 
-    paused : Comes remaining run w new source last (contents writer) (contents last_writer) used made → ((input report : List ℕ) → step run (state_of new input report 0) ≡ Over PausedThere)
+    paused : Comes remaining code w new source last (contents writer) (contents last_writer) used made → ((input report : List ℕ) → step code (state_of new input report 0) ≡ Over PausedThere)
         → Simulated remaining contents p Paused used reader last_reader writer last_writer
     paused h due = record {
       bytes = h.bytes;
       took = h.took;
-      means = gave (λ input. (rest : List ℕ) × ((report : List ℕ) (ticks : ℕ) → steps run made (state_of w input report (used + ticks)) ≡ Underway (state_of new rest (report ++ h.bytes) ticks))) (Means Paused p used h.bytes)
+      means = gave (λ input. (rest : List ℕ) × ((report : List ℕ) (ticks : ℕ) → steps code made (state_of w input report (used + ticks)) ≡ Underway (state_of new rest (report ++ h.bytes) ticks))) (Means Paused p used h.bytes)
           (λ input s.
           let x = state_of new s.0 h.bytes 0 in
           let at : state_of w input [] (used + 0) ≡ start code input used = first input (used + 0) ∙ ap (start code input) (no_more used) in
-          pauses p code behaves input used made x (subst (λ y. steps code made y ≡ Underway x) at (alike made (state_of w input [] (used + 0)) ∙ s.1 [] 0)) (step_alike x ∙ due s.0 h.bytes))
-          (finds (λ input rest. (report : List ℕ) (ticks : ℕ) → steps run made (state_of w input report (used + ticks)) ≡ Underway (state_of new rest (report ++ h.bytes) ticks)) h.says);
+          pauses p code behaves input used made x (subst (λ y. steps code made y ≡ Underway x) at (s.1 [] 0)) (due s.0 h.bytes))
+          (finds (λ input rest. (report : List ℕ) (ticks : ℕ) → steps code made (state_of w input report (used + ticks)) ≡ Underway (state_of new rest (report ++ h.bytes) ticks)) h.says);
     }
 
     -- what a run from the start came to
-    pub ran_simulated : (stop : Stop) → Ran remaining stop run w new source last (contents writer) (contents last_writer) used made → Simulated remaining contents p stop used reader last_reader writer last_writer
+    pub ran_simulated : (stop : Stop) → Ran remaining stop code w new source last (contents writer) (contents last_writer) used made → Simulated remaining contents p stop used reader last_reader writer last_writer
     ran_simulated Ended h = over Ended EndedThere (λ bytes input m. m) h
     ran_simulated (Fault kind line) h = over (Fault kind line) (FaultThere kind line) (λ bytes input m. m) h
     ran_simulated Paused h = paused h.0 h.1

@@ -20,8 +20,6 @@ use Rattle.ss_rules.specs.Checking.{IsKept, IsRefused as IsRefusedByRules}
 use Rattle.ss_check.specs.Resolving.{ResolvesProgram}
 use Rattle.ss_resolved.specs.declared.resolved.Resolved.{Resolved}
 use Rattle.ss_code.specs.Machine.{Code}
-use Rattle.ss_base.specs.declared.layout.Layout.{Layout}
-use Rattle.ss_code.specs.Layouts.{SameLayout}
 use Rattle.ss_code.specs.Running.{Behaves}
 use Rattle.ss_code.specs.Translation.{code_of}
 use Rattle.ss_engine.specs.declared.refusal.Refusal.{Refusal}
@@ -50,16 +48,11 @@ pub record IsProgramOf (text : List ℕ) (p : Resolved) : Type 0 where
   pub kept : IsKept tree
   pub resolved : ResolvesProgram tree p
 
--- the code does, for every input and every number of ticks, what the program means, and nothing else, wherever a copy of its
--- layout lies in memory
-abbrev pub BehavesAnywhere : Resolved → Code → Type 0
-BehavesAnywhere program code = (l : Layout) → SameLayout code.layout l → Behaves program (record code { layout = l })
-
--- the code does what the text means
+-- the code does what the text means: for every input and every number of ticks what the text's program means, and nothing else
 pub record Compiles (text : List ℕ) (code : Code) : Type 0 where
   pub program : Resolved
   pub meant : IsProgramOf text program
-  pub behaves : BehavesAnywhere program code
+  pub behaves : Behaves program code
 
 -- the text has tokens, and they spell no program: for syntax none of any depth; where it is too deep, none within the
 -- limit on nesting, while more than 64 tokens open a level; the line is that of a token

@@ -2,7 +2,7 @@ ghost use Rattle.std.specs.Prelude.{◌≡◌, ◌+◌, ◌-◌, ◌^◌, ◌≤
 ghost use Rattle.std.specs.List.{sum};
 ghost use Rattle.ss_base.specs.Failures.{HasRisen};
 ghost use Rattle.ss_resolved.specs.declared.resolved.Resolved.{Resolved};
-ghost use Rattle.ss_engine.specs.Accepting.{BehavesAnywhere};
+ghost use Rattle.ss_code.specs.Running.{Behaves};
 ghost use Rattle.ss_input.specs.Blocks.{KnowsEnd};
 ghost use Rattle.ss_input.specs.Inputs.{source_block};
 ghost use Rattle.ss_machine.specs.Runs.{Ran};
@@ -54,7 +54,7 @@ pub(crate) fn run_model<R: FaultyRead, W: FaultyWrite>(
     writer: W,
     pieces: &[u64],
 ) -> (Stop, u64, R, W)
-    ensures simulated { (p : Resolved) → BehavesAnywhere p model → Simulated R.remaining W.contents p result.0 result.1 reader result.2 writer result.3 }
+    ensures simulated { (p : Resolved) → Behaves p model → Simulated R.remaining W.contents p result.0 result.1 reader result.2 writer result.3 }
     ensures used { result.1 ≤ handed_out pieces.now }
     ensures paused { result.0 ≡ Stop.Paused → result.1 ≡ handed_out pieces.now }
     ensures output { result.0 ≡ Stop.Output → HasRisen (W.faults writer) (W.faults result.3) }

@@ -3,7 +3,6 @@ use Rattle.std.specs.Prelude.{ℕ, ◌<◌, ◌≤◌, nat_lt, nat_eq, List, [],
 use Rattle.std.specs.Ordering.{int_eq}
 use Rattle.std.specs.List.{IsDistinct, All}
 use Rattle.ss_events.specs.declared.entry.Entry.{Entry}
-use Rattle.ss_events.specs.declared.entry.TheConstants.{MOST_SCHEDULINGS}
 use Rattle.ss_events.specs.HeapEntries.{notices_of}
 use Rattle.ss_events.specs.BinaryHeap.{IsHeap}
 use Rattle.ss_events.specs.Order.{comes_before}
@@ -28,4 +27,4 @@ pub record IsAgenda (entries : List Entry) (schedulings : ℕ) : Type 0 where
   pub notices : IsDistinct int_eq (notices_of entries)
   pub numbers : IsDistinct nat_eq (numbers_of entries)
   pub numbered : All (λ e. e.number < schedulings) entries
-  pub few : schedulings ≤ MOST_SCHEDULINGS
+  pub few : schedulings ≤ 4611686018427387903

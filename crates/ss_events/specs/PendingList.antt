@@ -9,7 +9,6 @@ use Rattle.ss_base.specs.declared.fault.Refused.{Refused}
 use Rattle.ss_base.specs.declared.fault.Refused.TheVariants.{Fault, Memory}
 use Rattle.ss_events.specs.declared.entry.Entry.{Entry}
 use Rattle.ss_events.specs.declared.key.TieShape.{TieShape}
-use Rattle.ss_events.specs.declared.entry.TheConstants.{MOST_SCHEDULINGS}
 use Rattle.ss_events.specs.SortKey.{SortKey}
 use Rattle.ss_events.specs.Shape.{shape_of}
 use Rattle.ss_events.specs.Order.{comes_before}
@@ -49,11 +48,11 @@ least (e ∷ es) = Some (fold earlier e es)
 abbrev pub with_entry : SortKey → ℤ → PendingList → PendingList
 with_entry key notice p = record p { entries = p.entries ++ record { key = key; number = p.schedulings; notice = notice } ∷ []; schedulings = p.schedulings + 1 }
 
--- the list after a notice is scheduled under a key, or the fault
+-- the list after a notice is scheduled under a key, or the fault: there are at most 2^62 - 1 schedulings
 abbrev pub scheduled : SortKey → ℤ → PendingList → Result PendingList FaultKind
 scheduled key notice p =
     if is_pending notice p.entries then Err AlreadyScheduled
-    else if p.schedulings == MOST_SCHEDULINGS then Err Overflow
+    else if p.schedulings == 4611686018427387903 then Err Overflow
     else Ok (with_entry key notice p)
 
 -- why it was refused: for the fault, or for memory where there is none

@@ -1,6 +1,6 @@
 ghost use Rattle.std.specs.Prelude.{◌≡◌, slice_get, option_copied, IfOk};
 
-use ss_base::{copied_disciplines, Discipline};
+use ss_base::{Discipline, copied_disciplines};
 use std::alloc::{AllocError, Global};
 use std::marker::Model;
 

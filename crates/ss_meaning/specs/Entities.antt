@@ -1,6 +1,5 @@
 -- Entities: references, attributes, how many of a class there are, creating and destroying.
-use Rattle.std.specs.Prelude.{ℕ, Bool, true, false, not, List, length, ℤ, pos, Option, Some, None, is_some, Result, Ok, Err, slice_get}
-use Rattle.ss_base.specs.declared.fault.FaultKind.{FaultKind}
+use Rattle.std.specs.Prelude.{ℕ, Bool, true, false, not, length, ℤ, Option, Some, None, is_some, Result, slice_get}
 use Rattle.ss_base.specs.declared.fault.FaultKind.TheVariants.{Scheduled}
 use Rattle.ss_base.specs.declared.value.Value.{Value}
 use Rattle.ss_base.specs.declared.value.Value.TheVariants.{Whole}
@@ -9,11 +8,11 @@ use Rattle.ss_base.specs.declared.layout.ClassKind.{ClassKind}
 use Rattle.ss_base.specs.declared.layout.ClassKind.TheVariants.{Permanent, Temporary, Notice}
 use Rattle.ss_base.specs.declared.layout.ClassLayout.{ClassLayout}
 use Rattle.ss_base.specs.declared.layout.Owner.TheVariants.{Class}
-use Rattle.ss_records.specs.State.{State, modes_of, known_in, known_notice_in, value_in, time_in, created, created_all, records_in, destroyed}
+use Rattle.ss_records.specs.State.{State, modes_of, known_in, value_in, time_in, created, created_all, records_in, destroyed}
 use Rattle.ss_events.specs.PendingList.{is_pending}
 use Rattle.ss_program.specs.declared.expression.Variable.TheVariants.{Global}
 use Rattle.ss_program.specs.declared.statement.Counted.{Counted}
-use Rattle.ss_meaning.specs.Values.{Trouble, Misfit, if_ok, turned, due, sure, where_fit, unless_fault, number_of}
+use Rattle.ss_meaning.specs.Values.{Trouble, if_ok, turned, due, sure, where_fit, unless_fault, number_of}
 use Rattle.ss_meaning.specs.Store.{Store, with_heap, fetched}
 use Rattle.ss_meaning.specs.Histories.{started, all_started}
 

@@ -1,6 +1,5 @@
 -- Small programs with their meaning: events and statistics. Each expected value is worked out from the rules of the language.
-use Rattle.std.specs.Prelude.{◌≡◌, ◌-◌, ◌^◌, ℕ, List, [], ◌∷◌, pos, negsuc, codes, Some, None, true, false, refl}
-use Rattle.ss_base.specs.declared.line.Line.{Line}
+use Rattle.std.specs.Prelude.{◌≡◌, ◌-◌, ◌^◌, ℕ, List, [], ◌∷◌, pos, negsuc, codes, Some, None, true, refl}
 use Rattle.ss_base.specs.declared.fault.FaultKind.TheVariants.{AlreadyScheduled, NotScheduled, PastTime, Overflow}
 use Rattle.ss_base.specs.declared.layout.ClassKind.TheVariants.{Temporary, Notice}
 use Rattle.ss_base.specs.declared.layout.RankKey.{RankKey}
@@ -17,7 +16,7 @@ use Rattle.ss_program.specs.declared.expression.Fold.TheVariants.{Number, Sum, M
 use Rattle.ss_program.specs.declared.sections.Subject.TheVariants.{OfVariable, OfCount}
 use Rattle.ss_program.specs.declared.sections.Weighting.TheVariants.{Tally, Accumulate}
 use Rattle.ss_program.specs.declared.statement.End.TheVariants.{First}
-use Rattle.ss_program.specs.Program.{Expression, Attribute, Clock, TimeOf, Figure, TheSystem, ByDiscipline, At, In, Statement, Let, Call, Simulate, Create, File, RemoveEnd, ScheduleNew, Schedule, Cancel, Reset, Block, Done, Event, Program}
+use Rattle.ss_program.specs.Program.{Expression, Attribute, Clock, TimeOf, Figure, TheSystem, ByDiscipline, At, In, Statement, Let, Call, Simulate, Create, File, RemoveEnd, ScheduleNew, Schedule, Cancel, Reset, Event, Program}
 use Rattle.ss_meaning.specs.Building.{line, num, global, local, to_global, block, print_line, integers, class_of, bell, plain, workshop, ends, pauses, faults}
 use Rattle.ss_meaning.specs.Meaning.{meaning}
 

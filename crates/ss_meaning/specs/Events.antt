@@ -1,17 +1,16 @@
 -- Time and notices: scheduling, cancelling, and what begins with the notice that comes next.
-use Rattle.std.specs.Prelude.{ℕ, zero, suc, ◌+◌, ◌==◌, Bool, true, false, List, [], ◌∷◌, map, ℤ, int_lt, Option, Some, None, is_some, Result, Ok, Err, slice_get, if◌then◌else◌}
-use Rattle.ss_base.specs.declared.line.Line.{Line}
+use Rattle.std.specs.Prelude.{ℕ, zero, suc, ◌+◌, ◌==◌, Bool, List, [], ◌∷◌, ℤ, int_lt, Option, Some, None, is_some, Result, Ok, Err, if◌then◌else◌}
 use Rattle.ss_base.specs.declared.fault.FaultKind.{FaultKind}
 use Rattle.ss_base.specs.declared.fault.FaultKind.TheVariants.{AlreadyScheduled, PastTime}
 use Rattle.ss_base.specs.declared.value.Value.{Value}
 use Rattle.ss_base.specs.declared.value.Value.TheVariants.{Whole}
 use Rattle.ss_base.specs.declared.layout.RankKey.{RankKey}
 use Rattle.ss_base.specs.Arithmetic.{plus_of}
-use Rattle.ss_records.specs.State.{Record, State, notice, timed}
+use Rattle.ss_records.specs.State.{Record, notice, timed}
 use Rattle.ss_events.specs.declared.key.Tie.{Tie}
-use Rattle.ss_events.specs.PendingList.{PendingList, is_pending, scheduled, cancelled, next, after_next}
+use Rattle.ss_events.specs.PendingList.{is_pending, scheduled, cancelled, next, after_next}
 use Rattle.ss_program.specs.declared.expression.Variable.TheVariants.{Global}
-use Rattle.ss_meaning.specs.Values.{Trouble, Fails, Misfit, if_ok, turned, due, sure, unless_fault, number_of}
+use Rattle.ss_meaning.specs.Values.{Trouble, if_ok, turned, due, sure, unless_fault, number_of}
 use Rattle.ss_meaning.specs.Store.{Notices, Store, with_heap, with_pending}
 use Rattle.ss_meaning.specs.Entities.{entity, attribute, made_one, gone}
 use Rattle.ss_meaning.specs.Places.{assigned_variable, assigned_attribute}

@@ -1,5 +1,5 @@
 -- Small programs with their meaning: numbers, ticks, routines, input and lines. Each expected value is worked out from the rules of the language.
-use Rattle.std.specs.Prelude.{◌≡◌, ℕ, List, [], ◌∷◌, pos, negsuc, codes, Some, None, true, false, refl}
+use Rattle.std.specs.Prelude.{◌≡◌, [], ◌∷◌, pos, negsuc, codes, Some, None, true, refl}
 use Rattle.ss_base.specs.declared.fault.FaultKind.TheVariants.{Overflow, ZeroDivisor, LoopStep, EndOfData, BadData, BadCount}
 use Rattle.ss_base.specs.declared.value.Value.TheVariants.{Text}
 use Rattle.ss_base.specs.declared.layout.Mode.TheVariants.{Integer, Alpha}
@@ -13,7 +13,7 @@ use Rattle.ss_program.specs.declared.condition.Relation.TheVariants.{Equal}
 use Rattle.ss_program.specs.declared.head.GuardKind.TheVariants.{While}
 use Rattle.ss_program.specs.Program.{Expression, Signed, Absolute, Calculate, Constant, Numbers, Compare, DataEnded, Statement, Let, Change, Call, Return, Stop, Read, If, For, Loop, Print, Skip, Routine, Program, Done}
 use Rattle.ss_meaning.specs.Building.{line, num, local, to_local, block, only, print_line, integers, plain, ends, pauses, faults}
-use Rattle.ss_meaning.specs.Meaning.{meaning, WentWrong, Run}
+use Rattle.ss_meaning.specs.Meaning.{meaning, WentWrong}
 
 -- PRINT 1 LINE WITH 6*7 THUS takes no tick
 pub an_answer : meaning (plain 0 (print_line 2 (Calculate Multiply (num (pos 6)) (num (pos 7)) ∷ []) (codes "ANSWER ***") ∷ [])) [] 1000 ≡

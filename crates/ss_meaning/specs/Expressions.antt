@@ -1,7 +1,6 @@
 -- Expressions and conditions: their value or truth in a store, from left to right.
-use Rattle.std.specs.Prelude.{ℕ, Bool, true, false, List, [], ◌∷◌, not, ℤ, Option, Some, None, Result, Ok, Err}
+use Rattle.std.specs.Prelude.{ℕ, Bool, true, false, List, [], ◌∷◌, not, ℤ, Option, Some, None, Result, Ok}
 use Rattle.ss_base.specs.declared.value.Value.{Value}
-use Rattle.ss_base.specs.declared.value.Value.TheVariants.{Whole}
 use Rattle.ss_input.specs.Words.{is_ended}
 use Rattle.ss_program.specs.declared.head.GuardKind.{GuardKind}
 use Rattle.ss_program.specs.declared.head.GuardKind.TheVariants.{While, Until}
@@ -11,7 +10,7 @@ use Rattle.ss_meaning.specs.Store.{Store, fetched}
 use Rattle.ss_meaning.specs.Entities.{entity, attribute, time_of}
 use Rattle.ss_meaning.specs.Places.{Spot, InVariable, InAttribute, InCount}
 use Rattle.ss_meaning.specs.Sets.{member, known_owner, of_set, of_member, is_empty, is_in, Filing, ByRule, Foremost, Hindmost, Ahead, Behind}
-use Rattle.ss_meaning.specs.Events.{clock, time_at, Moment, AtTime, Later, AtOnce}
+use Rattle.ss_meaning.specs.Events.{clock, time_at, AtTime, Later, AtOnce}
 use Rattle.ss_meaning.specs.Statistics.{figure}
 
 -- ## Expressions

@@ -1,7 +1,6 @@
 -- The histories that statistics are taken of: how they start, what they note, and what is read of them.
 use Rattle.std.specs.Prelude.{ℕ, zero, suc, ◌+◌, ◌==◌, Bool, true, false, ◌&&◌, List, [], ◌∷◌, ◌++◌, ℤ, pos, Option, Some, None, Result, Ok, Err, slice_get, if◌then◌else◌}
 use Rattle.std.specs.Ordering.{int_eq}
-use Rattle.ss_base.specs.declared.fault.FaultKind.{FaultKind}
 use Rattle.ss_base.specs.declared.fault.FaultKind.TheVariants.{Overflow}
 use Rattle.ss_base.specs.declared.value.Value.{Value}
 use Rattle.ss_base.specs.declared.value.Value.TheVariants.{Whole}
@@ -17,7 +16,7 @@ use Rattle.ss_program.specs.declared.sections.Subject.TheVariants.{OfVariable, O
 use Rattle.ss_program.specs.declared.sections.Weighting.{Weighting}
 use Rattle.ss_program.specs.declared.sections.Weighting.TheVariants as weightings
 use Rattle.ss_program.specs.declared.sections.Statistic.{Statistic}
-use Rattle.ss_meaning.specs.Values.{Trouble, Fails, Misfit, if_ok, turned, due, unless_fault, number_of}
+use Rattle.ss_meaning.specs.Values.{Trouble, Misfit, if_ok, turned, due, unless_fault, number_of}
 use Rattle.ss_meaning.specs.Store.{Kept, Store, with_histories}
 
 abbrev pub same_subject : Subject → Subject → Bool

@@ -1,5 +1,5 @@
 -- Loops: the candidates of a FOR, their phrases, and loops led by WHILE or UNTIL.
-use Rattle.std.specs.Prelude.{ℕ, zero, suc, ◌+◌, ◌-◌, ◌^◌, Bool, true, false, not, List, [], ◌∷◌, ℤ, pos, ◌+ℤ◌, int_le, int_lt, Option, Some, None, Result, Ok, Err, if◌then◌else◌}
+use Rattle.std.specs.Prelude.{ℕ, zero, suc, ◌-◌, ◌^◌, Bool, true, false, List, [], ◌∷◌, ℤ, pos, ◌+ℤ◌, int_le, int_lt, Option, Some, None, Result, Ok, if◌then◌else◌}
 use Rattle.std.specs.Int.{int_min}
 use Rattle.ss_base.specs.declared.line.Line.{Line}
 use Rattle.ss_base.specs.declared.fault.FaultKind.TheVariants.{LoopStep}
@@ -9,7 +9,7 @@ use Rattle.ss_program.specs.declared.expression.Variable.{Variable}
 use Rattle.ss_program.specs.declared.head.PhraseKind.{PhraseKind}
 use Rattle.ss_program.specs.declared.head.PhraseKind.TheVariants as kinds
 use Rattle.ss_program.specs.Program.{Expression, SetOwner, Head, Numbers, Members, Each, Start, AtEnd, From, After, Phrase, Guard}
-use Rattle.ss_meaning.specs.Values.{Trouble, Misfit, if_ok, turned, sure, where_fit, unless_fault, number_of}
+use Rattle.ss_meaning.specs.Values.{Trouble, if_ok, turned, where_fit, unless_fault, number_of}
 use Rattle.ss_meaning.specs.Store.{Store}
 use Rattle.ss_meaning.specs.Entities.{class_at, is_permanent, made_count}
 use Rattle.ss_meaning.specs.Places.{InVariable}

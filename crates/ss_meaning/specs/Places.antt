@@ -1,5 +1,5 @@
 -- The one write: what can be assigned a value, and what an assignment does.
-use Rattle.std.specs.Prelude.{ℕ, Bool, false, ℤ, pos, Option, Some, None, Result, Ok, Err}
+use Rattle.std.specs.Prelude.{ℕ, Bool, false, pos, Option, Some, None, Result}
 use Rattle.ss_base.specs.declared.fault.FaultKind.TheVariants.{CreatedTwice}
 use Rattle.ss_base.specs.declared.value.Value.{Value}
 use Rattle.ss_base.specs.declared.layout.Mode.{Mode}
@@ -9,7 +9,7 @@ use Rattle.ss_program.specs.declared.expression.Variable.{Variable}
 use Rattle.ss_program.specs.declared.expression.Variable.TheVariants.{Global, Local}
 use Rattle.ss_program.specs.declared.sections.Subject.TheVariants.{OfVariable, OfAttribute}
 use Rattle.ss_program.specs.declared.statement.Counted.{Counted}
-use Rattle.ss_meaning.specs.Values.{Trouble, Misfit, same_mode, if_ok, turned, due, sure, where_fit, unless_fault}
+use Rattle.ss_meaning.specs.Values.{Trouble, same_mode, if_ok, due, sure, where_fit, unless_fault}
 use Rattle.ss_meaning.specs.Store.{Store, with_heap, fetched, put}
 use Rattle.ss_meaning.specs.Histories.{noted}
 use Rattle.ss_meaning.specs.Entities.{class_at, field_at, entity, attribute, is_permanent}

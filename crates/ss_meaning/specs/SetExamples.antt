@@ -1,5 +1,5 @@
 -- Small programs with their meaning: entities and sets, in the workshop. Each expected value is worked out from the rules of the language.
-use Rattle.std.specs.Prelude.{◌≡◌, ℕ, List, [], ◌∷◌, pos, negsuc, codes, Some, None, true, false, refl}
+use Rattle.std.specs.Prelude.{◌≡◌, ℕ, List, [], ◌∷◌, pos, negsuc, codes, None, false, refl}
 use Rattle.ss_base.specs.declared.fault.FaultKind.TheVariants.{NoEntity, NeverCreated, DestroyedEntity, WrongClass, Index, FiledTwice, NotFiled, EmptySet, InASet, OwnsMembers, LoopMemberGone, ZeroDivisor, CreatedTwice, Scheduled}
 use Rattle.ss_base.specs.declared.layout.Mode.TheVariants.{Integer}
 use Rattle.ss_base.specs.declared.layout.Discipline.TheVariants.{Lifo}
@@ -11,13 +11,12 @@ use Rattle.ss_program.specs.declared.expression.Sign.TheVariants.{Plus}
 use Rattle.ss_program.specs.declared.expression.Operator.TheVariants.{Add, Quotient}
 use Rattle.ss_program.specs.declared.expression.SetQuery.TheVariants.{FirstMember, LastMember, MemberCount}
 use Rattle.ss_program.specs.declared.expression.MemberQuery.TheVariants.{Predecessor, Successor}
-use Rattle.ss_program.specs.declared.condition.Relation.{Relation}
 use Rattle.ss_program.specs.declared.condition.Relation.TheVariants.{Equal, Less}
 use Rattle.ss_program.specs.declared.head.PhraseKind.TheVariants.{With, Unless, Until}
 use Rattle.ss_program.specs.declared.statement.End.TheVariants as ends_of_sets
 use Rattle.ss_program.specs.Program.{Expression, Attribute, OfSystemSet, OfMember, Calculate, TheSystem, Entity, Compare, Numbers, Members, AtEnd, Each, ToAttribute, ToCount, ByDiscipline, At, Statement, Let, Change, Read, For, Find, Create, CreateEvery, Destroy, File, RemoveEnd, Remove, Schedule, Cancel, Program}
-use Rattle.ss_meaning.specs.Building.{line, num, global, local, to_global, to_local, block, only, print_line, machine, job, tool, bell, machines, queue, pool, rack, workshop, workshop_by, ends, pauses, faults}
-use Rattle.ss_meaning.specs.Meaning.{meaning, Run}
+use Rattle.ss_meaning.specs.Building.{line, num, global, local, to_global, to_local, block, only, print_line, machine, job, tool, bell, machines, queue, pool, rack, workshop, workshop_by, ends, faults}
+use Rattle.ss_meaning.specs.Meaning.{meaning}
 
 -- the rank of the job in its variable
 abbrev rank : Expression

@@ -1,7 +1,6 @@
 -- Statements: what each does to the world, in the order of the manual.
-use Rattle.std.specs.Prelude.{ℕ, Bool, true, false, List, [], ◌∷◌, length, Option, Some, None, Result, Ok, Err}
+use Rattle.std.specs.Prelude.{ℕ, List, [], ◌∷◌, length, Result}
 use Rattle.ss_base.specs.declared.line.Line.{Line}
-use Rattle.ss_base.specs.declared.fault.FaultKind.{FaultKind}
 use Rattle.ss_base.specs.declared.value.Value.{Value}
 use Rattle.ss_base.specs.declared.layout.Mode.{Mode}
 use Rattle.ss_input.specs.Words.{Given, value_given}
@@ -12,13 +11,13 @@ use Rattle.ss_program.specs.Program.{Expression, SetOwner, Place, Target, Positi
 use Rattle.ss_meaning.specs.Values.{Trouble, if_ok, turned, due, sure, calculated, operator_of, printed, empty_lines}
 use Rattle.ss_meaning.specs.Store.{Store}
 use Rattle.ss_meaning.specs.Entities.{made_one, made_all, without}
-use Rattle.ss_meaning.specs.Places.{Spot, held}
+use Rattle.ss_meaning.specs.Places.{held}
 use Rattle.ss_meaning.specs.Sets.{filed_in, removed_from, removed_at}
 use Rattle.ss_meaning.specs.Events.{made_notice, filed_notice, rescheduled, unscheduled, is_awaited}
 use Rattle.ss_meaning.specs.Statistics.{reset}
 use Rattle.ss_meaning.specs.Expressions.{value, values, value_if_any, entity_value, member_value, owner_value, spot, filing, time_value, holds}
-use Rattle.ss_meaning.specs.Parts.{World, Exit, Returned, Stopped, Wrong, Outcome, WentOn, Left, Part, and_then, then_nothing, choose, look, needed, settle_with, change, get, write, send, Next, Again, Over, loop}
-use Rattle.ss_meaning.specs.Loops.{Turn, GoesOn, IsFound, phrases, over, guarded}
+use Rattle.ss_meaning.specs.Parts.{Returned, Stopped, Wrong, WentOn, Left, Part, and_then, then_nothing, choose, look, change, get, write, send, Next, Again, Over, loop}
+use Rattle.ss_meaning.specs.Loops.{GoesOn, IsFound, phrases, over, guarded}
 
 -- ## Values that go to places
 

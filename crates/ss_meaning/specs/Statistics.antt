@@ -1,5 +1,5 @@
 -- Statistics: what they say, and RESET. Of which entity one is asked is an entity, or none where the system has its subject.
-use Rattle.std.specs.Prelude.{ℕ, List, ℤ, pos, Option, Some, None, Result, Ok, Err, slice_get}
+use Rattle.std.specs.Prelude.{ℕ, ℤ, pos, Option, Some, None, Result, Ok, Err, slice_get}
 use Rattle.ss_base.specs.declared.value.Value.{Value}
 use Rattle.ss_program.specs.declared.expression.Variable.TheVariants.{Global}
 use Rattle.ss_program.specs.declared.expression.Fold.{Fold}

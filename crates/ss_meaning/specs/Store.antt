@@ -1,5 +1,5 @@
 -- What a program works on: its variables, and the scene with everything else.
-use Rattle.std.specs.Prelude.{ℕ, zero, suc, ◌==◌, List, [], ◌∷◌, ◌++◌, length, map, ℤ, Option, Some, None, Result, Ok, Err, slice_get, if◌then◌else◌}
+use Rattle.std.specs.Prelude.{ℕ, zero, suc, List, [], ◌∷◌, ◌++◌, map, ℤ, Option, Some, None, Result, Ok, Err, slice_get, if◌then◌else◌}
 use Rattle.ss_base.specs.declared.line.Line.{Line}
 use Rattle.ss_base.specs.declared.value.Value.{Value}
 use Rattle.ss_base.specs.declared.layout.Mode.{Mode}
@@ -12,7 +12,7 @@ use Rattle.ss_stats.specs.History.{History}
 use Rattle.ss_program.specs.declared.expression.Variable.{Variable}
 use Rattle.ss_program.specs.declared.expression.Variable.TheVariants.{Global, Local}
 use Rattle.ss_program.specs.declared.sections.Statistic.{Statistic}
-use Rattle.ss_meaning.specs.Values.{Trouble, Misfit, same_mode, if_ok, turned}
+use Rattle.ss_meaning.specs.Values.{Trouble, Misfit, same_mode, turned}
 
 -- what a program says of a class of notices: the attributes that break ties, the line of its event routine, how many attributes that takes,
 -- and the global variable that a notice is saved in, if it is saved

@@ -62,7 +62,7 @@ impl<W: FaultyWrite> Sink<W> {
         ensures failed { IsErrOf result SinkError.Failed
             → HasRisen (W.faults self.old.writer) (W.faults self.new.writer) }
         ensures stalled { IsErrOf result SinkError.Stalled
-            → HasRisenBy STALL_LIMIT (W.faults self.old.writer) (W.faults self.new.writer) }
+            → HasRisenBy 1000 (W.faults self.old.writer) (W.faults self.new.writer) }
         ensures never_falls { HasRisenBy 0 (W.faults self.old.writer) (W.faults self.new.writer) }
         ensures no_byte { bytes.now ≡ [] → (IsOk result) × (self.new ≡ self.old) }
     {
@@ -99,7 +99,7 @@ fn send_some<W: FaultyWrite>(writer: &mut W, bytes: &[u8]) -> Result<usize, Sink
     ensures err { OnErr result (Keeps (W.contents writer.old) (W.contents writer.new)) }
     ensures failed { IsErrOf result SinkError.Failed → HasRisen (W.faults writer.old) (W.faults writer.new) }
     ensures stalled { IsErrOf result SinkError.Stalled
-        → HasRisenBy STALL_LIMIT (W.faults writer.old) (W.faults writer.new) }
+        → HasRisenBy 1000 (W.faults writer.old) (W.faults writer.new) }
     ensures never_falls { HasRisenBy 0 (W.faults writer.old) (W.faults writer.new) }
 {
     for attempt in 0..STALL_LIMIT {

@@ -5,7 +5,6 @@ use Rattle.std.specs.List.{fold}
 use Rattle.ss_base.specs.declared.fault.FaultKind.{FaultKind}
 use Rattle.ss_base.specs.declared.fault.FaultKind.TheVariants.{Overflow}
 use Rattle.ss_base.specs.Arithmetic.{in_64_bits}
-use Rattle.ss_stats.specs.declared.totals.TheConstants.{TALLY_LIMIT}
 
 -- a moment, and the value that a variable was given at it
 pub record Change : Type 0 where
@@ -74,9 +73,9 @@ minimum_of history = least (values_of history)
 
 -- ---- what becomes of a history
 
--- a tally that holds its limit of values takes no more
+-- a tally that holds 2^62 - 1 values takes no more
 abbrev pub is_full : History → Bool
-is_full (Tally values) = int_le TALLY_LIMIT (pos (length values))
+is_full (Tally values) = int_le (pos 4611686018427387903) (pos (length values))
 is_full (Accumulate start changes) = false
 
 -- what the variable's next value is answered by: an overflow where the history is full

@@ -80,3 +80,7 @@ finds_section f xs i x now here after lt is e h more =
     let next : first_in_sections f 0 (map view_section (take (i + 1) xs)) ≡ line_or (first_in_sections f 0 seen) (first_in_body f i (view_section x).body) =
     ap (first_in_sections f 0) (next_taken view_section xs i x lt is) ∙ first_more f 0 seen (view_section x) ∙ ap (λ m. line_or (first_in_sections f 0 seen) (first_in_body f m (view_section x).body)) count in
     more ∙ (λ k. line_or (e k) (h k)) ∙ sym next
+
+-- a loop that adds one for each
+pub adds_made : {A B : Type 0} (f : B → A) (xs : List B) (i : ℕ) (x : B) (now after : List A) (made : A) → i < length xs → x ≡ get_or xs i x → now ≡ map f (take i xs) → after ≡ now ++ made ∷ [] → made ≡ f x → after ≡ map f (take (i + 1) xs)
+adds_made f xs i x now after made lt is e more h = more ∙ (λ k. e k ++ h k ∷ []) ∙ sym (next_taken f xs i x lt is)

@@ -80,7 +80,7 @@ pub two_classes-other_field : field_number (sayings two_classes) (letter 66) (le
 two_classes-other_field = refl
 
 -- the mode of T is that of its DEFINE
-pub two_classes-layout : classes_laid (kind_of two_classes) (usual_mode two_classes.preamble) (sayings two_classes) ≡ (class_kinds.Permanent, Integer ∷ Alpha ∷ []) ∷ (class_kinds.Temporary, Integer ∷ []) ∷ []
+pub two_classes-layout : classes_laid (kind_of two_classes) (usual_mode two_classes.preamble) (sayings two_classes) ≡ record { kind = class_kinds.Permanent; fields = Integer ∷ Alpha ∷ [] } ∷ record { kind = class_kinds.Temporary; fields = Integer ∷ [] } ∷ []
 two_classes-layout = refl
 
 -- ---- sets

@@ -29,7 +29,7 @@ use crate::sayings::sayings;
 use crate::served::served;
 use crate::spelling::Spelling;
 use indexmap::IndexSet;
-use ss_base::{copied_disciplines, Discipline, Layout};
+use ss_base::{Discipline, Layout, copied_disciplines};
 use ss_lex::Name;
 use ss_tree::preamble::{Mode, PreambleStatement};
 use ss_tree::program::Program;

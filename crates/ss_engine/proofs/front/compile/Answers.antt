@@ -40,7 +40,7 @@ returns-in-Ok-generate-clause-accepted c =
     let declared : IsDeclared tree = record { served = served; declared = c.in-Ok-of.ensures.kept } in
     let meant : IsProgramOf c.args.text.now c.in-Ok-check.resolved = record { tree = tree; read = read; declared = declared; kept = c.in-Ok-check.ensures.kept; resolved = c.in-Ok-check.ensures.resolved } in
     subst (Compiles c.args.text.now) (sym c.new.ensures)
-    (record { program = c.in-Ok-check.resolved; meant = meant; behaves = λ l same. c.in-Ok-generate.ensures.anywhere l (c.in-Ok-generate.ensures.layout ∙ same) })
+    (record { program = c.in-Ok-check.resolved; meant = meant; behaves = c.in-Ok-generate.ensures.behaves })
 
 pub returns-clause-refused : goal.returns-clause-refused
 returns-clause-refused c =

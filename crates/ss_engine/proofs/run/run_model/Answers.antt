@@ -1,8 +1,5 @@
-use Rattle.std.proofs.Common.{◌≡◌, sym, ap, subst, ◌∙◌, ◌-◌, [], true}
-use Rattle.ss_resolved.specs.declared.resolved.Resolved.{Resolved}
-use Rattle.ss_code.specs.Running.{Behaves, start}
+use Rattle.std.proofs.Common.{◌≡◌, sym, ap, subst, ◌-◌}
 use Rattle.ss_machine.specs.declared.stop.Stop.TheVariants.{Memory}
-use Rattle.ss_machine.specs.Holding.{state_of}
 use Rattle.ss_machine.specs.Runs.{Ran}
 use Rattle.ss_input.specs.Blocks.{KnowsEnd}
 use Rattle.ss_input.specs.Inputs.{source_block}
@@ -27,7 +24,6 @@ returns-clause-simulated g c p b =
     let contents = g.W.FaultyWrite.contents in
     let laws = c.laws.ensures in
     let s = c.in-Ok.session in
-    let layout = (session_machine s).working.entities.layout in
     let now = c.run_pieces-stop.new.session in
     let begins = c.in-Ok.ensures.ok in
     let out = c.close-reader.result in
@@ -39,5 +35,5 @@ returns-clause-simulated g c p b =
     let ran = subst (λ k. Ran remaining c.run_pieces-stop.result k (session_machine s).working (session_machine now).working (session_source s) (session_source now) (contents (session_writer s)) (contents (session_writer now)) (session_machine now).used made) begins.first.code_is c.run_pieces-stop.ensures.ran in
     let from = subst (λ w. Ran remaining c.run_pieces-stop.result c.args.model (session_machine s).working (session_machine now).working (session_source s) (session_source now) (contents w) (contents (session_writer now)) (session_machine now).used made) begins.writer_is ran in
     let to = subst (λ w. Ran remaining c.run_pieces-stop.result c.args.model (session_machine s).working (session_machine now).working (session_source s) (session_source now) (contents c.args.writer) (contents w) (session_machine now).used made) last_writer from in
-    let simulated = ran_simulated laws.on_the_way laws.one_tick_fewer laws.pauses laws.steps_go_on p (record c.args.model { layout = layout }) (b layout begins.first.layout) c.args.model (laws.layouts_unread c.args.model layout) remaining contents c.args.reader out.0 c.args.writer out.1 (session_machine s).working (session_machine now).working (session_source s) (session_source now) (session_machine now).used made begins.first.state begins.fresh last_reader knows c.run_pieces-stop.result to in
+    let simulated = ran_simulated laws.on_the_way laws.one_tick_fewer laws.pauses laws.steps_go_on p c.args.model b remaining contents c.args.reader out.0 c.args.writer out.1 (session_machine s).working (session_machine now).working (session_source s) (session_source now) (session_machine now).used made begins.first.state begins.fresh last_reader knows c.run_pieces-stop.result to in
     subst (λ u. Simulated remaining contents p c.run_pieces-stop.result u c.args.reader out.0 c.args.writer out.1) (sym c.used-used.ensures) simulated

@@ -1,0 +1,18 @@
+use Rattle.std.proofs.Common.{refl, sym, ap, ◌∙◌}
+use Rattle.indexmap.proofs.CallerLemmas.{insert_entry-new}
+use Rattle.ss_declared.specs.Declarations.{declaration}
+use Rattle.ss_declared.specs.Lines.{soonest, line_if}
+use Rattle.ss_declared.specs.Topics.{same_name}
+use Rattle.ss_declared.proofs.Telling.{told_new, told_again}
+use Rattle.ss_declared.proofs.globals.Globals.declare.Goals as goal
+
+pub returns-in_ok-insert-in-None : goal.returns-in_ok-insert-in-None
+returns-in_ok-insert-in-None c =
+    let none = sym c.find.ensures ∙ c.in-None.is in
+    told_new c.args.self.now _ (declaration c.args.line c.args.standing c.args.name) none
+    (c.in_ok-insert-in-None.ensures.entries ∙ insert_entry-new same_name c.args.self.now.map c.args.name c.args.standing none) refl
+
+pub returns-in-Some : goal.returns-in-Some
+returns-in-Some c =
+    told_again c.args.self.now _ (declaration c.args.line c.args.standing c.args.name) c.in-Some.first (sym c.find.ensures ∙ c.in-Some.is) refl
+    (c.sooner_if-self.ensures ∙ ap (λ b. soonest c.args.self.now.clash (line_if b c.args.line)) c.is_another.ensures)

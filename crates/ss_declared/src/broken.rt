@@ -1,0 +1,139 @@
+//! The first rule that a program breaks by what it declares.
+
+ghost use Rattle.std.specs.Prelude.{◌≡◌, map, IfOk};
+ghost use Rattle.ss_tree.specs.View.{view_section, view_program};
+ghost use Rattle.ss_declared.specs.Broken.{broken_by, told, first_of, first_broken, refusal_by, refusal};
+ghost use Rattle.ss_declared.specs.Declarations.{declarations};
+ghost use Rattle.ss_declared.specs.Globals.{Tells};
+ghost use Rattle.ss_declared.specs.Lines.{first_line};
+
+use crate::globals::{Globals, globals_of};
+use crate::no_member::no_member;
+use crate::no_owner::no_owner;
+use crate::rank_key::rank_key;
+use crate::real_mode::real_mode;
+use crate::rule::{Broken, Rule};
+use crate::tally_twice::tally_twice;
+use crate::tie_key::tie_key;
+use crate::too_many::too_many;
+use crate::twice::twice;
+use crate::unknown_class::unknown_class;
+use crate::unknown_set::unknown_set;
+use ss_base::Line;
+use ss_sayings::{Saying, sayings_of};
+use ss_tree::program::{Program, Section};
+use std::alloc::{AllocError, Global};
+
+/// The first line where a rule is broken.
+fn place_of(
+    alloc: Global,
+    globals: &Globals,
+    rule: Rule,
+    sayings: &[Saying],
+    sections: &[Section],
+) -> Result<Option<Line>, AllocError>
+    requires { Tells (declarations sayings.now) globals.now }
+    ensures { IfOk result (λ line. line ≡ first_line (broken_by sayings.now (map view_section sections.now) rule)) }
+{
+    match rule {
+        Rule::Twice => twice(alloc, globals, sayings),
+        Rule::RealMode => real_mode(alloc, globals, sayings, sections),
+        Rule::UnknownClass => unknown_class(alloc, sayings),
+        Rule::UnknownSet => unknown_set(alloc, sayings),
+        Rule::NoOwner => no_owner(alloc, sayings),
+        Rule::NoMember => no_member(alloc, sayings),
+        Rule::RankKey => rank_key(alloc, sayings),
+        Rule::TallyTwice => tally_twice(alloc, sayings),
+        Rule::TooMany => too_many(alloc, sayings),
+        Rule::TieKey => tie_key(alloc, sayings),
+    }
+}
+
+/// A rule with the line where it is broken first.
+fn told(rule: Rule, line: Option<Line>) -> Option<Broken>
+    ensures { result ≡ told rule line }
+{
+    match line {
+        None => None,
+        Some(line) => Some(Broken { rule, line }),
+    }
+}
+
+/// What was found so far, or else a rule, where it is broken.
+fn or_broken(
+    alloc: Global,
+    globals: &Globals,
+    rule: Rule,
+    sayings: &[Saying],
+    sections: &[Section],
+    found: Option<Broken>,
+) -> Result<Option<Broken>, AllocError>
+    requires { Tells (declarations sayings.now) globals.now }
+    ensures { IfOk result (λ b. b ≡ first_of found (told rule (first_line (broken_by sayings.now (map view_section sections.now) rule)))) }
+{
+    match found {
+        Some(broken) => Ok(Some(broken)),
+        None => {
+            let line = place_of(alloc, globals, rule, sayings, sections)?;
+            Ok(told(rule, line))
+        }
+    }
+}
+
+/// The first of some rules that is broken.
+fn first_broken(
+    alloc: Global,
+    globals: &Globals,
+    rules: &[Rule],
+    sayings: &[Saying],
+    sections: &[Section],
+) -> Result<Option<Broken>, AllocError>
+    requires { Tells (declarations sayings.now) globals.now }
+    ensures { IfOk result (λ b. b ≡ first_broken sayings.now (map view_section sections.now) rules.now) }
+{
+    let mut found = None;
+    for rule in rules {
+        found = or_broken(alloc, globals, *rule, sayings, sections, found)?;
+    }
+    Ok(found)
+}
+
+/// The first rule that is broken by what is said of names and by what stands in the sections, in the
+/// order of the rules' numbers, with the first line where it is; None where all are kept.
+///
+/// # Errors
+/// `AllocError` where memory is refused.
+pub fn refusal_of(
+    alloc: Global,
+    sayings: &[Saying],
+    sections: &[Section],
+) -> Result<Option<Broken>, AllocError>
+    ensures { IfOk result (λ b. b ≡ refusal_by sayings.now (map view_section sections.now)) }
+{
+    let globals = globals_of(alloc, sayings)?;
+    let rules = [
+        Rule::Twice,
+        Rule::RealMode,
+        Rule::UnknownClass,
+        Rule::UnknownSet,
+        Rule::NoOwner,
+        Rule::NoMember,
+        Rule::RankKey,
+        Rule::TallyTwice,
+        Rule::TooMany,
+        Rule::TieKey,
+    ];
+    first_broken(alloc, &globals, &rules, sayings, sections)
+}
+
+/// The first rule that a program breaks by what it declares, in the order of the rules' numbers, with the
+/// first line where it does (`refusal`); None where it keeps them all.
+///
+/// # Errors
+/// `AllocError` where memory is refused.
+pub fn refusal(alloc: Global, program: &Program) -> Result<Option<Broken>, AllocError>
+    ensures { IfOk result (λ b. b ≡ refusal (view_program program.now)) }
+{
+    let sayings = sayings_of(alloc, program)?;
+    refusal_of(alloc, &sayings, &program.sections)
+}

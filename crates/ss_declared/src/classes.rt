@@ -1,0 +1,77 @@
+//! The classes of attributes, and of the members of sets.
+
+ghost use Rattle.std.specs.Prelude.{◌≡◌, ◌++◌, ◌∷◌, [], List, OnOk, IfOk};
+ghost use Rattle.ss_sayings.specs.declared.saying.Saying.{Saying};
+ghost use Rattle.ss_declared.specs.Classes.{kept_of, class_kept, AreClasses, KeepsClass};
+
+use crate::topic::{Thing, Topic, class_in, is_about, thing_of};
+use indexmap::IndexMap;
+use ss_lex::Name;
+use ss_sayings::Saying;
+use std::alloc::{AllocError, Global};
+
+/// The class of each of some things.
+#[derive(Drop)]
+pub struct Classes {
+    map: IndexMap<Thing, Option<Name>>,
+}
+
+impl Classes {
+    fn new(alloc: Global) -> Classes
+        ensures { result.map.entries ≡ [] }
+    {
+        Classes {
+            map: IndexMap::new(alloc),
+        }
+    }
+
+    fn find(&self, thing: &Thing) -> Option<Option<Name>>
+        ensures { result ≡ kept_of self.now thing.now }
+    {
+        self.map.get(thing).copied()
+    }
+
+    /// The class of a thing, where it has one.
+    pub fn class(&self, thing: Thing) -> Option<Name>
+        ensures { result ≡ class_kept (kept_of self.now thing) }
+    {
+        match self.find(&thing) {
+            None => None,
+            Some(class) => class,
+        }
+    }
+
+    /// Keeps the class of a thing, unless one is kept.
+    fn add(&mut self, thing: Thing, class: Option<Name>) -> Result<(), AllocError>
+        ensures { OnOk result (KeepsClass thing class self.old self.new) }
+    {
+        match self.find(&thing) {
+            None => {
+                self.map.insert(thing, class)?;
+            }
+            Some(_) => {}
+        }
+        Ok(())
+    }
+
+    /// Keeps the class that a saying tells, where it is about this.
+    fn note(&mut self, topic: Topic, saying: &Saying) -> Result<(), AllocError>
+        ensures { OnOk result ((says : List Saying) → AreClasses topic says self.old → AreClasses topic (says ++ saying.now ∷ []) self.new) }
+    {
+        if is_about(topic, &saying.said) {
+            self.add(thing_of(saying), class_in(&saying.said))?;
+        }
+        Ok(())
+    }
+}
+
+/// The classes that sayings about this tell, each the first.
+pub fn classes_said(alloc: Global, topic: Topic, sayings: &[Saying]) -> Result<Classes, AllocError>
+    ensures { IfOk result (λ classes. AreClasses topic sayings.now classes) }
+{
+    let mut classes = Classes::new(alloc);
+    for saying in sayings {
+        classes.note(topic, saying)?;
+    }
+    Ok(classes)
+}

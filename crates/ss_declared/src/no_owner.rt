@@ -1,0 +1,18 @@
+//! A set with members has an owner.
+
+ghost use Rattle.std.specs.Prelude.{◌≡◌, IfOk};
+ghost use Rattle.ss_declared.specs.Lines.{first_line};
+ghost use Rattle.ss_declared.specs.NoOwner.{no_owner};
+
+use crate::missing::missing;
+use crate::topic::Topic;
+use ss_base::Line;
+use ss_sayings::Saying;
+use std::alloc::{AllocError, Global};
+
+/// The first line of an EVERY that may belong to what nobody owns.
+pub fn no_owner(alloc: Global, sayings: &[Saying]) -> Result<Option<Line>, AllocError>
+    ensures { IfOk result (λ line. line ≡ first_line (no_owner sayings.now)) }
+{
+    missing(alloc, Topic::Member, Topic::Owner, sayings, None)
+}

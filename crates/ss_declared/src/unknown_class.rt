@@ -1,0 +1,20 @@
+//! PRIORITY ORDER and BREAK name classes of event notices.
+
+ghost use Rattle.std.specs.Prelude.{◌≡◌, IfOk};
+ghost use Rattle.ss_declared.specs.Lines.{first_line};
+ghost use Rattle.ss_declared.specs.UnknownClass.{unknown_class};
+
+use crate::missing::missing;
+use crate::topic::Topic;
+use ss_base::Line;
+use ss_sayings::Saying;
+use std::alloc::{AllocError, Global};
+
+/// The first line of a PRIORITY ORDER or a BREAK with what is no class of event notices.
+pub fn unknown_class(alloc: Global, sayings: &[Saying]) -> Result<Option<Line>, AllocError>
+    ensures { IfOk result (λ line. line ≡ first_line (unknown_class sayings.now)) }
+{
+    let priority = missing(alloc, Topic::Priority, Topic::Notice, sayings, None)?;
+    let ties = missing(alloc, Topic::Ties, Topic::Notice, sayings, priority)?;
+    Ok(ties)
+}

@@ -1,0 +1,2 @@
+pub mod WholeOf
+pub mod Examples

@@ -1,0 +1,108 @@
+//! What names mean by what they stand for in the table.
+
+ghost use Rattle.std.specs.Prelude.{◌≡◌, slice_get};
+ghost use Rattle.std.specs.Map.{keys_of, values_of};
+ghost use Rattle.ss_globals.specs.WholeOf.{attribute_meaning, attribute_of_class, class_meaning, derived_meaning, field_mode, meaning_by, mode_of_attribute, variable_meaning};
+
+use crate::holders::{membership_holder, set_holder, statistic_holder};
+use ss_base::Mode as ValueMode;
+use ss_lex::Name;
+use ss_names::{Attribute, Derived, Meaning as Numbered, Names};
+use ss_scopes::{Meaning, value_mode};
+use ss_tree::preamble::Mode;
+
+// The global variable of this number.
+fn variable_meaning(names: &Names, variable: usize) -> Option<Meaning>
+    ensures { result ≡ variable_meaning (slice_get (values_of names.now.variables) variable) }
+{
+    match names.variable(variable) {
+        Some(variable) => Some(Meaning::Variable(value_mode(Some(variable.mode)))),
+        None => None,
+    }
+}
+
+// The class of this number.
+fn class_meaning(names: &Names, class: usize) -> Option<Meaning>
+    ensures { result ≡ class_meaning (slice_get (values_of names.now.classes) class) }
+{
+    match names.class(class) {
+        Some(class) => Some(Meaning::Class(class.kind)),
+        None => None,
+    }
+}
+
+// An attribute of this mode of the class of this number.
+fn attribute_of_class(names: &Names, mode: Option<Mode>, class: usize) -> Option<Meaning>
+    ensures { result ≡ attribute_of_class mode (slice_get (keys_of names.now.classes) class) }
+{
+    match names.class_name(class) {
+        Some(class) => Some(Meaning::Attribute {
+            class,
+            mode: value_mode(mode),
+        }),
+        None => None,
+    }
+}
+
+// The attribute of this number.
+fn attribute_meaning(names: &Names, attribute: usize) -> Option<Meaning>
+    ensures { result ≡ attribute_meaning names.now (slice_get (values_of names.now.attributes) attribute) }
+{
+    match names.attribute(attribute) {
+        Some(attribute) => attribute_of_class(names, attribute.mode, attribute.class),
+        None => None,
+    }
+}
+
+// A derived name of the set of this number.
+fn derived_meaning(names: &Names, derived: Derived, set: usize) -> Meaning
+    ensures { result ≡ derived_meaning names.now derived set }
+{
+    match derived {
+        Derived::MemberCount => Meaning::MemberCount(set_holder(names, set)),
+        Derived::FirstMember | Derived::LastMember => {
+            Meaning::Membership(set_holder(names, set))
+        }
+        Derived::Predecessor | Derived::Successor | Derived::Membership => {
+            Meaning::Membership(membership_holder(names, set))
+        }
+    }
+}
+
+// What a name means by what it stands for.
+pub(crate) fn meaning_by(names: &Names, stands: Numbered) -> Option<Meaning>
+    ensures { result ≡ meaning_by names.now stands }
+{
+    match stands {
+        Numbered::Variable(variable) => variable_meaning(names, variable),
+        Numbered::Class { class, .. } => class_meaning(names, class),
+        Numbered::Count { .. } => Some(Meaning::EntityCount),
+        Numbered::Attribute(attribute) => attribute_meaning(names, attribute),
+        Numbered::Set(set) => Some(Meaning::Set(set_holder(names, set))),
+        Numbered::Derived { derived, set } => Some(derived_meaning(names, derived, set)),
+        Numbered::Statistic(statistic) => {
+            Some(Meaning::Statistic(statistic_holder(names, statistic)))
+        }
+        Numbered::Routine(_) => Some(Meaning::Routine),
+    }
+}
+
+// The mode of an attribute.
+fn mode_of_attribute(attribute: Option<Attribute>) -> ValueMode
+    ensures { result ≡ mode_of_attribute attribute }
+{
+    match attribute {
+        Some(attribute) => value_mode(attribute.mode),
+        None => ValueMode::Integer,
+    }
+}
+
+// The mode of an attribute by its name.
+pub(crate) fn field_mode(names: &Names, name: &Name) -> ValueMode
+    ensures { result ≡ field_mode names.now name.now }
+{
+    match names.attribute_number(name) {
+        Some(attribute) => mode_of_attribute(names.attribute(attribute)),
+        None => ValueMode::Integer,
+    }
+}

@@ -1,0 +1,5 @@
+pub mod Rooms
+mod Fields
+mod Short
+mod Once
+mod Placed

@@ -1,0 +1,24 @@
+use Rattle.std.proofs.Common.{◌≡◌, Bool, List, [], map, ap, ◌∙◌}
+use Rattle.std.proofs.Math.Path.{fun_ext}
+use Rattle.ss_tree.specs.declared.program.Section.{Section}
+use Rattle.ss_tree.specs.View.{view_program, view_section}
+use Rattle.ss_walk.specs.Mentions.{NameBytes}
+use Rattle.ss_uses.specs.Events.{event_names, lacks_event}
+use Rattle.ss_uses.specs.Once.{with_names}
+use Rattle.ss_uses.specs.Refusal.{first_broken, lines_in, rules_in_order}
+use Rattle.ss_uses.specs.Seen.{uses_seen}
+use Rattle.ss_uses.specs.Uses.{Uses, uses_of}
+use Rattle.ss_uses.proofs.Naming.{lacks_once}
+use Rattle.ss_uses.proofs.checking.refusal.Goals as goal
+
+pub returns : goal.returns
+returns g c =
+    let w = g.G.Globals.whole c.args.globals.now in
+    let p = view_program c.args.program.now in
+    let lacks : lacks_event c.in_ok-events.events.keys ≡ lacks_event (event_names p.sections) =
+    ap lacks_event (c.in_ok-events.ensures ∙ ap (λ (l : List Section). with_names [] (event_names (map view_section l))) c.deref.ensures.value) ∙
+    fun_ext (lacks_once (event_names p.sections)) in
+    let uses : map uses_seen c.deref-3.result.now ≡ map (uses_of w) p.sections =
+    ap (map uses_seen) c.deref-3.ensures.value ∙ c.in_ok-all.ensures ∙ ap (λ (l : List Section). map (uses_of w) (map view_section l)) c.deref-2.ensures.value in
+    c.first_broken.ensures ∙ ap (λ (l : NameBytes → Bool). first_broken (lines_in w p l (map uses_seen c.deref-3.result.now)) rules_in_order) lacks ∙
+    ap (λ (us : List Uses). first_broken (lines_in w p (lacks_event (event_names p.sections)) us) rules_in_order) uses

@@ -1,0 +1,13 @@
+pub mod Lines
+pub mod Uses
+pub mod Seen
+pub mod Once
+pub mod Events
+pub mod Unknown
+pub mod Subscripts
+pub mod Targets
+pub mod Arguments
+pub mod Modes
+pub mod Fields
+pub mod Refusal
+pub mod Examples

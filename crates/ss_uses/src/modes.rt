@@ -1,0 +1,146 @@
+//! Values of two modes, and texts where numbers have to be.
+
+ghost use Rattle.std.specs.Prelude.{◌≡◌};
+ghost use Rattle.ss_scopes.specs.Meanings.{meaning_in};
+ghost use Rattle.ss_uses.specs.Modes.{are_two, aspect_mode, class_implied, class_mode, differ, held_by, known_class, known_mode, mixes, mode_in, mode_of};
+
+use ss_base::Mode;
+use ss_demands::{Aspect, Demand};
+use ss_lex::Name;
+use ss_scopes::{Globals, Holder, Locals, Meaning, meaning_in};
+
+// The mode of what a name means. None for a set and a routine.
+fn mode_of(meaning: &Meaning) -> Option<Mode>
+    ensures { result ≡ mode_of meaning.now }
+{
+    match meaning {
+        Meaning::Local(mode) | Meaning::Variable(mode) | Meaning::Attribute { mode, .. } => {
+            Some(*mode)
+        }
+        Meaning::Class(_)
+        | Meaning::MemberCount(_)
+        | Meaning::Membership(_)
+        | Meaning::EntityCount
+        | Meaning::Statistic(_) => Some(Mode::Integer),
+        Meaning::Set(_) | Meaning::Routine => None,
+    }
+}
+
+// The mode of what a name means in the whole program.
+pub(crate) fn global_mode<G: Globals>(globals: &G, name: Name) -> Option<Mode>
+    ensures { result ≡ known_mode ((G.whole globals.now).meanings name) }
+{
+    match globals.meaning_of(name) {
+        Some(meaning) => mode_of(&meaning),
+        None => None,
+    }
+}
+
+// The mode of what a name means in a section.
+fn mode_in<G: Globals>(globals: &G, locals: &Locals, name: Name) -> Option<Mode>
+    ensures { result ≡ mode_in (G.whole globals.now) locals.now name }
+{
+    match meaning_in(globals, locals, name) {
+        Some(meaning) => mode_of(&meaning),
+        None => None,
+    }
+}
+
+// The class whose entities have it.
+fn held_by(holder: &Holder) -> Option<Name>
+    ensures { result ≡ held_by holder.now }
+{
+    match holder {
+        Holder::Program => None,
+        Holder::Entity(class) => Some(*class),
+    }
+}
+
+// The class whose variable has the entity where no subscript is written.
+fn class_implied(meaning: &Meaning) -> Option<Name>
+    ensures { result ≡ class_implied meaning.now }
+{
+    match meaning {
+        Meaning::Attribute { class, .. } => Some(*class),
+        Meaning::Set(holder)
+        | Meaning::MemberCount(holder)
+        | Meaning::Membership(holder)
+        | Meaning::Statistic(holder) => held_by(holder),
+        Meaning::Local(_)
+        | Meaning::Variable(_)
+        | Meaning::Class(_)
+        | Meaning::EntityCount
+        | Meaning::Routine => None,
+    }
+}
+
+// The class that a name implies in a section.
+fn class_in<G: Globals>(globals: &G, locals: &Locals, name: Name) -> Option<Name>
+    ensures { result ≡ known_class (meaning_in (G.whole globals.now).meanings locals.now name) }
+{
+    match meaning_in(globals, locals, name) {
+        Some(meaning) => class_implied(&meaning),
+        None => None,
+    }
+}
+
+// The mode of the variable of the class that a name implies in a section.
+fn implied_mode<G: Globals>(globals: &G, locals: &Locals, name: Name) -> Option<Mode>
+    ensures { result ≡ class_mode (G.whole globals.now) locals.now (known_class (meaning_in (G.whole globals.now).meanings locals.now name)) }
+{
+    match class_in(globals, locals, name) {
+        Some(class) => mode_in(globals, locals, class),
+        None => None,
+    }
+}
+
+// The mode that an aspect is. None for a count.
+fn aspect_mode<G: Globals>(globals: &G, locals: &Locals, aspect: &Aspect) -> Option<Mode>
+    ensures { result ≡ aspect_mode (G.whole globals.now) locals.now aspect.now }
+{
+    match aspect {
+        Aspect::Integer => Some(Mode::Integer),
+        Aspect::Alpha => Some(Mode::Alpha),
+        Aspect::Named(name) => mode_in(globals, locals, *name),
+        Aspect::Implied(name) => implied_mode(globals, locals, *name),
+        Aspect::Given { routine, place } => globals.given_mode(*routine, *place),
+        Aspect::Yielded { routine, place } => globals.yielded_mode(*routine, *place),
+        Aspect::Attribute { class, number } => globals.attribute_mode(*class, *number),
+        Aspect::Count(_)
+        | Aspect::ArgumentCount(_)
+        | Aspect::GivenCount(_)
+        | Aspect::YieldedCount(_)
+        | Aspect::AttributeCount(_)
+        | Aspect::Fits(_) => None,
+    }
+}
+
+// Whether these are two modes.
+fn are_two(a: Mode, b: Mode) -> bool
+    ensures { result ≡ are_two a b }
+{
+    match (a, b) {
+        (Mode::Integer, Mode::Alpha) | (Mode::Alpha, Mode::Integer) => true,
+        (Mode::Integer, Mode::Integer) | (Mode::Alpha, Mode::Alpha) => false,
+    }
+}
+
+// Whether these are two modes, if there are any.
+pub(crate) fn differ(a: Option<Mode>, b: Option<Mode>) -> bool
+    ensures { result ≡ differ a b }
+{
+    match (a, b) {
+        (Some(a), Some(b)) => are_two(a, b),
+        _ => false,
+    }
+}
+
+// Whether a demand joins two modes.
+pub(crate) fn mixes<G: Globals>(globals: &G, locals: &Locals, demand: &Demand) -> bool
+    ensures { result ≡ mixes (G.whole globals.now) locals.now demand.now }
+{
+    differ(
+        aspect_mode(globals, locals, &demand.found),
+        aspect_mode(globals, locals, &demand.wanted),
+    )
+}

@@ -1,0 +1,104 @@
+//! The rules in sections.
+
+ghost use Rattle.std.specs.Prelude.{◌≡◌, map};
+ghost use Rattle.std.specs.List.{flat_map};
+ghost use Rattle.ss_uses.specs.Lines.{demand_lines, first_of, mention_lines};
+ghost use Rattle.ss_uses.specs.Refusal.{demand_breaks, in_section, mention_breaks};
+ghost use Rattle.ss_uses.specs.Seen.{uses_seen};
+
+use crate::arguments::miscounts;
+use crate::events::is_misplaced;
+use crate::fields::misfits;
+use crate::lines::line_if;
+use crate::modes::mixes;
+use crate::rule::Rule;
+use crate::subscripts::has_wrong_subscripts;
+use crate::targets::is_not_assignable;
+use crate::unknown::is_unknown;
+use crate::uses::SectionUses;
+use ss_base::Line;
+use ss_demands::Demand;
+use ss_scopes::Globals;
+use ss_walk::Mention;
+
+// Whether a mention in a section breaks a rule.
+fn mention_breaks<G: Globals>(
+    globals: &G,
+    rule: Rule,
+    uses: &SectionUses,
+    mention: &Mention,
+) -> bool
+    ensures { result ≡ mention_breaks rule (G.whole globals.now) (uses_seen uses.now) mention.now }
+{
+    match rule {
+        Rule::StartPlace => is_misplaced(uses, mention),
+        Rule::Unknown => is_unknown(globals, &uses.locals, mention),
+        Rule::Subscript => has_wrong_subscripts(globals, &uses.locals, mention),
+        Rule::NotAssignable => is_not_assignable(globals, &uses.locals, mention),
+        _ => false,
+    }
+}
+
+// The line of the first mention in a section that breaks a rule.
+fn first_mention<G: Globals>(globals: &G, rule: Rule, uses: &SectionUses) -> Option<Line>
+    ensures { result ≡ first_of (mention_lines (mention_breaks rule (G.whole globals.now) (uses_seen uses.now)) uses.now.mentions.items) }
+{
+    let mut found = None;
+    for mention in &uses.mentions {
+        let is_broken = mention_breaks(globals, rule, uses, mention);
+        found = found.or(line_if(is_broken, mention.line));
+    }
+    found
+}
+
+// Whether a demand of a section breaks a rule.
+fn demand_breaks<G: Globals>(globals: &G, rule: Rule, uses: &SectionUses, demand: &Demand) -> bool
+    ensures { result ≡ demand_breaks rule (G.whole globals.now) (uses_seen uses.now) demand.now }
+{
+    match rule {
+        Rule::Arguments => miscounts(globals, demand),
+        Rule::Mode => mixes(globals, &uses.locals, demand),
+        Rule::Fields => misfits(demand),
+        _ => false,
+    }
+}
+
+// The line of the first demand of a section that breaks a rule.
+fn first_demand<G: Globals>(globals: &G, rule: Rule, uses: &SectionUses) -> Option<Line>
+    ensures { result ≡ first_of (demand_lines (demand_breaks rule (G.whole globals.now) (uses_seen uses.now)) uses.now.demands.items) }
+{
+    let mut found = None;
+    for demand in &uses.demands {
+        let is_broken = demand_breaks(globals, rule, uses, demand);
+        found = found.or(line_if(is_broken, demand.line));
+    }
+    found
+}
+
+// The first line in which a section breaks a rule.
+pub(crate) fn first_in_section<G: Globals>(
+    globals: &G,
+    rule: Rule,
+    uses: &SectionUses,
+) -> Option<Line>
+    ensures { result ≡ first_of (in_section rule (G.whole globals.now) (uses_seen uses.now)) }
+{
+    let mentioned = first_mention(globals, rule, uses);
+    let demanded = first_demand(globals, rule, uses);
+    mentioned.or(demanded)
+}
+
+// The first line in which some sections break a rule.
+pub(crate) fn first_in_sections<G: Globals>(
+    globals: &G,
+    rule: Rule,
+    all: &[SectionUses],
+) -> Option<Line>
+    ensures { result ≡ first_of (flat_map (in_section rule (G.whole globals.now)) (map uses_seen all.now)) }
+{
+    let mut found = None;
+    for uses in all {
+        found = found.or(first_in_section(globals, rule, uses));
+    }
+    found
+}

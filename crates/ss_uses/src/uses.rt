@@ -1,0 +1,63 @@
+//! What the rules look at in a section.
+
+ghost use Rattle.std.specs.Prelude.{◌≡◌, map, IfOk};
+ghost use Rattle.ss_tree.specs.View.{view_kind, view_section};
+ghost use Rattle.ss_uses.specs.Seen.{uses_seen};
+ghost use Rattle.ss_uses.specs.Uses.{is_main, uses_of};
+
+use ss_demands::{Demand, demands_of};
+use ss_scopes::{Globals, Locals};
+use ss_tree::program::{Section, SectionKind};
+use ss_walk::{Mention, mentions_of};
+use std::alloc::{AllocError, Global};
+
+// Whether it is MAIN, its local variables, what it mentions and what it demands.
+#[derive(Drop)]
+pub(crate) struct SectionUses {
+    pub(crate) in_main: bool,
+    pub(crate) locals: Locals,
+    pub(crate) mentions: Vec<Mention>,
+    pub(crate) demands: Vec<Demand>,
+}
+
+// Whether a section is MAIN.
+pub(crate) fn is_main(kind: &SectionKind) -> bool
+    ensures { result ≡ is_main (view_kind kind.now) }
+{
+    matches!(kind, SectionKind::Main)
+}
+
+// The uses of a section.
+fn section_uses<G: Globals>(
+    alloc: Global,
+    globals: &G,
+    section: &Section,
+) -> Result<SectionUses, AllocError>
+    ensures { IfOk result (λ u. uses_seen u ≡ uses_of (G.whole globals.now) (view_section section.now)) }
+{
+    let locals = Locals::of(alloc, globals, section)?;
+    let mentions = mentions_of(alloc, section)?;
+    let demands = demands_of(alloc, section)?;
+    Ok(SectionUses {
+        in_main: is_main(&section.kind),
+        locals,
+        mentions,
+        demands,
+    })
+}
+
+// The uses of some sections.
+pub(crate) fn all_uses<G: Globals>(
+    alloc: Global,
+    globals: &G,
+    sections: &[Section],
+) -> Result<Vec<SectionUses>, AllocError>
+    ensures { IfOk result (λ all. map uses_seen all.items ≡ map (uses_of (G.whole globals.now)) (map view_section sections.now)) }
+{
+    let mut all = Vec::new(alloc);
+    for section in sections {
+        let one = section_uses(alloc, globals, section)?;
+        all.push(one)?;
+    }
+    Ok(all)
+}
