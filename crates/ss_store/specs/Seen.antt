@@ -1,0 +1,129 @@
+-- What is seen of a scene, and what is said of an operation on it.
+use Rattle.std.specs.Prelude.{◌≡◌, ℕ, slice_get, List, [], map, length, ℤ, pos, Option, Some, None, Result, Ok, Err}
+use Rattle.std.specs.Option.{option_map}
+use Rattle.ss_base.specs.declared.fault.FaultKind.TheVariants.{Scheduled}
+use Rattle.ss_base.specs.declared.layout.ClassKind.{ClassKind}
+use Rattle.ss_base.specs.declared.layout.Mode.{Mode}
+use Rattle.ss_base.specs.declared.layout.SetLayout.{SetLayout}
+use Rattle.ss_base.specs.Plain.{PlainClass, PlainLayout}
+use Rattle.ss_base.specs.declared.layout.Discipline.{Discipline}
+use Rattle.ss_base.specs.declared.value.Value.{Value}
+use Rattle.ss_base.specs.declared.value.Value.TheVariants.{Whole}
+use Rattle.ss_records.specs.State.{State, Record, modes_of, assigned, destroyed}
+use Rattle.ss_events.specs.PendingList.{PendingList, is_pending, cancelled}
+use Rattle.ss_meaning.specs.Values.{Trouble as Meant, Fails, Misfit as IsMisfit, if_ok, turned, due, where_fit, unless_fault}
+use Rattle.ss_meaning.specs.Store.{Notices, Store, with_heap, with_pending}
+use Rattle.ss_meaning.specs.Histories.{noted}
+use Rattle.ss_meaning.specs.Entities.{class_at, field_at, is_single}
+use Rattle.ss_meaning.specs.Places.{is_of_mode}
+use Rattle.ss_meaning.specs.Sets.{is_one}
+use Rattle.ss_records.specs.Sets.{next_in, previous_in, owner_of_member}
+use Rattle.ss_program.specs.declared.expression.MemberQuery.{MemberQuery}
+use Rattle.ss_program.specs.declared.expression.MemberQuery.TheVariants.{Predecessor, Successor, Membership}
+use Rattle.ss_program.specs.declared.sections.Subject.TheVariants.{OfAttribute}
+use Rattle.ss_store.specs.declared.known.Known.{Known}
+use Rattle.ss_store.specs.declared.trouble.Trouble.{Trouble}
+use Rattle.ss_store.specs.declared.trouble.Trouble.TheVariants.{Fault, Misfit}
+use Rattle.ss_store.specs.declared.trouble.Unmade.{Unmade}
+use Rattle.ss_store.specs.declared.trouble.Unmade.TheVariants as unmade
+
+-- what a program says of each set and of each class of notices, the entities, the time, and the notices that are pending
+pub record Seen : Type 0 where
+  pub disciplines : List Discipline
+  pub notices : List Notices
+  pub heap : State
+  pub time : ℤ
+  pub pending : PendingList
+
+-- a store with all of that, in a program without statistics
+abbrev pub with_seen : Store → Seen → Store
+with_seen s e = record s {
+  scene = record {
+    setting = record { disciplines = e.disciplines; notices = e.notices; statistics = [] };
+    heap = e.heap;
+    time = e.time;
+    pending = e.pending;
+    histories = [];
+    input = s.scene.input;
+  };
+}
+
+-- a trouble, as the meaning tells it, and an answer
+abbrev pub meant : Trouble → Meant
+meant (Fault kind) = Fails kind
+meant Misfit = IsMisfit
+
+abbrev pub told : {A : Type 0} → Result A Trouble → Result A Meant
+told (Ok a) = Ok a
+told (Err t) = Err (meant t)
+
+-- the number of what was looked at
+abbrev pub numbered : Result Known Trouble → Result ℤ Trouble
+numbered (Ok k) = Ok k.number
+numbered (Err t) = Err t
+
+-- an operation looks: in each store with what is seen it has this answer
+abbrev pub Looks : {A : Type 0} → (Store → Result A Meant) → Seen → Result A Trouble → Type 0
+Looks f e answer = (s : Store) → f (with_seen s e) ≡ told answer
+
+-- an operation changes what is seen, or comes to a trouble and changes nothing
+abbrev pub Changes : (Store → Result Store Meant) → (old new : Seen) → Result (Unit {0}) Trouble → Type 0
+Changes f old new (Ok u) = (s : Store) → f (with_seen s old) ≡ Ok (with_seen s new)
+Changes f old new (Err t) = ((s : Store) → f (with_seen s old) ≡ told {A = Store} (Err t)) × (new ≡ old)
+
+-- the same of one that gives a value as well
+abbrev pub Gains : {A : Type 0} → (Store → Result (A × Store) Meant) → (old new : Seen) → Result A Trouble → Type 0
+Gains f old new (Ok a) = (s : Store) → f (with_seen s old) ≡ Ok (a, with_seen s new)
+Gains {A} f old new (Err t) = ((s : Store) → f (with_seen s old) ≡ told {A = A × Store} (Err t)) × (new ≡ old)
+
+-- the same of one that needs memory, where want of it changes nothing
+abbrev pub Makes : {A : Type 0} → (Store → Result (A × Store) Meant) → (old new : Seen) → Result A Unmade → Type 0
+Makes f old new (Ok a) = (s : Store) → f (with_seen s old) ≡ Ok (a, with_seen s new)
+Makes {A} f old new (Err (unmade.Fault kind)) = ((s : Store) → f (with_seen s old) ≡ told {A = A × Store} (Err (Fault kind))) × (new ≡ old)
+Makes {A} f old new (Err unmade.Misfit) = ((s : Store) → f (with_seen s old) ≡ told {A = A × Store} (Err Misfit)) × (new ≡ old)
+Makes f old new (Err unmade.Memory) = new ≡ old
+
+-- how many entities a permanent class has, where they are made
+abbrev pub count_of : Option (List Record) → Option ℤ
+count_of None = None
+count_of (Some rs) = Some (pos (length rs))
+
+abbrev pub counts_of : List (Option (List Record)) → List (Option ℤ)
+counts_of ps = map count_of ps
+
+-- the kind of a class, and the mode of a field
+abbrev pub kind_at : PlainLayout → ℕ → Option ClassKind
+kind_at l class = option_map (λ c. c.kind) (slice_get l.classes class)
+
+abbrev pub mode_at : PlainLayout → ℕ → ℕ → Option Mode
+mode_at l class field = slice_get (modes_of l class) field
+
+-- a class of a layout
+abbrev pub class_in : PlainLayout → ℕ → Option PlainClass
+class_in l class = slice_get l.classes class
+
+-- a set of a layout
+abbrev pub set_in : PlainLayout → ℕ → Option SetLayout
+set_in l set = slice_get l.sets set
+
+-- what an assignment does once the number of the entity is known
+abbrev pub assigned_field : (class field : ℕ) → (number : ℤ) → Value → Store → Result Store Meant
+assigned_field class field n v s =
+    where_fit (is_of_mode v (field_at class field s))
+    (if_ok (due (assigned s.scene.heap class field n v)) (λ h. noted (OfAttribute class field) n v (with_heap s h)))
+
+-- what DESTROY does once the number of the entity is known
+abbrev pub gone_unless_pending : (class : ℕ) → (number : ℤ) → Store → Result Store Meant
+gone_unless_pending class n s =
+    unless_fault (is_pending n s.scene.pending.entries) Scheduled
+    (where_fit (is_single (class_at class s)) (turned (with_heap s) (due (destroyed s.scene.heap class n))))
+
+-- what CANCEL does once the number of the notice is known
+abbrev pub cancelled_known : (number : ℤ) → Store → Result Store Meant
+cancelled_known n s = turned (with_pending s) (due (cancelled n s.scene.pending))
+
+-- what is asked of a member, once its number is known
+abbrev pub told_of_member : MemberQuery → State → (set : ℕ) → (number : ℤ) → Result Value Meant
+told_of_member Predecessor h set n = turned Whole (due (previous_in h set n))
+told_of_member Successor h set n = turned Whole (due (next_in h set n))
+told_of_member Membership h set n = turned (λ o. Whole (is_one o)) (due (owner_of_member h set n))

@@ -1,0 +1,221 @@
+//! Entities: references, attributes, how many of a class there are, creating and destroying.
+
+ghost use Rattle.std.specs.Prelude.{◌≡◌, is_some, pos};
+ghost use Rattle.ss_records.specs.State.{value_in};
+ghost use Rattle.ss_meaning.specs.Entities.{field_at, is_single, entity, attribute, time_of, made_count, made_one, gone, without};
+ghost use Rattle.ss_meaning.specs.Events.{with_time};
+ghost use Rattle.ss_meaning.specs.Store.{Store as StoreSeen};
+ghost use Rattle.ss_meaning.specs.Values.{where_fit, due};
+ghost use Rattle.ss_meaning.specs.Places.{is_of_mode, assigned_attribute};
+ghost use Rattle.ss_store.specs.Seen.{Looks, Changes, Makes, told, class_in, kind_at, mode_at, assigned_field, gone_unless_pending, numbered, with_seen};
+
+use crate::known::Known;
+use crate::scene::Scene;
+use crate::trouble::{Trouble, Unmade, number_of};
+use ss_base::{ClassKind, FaultKind, Mode, Refused, Value};
+
+impl Scene {
+    // The kind of a class, where the layout has it.
+    fn kind(&self, class: u32) -> Option<ClassKind>
+        ensures { result ≡ kind_at self.now.heap.layout class }
+    {
+        match self.population.layout().classes.get(class as usize) {
+            None => None,
+            Some(class) => Some(class.kind),
+        }
+    }
+
+    // The mode of a field, where the layout has it.
+    fn mode(&self, class: u32, field: u32) -> Option<Mode>
+        ensures { result ≡ mode_at self.now.heap.layout class field }
+    {
+        let class = self.population.layout().classes.get(class as usize)?;
+        class.fields.get(field as usize).copied()
+    }
+
+    // The entity of a class that a value refers to.
+    pub(crate) fn find(&self, class: u32, x: Value) -> Result<Known, Trouble>
+        ensures { Looks (entity class x) self.now (numbered result) }
+    {
+        let number = number_of(x)?;
+        if self.kind(class).is_none() {
+            return Err(Trouble::Misfit);
+        }
+        match self.population.known(class as usize, number) {
+            Ok(()) => Ok(Known { number }),
+            Err(kind) => Err(Trouble::Fault(kind)),
+        }
+    }
+
+    /// The number of an entity of a class that a value refers to. Faults: 1 to 5.
+    pub fn entity(&self, class: u32, x: Value) -> Result<i64, Trouble>
+        ensures { Looks (entity class x) self.now result }
+    {
+        match self.find(class, x) {
+            Ok(known) => Ok(known.number),
+            Err(trouble) => Err(trouble),
+        }
+    }
+
+    // The value of an attribute of an entity by its number, where the layout has the field.
+    fn field_value(&self, class: u32, field: u32, known: Known) -> Result<Value, Trouble>
+        ensures { (s : StoreSeen) → where_fit (is_some (field_at class field (with_seen s self.now))) (due (value_in self.now.heap class field known.number)) ≡ told result }
+    {
+        if self.mode(class, field).is_none() {
+            return Err(Trouble::Misfit);
+        }
+        match self
+            .population
+            .value(class as usize, field as usize, known.number)
+        {
+            Ok(value) => Ok(value),
+            Err(kind) => Err(Trouble::Fault(kind)),
+        }
+    }
+
+    /// The value of an attribute. Faults: 1 to 5.
+    pub fn attribute(&self, class: u32, field: u32, x: Value) -> Result<Value, Trouble>
+        ensures { Looks (attribute class field x) self.now result }
+    {
+        let known = self.find(class, x)?;
+        self.field_value(class, field, known)
+    }
+
+    /// TIME.A of a notice. Faults: 1 to 4.
+    pub fn time_of(&self, x: Value) -> Result<Value, Trouble>
+        ensures { Looks (time_of x) self.now result }
+    {
+        let number = number_of(x)?;
+        match self.population.time_a(number) {
+            Ok(time) => Ok(Value::Whole(time)),
+            Err(kind) => Err(Trouble::Fault(kind)),
+        }
+    }
+
+    /// How many entities a permanent class has: 0 until they are made.
+    pub fn made_count(&self, class: u32) -> i64
+        ensures { (s : StoreSeen) → pos (made_count class (with_seen s self.now)) ≡ result }
+    {
+        self.population.count(class as usize)
+    }
+
+    // Whether a value has the mode of a field that the layout has.
+    fn fits(&self, class: u32, field: u32, value: &Value) -> bool
+        ensures { result ≡ is_of_mode value.now (mode_at self.now.heap.layout class field) }
+    {
+        match self.mode(class, field) {
+            None => false,
+            Some(Mode::Integer) => matches!(value, Value::Whole(_)),
+            Some(Mode::Alpha) => matches!(value, Value::Text(_)),
+        }
+    }
+
+    // Assigns a value to an attribute of an entity by its number, where it has the mode of the field.
+    fn set_field(
+        &mut self,
+        class: u32,
+        field: u32,
+        known: Known,
+        value: Value,
+    ) -> Result<(), Trouble>
+        ensures { Changes (assigned_field class field known.number value) self.old self.new result }
+    {
+        if !self.fits(class, field, &value) {
+            return Err(Trouble::Misfit);
+        }
+        match self
+            .population
+            .set_value(class as usize, field as usize, known.number, value)
+        {
+            Ok(()) => Ok(()),
+            Err(kind) => Err(Trouble::Fault(kind)),
+        }
+    }
+
+    /// Assigns a value to an attribute. Faults: 1 to 5.
+    pub fn set_attribute(
+        &mut self,
+        class: u32,
+        field: u32,
+        x: Value,
+        value: Value,
+    ) -> Result<(), Trouble>
+        ensures { Changes (assigned_attribute class field x value) self.old self.new result }
+    {
+        let known = self.find(class, x)?;
+        self.set_field(class, field, known, value)
+    }
+
+    // Whether the entities of a class come and go one by one.
+    fn is_single(&self, class: u32) -> bool
+        ensures { result ≡ is_single (class_in self.now.heap.layout class) }
+    {
+        match self.population.layout().classes.get(class as usize) {
+            None => false,
+            Some(class) => class.kind != ClassKind::Permanent,
+        }
+    }
+
+    /// The number of a new entity of a class. Faults: 14 after the last number.
+    pub fn create(&mut self, class: u32) -> Result<Value, Unmade>
+        ensures { Makes (made_one class) self.old self.new result }
+    {
+        if !self.is_single(class) {
+            return Err(Unmade::Misfit);
+        }
+        match self.population.create(class as usize) {
+            Ok(number) => Ok(Value::Whole(number)),
+            Err(Refused::Fault(kind)) => Err(Unmade::Fault(kind)),
+            Err(Refused::Memory) => Err(Unmade::Memory),
+        }
+    }
+
+    /// An entity goes, whether or not it is pending. Faults: 1 to 4, then 9 and 10.
+    pub fn remove_entity(&mut self, class: u32, x: Value) -> Result<(), Trouble>
+        ensures { Changes (gone class x) self.old self.new result }
+    {
+        let number = number_of(x)?;
+        if !self.is_single(class) {
+            return Err(Trouble::Misfit);
+        }
+        match self.population.destroy(class as usize, number) {
+            Ok(()) => Ok(()),
+            Err(kind) => Err(Trouble::Fault(kind)),
+        }
+    }
+
+    /// Sets TIME.A of a notice. Faults: 1 to 4.
+    pub fn set_time(&mut self, x: Value, time: i64) -> Result<(), Trouble>
+        ensures { Changes (with_time x time) self.old self.new result }
+    {
+        let number = number_of(x)?;
+        match self.population.set_time_a(number, time) {
+            Ok(()) => Ok(()),
+            Err(kind) => Err(Trouble::Fault(kind)),
+        }
+    }
+
+    // An entity goes by its number, unless it is pending.
+    fn destroy_known(&mut self, class: u32, known: Known) -> Result<(), Trouble>
+        ensures { Changes (gone_unless_pending class known.number) self.old self.new result }
+    {
+        if self.pending.is_scheduled(known.number) {
+            return Err(Trouble::Fault(FaultKind::Scheduled));
+        }
+        if !self.is_single(class) {
+            return Err(Trouble::Misfit);
+        }
+        match self.population.destroy(class as usize, known.number) {
+            Ok(()) => Ok(()),
+            Err(kind) => Err(Trouble::Fault(kind)),
+        }
+    }
+
+    /// An entity goes, as DESTROY says. Faults: 1 to 4, then 21, then 9 and 10.
+    pub fn destroy(&mut self, class: u32, x: Value) -> Result<(), Trouble>
+        ensures { Changes (without class x) self.old self.new result }
+    {
+        let known = self.find(class, x)?;
+        self.destroy_known(class, known)
+    }
+}

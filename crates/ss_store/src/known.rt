@@ -1,0 +1,24 @@
+//! Numbers that were looked at.
+
+ghost use Rattle.std.specs.Prelude.{◌≡◌};
+ghost use Rattle.ss_meaning.specs.Values.{number_of as number_meant};
+ghost use Rattle.ss_store.specs.Seen.{told, numbered};
+
+use crate::trouble::{Trouble, number_of};
+use ss_base::Value;
+
+/// The number of an entity, or of the owner of a set, that was looked at.
+#[derive(Clone, Copy)]
+pub(crate) struct Known {
+    pub(crate) number: i64,
+}
+
+/// The number that a value is.
+pub(crate) fn known_number(value: Value) -> Result<Known, Trouble>
+    ensures { told (numbered result) ≡ number_meant value }
+{
+    match number_of(value) {
+        Ok(number) => Ok(Known { number }),
+        Err(trouble) => Err(trouble),
+    }
+}

@@ -1,0 +1,38 @@
+//! Time, and the notices that are pending.
+
+ghost use Rattle.std.specs.Prelude.{◌≡◌};
+ghost use Rattle.ss_meaning.specs.Events.{clock, unscheduled};
+ghost use Rattle.ss_meaning.specs.Store.{Store as StoreSeen};
+ghost use Rattle.ss_store.specs.Seen.{Changes, cancelled_known, with_seen};
+
+use crate::known::Known;
+use crate::scene::Scene;
+use crate::trouble::Trouble;
+use ss_base::Value;
+
+impl Scene {
+    /// TIME.V.
+    pub fn clock(&self) -> Value
+        ensures { (s : StoreSeen) → clock (with_seen s self.now) ≡ result }
+    {
+        Value::Whole(self.time)
+    }
+
+    // A notice is pending no longer, by its number.
+    fn cancel_known(&mut self, known: Known) -> Result<(), Trouble>
+        ensures { Changes (cancelled_known known.number) self.old self.new result }
+    {
+        match self.pending.cancel(known.number) {
+            Ok(()) => Ok(()),
+            Err(kind) => Err(Trouble::Fault(kind)),
+        }
+    }
+
+    /// A notice is pending no longer, as CANCEL says. It stays, and so does its TIME.A. Faults: 1 to 4, then 12.
+    pub fn cancel(&mut self, class: u32, x: Value) -> Result<(), Trouble>
+        ensures { Changes (unscheduled class x) self.old self.new result }
+    {
+        let known = self.find(class, x)?;
+        self.cancel_known(known)
+    }
+}

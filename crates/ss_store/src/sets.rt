@@ -1,0 +1,127 @@
+//! Sets: whose they are, and what is asked of them.
+
+ghost use Rattle.std.specs.Prelude.{◌≡◌, ◌<◌, length, is_some, IsTrue};
+ghost use Rattle.ss_base.specs.declared.value.Value.TheVariants.{Whole};
+ghost use Rattle.ss_meaning.specs.Sets.{told_of_set, owner_number, of_set, of_member};
+ghost use Rattle.ss_meaning.specs.Values.{due, turned, where_fit};
+ghost use Rattle.ss_store.specs.Seen.{Looks, told, numbered, set_in, told_of_member};
+
+use crate::known::{Known, known_number};
+use crate::scene::Scene;
+use crate::trouble::{Trouble, number_of};
+use ss_base::{FaultKind, Owner, Value};
+use ss_program::expression::{MemberQuery, SetQuery};
+
+impl Scene {
+    // Whether the layout has a set.
+    fn has_set(&self, set: u32) -> bool
+        ensures value { result ≡ is_some (set_in self.now.heap.layout set) }
+        ensures within { IsTrue result → set < length self.now.heap.layout.sets }
+    {
+        (set as usize) < self.population.layout().sets.len()
+    }
+
+    // The owner of a set, 0 for the system, by who owns the sets of its name.
+    fn owner(&self, set: u32, owner: Option<Value>) -> Result<Known, Trouble>
+        ensures { Looks (owner_number set owner) self.now (numbered result) }
+    {
+        match self.population.layout().sets.get(set as usize) {
+            None => Err(Trouble::Misfit),
+            Some(layout) => match layout.owner {
+                Owner::System => match owner {
+                    None => Ok(Known { number: 0 }),
+                    Some(_) => Err(Trouble::Misfit),
+                },
+                Owner::Class(_) => match owner {
+                    None => Err(Trouble::Misfit),
+                    Some(x) => {
+                        let number = number_of(x)?;
+                        Ok(Known { number })
+                    }
+                },
+            },
+        }
+    }
+
+    // What is asked of the set of an owner by its number, where the layout has the set.
+    fn asked(&mut self, query: SetQuery, set: u32, known: Known) -> Result<Value, Trouble>
+        ensures value { where_fit (is_some (set_in self.old.heap.layout set)) (turned Whole (due (told_of_set query self.old.heap set known.number))) ≡ told result }
+        ensures same { self.new ≡ self.old }
+    {
+        if !self.has_set(set) {
+            return Err(Trouble::Misfit);
+        }
+        let answer = match query {
+            SetQuery::FirstMember => self.population.first(set as usize, known.number),
+            SetQuery::LastMember => self.population.last(set as usize, known.number),
+            SetQuery::MemberCount => self.population.member_count(set as usize, known.number),
+        };
+        match answer {
+            Ok(number) => Ok(Value::Whole(number)),
+            Err(kind) => Err(Trouble::Fault(kind)),
+        }
+    }
+
+    /// F., L. or N. of the set of an owner. Faults: 1 to 5.
+    pub fn of_set(
+        &mut self,
+        query: SetQuery,
+        set: u32,
+        owner: Option<Value>,
+    ) -> Result<Value, Trouble>
+        ensures value { Looks (of_set query set owner) self.old result }
+        ensures same { self.new ≡ self.old }
+    {
+        match self.owner(set, owner) {
+            Ok(known) => self.asked(query, set, known),
+            Err(trouble) => Err(trouble),
+        }
+    }
+
+    // What is asked of a member by its number, where the layout has the set.
+    fn asked_of_member(
+        &mut self,
+        query: MemberQuery,
+        set: u32,
+        known: Known,
+    ) -> Result<Value, Trouble>
+        ensures value { where_fit (is_some (set_in self.old.heap.layout set)) (told_of_member query self.old.heap set known.number) ≡ told result }
+        ensures same { self.new ≡ self.old }
+    {
+        if !self.has_set(set) {
+            return Err(Trouble::Misfit);
+        }
+        match query {
+            MemberQuery::Predecessor => told_number(
+                self.population.previous(set as usize, known.number),
+            ),
+            MemberQuery::Successor => told_number(self.population.next(set as usize, known.number)),
+            MemberQuery::Membership => match self.population.owner_in(set as usize, known.number) {
+                Ok(Some(_)) => Ok(Value::Whole(1)),
+                Ok(None) => Ok(Value::Whole(0)),
+                Err(kind) => Err(Trouble::Fault(kind)),
+            },
+        }
+    }
+
+    /// P., S. or M. of a member. Faults: 1 to 5.
+    pub fn of_member(&mut self, query: MemberQuery, set: u32, x: Value) -> Result<Value, Trouble>
+        ensures value { Looks (of_member query set x) self.old result }
+        ensures same { self.new ≡ self.old }
+    {
+        match known_number(x) {
+            Ok(known) => self.asked_of_member(query, set, known),
+            Err(trouble) => Err(trouble),
+        }
+    }
+}
+
+// A number that was asked for.
+fn told_number(answer: Result<i64, FaultKind>) -> Result<Value, Trouble>
+    ensures { turned Whole (due answer) ≡ told result }
+{
+    match answer {
+        Ok(number) => Ok(Value::Whole(number)),
+        Err(kind) => Err(Trouble::Fault(kind)),
+    }
+}
