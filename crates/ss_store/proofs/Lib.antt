@@ -1,3 +1,4 @@
 pub mod Counting
 pub mod Changing
 pub mod Asking
+pub mod Creating

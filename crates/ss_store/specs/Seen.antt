@@ -2,6 +2,8 @@
 use Rattle.std.specs.Prelude.{◌≡◌, ℕ, slice_get, List, [], map, length, ℤ, pos, Option, Some, None, Result, Ok, Err}
 use Rattle.std.specs.Option.{option_map}
 use Rattle.ss_base.specs.declared.fault.FaultKind.TheVariants.{Scheduled}
+use Rattle.ss_base.specs.declared.fault.Refused.{Refused}
+use Rattle.ss_base.specs.declared.fault.Refused.TheVariants as refusals
 use Rattle.ss_base.specs.declared.layout.ClassKind.{ClassKind}
 use Rattle.ss_base.specs.declared.layout.Mode.{Mode}
 use Rattle.ss_base.specs.declared.layout.SetLayout.{SetLayout}
@@ -9,12 +11,12 @@ use Rattle.ss_base.specs.Plain.{PlainClass, PlainLayout}
 use Rattle.ss_base.specs.declared.layout.Discipline.{Discipline}
 use Rattle.ss_base.specs.declared.value.Value.{Value}
 use Rattle.ss_base.specs.declared.value.Value.TheVariants.{Whole}
-use Rattle.ss_records.specs.State.{State, Record, modes_of, assigned, destroyed}
+use Rattle.ss_records.specs.State.{State, Record, modes_of, assigned, created_all, destroyed}
 use Rattle.ss_events.specs.PendingList.{PendingList, is_pending, cancelled}
 use Rattle.ss_meaning.specs.Values.{Trouble as Meant, Fails, Misfit as IsMisfit, if_ok, turned, due, where_fit, unless_fault}
 use Rattle.ss_meaning.specs.Store.{Notices, Store, with_heap, with_pending}
 use Rattle.ss_meaning.specs.Histories.{noted}
-use Rattle.ss_meaning.specs.Entities.{class_at, field_at, is_single}
+use Rattle.ss_meaning.specs.Entities.{class_at, field_at, is_single, is_permanent, with_all}
 use Rattle.ss_meaning.specs.Places.{is_of_mode}
 use Rattle.ss_meaning.specs.Sets.{is_one}
 use Rattle.ss_records.specs.Sets.{next_in, previous_in, owner_of_member}
@@ -83,6 +85,19 @@ Makes {A} f old new (Err (unmade.Fault kind)) = ((s : Store) → f (with_seen s 
 Makes {A} f old new (Err unmade.Misfit) = ((s : Store) → f (with_seen s old) ≡ told {A = A × Store} (Err Misfit)) × (new ≡ old)
 Makes f old new (Err unmade.Memory) = new ≡ old
 
+-- and of one that gives no value
+abbrev pub Grows : (Store → Result Store Meant) → (old new : Seen) → Result (Unit {0}) Unmade → Type 0
+Grows f old new (Ok u) = (s : Store) → f (with_seen s old) ≡ Ok (with_seen s new)
+Grows f old new (Err (unmade.Fault kind)) = ((s : Store) → f (with_seen s old) ≡ told {A = Store} (Err (Fault kind))) × (new ≡ old)
+Grows f old new (Err unmade.Misfit) = ((s : Store) → f (with_seen s old) ≡ told {A = Store} (Err Misfit)) × (new ≡ old)
+Grows f old new (Err unmade.Memory) = new ≡ old
+
+-- what a call that needs memory comes to
+abbrev pub settled : Result (Unit {0}) Refused → Result (Unit {0}) Unmade
+settled (Ok u) = Ok u
+settled (Err (refusals.Fault kind)) = Err (unmade.Fault kind)
+settled (Err refusals.Memory) = Err unmade.Memory
+
 -- how many entities a permanent class has, where they are made
 abbrev pub count_of : Option (List Record) → Option ℤ
 count_of None = None
@@ -127,3 +142,7 @@ abbrev pub told_of_member : MemberQuery → State → (set : ℕ) → (number : 
 told_of_member Predecessor h set n = turned Whole (due (previous_in h set n))
 told_of_member Successor h set n = turned Whole (due (next_in h set n))
 told_of_member Membership h set n = turned (λ o. Whole (is_one o)) (due (owner_of_member h set n))
+
+-- what CREATE EVERY does once the number of entities is known
+abbrev pub created_all_known : (class : ℕ) → (number : ℤ) → Store → Result Store Meant
+created_all_known class n s = where_fit (is_permanent (class_at class s)) (turned (with_all class s) (due (created_all s.scene.heap class n)))

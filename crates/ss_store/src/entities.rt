@@ -2,12 +2,12 @@
 
 ghost use Rattle.std.specs.Prelude.{◌≡◌, is_some, pos};
 ghost use Rattle.ss_records.specs.State.{value_in};
-ghost use Rattle.ss_meaning.specs.Entities.{field_at, is_single, entity, attribute, time_of, made_count, made_one, gone, without};
+ghost use Rattle.ss_meaning.specs.Entities.{field_at, is_single, is_permanent, entity, attribute, time_of, made_count, made_one, gone, without};
 ghost use Rattle.ss_meaning.specs.Events.{with_time};
 ghost use Rattle.ss_meaning.specs.Store.{Store as StoreSeen};
 ghost use Rattle.ss_meaning.specs.Values.{where_fit, due};
 ghost use Rattle.ss_meaning.specs.Places.{is_of_mode, assigned_attribute};
-ghost use Rattle.ss_store.specs.Seen.{Looks, Changes, Makes, told, class_in, kind_at, mode_at, assigned_field, gone_unless_pending, numbered, with_seen};
+ghost use Rattle.ss_store.specs.Seen.{Looks, Changes, Makes, Grows, settled, created_all_known, told, class_in, kind_at, mode_at, assigned_field, gone_unless_pending, numbered, with_seen};
 
 use crate::known::Known;
 use crate::scene::Scene;
@@ -217,5 +217,36 @@ impl Scene {
     {
         let known = self.find(class, x)?;
         self.destroy_known(class, known)
+    }
+
+    // Whether the entities of a class are made all together.
+    fn is_permanent(&self, class: u32) -> bool
+        ensures { result ≡ is_permanent (class_in self.now.heap.layout class) }
+    {
+        match self.population.layout().classes.get(class as usize) {
+            None => false,
+            Some(class) => class.kind == ClassKind::Permanent,
+        }
+    }
+
+    /// All entities of a permanent class, so many. Faults: 18 where they are made, then 22 for a bad count.
+    pub fn create_all(&mut self, class: u32, count: i64) -> Result<(), Unmade>
+        ensures { Grows (created_all_known class count) self.old self.new result }
+    {
+        if !self.is_permanent(class) {
+            return Err(Unmade::Misfit);
+        }
+        settled(self.population.create_all(class as usize, count))
+    }
+}
+
+// What a call that needs memory comes to.
+fn settled(answer: Result<(), Refused>) -> Result<(), Unmade>
+    ensures { result ≡ settled answer }
+{
+    match answer {
+        Ok(()) => Ok(()),
+        Err(Refused::Fault(kind)) => Err(Unmade::Fault(kind)),
+        Err(Refused::Memory) => Err(Unmade::Memory),
     }
 }

@@ -1,5 +1,7 @@
 //! Classes of notices.
 
+ghost use Rattle.std.specs.Prelude.{◌≡◌};
+
 use ss_base::{Line, RankKeys};
 use std::marker::Model;
 
@@ -20,4 +22,25 @@ impl Model for NoticeClass {
     ghost Value = { Notices };
 
     ghost view = { λ n. record { class = n.class; ties = n.ties; line = n.line; given = n.given; saved = n.saved } };
+}
+
+impl NoticeClass {
+    /// What a program says of a class of notices.
+    pub fn new(
+        class: u32,
+        ties: RankKeys,
+        line: Line,
+        given: usize,
+        saved: Option<u32>,
+    ) -> NoticeClass
+        ensures { result ≡ record { class = class; ties = ties; line = line; given = given; saved = saved } }
+    {
+        NoticeClass {
+            class,
+            ties,
+            line,
+            given,
+            saved,
+        }
+    }
 }

@@ -2,7 +2,8 @@
 
 ghost use Rattle.std.specs.Prelude.{◌≡◌, ◌<◌, length, is_some, IsTrue};
 ghost use Rattle.ss_base.specs.declared.value.Value.TheVariants.{Whole};
-ghost use Rattle.ss_meaning.specs.Sets.{told_of_set, owner_number, of_set, of_member};
+ghost use Rattle.ss_meaning.specs.Sets.{told_of_set, owner_number, of_set, of_member, is_none, is_empty};
+ghost use Rattle.ss_records.specs.Sets.{count_in};
 ghost use Rattle.ss_meaning.specs.Values.{due, turned, where_fit};
 ghost use Rattle.ss_store.specs.Seen.{Looks, told, numbered, set_in, told_of_member};
 
@@ -78,6 +79,31 @@ impl Scene {
         }
     }
 
+    // Whether the set of an owner has no member, by the owner's number, where the layout has the set.
+    fn is_empty_known(&mut self, set: u32, known: Known) -> Result<bool, Trouble>
+        ensures value { where_fit (is_some (set_in self.old.heap.layout set)) (turned is_none (due (count_in self.old.heap set known.number))) ≡ told result }
+        ensures same { self.new ≡ self.old }
+    {
+        if !self.has_set(set) {
+            return Err(Trouble::Misfit);
+        }
+        match self.population.member_count(set as usize, known.number) {
+            Ok(count) => Ok(is_none(count)),
+            Err(kind) => Err(Trouble::Fault(kind)),
+        }
+    }
+
+    /// Whether the set of an owner has no member. Faults: 1 to 5.
+    pub fn is_empty(&mut self, set: u32, owner: Option<Value>) -> Result<bool, Trouble>
+        ensures value { Looks (is_empty set owner) self.old result }
+        ensures same { self.new ≡ self.old }
+    {
+        match self.owner(set, owner) {
+            Ok(known) => self.is_empty_known(set, known),
+            Err(trouble) => Err(trouble),
+        }
+    }
+
     // What is asked of a member by its number, where the layout has the set.
     fn asked_of_member(
         &mut self,
@@ -114,6 +140,13 @@ impl Scene {
             Err(trouble) => Err(trouble),
         }
     }
+}
+
+// Whether a number is no member.
+fn is_none(number: i64) -> bool
+    ensures { result ≡ is_none number }
+{
+    number == 0
 }
 
 // A number that was asked for.

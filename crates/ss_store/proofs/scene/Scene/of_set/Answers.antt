@@ -1,17 +1,10 @@
-use Rattle.std.proofs.Common.{◌≡◌, true, Option, Some, None, Ok, refl, ap, sym, ◌∙◌}
-use Rattle.std.specs.Prelude.{ℤ, is_some}
-use Rattle.ss_base.specs.declared.value.Value.{Value}
+use Rattle.std.proofs.Common.{ap, sym, ◌∙◌}
 use Rattle.ss_base.specs.declared.value.Value.TheVariants.{Whole}
-use Rattle.ss_base.specs.declared.layout.SetLayout.{SetLayout}
-use Rattle.ss_meaning.specs.Sets.{told_of_set, owner_by}
+use Rattle.ss_meaning.specs.Sets.{told_of_set}
 use Rattle.ss_meaning.specs.Values.{if_ok, due, turned, where_fit}
 use Rattle.ss_store.specs.Seen.{set_in}
+use Rattle.ss_store.proofs.Asking.{owned_there}
 use Rattle.ss_store.proofs.scene.Scene.of_set.Goals as goal
-
--- a set whose owner is known is there
-owned_there : (t : Option SetLayout) (o : Option Value) (n : ℤ) → owner_by t o ≡ Ok n → is_some t ≡ true
-owned_there None o n e = absurd cc
-owned_there (Some t) o n e = refl
 
 pub returns-in-Ok-clause-value : goal.returns-in-Ok-clause-value
 returns-in-Ok-clause-value c = λ s.
