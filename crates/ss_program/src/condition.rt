@@ -1,0 +1,53 @@
+//! Conditions.
+
+use crate::expression::{Expression, SetOwner};
+
+/// How two values compare: numbers by their size, texts by their bytes.
+#[derive(Clone, Copy, PartialEq, Eq, Debug)]
+pub enum Relation {
+    Equal,
+    NotEqual,
+    Less,
+    Greater,
+    LessOrEqual,
+    GreaterOrEqual,
+}
+
+/// A test, which holds or does not.
+#[derive(Drop)]
+pub enum Test {
+    Compare {
+        relation: Relation,
+        left: Expression,
+        right: Expression,
+    },
+    /// Whether no word of input is left or, if negated, whether one is.
+    DataEnded {
+        negated: bool,
+    },
+    /// Whether a set has no member or, if negated, whether it has one.
+    Empty {
+        negated: bool,
+        set: u32,
+        owner: SetOwner,
+    },
+    /// Whether an entity is in a set or, if negated, whether it is not.
+    Member {
+        negated: bool,
+        set: u32,
+        member: Expression,
+        owner: SetOwner,
+    },
+}
+
+/// Tests joined by AND.
+#[derive(Drop)]
+pub struct Conjunction {
+    pub tests: Vec<Test>,
+}
+
+/// Conjunctions joined by OR.
+#[derive(Drop)]
+pub struct Condition {
+    pub alternatives: Vec<Conjunction>,
+}

@@ -1,0 +1,148 @@
+//! Expressions, and what is asked in them.
+
+use ss_base::Value;
+
+/// A variable: a global one by its number among all of them, or a local one by its number in its
+/// routine.
+#[derive(Clone, Copy, PartialEq, Eq, Debug)]
+pub enum Variable {
+    Global { number: u32 },
+    Local { number: u32 },
+}
+
+/// The sign before a term, and whether a statement adds or subtracts.
+#[derive(Clone, Copy, PartialEq, Eq, Debug)]
+pub enum Sign {
+    Plus,
+    Minus,
+}
+
+/// What makes one whole number of two.
+#[derive(Clone, Copy, PartialEq, Eq, Debug)]
+pub enum Operator {
+    Add,
+    Subtract,
+    Multiply,
+    /// DIV.F
+    Quotient,
+    /// MOD.F
+    Remainder,
+    /// MIN.F
+    Least,
+    /// MAX.F
+    Greatest,
+}
+
+/// What is asked of a set.
+#[derive(Clone, Copy, PartialEq, Eq, Debug)]
+pub enum SetQuery {
+    /// F.: the first member; 0 where there is none.
+    FirstMember,
+    /// L.: the last member; 0 where there is none.
+    LastMember,
+    /// N.: how many members there are.
+    MemberCount,
+}
+
+/// What is asked of a member about the set of a name that it is in.
+#[derive(Clone, Copy, PartialEq, Eq, Debug)]
+pub enum MemberQuery {
+    /// P.: the member before this one; 0 where there is none.
+    Predecessor,
+    /// S.: the member behind this one; 0 where there is none.
+    Successor,
+    /// M.: 1 for a member of any set of the name, and 0 for none.
+    Membership,
+}
+
+/// What is asked of a statistic.
+#[derive(Clone, Copy, PartialEq, Eq, Debug)]
+pub enum Fold {
+    Number,
+    Sum,
+    Maximum,
+    Minimum,
+}
+
+/// An operation, and the number on its right.
+#[cycle(expressions)]
+#[derive(Drop)]
+pub struct Operation {
+    pub operator: Operator,
+    pub operand: Expression,
+}
+
+/// What gives a value.
+#[cycle(expressions)]
+#[derive(Drop)]
+pub enum Expression {
+    Constant {
+        value: Value,
+    },
+    /// The value of a variable. N. of a permanent class is a global one.
+    Fetch {
+        variable: Variable,
+    },
+    /// The value of an attribute of an entity of a class.
+    Attribute {
+        class: u32,
+        field: u32,
+        of: Box<Expression>,
+    },
+    /// What is asked of THE SYSTEM's set.
+    OfSystemSet {
+        query: SetQuery,
+        set: u32,
+    },
+    /// What is asked of the set of an owner.
+    OfSet {
+        query: SetQuery,
+        set: u32,
+        owner: Box<Expression>,
+    },
+    /// What is asked of a member.
+    OfMember {
+        query: MemberQuery,
+        set: u32,
+        member: Box<Expression>,
+    },
+    /// TIME.V: the time of the simulation, in units.
+    Clock,
+    /// TIME.A: the time that a notice was last scheduled for, in units; 0 before.
+    TimeOf {
+        notice: Box<Expression>,
+    },
+    /// A statistic of a global variable, or of N. of THE SYSTEM's set.
+    Figure {
+        fold: Fold,
+        statistic: u32,
+    },
+    /// A statistic of an attribute of an entity, or of N. of the set of an owner.
+    FigureOf {
+        fold: Fold,
+        statistic: u32,
+        entity: Box<Expression>,
+    },
+    /// A term behind a sign.
+    Signed {
+        sign: Sign,
+        term: Box<Expression>,
+    },
+    /// ABS.F
+    Absolute {
+        argument: Box<Expression>,
+    },
+    /// A number and operations on it, worked off from left to right: a sum, a product, or a function of two
+    /// numbers.
+    Calculate {
+        first: Box<Expression>,
+        further: Vec<Operation>,
+    },
+}
+
+/// Whose set of a name is meant.
+#[derive(Drop)]
+pub enum SetOwner {
+    TheSystem,
+    Entity { entity: Expression },
+}

@@ -1,0 +1,10 @@
+//! The resolved program: each name is replaced by what it stands for, and nothing is implied.
+//!
+//! Every sequence is a `Vec`. Contracts see a program as the plain data of `specs/Program.antt`.
+#![tactic(auto)]
+
+pub mod condition;
+pub mod expression;
+pub mod head;
+pub mod sections;
+pub mod statement;

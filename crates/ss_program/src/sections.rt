@@ -1,0 +1,77 @@
+//! Programs and their parts.
+
+use crate::statement::{Counted, Statement};
+use ss_base::{Discipline, Layout, Line, Mode, RankKey};
+
+/// What a statistic is kept of.
+#[derive(Clone, Copy, PartialEq, Eq, Debug)]
+pub enum Subject {
+    /// A global variable.
+    OfVariable { number: u32 },
+    /// An attribute of the entities of a class.
+    OfAttribute { class: u32, field: u32 },
+    /// N. of the sets of a name.
+    OfCount { set: u32 },
+}
+
+/// Whether each value of a statistic's subject counts once, or by the time for which it stood.
+#[derive(Clone, Copy, PartialEq, Eq, Debug)]
+pub enum Weighting {
+    Tally,
+    Accumulate,
+}
+
+/// A statistic: what it is kept of, and how.
+#[derive(Clone, Copy, PartialEq, Eq, Debug)]
+pub struct Statistic {
+    pub subject: Subject,
+    pub weighting: Weighting,
+}
+
+/// A routine. Its local variables are numbered in this order: those that it is given, those that it
+/// yields, and the others.
+#[derive(Drop)]
+pub struct Routine {
+    pub given: Vec<Mode>,
+    pub yielding: Vec<Mode>,
+    pub others: Vec<Mode>,
+    pub body: Vec<Statement>,
+}
+
+/// A notice class and its event routine. The local variables of the routine are numbered in this order: those
+/// that it is given, which take the first attributes of the notice, and the others.
+#[derive(Drop)]
+pub struct Event {
+    pub class: u32,
+    /// The attributes that break ties between notices of the class at one time, the first of which counts most.
+    pub ties: Vec<RankKey>,
+    /// The line of the event routine.
+    pub line: Line,
+    pub given: Vec<Mode>,
+    pub others: Vec<Mode>,
+    /// The global variable that gets the number of the notice where it is saved. Else the notice is destroyed as
+    /// the routine begins.
+    pub saved: Option<u32>,
+    pub body: Vec<Statement>,
+}
+
+/// A program.
+#[derive(Drop)]
+pub struct Program {
+    /// Its classes and sets.
+    pub layout: Layout,
+    /// The discipline of each set.
+    pub disciplines: Vec<Discipline>,
+    /// The mode of each global variable.
+    pub globals: Vec<Mode>,
+    /// N. of each permanent class.
+    pub counts: Vec<Counted>,
+    pub statistics: Vec<Statistic>,
+    pub routines: Vec<Routine>,
+    /// The notice classes, in the order in which they come at one time.
+    pub events: Vec<Event>,
+    /// The mode of each local variable of MAIN.
+    pub locals: Vec<Mode>,
+    /// The statements of MAIN.
+    pub main: Vec<Statement>,
+}
