@@ -1,0 +1,10 @@
+//! Each name of a program replaced by what it stands for.
+#![tactic(auto)]
+
+mod error;
+mod meaning;
+mod names;
+mod words;
+
+pub use error::ResolveError;
+pub use meaning::{ClassMeant, Meaning, RoutineMeant, SetMeant};
