@@ -37,31 +37,39 @@ abbrev pub entity_of : Variable → Option Expression → Expression
 entity_of implied None = Fetch implied
 entity_of implied (Some e) = e
 
--- the value of what is named, with the subscript if there is one; None where it may have none, or must have one
+-- what takes no subscript
+abbrev pub plain : {A : Type 0} → Option Expression → A → Option A
+plain None x = Some x
+plain (Some e) x = None
+
+-- TIME.A, which takes a subscript
+abbrev pub time_of : Option Expression → Option Expression
+time_of None = None
+time_of (Some e) = Some (TimeOf e)
+
+-- the value of what is named, with the subscript if there is one
 abbrev pub value_of : Meaning → Option Expression → Option Expression
-value_of (meanings.Variable x mode) None = Some (Fetch x)
-value_of (meanings.Count n) None = Some (Fetch (Global n.variable))
+value_of (meanings.Variable x mode) e = plain e (Fetch x)
+value_of (meanings.Count n) e = plain e (Fetch (Global n.variable))
 value_of (meanings.Attribute class field mode implied) e = Some (Attribute class field (entity_of implied e))
-value_of (meanings.OfSystemSet query set) None = Some (OfSystemSet query set)
+value_of (meanings.OfSystemSet query set) e = plain e (OfSystemSet query set)
 value_of (meanings.OfSet query set implied) e = Some (OfSet query set (entity_of implied e))
 value_of (meanings.OfMember query set implied) e = Some (OfMember query set (entity_of implied e))
-value_of (meanings.Figure fold statistic) None = Some (Figure fold statistic)
+value_of (meanings.Figure fold statistic) e = plain e (Figure fold statistic)
 value_of (meanings.FigureOf fold statistic implied) e = Some (FigureOf fold statistic (entity_of implied e))
-value_of meanings.Clock None = Some Clock
-value_of meanings.NoticeTime (Some e) = Some (TimeOf e)
-value_of _ _ = None
+value_of meanings.Clock e = plain e Clock
+value_of meanings.NoticeTime e = time_of e
 
 -- a target: a variable, an attribute or N. of a class
 abbrev pub place_of : Meaning → Option Expression → Option Place
-place_of (meanings.Variable x mode) None = Some (ToVariable x)
-place_of (meanings.Count n) None = Some (ToCount n)
+place_of (meanings.Variable x mode) e = plain e (ToVariable x)
+place_of (meanings.Count n) e = plain e (ToCount n)
 place_of (meanings.Attribute class field mode implied) e = Some (ToAttribute class field (entity_of implied e))
-place_of _ _ = None
+place_of _ e = None
 
 -- a set, and whose it is
 abbrev pub owned_by : SetMeant → Option Expression → Option (ℕ × SetOwner)
-owned_by (OfSystem set) None = Some (set, TheSystem)
-owned_by (OfSystem set) (Some e) = None
+owned_by (OfSystem set) e = plain e (set, TheSystem)
 owned_by (OfEntity set implied) e = Some (set, Entity (entity_of implied e))
 
 -- ---- expressions

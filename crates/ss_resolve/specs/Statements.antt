@@ -20,7 +20,7 @@ use Rattle.ss_resolve.specs.declared.meaning.Meaning.TheVariants as meanings
 use Rattle.ss_resolve.specs.declared.meaning.RoutineMeant.{RoutineMeant}
 use Rattle.ss_resolve.specs.Answers.{◌>>=◌, each, if_there}
 use Rattle.ss_resolve.specs.Contexts.{Context, single_class, notice_class, counted}
-use Rattle.ss_resolve.specs.Expressions.{entity_of, expression, subscript, target, set_named}
+use Rattle.ss_resolve.specs.Expressions.{entity_of, plain, expression, subscript, target, set_named}
 use Rattle.ss_resolve.specs.Conditions.{condition}
 use Rattle.ss_resolve.specs.Heads.{phrase, guard, phrases_of, head}
 
@@ -68,11 +68,11 @@ entity_called c variable (Some e) = expression c e
 
 -- whose statistic of what is named starts afresh: None for that of a global variable or of N. of THE SYSTEM's set
 abbrev pub told_of : Meaning → Option Expression → Option (Option Expression)
-told_of (meanings.Variable (Global n) mode) None = Some None
+told_of (meanings.Variable (Global n) mode) e = plain e None
 told_of (meanings.Attribute class field mode implied) e = Some (Some (entity_of implied e))
-told_of (meanings.OfSystemSet query set) None = Some None
+told_of (meanings.OfSystemSet query set) e = plain e None
 told_of (meanings.OfSet query set implied) e = Some (Some (entity_of implied e))
-told_of _ _ = None
+told_of _ e = None
 
 abbrev pub restart : Context → NamedTree → Option Restart
 restart c n = do
@@ -157,21 +157,21 @@ module _ (c : Context) where
     statement (start_simulation line) = Some Simulate
     statement (if_statement line test first second) = do
       tests ← condition c test
-      then ← statements first
-      otherwise ← statements second
-      Some (If line tests then otherwise)
+      a ← statements first
+      b ← statements second
+      Some (If line tests a b)
     statement (loop_statement line over row) = do
       body ← statements row
       loop line c over body
     statement (find_statement line over) = find line c over Done Done
     statement (find_if_statement line over outcomes.Found first second) = do
-      then ← statements first
-      otherwise ← statements second
-      find line c over then otherwise
+      a ← statements first
+      b ← statements second
+      find line c over a b
     statement (find_if_statement line over outcomes.None first second) = do
-      then ← statements first
-      otherwise ← statements second
-      find line c over otherwise then
+      a ← statements first
+      b ← statements second
+      find line c over b a
     statement (create_statement line name called) = do
       class ← single_class c name
       place ← new_place c class.variable called

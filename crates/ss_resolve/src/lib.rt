@@ -2,6 +2,7 @@
 #![tactic(auto)]
 
 mod error;
+mod expressions;
 mod meaning;
 mod names;
 mod words;
