@@ -31,4 +31,4 @@ names_classes classes set = owns_among classes set.owner && nat_lt set.member cl
 
 -- whether the classes that the sets of a layout name are its own
 abbrev pub is_sound : Layout → Bool
-is_sound layout = list_all (names_classes (length layout.classes.items)) layout.sets.items
+is_sound layout = list_all (names_classes (length layout.classes)) layout.sets

@@ -5,6 +5,7 @@ pub mod Faults
 pub mod Layout
 pub mod Memory
 pub mod Order
+pub mod Plain
 pub mod Plan
 pub mod Room
 pub mod Values

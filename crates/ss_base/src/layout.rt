@@ -1,8 +1,10 @@
-ghost use Rattle.std.specs.Prelude.{◌≡◌};
+ghost use Rattle.std.specs.Prelude.{◌≡◌, IfOk};
 ghost use Rattle.ss_base.specs.Layout.{first_value, is_sound, names_classes};
 
 use crate::alpha::Alpha;
 use crate::value::Value;
+use std::alloc::{AllocError, Global};
+use std::marker::Model;
 
 /// What a field, a variable or a value is: a whole number or a text.
 #[derive(Clone, Copy, PartialEq, Eq, Debug)]
@@ -35,10 +37,33 @@ pub enum ClassKind {
 }
 
 /// A class: its kind, and the mode of each of its fields, which are numbered from 0.
+///
+/// A contract sees it as plain data: two classes that say the same are equal.
 #[derive(Drop)]
 pub struct ClassLayout {
     pub kind: ClassKind,
     pub fields: Vec<Mode>,
+}
+
+impl Model for ClassLayout {
+    ghost use Rattle.ss_base.specs.Plain.{PlainClass};
+
+    ghost Value = { PlainClass };
+
+    ghost view = { λ c. record { kind = c.kind; fields = c.fields.items } };
+}
+
+impl ClassLayout {
+    /// A class that is equal, in memory of its own. The error comes where memory was refused.
+    pub fn copied(&self, alloc: Global) -> Result<ClassLayout, AllocError>
+        ensures { IfOk result (λ c. c ≡ self.now) }
+    {
+        let fields = Vec::from_slice(alloc, &self.fields)?;
+        Ok(ClassLayout {
+            kind: self.kind,
+            fields,
+        })
+    }
 }
 
 /// Who owns the sets of a name.
@@ -58,13 +83,32 @@ pub struct SetLayout {
 }
 
 /// The classes and the sets of a model. Both are numbered from 0.
+///
+/// A contract sees it as plain data: two layouts that say the same are equal.
 #[derive(Drop)]
 pub struct Layout {
     pub classes: Vec<ClassLayout>,
     pub sets: Vec<SetLayout>,
 }
 
+impl Model for Layout {
+    ghost use Rattle.ss_base.specs.Plain.{PlainLayout};
+
+    ghost Value = { PlainLayout };
+
+    ghost view = { λ l. record { classes = l.classes.items; sets = l.sets.items } };
+}
+
 impl Layout {
+    /// A layout that is equal, in memory of its own. The error comes where memory was refused.
+    pub fn copied(&self, alloc: Global) -> Result<Layout, AllocError>
+        ensures { IfOk result (λ l. l ≡ self.now) }
+    {
+        let classes = copied_classes(alloc, &self.classes)?;
+        let sets = Vec::from_slice(alloc, &self.sets)?;
+        Ok(Layout { classes, sets })
+    }
+
     /// Whether the classes that its sets name are among its classes.
     pub fn is_sound(&self) -> bool
         ensures { result ≡ is_sound self.now }
@@ -72,6 +116,18 @@ impl Layout {
         let classes = self.classes.len();
         self.sets.iter().all(|set| set.names_classes(classes))
     }
+}
+
+// Classes that are equal, one by one.
+fn copied_classes(alloc: Global, classes: &[ClassLayout]) -> Result<Vec<ClassLayout>, AllocError>
+    ensures { IfOk result (λ copies. copies.items ≡ classes.now) }
+{
+    let mut copies = Vec::new(alloc);
+    for class in classes {
+        let copy = class.copied(alloc)?;
+        copies.push(copy)?;
+    }
+    Ok(copies)
 }
 
 impl SetLayout {
@@ -94,13 +150,88 @@ pub struct RankKey {
     pub high: bool,
 }
 
+/// What a ranked set ranks its members by: the first key counts most.
+///
+/// A contract sees it as the list of its keys.
+#[derive(Drop)]
+pub struct RankKeys {
+    keys: Vec<RankKey>,
+}
+
+impl Model for RankKeys {
+    ghost use Rattle.std.specs.Prelude.{List};
+    ghost use Rattle.ss_base.specs.declared.layout.RankKey.{RankKey as Key};
+
+    ghost Value = { List Key };
+
+    ghost view = { λ r. r.keys.items };
+}
+
+impl RankKeys {
+    /// These keys, the first of which counts most.
+    pub fn new(keys: Vec<RankKey>) -> RankKeys
+        ensures { result ≡ keys.items }
+    {
+        RankKeys { keys }
+    }
+
+    /// The keys, from the one that counts most.
+    pub fn as_slice(&self) -> &[RankKey]
+        ensures { result.now ≡ self.now }
+    {
+        &self.keys
+    }
+
+    /// The same keys, in memory of their own. The error comes where memory was refused.
+    pub fn copied(&self, alloc: Global) -> Result<RankKeys, AllocError>
+        ensures { IfOk result (λ r. r ≡ self.now) }
+    {
+        let keys = Vec::from_slice(alloc, &self.keys)?;
+        Ok(RankKeys { keys })
+    }
+}
+
 /// Where FILE puts a member.
+///
+/// A contract sees it as plain data: two disciplines that say the same are equal.
 #[derive(Drop)]
 pub enum Discipline {
     /// Last.
     Fifo,
     /// First.
     Lifo,
-    /// Before the first member that ranks after it by these keys, the first of which counts most.
-    Ranked(Vec<RankKey>),
+    /// Before the first member that ranks after it by these keys.
+    Ranked(RankKeys),
+}
+
+impl Discipline {
+    /// A discipline that is equal, in memory of its own. The error comes where memory was refused.
+    pub fn copied(&self, alloc: Global) -> Result<Discipline, AllocError>
+        ensures { IfOk result (λ d. d ≡ self.now) }
+    {
+        match self {
+            Discipline::Fifo => Ok(Discipline::Fifo),
+            Discipline::Lifo => Ok(Discipline::Lifo),
+            Discipline::Ranked(keys) => {
+                let same = keys.copied(alloc)?;
+                Ok(Discipline::Ranked(same))
+            }
+        }
+    }
+}
+
+/// Disciplines that are equal, one by one, in memory of their own. The error comes where memory was
+/// refused.
+pub fn copied_disciplines(
+    alloc: Global,
+    disciplines: &[Discipline],
+) -> Result<Vec<Discipline>, AllocError>
+    ensures { IfOk result (λ copies. copies.items ≡ disciplines.now) }
+{
+    let mut copies = Vec::new(alloc);
+    for discipline in disciplines {
+        let copy = discipline.copied(alloc)?;
+        copies.push(copy)?;
+    }
+    Ok(copies)
 }

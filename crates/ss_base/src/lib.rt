@@ -17,7 +17,10 @@ pub use arithmetic::{div_f, minus, mod_f, plus, times};
 pub use counted::Counted;
 pub use fault::{FaultKind, Refused};
 pub use faulty::{Faulty, FaultyRead, FaultyWrite};
-pub use layout::{ClassKind, ClassLayout, Discipline, Layout, Mode, Owner, RankKey, SetLayout};
+pub use layout::{
+    ClassKind, ClassLayout, Discipline, Layout, Mode, Owner, RankKey, RankKeys, SetLayout,
+    copied_disciplines,
+};
 pub use line::Line;
 pub use memory::{MemoryRead, MemoryWrite, Trouble};
 pub use plan::Plan;

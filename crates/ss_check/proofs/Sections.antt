@@ -10,8 +10,7 @@ use Rattle.ss_resolved.specs.declared.resolved.Section.{Section}
 use Rattle.ss_resolved.specs.declared.resolved.Resolved.{Resolved}
 use Rattle.ss_tables.specs.declared.kind.Kind.{Kind}
 use Rattle.ss_tables.specs.Declarations.{NameBytes, kind_of}
-use Rattle.ss_tables.specs.Disciplines.{discipline_said}
-use Rattle.ss_tables.specs.Layouts.{shape_of, classes_laid, sets_laid}
+use Rattle.ss_tables.specs.Layouts.{classes_laid, sets_laid}
 use Rattle.ss_tables.specs.Tables.{kind_among}
 use Rattle.ss_rules.specs.declared.scope.Names.{Names}
 use Rattle.ss_tables.specs.declared.saying.Saying.{Saying}
@@ -74,7 +73,7 @@ pub map_twice : {A B C : Type 0} (f : B → C) (g : A → B) (xs : List A) → m
 map_twice f g [] = refl
 map_twice f g (x ∷ xs) = ap (λ l. f (g x) ∷ l) (map_twice f g xs)
 
-pub program_resolves : (p : ProgramTree) (n : Names) (r : Resolved) → AreNamesOf p n → map shape_of r.layout.classes.items ≡ classes_laid (kind_among n.tables.names) n.tables.usual n.tables.says → r.layout.sets.items ≡ sets_laid n.tables.says → map discipline_said r.disciplines.items ≡ n.tables.disciplines → r.globals.items ≡ map (mode_of_global (kind_among n.tables.names)) n.tables.globals → ResolveRoutines (context_in n) p.sections r.routines.items → ResolvesMain (context_in n) p.sections r.main → ResolvesProgram p r
+pub program_resolves : (p : ProgramTree) (n : Names) (r : Resolved) → AreNamesOf p n → r.layout.classes ≡ classes_laid (kind_among n.tables.names) n.tables.usual n.tables.says → r.layout.sets ≡ sets_laid n.tables.says → r.disciplines.items ≡ n.tables.disciplines → r.globals.items ≡ map (mode_of_global (kind_among n.tables.names)) n.tables.globals → ResolveRoutines (context_in n) p.sections r.routines.items → ResolvesMain (context_in n) p.sections r.main → ResolvesProgram p r
 program_resolves p n r h ls ss ds g rs m =
     let contexts : context_in n ≡ context_of p = fun_ext (λ s. same_context (scope_in n s) (scope_of p s) n.tables.says (sayings p) (scope_given p n s h) h.tables_are.says_is) in
     record {

@@ -55,8 +55,8 @@ use Rattle.ss_resolved.specs.declared.resolved.Section.{Section}
 use Rattle.ss_resolved.specs.declared.resolved.Resolved.{Resolved}
 use Rattle.ss_tables.specs.declared.kind.Kind.{Kind}
 use Rattle.ss_tables.specs.Declarations.{NameBytes, kind_of, globals}
-use Rattle.ss_tables.specs.Disciplines.{discipline_said, disciplines}
-use Rattle.ss_tables.specs.Layouts.{shape_of, classes_laid, sets_laid}
+use Rattle.ss_tables.specs.Disciplines.{disciplines}
+use Rattle.ss_tables.specs.Layouts.{classes_laid, sets_laid}
 use Rattle.ss_tables.specs.Modes.{usual_mode}
 use Rattle.ss_tables.specs.Sayings.{sayings}
 use Rattle.ss_tables.specs.Served.{served_form}
@@ -384,9 +384,9 @@ mode_of_global kind name = mode_of_kind (kind name)
 -- the program with each name replaced by what it stands for: its classes, its sets and how each is ordered, the modes of
 -- its global variables and its routines, each in the order of their numbers, and MAIN
 pub record ResolvesProgram (p : ProgramTree) (r : Resolved) : Type 0 where
-  pub classes_are : map shape_of r.layout.classes.items ≡ classes_laid (kind_of p) (usual_mode p.preamble) (sayings p)
-  pub sets_are : r.layout.sets.items ≡ sets_laid (sayings p)
-  pub disciplines_are : map discipline_said r.disciplines.items ≡ disciplines p
+  pub classes_are : r.layout.classes ≡ classes_laid (kind_of p) (usual_mode p.preamble) (sayings p)
+  pub sets_are : r.layout.sets ≡ sets_laid (sayings p)
+  pub disciplines_are : r.disciplines.items ≡ disciplines p
   pub globals_are : r.globals.items ≡ map (mode_of_global (kind_of p)) (globals p)
   pub routines_are : ResolveRoutines (context_of p) p.sections r.routines.items
   pub main_is : ResolvesMain (context_of p) p.sections r.main

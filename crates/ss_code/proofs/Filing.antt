@@ -23,7 +23,8 @@ use Rattle.ss_code.specs.declared.instruction.Instruction.TheVariants.{LookMembe
 use Rattle.ss_records.specs.State as S
 use Rattle.ss_records.specs.State.{State}
 use Rattle.ss_records.specs.Sets as R
-use Rattle.ss_code.specs.Orders.{Order, Queue, Stack, ByRank}
+use Rattle.ss_base.specs.declared.layout.Discipline.{Discipline}
+use Rattle.ss_base.specs.declared.layout.Discipline.TheVariants.{Fifo, Lifo, Ranked}
 use Rattle.ss_code.specs.Store.{Store, World, number_of, assigned}
 use Rattle.ss_code.specs.Entities.{if_so}
 use Rattle.ss_code.specs.Sets.{set_at, known_member, settle, filed_at_first, filed_at_last, filed_in_order, filed, filed_beside, removed_one, removed_at}
@@ -61,14 +62,14 @@ last_looks set x o s = twice (R.joiner s.heap set (number_of x)) (is_some (set_a
 removed_looks : (set : ℕ) → LooksFirst (removed_one set) set
 removed_looks set x o s = twice (R.joiner s.heap set (number_of x)) (is_some (set_at s.heap set)) _ s
 
-order_looks : (order : Option Order) (set : ℕ) → LooksFirst (filed_in_order order set) set
+order_looks : (order : Option Discipline) (set : ℕ) → LooksFirst (filed_in_order order set) set
 order_looks None set x o s = again (known_member set x s) _
-order_looks (Some Queue) set x o s = last_looks set x o s
-order_looks (Some Stack) set x o s = first_looks set x o s
-order_looks (Some (ByRank keys)) set x o s = again (known_member set x s) _
+order_looks (Some Fifo) set x o s = last_looks set x o s
+order_looks (Some Lifo) set x o s = first_looks set x o s
+order_looks (Some (Ranked keys)) set x o s = again (known_member set x s) _
 
 filed_looks : (f : Filing) (set : ℕ) → LooksFirst (filed f set) set
-filed_looks filings.ByDiscipline set x o s = order_looks (slice_get s.orders set) set x o s
+filed_looks filings.ByDiscipline set x o s = order_looks (slice_get s.disciplines set) set x o s
 filed_looks filings.First set x o s = first_looks set x o s
 filed_looks filings.Last set x o s = last_looks set x o s
 

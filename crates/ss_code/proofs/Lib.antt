@@ -17,5 +17,3 @@ pub mod Safety
 pub mod Guarded
 pub mod Secure
 pub mod Landing
-pub mod Alike
-pub mod Natural

@@ -17,7 +17,7 @@ use Rattle.ss_code.specs.Store.{Store, if_ok, number_of, fetched, assigned, comp
 
 -- the class of a number, where the layout has it
 abbrev pub class_at : State → ℕ → Option ClassLayout
-class_at h class = slice_get h.layout.classes.items class
+class_at h class = slice_get h.layout.classes class
 
 -- the mode of a field, where the layout has it
 abbrev pub field_at : State → ℕ → ℕ → Option Mode

@@ -1,5 +1,3 @@
-pub mod Layouts
-pub mod Orders
 pub mod Store
 pub mod Entities
 pub mod Sets

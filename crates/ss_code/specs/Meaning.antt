@@ -51,7 +51,7 @@ use Rattle.ss_input.specs.Words.{Given, is_ended, value_given}
 pub use Rattle.ss_code.specs.Store.{if_ok}
 use Rattle.ss_code.specs.Store.{Store, World, zero_value, number_of, fetched, assigned, computed, printed, related, step_of, is_within, item_after, empty_lines, fresh, yielded}
 use Rattle.ss_code.specs.Entities.{known, attribute, with_attribute, made_count, counted, made_one, made_all, without}
-use Rattle.ss_code.specs.Orders.{Order, orders_said}
+use Rattle.ss_base.specs.declared.layout.Discipline.{Discipline}
 use Rattle.ss_code.specs.Sets.{known_owner, known_member, asked, is_empty, is_in, filed, filed_beside, removed_one, removed_at, begun, begun_at, coming, is_member, goes_on}
 use Rattle.ss_records.specs.State.{first_state}
 
@@ -500,12 +500,12 @@ run_of (WentOn u w) = record { report = w.report; ending = Ended; ticks = w.tick
 run_of (Left e w) = record { report = w.report; ending = ending_of e; ticks = w.ticks }
 
 -- with no entity
-abbrev pub first_store : Layout → List Order → List Value → List Value → List ℕ → Store
-first_store layout orders globals locals input =
-    record { globals = globals; locals = locals; heap = first_state layout; orders = orders; input = input }
+abbrev pub first_store : Layout → List Discipline → List Value → List Value → List ℕ → Store
+first_store layout disciplines globals locals input =
+    record { globals = globals; locals = locals; heap = first_state layout; disciplines = disciplines; input = input }
 
 abbrev pub first_world : Resolved → List ℕ → ℕ → World
-first_world p input n = record { store = first_store p.layout (orders_said p.disciplines.items) (firsts p.globals.items) (firsts p.main.locals.items) input; report = []; ticks = n }
+first_world p input n = record { store = first_store p.layout p.disciplines.items (firsts p.globals.items) (firsts p.main.locals.items) input; report = []; ticks = n }
 
 -- what a program does with an input and n ticks
 abbrev pub meaning : Resolved → List ℕ → ℕ → Run

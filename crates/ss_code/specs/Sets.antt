@@ -9,6 +9,8 @@ use Rattle.ss_base.specs.declared.value.Value.TheVariants.{Whole}
 use Rattle.ss_base.specs.declared.layout.RankKey.{RankKey}
 use Rattle.ss_base.specs.declared.layout.SetLayout.{SetLayout}
 use Rattle.ss_base.specs.declared.layout.Layout.{Layout}
+use Rattle.ss_base.specs.declared.layout.Discipline.{Discipline}
+use Rattle.ss_base.specs.declared.layout.Discipline.TheVariants.{Fifo, Lifo, Ranked}
 use Rattle.ss_resolved.specs.declared.resolved.Derived.{Derived}
 use Rattle.ss_resolved.specs.declared.resolved.Derived.TheVariants.{First, Last, Count, Predecessor, Successor, Membership}
 use Rattle.ss_resolved.specs.declared.resolved.End.{End}
@@ -20,13 +22,12 @@ use Rattle.ss_code.specs.declared.instruction.Side.TheVariants.{Before, After}
 use Rattle.ss_records.specs.State.{State, no_value, modes_of}
 use Rattle.ss_records.specs.Sets.{member_class, joiner, owner, first_in, last_in, count_in, next_in, previous_in, owner_of_member, filed_first, filed_last, filed_before, filed_after, removed}
 use Rattle.ss_sets.specs.Disciplines.{first_removed, last_removed, member_test, filed_ranked}
-use Rattle.ss_code.specs.Orders.{Order, Queue, Stack, ByRank}
 use Rattle.ss_code.specs.Store.{Store, if_ok, number_of}
 use Rattle.ss_code.specs.Entities.{if_so, turned, with_heap, born}
 
 -- the set of a number, where the layout has it
 abbrev pub set_at : State → ℕ → Option SetLayout
-set_at h set = slice_get h.layout.sets.items set
+set_at h set = slice_get h.layout.sets set
 
 -- an answer about a set that is there
 abbrev pub about : {A : Type 0} → ℕ → Store → Result A FaultKind → Result A FaultKind
@@ -93,16 +94,16 @@ filed_at_first set x o s = about set s (settle s (filed_first s.heap set (number
 abbrev pub filed_at_last : ℕ → (x o : Value) → Store → Result Store FaultKind
 filed_at_last set x o s = about set s (settle s (filed_last s.heap set (number_of o) (number_of x)))
 
--- the same by the order of the set, which ranks by fields of its members; x is looked at before that
-abbrev pub filed_in_order : Option Order → ℕ → (x o : Value) → Store → Result Store FaultKind
+-- the same by the discipline of the set, which ranks by fields of its members; x is looked at before that
+abbrev pub filed_in_order : Option Discipline → ℕ → (x o : Value) → Store → Result Store FaultKind
 filed_in_order None set x o s = if_ok (known_member set x s) (λ u. Err WrongClass)
-filed_in_order (Some Queue) set x o s = filed_at_last set x o s
-filed_in_order (Some Stack) set x o s = filed_at_first set x o s
-filed_in_order (Some (ByRank keys)) set x o s =
+filed_in_order (Some Fifo) set x o s = filed_at_last set x o s
+filed_in_order (Some Lifo) set x o s = filed_at_first set x o s
+filed_in_order (Some (Ranked keys)) set x o s =
     if_ok (known_member set x s) (λ u. if_so (are_fields s.heap.layout set keys) (settle s (filed_ranked s.heap keys set (number_of o) (number_of x))))
 
 abbrev pub filed : Filing → ℕ → (x o : Value) → Store → Result Store FaultKind
-filed filings.ByDiscipline set x o s = filed_in_order (slice_get s.orders set) set x o s
+filed filings.ByDiscipline set x o s = filed_in_order (slice_get s.disciplines set) set x o s
 filed filings.First set x o s = filed_at_first set x o s
 filed filings.Last set x o s = filed_at_last set x o s
 

@@ -4,6 +4,7 @@ use Rattle.std.specs.declared.cmp.Ordering.{Ordering}
 use Rattle.std.specs.declared.cmp.Ordering.TheVariants.{Less as IsLess, Equal as IsEqual, Greater as IsGreater}
 use Rattle.ss_base.specs.declared.fault.FaultKind.{FaultKind}
 use Rattle.ss_base.specs.declared.fault.FaultKind.TheVariants.{LoopStep, BadCount}
+use Rattle.ss_base.specs.declared.layout.Discipline.{Discipline}
 use Rattle.ss_base.specs.declared.value.Value.{Value}
 use Rattle.ss_base.specs.declared.value.Value.TheVariants.{Whole, Text}
 use Rattle.ss_resolved.specs.declared.resolved.Variable.{Variable}
@@ -16,14 +17,13 @@ use Rattle.ss_base.specs.Arithmetic.{plus_of, minus_of, times_of, quotient_of, r
 use Rattle.ss_base.specs.Order.{value_cmp}
 use Rattle.ss_picture.specs.Pictures.{filled, field_count}
 use Rattle.ss_records.specs.State.{State}
-use Rattle.ss_code.specs.Orders.{Order}
 
--- the values of the global variables and of the local ones, the entities, the orders of the sets, and the input that is not yet read
+-- the values of the global variables and of the local ones, the entities, the disciplines of the sets, and the input that is not yet read
 pub record Store : Type 0 where
   pub globals : List Value
   pub locals : List Value
   pub heap : State
-  pub orders : List Order
+  pub disciplines : List Discipline
   pub input : List ℕ
 
 -- the store, the report so far, and the ticks that are left

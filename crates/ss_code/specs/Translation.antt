@@ -44,7 +44,6 @@ use Rattle.ss_code.specs.declared.instruction.Instruction.TheVariants.{Load, Mov
 use Rattle.ss_code.specs.declared.instruction.Filing.TheVariants as filings
 use Rattle.ss_code.specs.declared.instruction.Side.{Side}
 use Rattle.ss_code.specs.declared.instruction.Side.TheVariants as sides
-use Rattle.ss_code.specs.Orders.{orders_said}
 use Rattle.ss_code.specs.Meaning.{operator_of, operator_for, firsts}
 use Rattle.ss_resolved.specs.Lines.{lines_of}
 use Rattle.ss_code.specs.Machine.{Code, Entry}
@@ -431,7 +430,7 @@ entries_from place first (r ∷ rs) =
 abbrev pub code_of : Resolved → Code
 code_of p = record {
   layout = p.layout;
-  orders = orders_said p.disciplines.items;
+  disciplines = p.disciplines.items;
   instructions = section_code 0 p.main ++ routines_code (length (body_pictures p.main.body.items)) p.routines.items;
   pictures = body_pictures p.main.body.items ++ routines_pictures p.routines.items;
   entries = entries_from (length (section_code 0 p.main)) (length (body_pictures p.main.body.items)) p.routines.items;

@@ -2,7 +2,6 @@
 
 ghost use Rattle.std.specs.Prelude.{◌≡◌, ◌<◌, ◌^◌, length, slice_get, IfOk};
 ghost use Rattle.ss_code.specs.Listing.{listed};
-ghost use Rattle.ss_code.specs.Orders.{orders_said};
 ghost use Rattle.ss_code.specs.Running.{Sound};
 
 use crate::entry::Entry;
@@ -31,15 +30,14 @@ pub struct Code {
 
 impl Model for Code {
     ghost use Rattle.ss_code.specs.Machine.{Code as CodeValue};
-    ghost use Rattle.ss_code.specs.Orders.{orders_said};
 
     ghost Value = { CodeValue };
 
     ghost use Rattle.ss_code.specs.Running.{Sound};
 
-    ghost view = { λ c. record { layout = c.layout; orders = orders_said c.disciplines.items; instructions = c.instructions.items; pictures = c.pictures.items; entries = c.entries.items; globals = c.globals.items; locals = c.locals.items } };
+    ghost view = { λ c. record { layout = c.layout; disciplines = c.disciplines.items; instructions = c.instructions.items; pictures = c.pictures.items; entries = c.entries.items; globals = c.globals.items; locals = c.locals.items } };
 
-    ghost invariant = { λ c. Sound (record { layout = c.layout; orders = orders_said c.disciplines.items; instructions = c.instructions.items; pictures = c.pictures.items; entries = c.entries.items; globals = c.globals.items; locals = c.locals.items }) };
+    ghost invariant = { λ c. Sound (record { layout = c.layout; disciplines = c.disciplines.items; instructions = c.instructions.items; pictures = c.pictures.items; entries = c.entries.items; globals = c.globals.items; locals = c.locals.items }) };
 }
 
 impl Code {
@@ -53,8 +51,8 @@ impl Code {
         globals: Vec<Value>,
         locals: Vec<Value>,
     ) -> Code
-        requires { Sound (record { layout = layout; orders = orders_said disciplines.items; instructions = instructions.items; pictures = pictures.items; entries = entries.items; globals = globals.items; locals = locals.items }) }
-        ensures { result ≡ record { layout = layout; orders = orders_said disciplines.items; instructions = instructions.items; pictures = pictures.items; entries = entries.items; globals = globals.items; locals = locals.items } }
+        requires { Sound (record { layout = layout; disciplines = disciplines.items; instructions = instructions.items; pictures = pictures.items; entries = entries.items; globals = globals.items; locals = locals.items }) }
+        ensures { result ≡ record { layout = layout; disciplines = disciplines.items; instructions = instructions.items; pictures = pictures.items; entries = entries.items; globals = globals.items; locals = locals.items } }
     {
         Code {
             layout,
@@ -76,7 +74,7 @@ impl Code {
 
     /// The disciplines of the sets, by their numbers.
     pub fn disciplines(&self) -> &[Discipline]
-        ensures { orders_said result.now ≡ self.now.orders }
+        ensures { result.now ≡ self.now.disciplines }
     {
         &self.disciplines
     }

@@ -1,10 +1,7 @@
 //! From the tree of a program to its code.
 
 ghost use Rattle.std.specs.Prelude.{◌≡◌, ◌≤◌, ◌<◌, ◌++◌, length, Err, IfOk, OnOk};
-ghost use Rattle.ss_base.specs.declared.layout.Layout.{Layout as LayoutSeen};
 ghost use Rattle.ss_resolved.specs.Nodes.{nodes};
-ghost use Rattle.ss_code.specs.Layouts.{SameLayout};
-ghost use Rattle.ss_code.specs.Orders.{orders_said};
 ghost use Rattle.ss_code.specs.Running.{Behaves};
 ghost use Rattle.ss_code.specs.Translation.{code_of, routines_code, routines_pictures, entries_from};
 
@@ -12,8 +9,8 @@ use crate::code::Code;
 use crate::entry::Entry;
 use crate::error::CodeError;
 use crate::instruction::Instruction;
-use crate::layouts::{copied, copied_disciplines};
 use crate::statements::{emit_section, first_values};
+use ss_base::copied_disciplines;
 use ss_picture::Picture;
 use ss_resolved::resolved::{Resolved, Section};
 use std::alloc::{AllocError, Global};
@@ -43,16 +40,14 @@ fn emit_routines(
 }
 
 /// The code of a program, which does for each input and each number of ticks what the program means,
-/// and nothing else, wherever its layout, a copy of the program's, lies in memory. Its disciplines say the
-/// same as the program's.
+/// and nothing else. Its layout and its disciplines are the program's, copied.
 ///
 /// `CodeTooLong` comes only where the code has more than `INSTRUCTION_LIMIT` instructions, and never
 /// for a program of at most 16,384 nodes; `Memory` where memory was refused.
 pub fn generate(alloc: Global, program: &Resolved) -> Result<Code, CodeError>
     ensures behaves { IfOk result (λ code. Behaves program.now code) }
-    ensures anywhere { IfOk result (λ code. (l : LayoutSeen) → SameLayout program.now.layout l → Behaves program.now (record code { layout = l })) }
-    ensures layout { IfOk result (λ code. SameLayout program.now.layout code.layout) }
-    ensures orders { IfOk result (λ code. code.orders ≡ orders_said program.now.disciplines.items) }
+    ensures layout { IfOk result (λ code. code.layout ≡ program.now.layout) }
+    ensures disciplines { IfOk result (λ code. code.disciplines ≡ program.now.disciplines.items) }
     ensures limit { IfOk result (λ code. length code.instructions ≤ INSTRUCTION_LIMIT) }
     ensures too_long { result ≡ Err CodeError.CodeTooLong → INSTRUCTION_LIMIT < length (code_of program.now).instructions }
     ensures small { nodes program.now ≤ 16384 → result ≡ Err CodeError.CodeTooLong → ⊥ }
@@ -73,7 +68,7 @@ pub fn generate(alloc: Global, program: &Resolved) -> Result<Code, CodeError>
     }
     let globals = first_values(alloc, &program.globals)?;
     let locals = first_values(alloc, &program.main.locals)?;
-    let layout = copied(alloc, &program.layout)?;
+    let layout = program.layout.copied(alloc)?;
     let disciplines = copied_disciplines(alloc, &program.disciplines)?;
     Ok(Code::new(
         layout,

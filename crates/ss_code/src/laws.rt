@@ -1,11 +1,11 @@
 //! Laws of runs, whatever the program.
 
-ghost use Rattle.ss_code.specs.Laws.{InPieces, Prefixes, EndingsStay, OnTheWay, OneTickFewer, Pauses, StepsGoOn, LayoutsUnread};
+ghost use Rattle.ss_code.specs.Laws.{InPieces, Prefixes, EndingsStay, OnTheWay, OneTickFewer, Pauses, StepsGoOn};
 
 /// Ticks may be handed out in pieces; more ticks write what fewer wrote, and maybe more; and a run
 /// that ended otherwise than for want of ticks ends so with more of them. What a run has written on its
 /// way is a beginning of its report, and, once all ticks are taken, goes on from the report of a tick
-/// fewer. A run pauses where its program means so. The steps of a state don't depend on the layout of the code.
+/// fewer. A run pauses where its program means so.
 pub fn laws()
     ensures pieces { InPieces }
     ensures prefixes { Prefixes }
@@ -14,5 +14,4 @@ pub fn laws()
     ensures one_tick_fewer { OneTickFewer }
     ensures pauses { Pauses }
     ensures steps_go_on { StepsGoOn }
-    ensures layouts_unread { LayoutsUnread }
 {}

@@ -10,7 +10,6 @@ mod error;
 pub mod generate;
 pub mod instruction;
 pub mod laws;
-pub mod layouts;
 mod listing;
 mod members;
 mod statements;

@@ -1,12 +1,10 @@
-ghost use Rattle.std.specs.Prelude.{◌≡◌, slice_get, option_map, option_copied, IfOk};
-ghost use Rattle.ss_code.specs.Orders.{order_said, orders_said};
+ghost use Rattle.std.specs.Prelude.{◌≡◌, slice_get, option_copied, IfOk};
 
-use ss_base::Discipline;
-use ss_code::layouts::copied_disciplines;
+use ss_base::{copied_disciplines, Discipline};
 use std::alloc::{AllocError, Global};
 use std::marker::Model;
 
-/// The disciplines of the sets, by their numbers. A contract sees the orders that they stand for.
+/// The disciplines of the sets, by their numbers. A contract sees their list.
 #[derive(Drop)]
 pub struct Disciplines {
     disciplines: Vec<Discipline>,
@@ -14,17 +12,17 @@ pub struct Disciplines {
 
 impl Model for Disciplines {
     ghost use Rattle.std.specs.Prelude.{List};
-    ghost use Rattle.ss_code.specs.Orders.{Order, orders_said};
+    ghost use Rattle.ss_base.specs.declared.layout.Discipline.{Discipline as Seen};
 
-    ghost Value = { List Order };
+    ghost Value = { List Seen };
 
-    ghost view = { λ d. orders_said d.disciplines.items };
+    ghost view = { λ d. d.disciplines.items };
 }
 
 impl Disciplines {
-    /// Disciplines that say the same. The error comes where memory was refused.
+    /// The same disciplines, in memory of their own. The error comes where memory was refused.
     pub fn of(alloc: Global, disciplines: &[Discipline]) -> Result<Disciplines, AllocError>
-        ensures { IfOk result (λ all. all ≡ orders_said disciplines.now) }
+        ensures { IfOk result (λ all. all ≡ disciplines.now) }
     {
         Ok(Disciplines {
             disciplines: copied_disciplines(alloc, disciplines)?,
@@ -33,7 +31,7 @@ impl Disciplines {
 
     /// The discipline of a set, if it has one.
     pub fn get(&self, set: u32) -> Option<&Discipline>
-        ensures { option_map order_said (option_copied result) ≡ slice_get self.now set }
+        ensures { option_copied result ≡ slice_get self.now set }
     {
         self.disciplines.get(set as usize)
     }

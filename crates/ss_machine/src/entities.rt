@@ -63,14 +63,16 @@ impl Entities {
     fn has_class(&self, class: usize) -> bool
         ensures { result ≡ is_some (class_at self.now class) }
     {
-        class < self.heap.layout().classes.len()
+        let layout = self.heap.layout();
+        class < layout.classes.len()
     }
 
     // The mode of a field, where the layout has it.
     fn mode(&self, class: usize, field: usize) -> Option<Mode>
         ensures { result ≡ field_at self.now class field }
     {
-        let class = self.heap.layout().classes.get(class)?;
+        let layout = self.heap.layout();
+        let class = layout.classes.get(class)?;
         class.fields.get(field).copied()
     }
 
@@ -78,7 +80,8 @@ impl Entities {
     fn has_numbers(&self, class: usize) -> bool
         ensures { result ≡ has_numbers (class_at self.now class) }
     {
-        match self.heap.layout().classes.get(class) {
+        let layout = self.heap.layout();
+        match layout.classes.get(class) {
             None => false,
             Some(class) => class.kind != ClassKind::Permanent,
         }
@@ -88,7 +91,8 @@ impl Entities {
     fn has_indices(&self, class: usize) -> bool
         ensures { result ≡ has_indices (class_at self.now class) }
     {
-        match self.heap.layout().classes.get(class) {
+        let layout = self.heap.layout();
+        match layout.classes.get(class) {
             None => false,
             Some(class) => class.kind == ClassKind::Permanent,
         }

@@ -17,7 +17,6 @@ use crate::variables::Variables;
 use crate::working::Working;
 use ss_base::{FaultyRead, FaultyWrite};
 use ss_code::Code;
-use ss_code::layouts::copied;
 use ss_input::Source;
 use ss_picture::Sink;
 use std::alloc::{AllocError, Global};
@@ -75,7 +74,7 @@ impl Machine {
         let locals = Stack::of(alloc, code.locals())?;
         let quick = quickened(alloc, &code)?;
         let _sound = code.len();
-        let layout = copied(alloc, code.layout())?;
+        let layout = code.layout().copied(alloc)?;
         if !layout.is_sound() {
             return Err(AllocError);
         }

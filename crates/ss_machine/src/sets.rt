@@ -1,10 +1,9 @@
 // The sets of the entities.
 
-ghost use Rattle.std.specs.Prelude.{◌≡◌, ◌<◌, length, slice_get, is_some, option_map, option_copied, Some, Err, IsTrue};
+ghost use Rattle.std.specs.Prelude.{◌≡◌, ◌<◌, length, slice_get, is_some, option_copied, Some, Err, IsTrue};
 ghost use Rattle.ss_records.specs.State.{no_value};
 ghost use Rattle.ss_base.specs.declared.fault.FaultKind.TheVariants.{WrongClass};
 ghost use Rattle.ss_code.specs.Entities.{turned, with_heap};
-ghost use Rattle.ss_code.specs.Orders.{order_said};
 ghost use Rattle.ss_code.specs.Sets.{set_at, known_owner, known_member, membership, answered, asked, is_none, is_empty, is_in, filed_at_first, filed_at_last, filed_in_order, filed, filed_beside, removed_one, removed_at, outset, beside, or_none, coming, from_or_after, begun, begun_at, is_member, goes_on};
 ghost use Rattle.ss_code.specs.Store.{Store as StoreSeen, if_ok};
 ghost use Rattle.ss_machine.specs.Peopled.{Settles, SettlesIn, Hands};
@@ -75,9 +74,10 @@ impl Entities {
     // Whether the layout has a set.
     fn has_set(&self, set: u32) -> bool
         ensures value { result ≡ is_some (set_at self.now set) }
-        ensures within { IsTrue result → set < length self.now.layout.sets.items }
+        ensures within { IsTrue result → set < length self.now.layout.sets }
     {
-        (set as usize) < self.heap.layout().sets.len()
+        let layout = self.heap.layout();
+        (set as usize) < layout.sets.len()
     }
 
     /// Whether a reference is an owner of a set. Faults: 1 to 5.
@@ -104,7 +104,7 @@ impl Entities {
 
     // What is asked of the set of an owner, or of a member.
     fn answered(&mut self, derived: Derived, set: usize, x: i64) -> Result<Value, FaultKind>
-        requires set { set < length self.old.layout.sets.items }
+        requires set { set < length self.old.layout.sets }
         ensures same { self.new ≡ self.old }
         ensures value { result ≡ answered derived self.old set x }
     {
@@ -200,7 +200,7 @@ impl Entities {
         member: &Value,
         owner: &Value,
     ) -> Result<(), FaultKind>
-        ensures { Settles (filed_in_order (Some (order_said discipline.now)) set member.now owner.now) result self.old self.new }
+        ensures { Settles (filed_in_order (Some discipline.now) set member.now owner.now) result self.old self.new }
     {
         if !self.has_set(set) {
             return Err(FaultKind::WrongClass);
@@ -225,7 +225,7 @@ impl Entities {
         member: &Value,
         owner: &Value,
     ) -> Result<(), FaultKind>
-        ensures { Settles (filed_in_order (option_map order_said (option_copied discipline.entry)) set member.now owner.now) result self.old self.new }
+        ensures { Settles (filed_in_order (option_copied discipline.entry) set member.now owner.now) result self.old self.new }
     {
         match discipline {
             None => Err(self.unordered(set, member)),
@@ -243,7 +243,7 @@ impl Entities {
         member: &Value,
         owner: &Value,
     ) -> Result<(), FaultKind>
-        ensures { (s : StoreSeen) → slice_get s.orders set ≡ option_map order_said (option_copied discipline.entry) → SettlesIn s (filed filing set member.now owner.now) result self.old self.new }
+        ensures { (s : StoreSeen) → slice_get s.disciplines set ≡ option_copied discipline.entry → SettlesIn s (filed filing set member.now owner.now) result self.old self.new }
     {
         match filing {
             Filing::ByDiscipline => self.file_in_order(discipline, set, member, owner),
@@ -357,7 +357,7 @@ impl Entities {
 
     // The member that comes first or, in reverse, last.
     fn outset(&mut self, reverse: bool, set: usize, owner: i64) -> Result<i64, FaultKind>
-        requires set { set < length self.old.layout.sets.items }
+        requires set { set < length self.old.layout.sets }
         ensures same { self.new ≡ self.old }
         ensures value { result ≡ outset reverse self.old set owner }
     {
@@ -369,7 +369,7 @@ impl Entities {
 
     // The member that comes after one or, in reverse, before it.
     fn beside(&mut self, reverse: bool, set: usize, member: i64) -> Result<i64, FaultKind>
-        requires set { set < length self.old.layout.sets.items }
+        requires set { set < length self.old.layout.sets }
         ensures same { self.new ≡ self.old }
         ensures value { result ≡ beside reverse self.old set member }
     {

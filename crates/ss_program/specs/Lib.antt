@@ -1,3 +1,6 @@
 pub mod Program
 pub mod View
 pub mod Views
+pub mod WellTyped
+pub mod Nodes
+pub mod Examples

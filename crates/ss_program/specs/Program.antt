@@ -3,9 +3,9 @@ use Rattle.std.specs.Prelude.{ℕ, Bool, List, Option}
 use Rattle.ss_base.specs.declared.line.Line.{Line}
 use Rattle.ss_base.specs.declared.value.Value.{Value}
 use Rattle.ss_base.specs.declared.layout.Mode.{Mode}
-use Rattle.ss_base.specs.declared.layout.ClassKind.{ClassKind}
-use Rattle.ss_base.specs.declared.layout.SetLayout.{SetLayout}
 use Rattle.ss_base.specs.declared.layout.RankKey.{RankKey}
+use Rattle.ss_base.specs.declared.layout.Layout.{Layout}
+use Rattle.ss_base.specs.declared.layout.Discipline.{Discipline}
 use Rattle.ss_program.specs.declared.expression.Variable.{Variable}
 use Rattle.ss_program.specs.declared.expression.Sign.{Sign}
 use Rattle.ss_program.specs.declared.expression.Operator.{Operator}
@@ -173,21 +173,6 @@ mutual
 
 -- ---- programs
 
--- a class: how its entities come and go, and the modes of its attributes, which are its fields
-pub record Class : Type 0 where
-  pub kind : ClassKind
-  pub fields : List Mode
-
-pub record Layout : Type 0 where
-  pub classes : List Class
-  pub sets : List SetLayout
-
--- how a set is ordered
-pub data Discipline : Type 0 where
-  Fifo : Discipline
-  Lifo : Discipline
-  Ranked : List RankKey → Discipline
-
 -- a routine; its local variables are numbered in this order: given, yielding, others
 pub record Routine : Type 0 where
   pub given : List Mode
@@ -210,6 +195,7 @@ pub record Event : Type 0 where
   pub body : Block
 
 pub record Program : Type 0 where
+  -- the classes with their kinds and the modes of their fields, which are their attributes; the sets with their owners and member classes
   pub layout : Layout
   -- of each set
   pub disciplines : List Discipline

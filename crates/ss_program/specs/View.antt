@@ -1,10 +1,5 @@
 -- The plain data that a program's value is, without where it lies in memory.
-use Rattle.std.specs.Prelude.{ℕ, List, [], ◌∷◌, map, Option, Some, None}
-use Rattle.ss_base.specs.declared.layout.Layout.{Layout as LayoutValue}
-use Rattle.ss_base.specs.declared.layout.ClassLayout.{ClassLayout as ClassValue}
-use Rattle.ss_base.specs.declared.layout.Discipline.{Discipline as DisciplineValue}
-use Rattle.ss_base.specs.declared.layout.Discipline.TheVariants as disciplines
-use Rattle.ss_program.specs.declared.expression.Operation.{Operation}
+use Rattle.std.specs.Prelude.{List, [], ◌∷◌, map, Option, Some, None}
 use Rattle.ss_program.specs.declared.expression.Expression as expressions
 use Rattle.ss_program.specs.declared.expression.Expression.{Row_of-Operation, end_of-Operation, more_of-Operation}
 use Rattle.ss_program.specs.declared.expression.SetOwner.{SetOwner as OwnerValue}
@@ -32,7 +27,7 @@ use Rattle.ss_program.specs.declared.statement.Statement.{Row_of-Statement, end_
 use Rattle.ss_program.specs.declared.sections.Routine.{Routine as RoutineValue}
 use Rattle.ss_program.specs.declared.sections.Event.{Event as EventValue}
 use Rattle.ss_program.specs.declared.sections.Program.{Program as ProgramValue}
-use Rattle.ss_program.specs.Program.{Expression, Constant, Fetch, Attribute, OfSystemSet, OfSet, OfMember, Clock, TimeOf, Figure, FigureOf, Signed, Absolute, Calculate, SetOwner, TheSystem, Entity, Test, Compare, DataEnded, Empty, Member, Condition, Start, AtEnd, From, After, Head, Numbers, Members, Each, Phrase, Guard, Place, ToVariable, ToAttribute, ToCount, Target, Position, ByDiscipline, AsFirst, AsLast, BeforeMember, AfterMember, When, At, In, Now, Restart, Statement, Let, Change, Call, Return, Stop, Read, Simulate, If, Loop, For, Find, Create, CreateEvery, Destroy, File, RemoveEnd, Remove, ScheduleNew, Schedule, Cancel, Reset, Print, Skip, Block, Done, Then, Class, Layout, Discipline, Fifo, Lifo, Ranked, Routine, Event, Program}
+use Rattle.ss_program.specs.Program.{Expression, Constant, Fetch, Attribute, OfSystemSet, OfSet, OfMember, Clock, TimeOf, Figure, FigureOf, Signed, Absolute, Calculate, SetOwner, TheSystem, Entity, Test, Compare, DataEnded, Empty, Member, Condition, Start, AtEnd, From, After, Head, Numbers, Members, Each, Phrase, Guard, Place, ToVariable, ToAttribute, ToCount, Target, Position, ByDiscipline, AsFirst, AsLast, BeforeMember, AfterMember, When, At, In, Now, Restart, Statement, Let, Change, Call, Return, Stop, Read, Simulate, If, Loop, For, Find, Create, CreateEvery, Destroy, File, RemoveEnd, Remove, ScheduleNew, Schedule, Cancel, Reset, Print, Skip, Block, Done, Then, Routine, Event, Program}
 
 unfoldable mutual
   pub view_expression : expressions.Expression → Expression
@@ -154,28 +149,17 @@ block_of (s ∷ ss) = Then s (block_of ss)
 abbrev pub view_body : List statements.Statement → Block
 view_body ss = block_of (map view_statement ss)
 
-abbrev pub view_class : ClassValue → Class
-view_class c = record { kind = c.kind; fields = c.fields.items }
-
-abbrev pub view_layout : LayoutValue → Layout
-view_layout l = record { classes = map view_class l.classes.items; sets = l.sets.items }
-
-abbrev pub view_discipline : DisciplineValue → Discipline
-view_discipline disciplines.Fifo = Fifo
-view_discipline disciplines.Lifo = Lifo
-view_discipline (disciplines.Ranked keys) = Ranked keys.items
-
 abbrev pub view_routine : RoutineValue → Routine
 view_routine r = record { given = r.given.items; yielding = r.yielding.items; others = r.others.items; body = view_body r.body.items }
 
 abbrev pub view_event : EventValue → Event
-view_event e = record { class = e.class; ties = e.ties.items; line = e.line; given = e.given.items; others = e.others.items; saved = e.saved; body = view_body e.body.items }
+view_event e = record { class = e.class; ties = e.ties; line = e.line; given = e.given.items; others = e.others.items; saved = e.saved; body = view_body e.body.items }
 
 -- the plain data of a program
 abbrev pub view_program : ProgramValue → Program
 view_program p = record {
-  layout = view_layout p.layout;
-  disciplines = map view_discipline p.disciplines.items;
+  layout = p.layout;
+  disciplines = p.disciplines.items;
   globals = p.globals.items;
   counts = p.counts.items;
   statistics = p.statistics.items;

@@ -1,7 +1,7 @@
 -- The view of each form that holds a vector of its own kind, by the list that it is.
-use Rattle.std.specs.Prelude.{◌≡◌, List, [], ◌∷◌, map, refl}
+use Rattle.std.specs.Prelude.{◌≡◌, List, map, refl}
 use Rattle.std.specs.List.{fold}
-use Rattle.std.proofs.Common.{sym, ap, ◌∙◌}
+use Rattle.std.proofs.Common.{ap, ◌∙◌}
 use Rattle.std.specs.Global.{Vec, Box}
 use Rattle.ss_base.specs.declared.line.Line.{Line}
 use Rattle.ss_program.specs.declared.expression.Operation.{Operation}
@@ -18,7 +18,7 @@ use Rattle.ss_program.specs.declared.statement.Statement as statements
 use Rattle.ss_program.specs.declared.statement.Statement.{Row_of-Statement, end_of-Statement, more_of-Statement, items-the_row-Statement, items_hidden-the_row-Statement-0}
 use Rattle.ss_program.specs.declared.statement.Statement.TheBlock.{hidden-the_row-Statement-0}
 use Rattle.ss_program.specs.Program.{Expression, Calculate, If, Loop, For, Find, Then}
-use Rattle.ss_program.specs.View.{view_expression, view_operations, view_condition, view_guard, view_phrase, view_head, view_statement, view_block, view_body, block_of}
+use Rattle.ss_program.specs.View.{view_expression, view_operations, view_condition, view_guard, view_phrase, view_head, view_statement, view_block, view_body}
 
 -- an operation done on what stands left of it
 abbrev pub with_operation : Expression → Operation → Expression

@@ -1,7 +1,7 @@
 //! Programs and their parts.
 
 use crate::statement::{Counted, Statement};
-use ss_base::{Discipline, Layout, Line, Mode, RankKey};
+use ss_base::{Discipline, Layout, Line, Mode, RankKeys};
 
 /// What a statistic is kept of.
 #[derive(Clone, Copy, PartialEq, Eq, Debug)]
@@ -44,7 +44,7 @@ pub struct Routine {
 pub struct Event {
     pub class: u32,
     /// The attributes that break ties between notices of the class at one time, the first of which counts most.
-    pub ties: Vec<RankKey>,
+    pub ties: RankKeys,
     /// The line of the event routine.
     pub line: Line,
     pub given: Vec<Mode>,

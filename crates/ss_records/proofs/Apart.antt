@@ -46,10 +46,10 @@ module _ (l : Layout) (cs : Cells) (sys : Ptr) (d : Directory) (ms : List Member
 
   pub sets_apart : Apart st
   sets_apart = record {
-    distinct = λ s o h. let y = get_there l.sets.items s h in (K.names s y.0 y.1).distinct o;
-    members = λ s o x h i. let y = get_there l.sets.items s h in let m = (K.names s y.0 y.1).members o x i in
+    distinct = λ s o h. let y = get_there l.sets s h in (K.names s y.0 y.1).distinct o;
+    members = λ s o x h i. let y = get_there l.sets s h in let m = (K.names s y.0 y.1).members o x i in
         (m.1, is_entity (member_class l s) x (subst (λ b. IsOf cs d b x) (sym (ap member_in y.1)) m.0));
-    sole = λ s o x h i. let y = get_there l.sets.items s h in elim (filed_or_not ms s x) as (λ _. owner_of ms s x ≡ Some o) [
+    sole = λ s o x h i. let y = get_there l.sets s h in elim (filed_or_not ms s x) as (λ _. owner_of ms s x ≡ Some o) [
       | inl a ↦ a.1 ∙ ap Some ((K.names s y.0 y.1).sole a.0 o x a.2 i)
       | inr a ↦ absurd (not_and_in x (members_of ms s o) (a.1 o) i)
     ];

@@ -149,7 +149,7 @@ module _ (l : Layout) (cs : Cells) (sys : Ptr) (d : Directory) (ms : List Member
     by_entry i p e k (inl m) = less_self e (get_inside d.numbers i (Some p) m)
     by_entry i p e k (inr (b, ps, m, x)) = let y = K.made b ps m in kind (subst (λ a. IsPermanent (kind_of l a)) (sym (y.class i p x) ∙ k) y.permanent)
 
-  module _ (q : Place) (fresh : words_at cs q.at ≡ []) (w c : ℕ) (size : w ≡ block_words l (Class c)) (ds : Cells) (laid : Laid l ((q.at, blanks w) ∷ cs) ds sys q.at c (length d.numbers + 1)) (kind : IsPermanent (kind_of l c) → ⊥) (inside : c < length l.classes.items) (room : length d.numbers < LAST_NUMBER) where
+  module _ (q : Place) (fresh : words_at cs q.at ≡ []) (w c : ℕ) (size : w ≡ block_words l (Class c)) (ds : Cells) (laid : Laid l ((q.at, blanks w) ∷ cs) ds sys q.at c (length d.numbers + 1)) (kind : IsPermanent (kind_of l c) → ⊥) (inside : c < length l.classes) (room : length d.numbers < LAST_NUMBER) where
     abbrev bs : Cells
     bs = (q.at, blanks w) ∷ cs
 
@@ -198,8 +198,8 @@ module _ (l : Layout) (cs : Cells) (sys : Ptr) (d : Directory) (ms : List Member
       ];
       made = λ b ps h. let m = K.made b ps h in record { permanent = m.permanent; class = λ i p x. ap class_of (old i p (inr (b, ps, h, x))) ∙ m.class i p x; few = m.few };
       classes = λ i p h. by_entry i p h
-          (λ x y. subst (λ (r : Place). class_at ds r < length l.classes.items) y (subst (λ b. b < length l.classes.items) (sym new_class) inside))
-          (λ x. subst (λ us. class_of us < length l.classes.items) (sym (old i p x)) (K.classes i p x));
+          (λ x y. subst (λ (r : Place). class_at ds r < length l.classes) y (subst (λ b. b < length l.classes) (sym new_class) inside))
+          (λ x. subst (λ us. class_of us < length l.classes) (sym (old i p x)) (K.classes i p x));
       formed = λ i p h. by_entry i p h
           (λ x y. subst (λ (r : Place). Formed l (class_at ds r) (suc i) (words_at ds r.at)) y (subst (λ b. Formed l b (suc i) (words_at ds q.at)) (sym new_class) (subst (λ j. Formed l c (suc j) (words_at ds q.at)) (sym x) (born_formed l ds sys q.at c (suc (length d.numbers)) born))))
           (λ x. subst (λ us. Formed l (class_of us) (suc i) us) (sym (old i p x)) (K.formed i p x));

@@ -20,9 +20,9 @@ use Rattle.ss_records.proofs.Filed.{get_there, contains_in}
 use Rattle.ss_records.proofs.Listed.{put_before_cut, put_after_cut, less_cut, not_in_front}
 use Rattle.ss_records.proofs.Leading.{To, leads, at_target, its_number, its_members, positive, first_to, last_to, next_to, prev_to}
 
-module _ (r : Records) (K : IsKept r) (s : ℕ) (inside : s < length r.layout.sets.items) where
+module _ (r : Records) (K : IsKept r) (s : ℕ) (inside : s < length r.layout.sets) where
   abbrev at : ℕ → Ptr
-  at = entity_at r.system.at (places r) (get_there r.layout.sets.items s inside).0.member
+  at = entity_at r.system.at (places r) (get_there r.layout.sets s inside).0.member
 
   abbrev f : ℕ → List ℕ
   f = members_of r.notes.lists s
@@ -34,7 +34,7 @@ module _ (r : Records) (K : IsKept r) (s : ℕ) (inside : s < length r.layout.se
   lies_there p k n h q w v = let e = its_number r.blocks.cells at p k n h q.place.at w q.number v in (at_target r.blocks.cells at p k n h q.place.at w ∙ ap at (sym e) ∙ ap (λ c. entity_at r.system.at (places r) c q.number) (sym (its_members r.layout r.blocks.cells r.system.at (places r) r.notes.lists K s inside)), e)
 
   -- at the ends of a set
-  module _ (e : Entry) (h : Owns r s e) (b : ℕ) (base : (u : SetLayout) → slice_get r.layout.sets.items s ≡ Some u → b ≡ owner_base r.layout s u) (q : Entry) where
+  module _ (e : Entry) (h : Owns r s e) (b : ℕ) (base : (u : SetLayout) → slice_get r.layout.sets s ≡ Some u → b ≡ owner_base r.layout s u) (q : Entry) where
     pub at_first : word_at r.blocks.cells e.place.at b ≡ link q.place.at → word_at r.blocks.cells q.place.at 1 ≡ number q.number → Between r s e.number end q [] (f e.number)
     at_first w v =
         let l = lies_there e.place.at b _ (first_to r.layout r.blocks.cells r.system.at (places r) r.notes.lists K s inside e.place.at e.number h.lies h.may b base) q w v in
@@ -46,7 +46,7 @@ module _ (r : Records) (K : IsKept r) (s : ℕ) (inside : s < length r.layout.se
         record { list = sym (append-nil (f e.number)); before = l.0; last = l.1; after = refl; first = refl }
 
   -- beside a member y
-  module _ (y : Entry) (j : Joins r s y) (b : ℕ) (base : (u : SetLayout) → slice_get r.layout.sets.items s ≡ Some u → b ≡ member_base r.layout s u) (o : ℕ) (there : contains (f o) y.number ≡ true) where
+  module _ (y : Entry) (j : Joins r s y) (b : ℕ) (base : (u : SetLayout) → slice_get r.layout.sets s ≡ Some u → b ≡ member_base r.layout s u) (o : ℕ) (there : contains (f o) y.number ≡ true) where
     here : In y.number (f o)
     here = contains_in (f o) y.number there
 
@@ -63,7 +63,7 @@ module _ (r : Records) (K : IsKept r) (s : ℕ) (inside : s < length r.layout.se
     some = positive r.layout r.blocks.cells r.system.at (places r) r.notes.lists K s inside y.place.at y.number j.lies j.is b base
 
     apart : Distinct (xs ++ y.number ∷ ys)
-    apart = let k = get_there r.layout.sets.items s inside in subst Distinct parts.2 ((K.names s k.0 k.1).distinct o)
+    apart = let k = get_there r.layout.sets s inside in subst Distinct parts.2 ((K.names s k.0 k.1).distinct o)
 
     not_before : NotIn y.number xs
     not_before = not_in_front y.number xs ys (distinct_less xs y.number ys apart).1

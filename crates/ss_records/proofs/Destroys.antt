@@ -87,8 +87,8 @@ module _ (l : Layout) (cs : Cells) (sys : Ptr) (d : Directory) (ms : List Member
 
   -- in no set, and without members
   pub record Free : Type 0 where
-    pub unfiled : (s : ℕ) (t : SetLayout) → slice_get l.sets.items s ≡ Some t → t.member ≡ class_at cs p → (o : ℕ) → NotIn (suc i) (members_of ms s o)
-    pub owns_none : (s : ℕ) (t : SetLayout) → slice_get l.sets.items s ≡ Some t → t.owner ≡ Class (class_at cs p) → members_of ms s (suc i) ≡ []
+    pub unfiled : (s : ℕ) (t : SetLayout) → slice_get l.sets s ≡ Some t → t.member ≡ class_at cs p → (o : ℕ) → NotIn (suc i) (members_of ms s o)
+    pub owns_none : (s : ℕ) (t : SetLayout) → slice_get l.sets s ≡ Some t → t.owner ≡ Class (class_at cs p) → members_of ms s (suc i) ≡ []
 
   pub kept_destroyed : Free → Kept l ds sys e ms
   kept_destroyed free = record {
@@ -101,7 +101,7 @@ module _ (l : Layout) (cs : Cells) (sys : Ptr) (d : Directory) (ms : List Member
         (λ t n. absurd (get_gone d.numbers i q (ap (slice_get e.numbers) n ∙ h)))
         (λ t n. let was = sym (get_other d.numbers i None j n) ∙ h in λ x. K.kinds j q was (subst (λ us. IsPermanent (kind_of l (class_of us))) (words_without cs p.at q.at (λ z. n (K.apart i j p q (inl g) (inl was) z))) x));
     made = λ b ps h. let m = K.made b ps h in record { permanent = m.permanent; class = λ j q x. ap class_of (words_without cs p.at q.at (not_made j q (b, ps, h, x))) ∙ m.class j q x; few = m.few };
-    classes = λ j q h. entry j q h (λ n was w. subst (λ us. class_of us < length l.classes.items) (sym w) (K.classes j q was));
+    classes = λ j q h. entry j q h (λ n was w. subst (λ us. class_of us < length l.classes) (sym w) (K.classes j q was));
     formed = λ j q h. entry j q h (λ n was w. subst (λ us. Formed l (class_of us) (suc j) us) (sym w) (K.formed j q was));
     apart = λ j k q r h m z. entry j q h (λ n was w. entry k r m (λ n' was' w'. K.apart j k q r was was' z));
     off_system = λ j q h. entry j q h (λ n was w. K.off_system j q was);
@@ -127,7 +127,7 @@ module _ (l : Layout) (cs : Cells) (sys : Ptr) (d : Directory) (ms : List Member
   permanents_kept : map (records_at l ds) d.classes ≡ map (records_at l cs) d.classes
   permanents_kept = made_same l cs ds d.classes (λ j q h. ap (record_of l) (words_without cs p.at q.at (not_made j q h)))
 
-  pub is_destroyed : (c : ℕ) (x : ℤ) → x ≡ pos (suc i) → entity (state_of l cs d ms) c x ≡ Ok (record_of l (words_at cs p.at)) → in_a_set l.sets.items 0 ms c (suc i) ≡ false → owns_members l.sets.items 0 ms c (suc i) ≡ false
+  pub is_destroyed : (c : ℕ) (x : ℤ) → x ≡ pos (suc i) → entity (state_of l cs d ms) c x ≡ Ok (record_of l (words_at cs p.at)) → in_a_set l.sets 0 ms c (suc i) ≡ false → owns_members l.sets 0 ms c (suc i) ≡ false
       → destroyed (state_of l cs d ms) c x ≡ Ok (state_of l ds e ms)
   is_destroyed c x at found not_it none =
       let n : number_in x ≡ suc i = ap number_in at in
@@ -135,12 +135,12 @@ module _ (l : Layout) (cs : Cells) (sys : Ptr) (d : Directory) (ms : List Member
       ap (λ r. and_then r (λ r. let_go (state_of l cs d ms) c (number_in x))) found
       ∙ rw (n, not_it, none, k) (λ z. Ok (record (state_of l cs d ms) { records = sym records_destroyed z; permanents = sym permanents_kept z }))
 
-  pub in_a_set_is : (c : ℕ) (x : ℤ) → x ≡ pos (suc i) → entity (state_of l cs d ms) c x ≡ Ok (record_of l (words_at cs p.at)) → in_a_set l.sets.items 0 ms c (suc i) ≡ true → destroyed (state_of l cs d ms) c x ≡ Err InASet
+  pub in_a_set_is : (c : ℕ) (x : ℤ) → x ≡ pos (suc i) → entity (state_of l cs d ms) c x ≡ Ok (record_of l (words_at cs p.at)) → in_a_set l.sets 0 ms c (suc i) ≡ true → destroyed (state_of l cs d ms) c x ≡ Err InASet
   in_a_set_is c x at found is_it =
       let n : number_in x ≡ suc i = ap number_in at in
       ap (λ r. and_then r (λ r. let_go (state_of l cs d ms) c (number_in x))) found ∙ rw (n, is_it) refl
 
-  pub owns_members_is : (c : ℕ) (x : ℤ) → x ≡ pos (suc i) → entity (state_of l cs d ms) c x ≡ Ok (record_of l (words_at cs p.at)) → in_a_set l.sets.items 0 ms c (suc i) ≡ false → owns_members l.sets.items 0 ms c (suc i) ≡ true → destroyed (state_of l cs d ms) c x ≡ Err OwnsMembers
+  pub owns_members_is : (c : ℕ) (x : ℤ) → x ≡ pos (suc i) → entity (state_of l cs d ms) c x ≡ Ok (record_of l (words_at cs p.at)) → in_a_set l.sets 0 ms c (suc i) ≡ false → owns_members l.sets 0 ms c (suc i) ≡ true → destroyed (state_of l cs d ms) c x ≡ Err OwnsMembers
   owns_members_is c x at found not_it is_it =
       let n : number_in x ≡ suc i = ap number_in at in
       ap (λ r. and_then r (λ r. let_go (state_of l cs d ms) c (number_in x))) found ∙ rw (n, not_it, is_it) refl

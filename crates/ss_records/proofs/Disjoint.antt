@@ -54,25 +54,25 @@ owner_range l s t k (inr (inl e)) = (omega (arith, e), omega (arith, e))
 owner_range l s t k (inr (inr e)) = (omega (arith, e), omega (arith, e))
 
 -- the words of a name within a block
-pub member_inside : (l : Layout) (s : ℕ) (t : SetLayout) (k : ℕ) → slice_get l.sets.items s ≡ Some t → OfMember (slots_of l s t) k → (links_start l t.member ≤ k) × (k < owned_start l (Class t.member))
-member_inside l s t k g m = let r = member_range l s t k m in let c = count_inside (joins t.member) l.sets.items s t g (same t.member) in (omega (arith, r.0), omega (arith, r.1, c))
+pub member_inside : (l : Layout) (s : ℕ) (t : SetLayout) (k : ℕ) → slice_get l.sets s ≡ Some t → OfMember (slots_of l s t) k → (links_start l t.member ≤ k) × (k < owned_start l (Class t.member))
+member_inside l s t k g m = let r = member_range l s t k m in let c = count_inside (joins t.member) l.sets s t g (same t.member) in (omega (arith, r.0), omega (arith, r.1, c))
 
-pub owner_inside : (l : Layout) (s : ℕ) (t : SetLayout) (k : ℕ) → slice_get l.sets.items s ≡ Some t → OfOwner (slots_of l s t) k → (owned_start l t.owner ≤ k) × (k < block_words l t.owner)
-owner_inside l s t k g m = let r = owner_range l s t k m in let c = count_inside (owned_by t.owner) l.sets.items s t g (same_owner_refl t.owner) in (omega (arith, r.0), omega (arith, r.1, c))
+pub owner_inside : (l : Layout) (s : ℕ) (t : SetLayout) (k : ℕ) → slice_get l.sets s ≡ Some t → OfOwner (slots_of l s t) k → (owned_start l t.owner ≤ k) × (k < block_words l t.owner)
+owner_inside l s t k g m = let r = owner_range l s t k m in let c = count_inside (owned_by t.owner) l.sets s t g (same_owner_refl t.owner) in (omega (arith, r.0), omega (arith, r.1, c))
 
 -- two names of one member class, or of one owner, have words of their own
-members_disjoint : (l : Layout) (s r : ℕ) (t u : SetLayout) (k : ℕ) → slice_get l.sets.items s ≡ Some t → slice_get l.sets.items r ≡ Some u → t.member ≡ u.member → s < r → OfMember (slots_of l s t) k → OfMember (slots_of l r u) k → ⊥
+members_disjoint : (l : Layout) (s r : ℕ) (t u : SetLayout) (k : ℕ) → slice_get l.sets s ≡ Some t → slice_get l.sets r ≡ Some u → t.member ≡ u.member → s < r → OfMember (slots_of l s t) k → OfMember (slots_of l r u) k → ⊥
 members_disjoint l s r t u k g h e n a b =
     let x = member_range l s t k a in let y = member_range l r u k b in
-    let c = count_later (joins t.member) l.sets.items s r t g (same t.member) n in
-    let z : links_start l t.member + 3 * count_before (joins t.member) l.sets.items r ≤ k = subst (λ m. links_start l m + 3 * count_before (joins m) l.sets.items r ≤ k) (sym e) y.0 in
+    let c = count_later (joins t.member) l.sets s r t g (same t.member) n in
+    let z : links_start l t.member + 3 * count_before (joins t.member) l.sets r ≤ k = subst (λ m. links_start l m + 3 * count_before (joins m) l.sets r ≤ k) (sym e) y.0 in
     omega (arith, x.1, z, c)
 
-owners_disjoint : (l : Layout) (s r : ℕ) (t u : SetLayout) (k : ℕ) → slice_get l.sets.items s ≡ Some t → slice_get l.sets.items r ≡ Some u → t.owner ≡ u.owner → s < r → OfOwner (slots_of l s t) k → OfOwner (slots_of l r u) k → ⊥
+owners_disjoint : (l : Layout) (s r : ℕ) (t u : SetLayout) (k : ℕ) → slice_get l.sets s ≡ Some t → slice_get l.sets r ≡ Some u → t.owner ≡ u.owner → s < r → OfOwner (slots_of l s t) k → OfOwner (slots_of l r u) k → ⊥
 owners_disjoint l s r t u k g h e n a b =
     let x = owner_range l s t k a in let y = owner_range l r u k b in
-    let c = count_later (owned_by t.owner) l.sets.items s r t g (same_owner_refl t.owner) n in
-    let z : owned_start l t.owner + 3 * count_before (owned_by t.owner) l.sets.items r ≤ k = subst (λ m. owned_start l m + 3 * count_before (owned_by m) l.sets.items r ≤ k) (sym e) y.0 in
+    let c = count_later (owned_by t.owner) l.sets s r t g (same_owner_refl t.owner) n in
+    let z : owned_start l t.owner + 3 * count_before (owned_by t.owner) l.sets r ≤ k = subst (λ m. owned_start l m + 3 * count_before (owned_by m) l.sets r ≤ k) (sym e) y.0 in
     omega (arith, x.1, z, c)
 
 -- one of two numbers that differ is less
@@ -135,7 +135,7 @@ module _ (l : Layout) (cs : Cells) (sys : Ptr) (d : Directory) (ms : List Member
   owners_same (Class c) System x y h k z = absurd (off_end c x h z)
   owners_same (Class c) (Class e) x y h k z = ap Class (apart_of c e x y h k z).1
 
-  module _ (s : ℕ) (t : SetLayout) (g : slice_get l.sets.items s ≡ Some t) where
+  module _ (s : ℕ) (t : SetLayout) (g : slice_get l.sets s ≡ Some t) where
     pub grounds : Grounds (slots_of l s t) cs (at t.member) (home t.owner) (IsOf cs d t.member) (MayOwn cs d t.owner)
     grounds = record {
       members_apart = λ x y h k z. (apart_of t.member t.member x y h k z).0;
@@ -169,7 +169,7 @@ module _ (l : Layout) (cs : Cells) (sys : Ptr) (d : Directory) (ms : List Member
       by_owner System a z b = omega (arith, small, b)
       by_owner (Class c) a z b = off_end c m.0 a (sym z)
 
-    pub names_apart : (r : ℕ) (u : SetLayout) (q : Ptr) (k : ℕ) → slice_get l.sets.items r ≡ Some u → (s ≡ r → ⊥) → OfName l cs sys d s t q k → OfName l cs sys d r u q k → ⊥
+    pub names_apart : (r : ℕ) (u : SetLayout) (q : Ptr) (k : ℕ) → slice_get l.sets r ≡ Some u → (s ≡ r → ⊥) → OfName l cs sys d s t q k → OfName l cs sys d r u q k → ⊥
     names_apart r u q k h n (inl a) (inl b) =
         let e = (apart_of t.member u.member a.0 b.0 a.1 b.1 (sym a.2 ∙ b.2)).1 in
         lower s r n (λ x. members_disjoint l s r t u k g h e x a.3 b.3) (λ x. members_disjoint l r s u t k h g (sym e) x b.3 a.3)

@@ -88,7 +88,7 @@ module _ (l : Layout) (cs : Cells) (sys : Ptr) (d : Directory) (ms : List Member
   owner_number_at System n h = K.end ∙ ap number (sym h)
   owner_number_at (Class c) n h = number_at c n (inr h)
 
-  module _ (s : ℕ) (t : SetLayout) (g : slice_get l.sets.items s ≡ Some t) (x : ℕ) (h : IsOf cs d t.member x) where
+  module _ (s : ℕ) (t : SetLayout) (g : slice_get l.sets s ≡ Some t) (x : ℕ) (h : IsOf cs d t.member x) where
     abbrev at : ℕ → Ptr
     at = entity_at sys d t.member
 

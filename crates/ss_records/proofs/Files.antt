@@ -51,24 +51,24 @@ not_among ms s o x h = by_case (contains (members_of ms s o) x) refl where
   by_case false e = e
   by_case true e = absurd (not_and_in x (members_of ms s o) (not_filed_in ms s x h o) (contains_in (members_of ms s o) x e))
 
-pub among_by : (r : Records) (K : IsKept r) (s : ℕ) (inside : s < length r.layout.sets.items) (o x p : ℕ) → In x (members_of r.notes.lists s p) → nat_eq p o ≡ contains (members_of r.notes.lists s o) x
+pub among_by : (r : Records) (K : IsKept r) (s : ℕ) (inside : s < length r.layout.sets) (o x p : ℕ) → In x (members_of r.notes.lists s p) → nat_eq p o ≡ contains (members_of r.notes.lists s o) x
 among_by r K s inside o x p h = by_same p o
     (λ e q. e ∙ sym (in_contains (members_of r.notes.lists s o) x (subst (λ n. In x (members_of r.notes.lists s n)) q h)))
     (λ e n. e ∙ sym (by_case n (contains (members_of r.notes.lists s o) x) refl)) where
       by_case : (p ≡ o → ⊥) → (b : Bool) → contains (members_of r.notes.lists s o) x ≡ b → contains (members_of r.notes.lists s o) x ≡ false
       by_case n false e = e
-      by_case n true e = let y = get_there r.layout.sets.items s inside in absurd (n ((K.names s y.0 y.1).sole p o x h (contains_in (members_of r.notes.lists s o) x e)))
+      by_case n true e = let y = get_there r.layout.sets s inside in absurd (n ((K.names s y.0 y.1).sole p o x h (contains_in (members_of r.notes.lists s o) x e)))
 
-module _ (r : Records) (K : IsKept r) (s : ℕ) (inside : s < length r.layout.sets.items) (e x : Entry) (h : Owns r s e) (m b : ℕ)
-    (mb : (u : SetLayout) → slice_get r.layout.sets.items s ≡ Some u → m ≡ member_base r.layout s u) (ob : (u : SetLayout) → slice_get r.layout.sets.items s ≡ Some u → b ≡ owner_base r.layout s u) where
+module _ (r : Records) (K : IsKept r) (s : ℕ) (inside : s < length r.layout.sets) (e x : Entry) (h : Owns r s e) (m b : ℕ)
+    (mb : (u : SetLayout) → slice_get r.layout.sets s ≡ Some u → m ≡ member_base r.layout s u) (ob : (u : SetLayout) → slice_get r.layout.sets s ≡ Some u → b ≡ owner_base r.layout s u) where
   abbrev cs : Cells
   cs = r.blocks.cells
 
   abbrev at : ℕ → Ptr
-  at = entity_at r.system.at (places r) (get_there r.layout.sets.items s inside).0.member
+  at = entity_at r.system.at (places r) (get_there r.layout.sets s inside).0.member
 
   abbrev home : ℕ → Ptr
-  home = owner_at r.system.at (places r) (get_there r.layout.sets.items s inside).0.owner
+  home = owner_at r.system.at (places r) (get_there r.layout.sets s inside).0.owner
 
   abbrev f : ℕ → List ℕ
   f = members_of r.notes.lists s
@@ -77,10 +77,10 @@ module _ (r : Records) (K : IsKept r) (s : ℕ) (inside : s < length r.layout.se
   o = e.number
 
   abbrev t : SetLayout
-  t = (get_there r.layout.sets.items s inside).0
+  t = (get_there r.layout.sets s inside).0
 
-  g : slice_get r.layout.sets.items s ≡ Some t
-  g = (get_there r.layout.sets.items s inside).1
+  g : slice_get r.layout.sets s ≡ Some t
+  g = (get_there r.layout.sets s inside).1
 
   lo : MayOwn cs (places r) t.owner o
   lo = subst (λ u. MayOwn cs (places r) u o) (ap owner_in g) h.may
@@ -103,7 +103,7 @@ module _ (r : Records) (K : IsKept r) (s : ℕ) (inside : s < length r.layout.se
     of_it : IsOf cs (places r) t.member z.number
     of_it = ((K.names s t g).members o z.number inn).0
 
-    its : IsOf cs (places r) (member_in (slice_get r.layout.sets.items s)) z.number
+    its : IsOf cs (places r) (member_in (slice_get r.layout.sets s)) z.number
     its = subst (λ c. IsOf cs (places r) c z.number) (sym (ap member_in g)) of_it
 
     pub next_link : IsLink (word_at cs z.place.at m)

@@ -22,8 +22,8 @@ by_number r K c x p f kind = by_entry f.entry where
   by_entry (inr (b, ps, m, h)) = let y = K.made b ps m in absurd (kind (subst (λ a. IsPermanent (kind_of r.layout a)) (sym (y.class f.index p h) ∙ f.class) y.permanent))
 
 pub free_by : (l : Layout) (cs : Cells) (sys : Ptr) (d : Directory) (ms : List Members) (K : Kept l cs sys d ms) (i : ℕ) (p : Place) (g : slice_get d.numbers i ≡ Some (Some p)) (c : ℕ) → class_at cs p ≡ c
-    → in_a_set l.sets.items 0 ms c (suc i) ≡ false → owns_members l.sets.items 0 ms c (suc i) ≡ false → Free l cs sys d ms K i p g
+    → in_a_set l.sets 0 ms c (suc i) ≡ false → owns_members l.sets 0 ms c (suc i) ≡ false → Free l cs sys d ms K i p g
 free_by l cs sys d ms K i p g c class none few = record {
-  unfiled = λ s t h e. not_filed_in ms s (suc i) (ap (λ n. is_filed ms n (suc i)) (sym (zero-add s)) ∙ in_none_of l.sets.items 0 c (suc i) ms none s t h (e ∙ class));
-  owns_none = λ s t h e. no_members (members_of ms s (suc i)) (ap (λ n. has_members (members_of ms n (suc i))) (sym (zero-add s)) ∙ owns_none_of l.sets.items 0 c (suc i) ms few s t h (e ∙ ap Class class));
+  unfiled = λ s t h e. not_filed_in ms s (suc i) (ap (λ n. is_filed ms n (suc i)) (sym (zero-add s)) ∙ in_none_of l.sets 0 c (suc i) ms none s t h (e ∙ class));
+  owns_none = λ s t h e. no_members (members_of ms s (suc i)) (ap (λ n. has_members (members_of ms n (suc i))) (sym (zero-add s)) ∙ owns_none_of l.sets 0 c (suc i) ms few s t h (e ∙ ap Class class));
 }

@@ -148,7 +148,7 @@ module _ (l : Layout) (cs : Cells) (sys : Ptr) (d : Directory) (ms : List Member
       end = ap (λ us. word_of us 1) (w.others sys (K.off_system i p g)) ∙ K.end;
       kinds = λ j q h k. K.kinds j q h (subst (λ c. IsPermanent (kind_of l c)) (class_kept j q (inl h)) k);
       made = made_kept;
-      classes = λ j q h. subst (λ c. c < length l.classes.items) (sym (class_kept j q h)) (K.classes j q h);
+      classes = λ j q h. subst (λ c. c < length l.classes) (sym (class_kept j q h)) (K.classes j q h);
       formed = λ j q h. subst (λ c. Formed l c (suc j) (words_at ds q.at)) (sym (class_kept j q h)) (entries j q h {P = Formed l (class_at cs q) (suc j) (words_at ds q.at)}
           (λ k e. subst (λ (r : Ptr). Formed l (class_of (words_at cs r)) (suc j) (words_at ds r)) e (subst (λ n. Formed l (class_at cs p) (suc n) (words_at ds p.at)) k f))
           (λ n. subst (λ us. Formed l (class_at cs q) (suc j) us) (sym (w.others q.at n)) (K.formed j q h)));

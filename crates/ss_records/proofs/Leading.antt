@@ -55,15 +55,15 @@ module _ (cs : Cells) (at : ℕ → Ptr) (p : Ptr) (k n : ℕ) (h : To cs at p k
     pub its_number : (v : ℕ) → word_at cs q 1 ≡ number v → v ≡ n
     its_number v e = ap plain (sym e ∙ (λ i. word_at cs (at_target i) 1) ∙ h.there)
 
-module _ (l : Layout) (cs : Cells) (sys : Ptr) (d : Directory) (ms : List Members) (K : Kept l cs sys d ms) (s : ℕ) (inside : s < length l.sets.items) where
+module _ (l : Layout) (cs : Cells) (sys : Ptr) (d : Directory) (ms : List Members) (K : Kept l cs sys d ms) (s : ℕ) (inside : s < length l.sets) where
   abbrev f : ℕ → List ℕ
   f = members_of ms s
 
   abbrev pub t : SetLayout
-  t = (get_there l.sets.items s inside).0
+  t = (get_there l.sets s inside).0
 
-  pub g : slice_get l.sets.items s ≡ Some t
-  g = (get_there l.sets.items s inside).1
+  pub g : slice_get l.sets s ≡ Some t
+  g = (get_there l.sets s inside).1
 
   abbrev at : ℕ → Ptr
   at = entity_at sys d t.member
@@ -79,10 +79,10 @@ module _ (l : Layout) (cs : Cells) (sys : Ptr) (d : Directory) (ms : List Member
 
   -- where a word of the name stands
   abbrev InMember : ℕ → Type 0
-  InMember b = (u : SetLayout) → slice_get l.sets.items s ≡ Some u → b ≡ member_base l s u
+  InMember b = (u : SetLayout) → slice_get l.sets s ≡ Some u → b ≡ member_base l s u
 
   abbrev InOwner : ℕ → Type 0
-  InOwner b = (u : SetLayout) → slice_get l.sets.items s ≡ Some u → b ≡ owner_base l s u
+  InOwner b = (u : SetLayout) → slice_get l.sets s ≡ Some u → b ≡ owner_base l s u
 
   pub small_of : (c n : ℕ) → (n ≡ 0) ⊎ IsOf cs d c n → n < 2 ^ 62
   small_of c n (inl e) = omega (arith, e)

@@ -60,21 +60,21 @@ pub none_made : (l : Layout) (cs : Cells) (cl : List ClassLayout) → map (recor
 none_made l cs [] = refl
 none_made l cs (k ∷ ks) = ap (λ rs. None ∷ rs) (none_made l cs ks)
 
-pub kept_first : (l : Layout) (ds : Cells) (q : Place) (w : ℕ) → Small l → w ≡ block_words l System → LaidSystem l ((q.at, blanks w) ∷ []) ds q.at → Kept l ds q.at (lying [] (replicate (length l.classes.items) None)) []
+pub kept_first : (l : Layout) (ds : Cells) (q : Place) (w : ℕ) → Small l → w ≡ block_words l System → LaidSystem l ((q.at, blanks w) ∷ []) ds q.at → Kept l ds q.at (lying [] (replicate (length l.classes) None)) []
 kept_first l ds q w small size laid = record {
   small = small;
   issued = omega arith;
-  width = length_none (length l.classes.items);
+  width = length_none (length l.classes);
   system = laid.written.size ∙ ap length (words_new [] q.at (blanks w)) ∙ length-blanks w ∙ size;
   end = laid.its_number;
   kinds = λ i p h. cc;
-  made = λ c ps h. absurd (nothing_made (length l.classes.items) c ps h);
-  classes = λ i p h. absurd (none_listed (length l.classes.items) i p h);
-  formed = λ i p h. absurd (none_listed (length l.classes.items) i p h);
-  apart = λ i j p r h k z. absurd (none_listed (length l.classes.items) i p h);
-  off_system = λ i p h. absurd (none_listed (length l.classes.items) i p h);
-  counted = omega (arith, laid.written.count, none_counted (length l.classes.items));
-  names = λ s t g. name_first l ds q.at ((q.at, blanks w) ∷ []) laid (lying [] (replicate (length l.classes.items) None)) (λ c i p h. none_listed (length l.classes.items) i p (listed (lying [] (replicate (length l.classes.items) None)) c i p h)) s t g;
+  made = λ c ps h. absurd (nothing_made (length l.classes) c ps h);
+  classes = λ i p h. absurd (none_listed (length l.classes) i p h);
+  formed = λ i p h. absurd (none_listed (length l.classes) i p h);
+  apart = λ i j p r h k z. absurd (none_listed (length l.classes) i p h);
+  off_system = λ i p h. absurd (none_listed (length l.classes) i p h);
+  counted = omega (arith, laid.written.count, none_counted (length l.classes));
+  names = λ s t g. name_first l ds q.at ((q.at, blanks w) ∷ []) laid (lying [] (replicate (length l.classes) None)) (λ c i p h. none_listed (length l.classes) i p (listed (lying [] (replicate (length l.classes) None)) c i p h)) s t g;
 }
 
 pub living_drop : (d : Numbers) (i : ℕ) → length d ≤ i → living (drop i d) ≡ 0

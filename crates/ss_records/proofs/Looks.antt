@@ -23,15 +23,15 @@ use Rattle.ss_records.proofs.Leading.{To, leads, its_number, first_to, last_to, 
 pub as_whole : (n m : ℕ) → n ≡ m → m < 2 ^ 62 → cast_signed w64 n ≡ pos m
 as_whole n m e h = let k : n < 2 ^ 63 = omega (arith, e, h) in let z : cast_signed w64 n ≡ pos n = omega (arith, ints, k) in z ∙ ap pos e
 
-module _ (r : Records) (K : IsKept r) (s : ℕ) (inside : s < length r.layout.sets.items) where
+module _ (r : Records) (K : IsKept r) (s : ℕ) (inside : s < length r.layout.sets) where
   abbrev at : ℕ → Ptr
-  at = entity_at r.system.at (places r) (get_there r.layout.sets.items s inside).0.member
+  at = entity_at r.system.at (places r) (get_there r.layout.sets s inside).0.member
 
   abbrev home : ℕ → Ptr
-  home = owner_at r.system.at (places r) (get_there r.layout.sets.items s inside).0.owner
+  home = owner_at r.system.at (places r) (get_there r.layout.sets s inside).0.owner
 
   -- the words of an owner
-  module _ (e : Entry) (h : Owns r s e) (b : ℕ) (base : (u : SetLayout) → slice_get r.layout.sets.items s ≡ Some u → b ≡ owner_base r.layout s u) where
+  module _ (e : Entry) (h : Owns r s e) (b : ℕ) (base : (u : SetLayout) → slice_get r.layout.sets s ≡ Some u → b ≡ owner_base r.layout s u) where
     first_there : To r.blocks.cells at e.place.at b (head0 (members_of r.notes.lists s e.number))
     first_there = first_to r.layout r.blocks.cells r.system.at (places r) r.notes.lists K s inside e.place.at e.number h.lies h.may b base
 
@@ -81,7 +81,7 @@ module _ (r : Records) (K : IsKept r) (s : ℕ) (inside : s < length r.layout.se
       how_many_value x o = ap Ok (as_whole v _ how_many few_enough) ∙ sym (ap (λ z. and_then z (λ n. Ok (pos (length (members_of r.notes.lists s n))))) o)
 
   -- the words of a member
-  module _ (e : Entry) (h : Joins r s e) (b : ℕ) (base : (u : SetLayout) → slice_get r.layout.sets.items s ≡ Some u → b ≡ member_base r.layout s u) where
+  module _ (e : Entry) (h : Joins r s e) (b : ℕ) (base : (u : SetLayout) → slice_get r.layout.sets s ≡ Some u → b ≡ member_base r.layout s u) where
     abbrev Near : ℕ → (List ℕ → ℕ) → Type 0
     Near k of = Beside r.layout r.blocks.cells r.system.at (places r) r.notes.lists K s inside e.place.at e.number h.lies h.is b base k of
 

@@ -86,7 +86,7 @@ module _ (l : Layout) (cs : Cells) (sys : Ptr) (d : Directory) (ms : List Member
       end = ap (λ us. word_of us 1) same_system ∙ K.end;
       kinds = λ i p h. subst (λ us. IsPermanent (kind_of l (class_of us)) → ⊥) (sym (same_words i p (inl h))) (K.kinds i p h);
       made = λ c ps h. let m = K.made c ps h in record { permanent = m.permanent; class = λ i p x. ap class_of (same_words i p (inr (c, ps, h, x))) ∙ m.class i p x; few = m.few };
-      classes = λ i p h. subst (λ us. class_of us < length l.classes.items) (sym (same_words i p h)) (K.classes i p h);
+      classes = λ i p h. subst (λ us. class_of us < length l.classes) (sym (same_words i p h)) (K.classes i p h);
       formed = λ i p h. subst (λ us. Formed l (class_of us) (suc i) us) (sym (same_words i p h)) (K.formed i p h);
       apart = K.apart;
       off_system = K.off_system;
@@ -107,7 +107,7 @@ module _ (l : Layout) (cs : Cells) (sys : Ptr) (d : Directory) (ms : List Member
   pub room_for_all : (n : ℕ) → n ≤ 2 ^ 20 → length cs + n < 2 ^ 64
   room_for_all n h = omega (arith, K.counted, K.issued, living_bound d.numbers, few_made l cs sys d ms K, h)
 
-  module _ (c : ℕ) (kind : IsPermanent (kind_of l c)) (inside : c < length l.classes.items) (free : slice_get d.classes c ≡ Some None) (bs ds : Cells) (w : ℕ) (ps : List Place) (placed : Placed cs bs w ps) (laid : LaidTo l bs ds sys ps c (length ps)) (few : length ps ≤ 2 ^ 20) where
+  module _ (c : ℕ) (kind : IsPermanent (kind_of l c)) (inside : c < length l.classes) (free : slice_get d.classes c ≡ Some None) (bs ds : Cells) (w : ℕ) (ps : List Place) (placed : Placed cs bs w ps) (laid : LaidTo l bs ds sys ps c (length ps)) (few : length ps ≤ 2 ^ 20) where
     abbrev e : Directory
     e = lying d.numbers (slice_set d.classes c (Some ps))
 
@@ -177,8 +177,8 @@ module _ (l : Layout) (cs : Cells) (sys : Ptr) (d : Directory) (ms : List Member
           (λ z y. subst (λ a. MadeOf l ds a qs) z (subst (MadeOf l ds c) y (record { permanent = kind; class = new_class; few = few })))
           (λ x. let m = K.made b qs x in record { permanent = m.permanent; class = λ i p g. ap class_of (old i p (inr (b, qs, x, g))) ∙ m.class i p g; few = m.few });
       classes = λ i p h. by_listed i p h
-          (λ x. subst (λ b. b < length l.classes.items) (sym (new_class i p x)) inside)
-          (λ x. subst (λ us. class_of us < length l.classes.items) (sym (old i p x)) (K.classes i p x));
+          (λ x. subst (λ b. b < length l.classes) (sym (new_class i p x)) inside)
+          (λ x. subst (λ us. class_of us < length l.classes) (sym (old i p x)) (K.classes i p x));
       formed = λ i p h. by_listed i p h
           (λ x. subst (λ b. Formed l b (suc i) (words_at ds p.at)) (sym (new_class i p x)) (born_formed l ds sys p.at c (suc i) (born i p x)))
           (λ x. subst (λ us. Formed l (class_of us) (suc i) us) (sym (old i p x)) (K.formed i p x));

@@ -31,7 +31,7 @@ owned_words end start i =
     let a : start + 3 * i - start ≡ 3 * i = omega arith in let b : start + 3 * i + 1 - start ≡ 3 * i + 1 = omega arith in let c : start + 3 * i + 2 - start ≡ 3 * i + 2 = omega arith in
     (ap (owned_word end) a ∙ owned_first end i, ap (owned_word end) b ∙ owned_last end i, ap (owned_word end) c ∙ owned_count end i)
 
-module _ (l : Layout) (cs : Cells) (sys : Ptr) (d : Directory) (ms : List Members) (K : Kept l cs sys d ms) (s : ℕ) (t : SetLayout) (g : slice_get l.sets.items s ≡ Some t) where
+module _ (l : Layout) (cs : Cells) (sys : Ptr) (d : Directory) (ms : List Members) (K : Kept l cs sys d ms) (s : ℕ) (t : SetLayout) (g : slice_get l.sets s ≡ Some t) where
   abbrev f : ℕ → List ℕ
   f = members_of ms s
 
@@ -104,7 +104,7 @@ module _ (l : Layout) (cs : Cells) (sys : Ptr) (d : Directory) (ms : List Member
     owner : (n : ℕ) → MayOwn ds e t.owner n → OldOwner m m' at at' home home' (IsOf cs d t.member) (IsOf ds e t.member) (MayOwn cs d t.owner) (MayOwn ds e t.owner) f n ⊎ NewOwner m m' at at' home home' (IsOf cs d t.member) (IsOf ds e t.member) (MayOwn cs d t.owner) (MayOwn ds e t.owner) f n
     owner n h = elim (owners t.owner refl n h) as (λ _. OldOwner m m' at at' home home' (IsOf cs d t.member) (IsOf ds e t.member) (MayOwn cs d t.owner) (MayOwn ds e t.owner) f n ⊎ NewOwner m m' at at' home home' (IsOf cs d t.member) (IsOf ds e t.member) (MayOwn cs d t.owner) (MayOwn ds e t.owner) f n) [
       | inl x ↦ inl (x.0, x.1.0, x.1.1 w.first, x.1.1 w.last, x.1.1 w.count)
-      | inr x ↦ let v = owned_words sys (owned_start l t.owner) (count_before (owned_by t.owner) l.sets.items s) in
+      | inr x ↦ let v = owned_words sys (owned_start l t.owner) (count_before (owned_by t.owner) l.sets s) in
           let none : f n ≡ [] = empty (f n) (λ y j. x.2.1 (subst (λ u. MayOwn cs d u n) x.1 ((K.names s t g).members n y j).2)) in
           inr (none, new_owned n x.0 w.first x.1 x.2.0 (inl refl) ∙ v.0, new_owned n x.0 w.last x.1 x.2.0 (inr (inl refl)) ∙ v.1, new_owned n x.0 w.count x.1 x.2.0 (inr (inr refl)) ∙ v.2)
     ]

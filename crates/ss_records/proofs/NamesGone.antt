@@ -21,7 +21,7 @@ use Rattle.ss_records.proofs.Moved.{shows_moved}
 use Rattle.ss_records.proofs.Disjoint.{owner_inside, entry_of, is_of}
 use Rattle.ss_records.proofs.NamesCreated.{owned_words}
 
-module _ (l : Layout) (ds : Cells) (sys : Ptr) (bs : Cells) (laid : LaidSystem l bs ds sys) (d : Directory) (none : (c i : ℕ) (p : Place) → slice_get (listing d c) i ≡ Some (Some p) → ⊥) (s : ℕ) (t : SetLayout) (g : slice_get l.sets.items s ≡ Some t) where
+module _ (l : Layout) (ds : Cells) (sys : Ptr) (bs : Cells) (laid : LaidSystem l bs ds sys) (d : Directory) (none : (c i : ℕ) (p : Place) → slice_get (listing d c) i ≡ Some (Some p) → ⊥) (s : ℕ) (t : SetLayout) (g : slice_get l.sets s ≡ Some t) where
   none_of : (b n : ℕ) → IsOf ds d b n → ⊥
   none_of b n h = let a = entry_of ds d b n h in none b a.0 a.1 a.3
 
@@ -38,7 +38,7 @@ module _ (l : Layout) (ds : Cells) (sys : Ptr) (bs : Cells) (laid : LaidSystem l
       (λ z. word_at ds (e.0 z) k) ∙ laid.owned k (subst (λ v. owned_start l v ≤ k) e.1 r.0) (subst (λ v. k < block_words l v) e.1 r.1) ∙ ap (λ v. owned_from sys (owned_start l v) k) (sym e.1)
 
   abbrev v : (owned_from sys (owned_start l t.owner) (owner_base l s t) ≡ link sys) × (owned_from sys (owned_start l t.owner) (owner_base l s t + 1) ≡ link sys) × (owned_from sys (owned_start l t.owner) (owner_base l s t + 2) ≡ counter 0)
-  v = owned_words sys (owned_start l t.owner) (count_before (owned_by t.owner) l.sets.items s)
+  v = owned_words sys (owned_start l t.owner) (count_before (owned_by t.owner) l.sets s)
 
   pub name_first : NameKept l ds sys d [] s t
   name_first = record {
@@ -54,7 +54,7 @@ module _ (l : Layout) (ds : Cells) (sys : Ptr) (bs : Cells) (laid : LaidSystem l
     sole = λ o p y h k. absurd h;
   }
 
-module _ (l : Layout) (cs : Cells) (sys : Ptr) (d : Directory) (ms : List Members) (K : Kept l cs sys d ms) (s : ℕ) (t : SetLayout) (g : slice_get l.sets.items s ≡ Some t)
+module _ (l : Layout) (cs : Cells) (sys : Ptr) (d : Directory) (ms : List Members) (K : Kept l cs sys d ms) (s : ℕ) (t : SetLayout) (g : slice_get l.sets s ≡ Some t)
     (ds : Cells) (e : Directory) (i : ℕ) (p : Place) (words_sys : words_at ds sys ≡ words_at cs sys)
     (free : t.member ≡ class_at cs p → (o : ℕ) → NotIn (suc i) (members_of ms s o)) (owns : t.owner ≡ Class (class_at cs p) → members_of ms s (suc i) ≡ [])
     (entry : (b j : ℕ) (q : Place) → slice_get (listing e b) j ≡ Some (Some q) → (slice_get (listing d b) j ≡ Some (Some q)) × (words_at ds q.at ≡ words_at cs q.at))

@@ -32,7 +32,7 @@ module _ (cs ds : Cells) (d : Directory) (classes : (j : ℕ) (q : Place) → Li
   own_on System n h = h
   own_on (Class c) n h = of_on c n h
 
-module _ (l : Layout) (cs : Cells) (sys : Ptr) (d : Directory) (ms : List Members) (K : Kept l cs sys d ms) (ds : Cells) (classes : (j : ℕ) (q : Place) → Lists d j q → class_at ds q ≡ class_at cs q) (s : ℕ) (t : SetLayout) (g : slice_get l.sets.items s ≡ Some t) where
+module _ (l : Layout) (cs : Cells) (sys : Ptr) (d : Directory) (ms : List Members) (K : Kept l cs sys d ms) (ds : Cells) (classes : (j : ℕ) (q : Place) → Lists d j q → class_at ds q ≡ class_at cs q) (s : ℕ) (t : SetLayout) (g : slice_get l.sets s ≡ Some t) where
   abbrev at : ℕ → Ptr
   at = entity_at sys d t.member
 

@@ -61,5 +61,5 @@ pub not_owner : (st : State) (s : ℕ) (c : ℕ) (x : ℤ) (e : FaultKind) → o
 not_owner st s c x e h k = ap (λ u. owner_by st u x) h ∙ ap (λ z. and_then z (λ q. Ok (number_in x))) k
 
 -- what a function that reads the layout of a set says
-pub kind_is : {A : Type 0} (l : Layout) (s : ℕ) (of : SetLayout → A) (a : A) → s < length l.sets.items → ((t : SetLayout) → slice_get l.sets.items s ≡ Some t → a ≡ of t) → (t : SetLayout) × (slice_get l.sets.items s ≡ Some t) × (of t ≡ a)
-kind_is l s of a inside h = let y = get_there l.sets.items s inside in (y.0, y.1, sym (h y.0 y.1))
+pub kind_is : {A : Type 0} (l : Layout) (s : ℕ) (of : SetLayout → A) (a : A) → s < length l.sets → ((t : SetLayout) → slice_get l.sets s ≡ Some t → a ≡ of t) → (t : SetLayout) × (slice_get l.sets s ≡ Some t) × (of t ≡ a)
+kind_is l s of a inside h = let y = get_there l.sets s inside in (y.0, y.1, sym (h y.0 y.1))

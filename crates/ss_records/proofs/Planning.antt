@@ -1,5 +1,5 @@
 -- What a plan holds, and how far the words of a layout reach.
-use Rattle.std.proofs.Common.{◌≡◌, ℕ, zero, suc, ◌+◌, ◌*◌, ◌<◌, ◌≤◌, Bool, true, false, List, [], ◌∷◌, ◌++◌, length, Some, slice_get, refl, ap, ◌∙◌, arith}
+use Rattle.std.proofs.Common.{◌≡◌, ℕ, zero, suc, ◌<◌, ◌≤◌, Bool, true, false, List, [], ◌∷◌, ◌++◌, length, Some, slice_get, refl, ◌∙◌, arith}
 use Rattle.std.specs.Prelude.{cond, slice_index_or}
 use Rattle.std.proofs.lemmas.Option.{slice_get_within, get_or_from_slice_get}
 use Rattle.ss_base.specs.declared.layout.Owner.{Owner}
@@ -9,7 +9,7 @@ use Rattle.ss_base.specs.declared.layout.Layout.{Layout}
 use Rattle.ss_records.specs.declared.plan.Extent.{Extent}
 use Rattle.ss_records.specs.declared.plan.Bases.{Bases}
 use Rattle.ss_records.specs.State.{kind_of, is_notice}
-use Rattle.ss_records.specs.Shape.{links_start, owned_start, block_words, joins, owned_by, count_before, count_sets}
+use Rattle.ss_records.specs.Shape.{links_start, owned_start, joins, owned_by, count_before, count_sets}
 use Rattle.ss_records.specs.Kept.{Small}
 use Rattle.ss_records.specs.Slotted.{member_base, owner_base}
 use Rattle.ss_records.specs.Plans.{extent_of, bases_of, IsPlan}
@@ -33,13 +33,13 @@ links_reach l h c = omega (arith, h.fields c, one (is_notice (kind_of l c)))
 
 pub owned_reach : (l : Layout) → Small l → (o : Owner) → owned_start l o ≤ 4194307
 owned_reach l h System = omega arith
-owned_reach l h (Class c) = omega (arith, links_reach l h c, few_sets (joins c) l.sets.items, h.sets)
+owned_reach l h (Class c) = omega (arith, links_reach l h c, few_sets (joins c) l.sets, h.sets)
 
 pub member_reach : (l : Layout) → Small l → (s : ℕ) (t : SetLayout) → member_base l s t ≤ 4194307
-member_reach l h s t = omega (arith, links_reach l h t.member, few_before (joins t.member) l.sets.items s, h.sets)
+member_reach l h s t = omega (arith, links_reach l h t.member, few_before (joins t.member) l.sets s, h.sets)
 
 pub owner_reach : (l : Layout) → Small l → (s : ℕ) (t : SetLayout) → owner_base l s t ≤ 8388614
-owner_reach l h s t = omega (arith, owned_reach l h t.owner, few_before (owned_by t.owner) l.sets.items s, h.sets)
+owner_reach l h s t = omega (arith, owned_reach l h t.owner, few_before (owned_by t.owner) l.sets s, h.sets)
 
 pub get_front : {A : Type 0} (xs : List A) (x : A) (k : ℕ) → k < length xs → slice_get (xs ++ x ∷ []) k ≡ slice_get xs k
 get_front [] x k h = absurd (omega (arith, h))
@@ -53,14 +53,14 @@ get_behind (y ∷ ys) x zero h = absurd (omega (arith, h))
 get_behind (y ∷ ys) x (suc k) h = get_behind ys x k (omega (arith, h))
 
 module _ (l : Layout) (cs : List Extent) (ss : List Bases) (n : ℕ) (P : IsPlan l cs ss n) where
-  pub class_within : (c : ℕ) → c < length l.classes.items → c < length cs
+  pub class_within : (c : ℕ) → c < length l.classes → c < length cs
   class_within c h = slice_get_within cs c (extent_of l c) (P.classes c h)
 
-  pub extent_is : (c : ℕ) (x : Extent) → c < length l.classes.items → x ≡ slice_index_or cs c x → x ≡ extent_of l c
+  pub extent_is : (c : ℕ) (x : Extent) → c < length l.classes → x ≡ slice_index_or cs c x → x ≡ extent_of l c
   extent_is c x h e = e ∙ get_or_from_slice_get cs c (extent_of l c) x (P.classes c h)
 
-  pub set_within : (s : ℕ) → s < length l.sets.items → s < length ss
-  set_within s h = let y = get_there l.sets.items s h in slice_get_within ss s (bases_of l s y.0) (P.sets s y.0 y.1)
+  pub set_within : (s : ℕ) → s < length l.sets → s < length ss
+  set_within s h = let y = get_there l.sets s h in slice_get_within ss s (bases_of l s y.0) (P.sets s y.0 y.1)
 
-  pub bases_are : (s : ℕ) (t : SetLayout) (x : Bases) → slice_get l.sets.items s ≡ Some t → x ≡ slice_index_or ss s x → x ≡ bases_of l s t
+  pub bases_are : (s : ℕ) (t : SetLayout) (x : Bases) → slice_get l.sets s ≡ Some t → x ≡ slice_index_or ss s x → x ≡ bases_of l s t
   bases_are s t x g e = e ∙ get_or_from_slice_get ss s (bases_of l s t) x (P.sets s t g)

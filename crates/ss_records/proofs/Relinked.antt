@@ -20,7 +20,7 @@ use Rattle.ss_records.proofs.LinkWrites.{any_linked_is}
 use Rattle.ss_records.proofs.UnlinkWrites.{any_unlinked_is}
 use Rattle.ss_records.proofs.Spared.{with_classes, kept_spared, records_spared, permanents_spared}
 
-module _ (l : Layout) (cs : Cells) (sys : Ptr) (d : Directory) (ms : List Members) (K : Kept l cs sys d ms) (s : ℕ) (t : SetLayout) (g : slice_get l.sets.items s ≡ Some t) (o x : ℕ) (xs ys : List ℕ) (lo : MayOwn cs d t.owner o) where
+module _ (l : Layout) (cs : Cells) (sys : Ptr) (d : Directory) (ms : List Members) (K : Kept l cs sys d ms) (s : ℕ) (t : SetLayout) (g : slice_get l.sets s ≡ Some t) (o x : ℕ) (xs ys : List ℕ) (lo : MayOwn cs d t.owner o) where
   abbrev at : ℕ → Ptr
   at = entity_at sys d t.member
 

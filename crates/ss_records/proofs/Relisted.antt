@@ -102,8 +102,8 @@ pub destroyed_keeps : (c : ℕ) (x : ℤ) → KeepsLists (λ st. destroyed st c 
 destroyed_keeps c x st t h =
     let a = both_ok (entity st c x) (λ r. let_go st c (number_in x)) t h in
     let u : State = record st { records = slice_set st.records (number_in x - 1) None } in
-    let b = else_ok (in_a_set st.layout.sets.items 0 st.lists c (number_in x)) InASet (if owns_members st.layout.sets.items 0 st.lists c (number_in x) then Err OwnsMembers else Ok u) t a.2 in
-    let d = else_ok (owns_members st.layout.sets.items 0 st.lists c (number_in x)) OwnsMembers (Ok u) t b in
+    let b = else_ok (in_a_set st.layout.sets 0 st.lists c (number_in x)) InASet (if owns_members st.layout.sets 0 st.lists c (number_in x) then Err OwnsMembers else Ok u) t a.2 in
+    let d = else_ok (owns_members st.layout.sets 0 st.lists c (number_in x)) OwnsMembers (Ok u) t b in
     ap (λ (w : State). w.lists) (sym (ok_is d))
 
 with_entity_keeps : (k : ClassKind) (st : State) (c n : ℕ) (r : Record) → (with_entity_of_kind st k c n r).lists ≡ st.lists

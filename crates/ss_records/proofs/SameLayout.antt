@@ -71,8 +71,8 @@ removed_keeps s set o x =
 let_go_keeps : (s : State) (c n : ℕ) → Keeps s (let_go s c n)
 let_go_keeps s c n =
     let gone : Result State FaultKind = Ok (record s { records = slice_set s.records (n - 1) None }) in
-    let owns = owns_members s.layout.sets.items 0 s.lists c n in
-    keeps_if s (in_a_set s.layout.sets.items 0 s.lists c n) (Err InASet) (if owns then Err OwnsMembers else gone) tt (keeps_if s owns (Err OwnsMembers) gone tt refl)
+    let owns = owns_members s.layout.sets 0 s.lists c n in
+    keeps_if s (in_a_set s.layout.sets 0 s.lists c n) (Err InASet) (if owns then Err OwnsMembers else gone) tt (keeps_if s owns (Err OwnsMembers) gone tt refl)
 
 pub same_layout : (command : Command) (s : State) → (after_command command s).layout ≡ s.layout
 same_layout (Create class) s = keeps_created s (with_created s class) (pos (length s.records + 1)) (nat_lt (length s.records) LAST_NUMBER) Overflow refl

@@ -20,7 +20,7 @@ use Rattle.ss_records.proofs.Moved.{shows_moved}
 use Rattle.ss_records.proofs.NamesKept.{of_back, of_on, own_back, own_on, names_same}
 use Rattle.ss_records.proofs.Disjoint.{above_head, above_end, names_apart}
 
-module _ (l : Layout) (cs : Cells) (sys : Ptr) (d : Directory) (ms : List Members) (K : Kept l cs sys d ms) (s : ℕ) (t : SetLayout) (g : slice_get l.sets.items s ≡ Some t) (ds : Cells) (h : Spares (OfName l cs sys d s t) cs ds) where
+module _ (l : Layout) (cs : Cells) (sys : Ptr) (d : Directory) (ms : List Members) (K : Kept l cs sys d ms) (s : ℕ) (t : SetLayout) (g : slice_get l.sets s ≡ Some t) (ds : Cells) (h : Spares (OfName l cs sys d s t) cs ds) where
   head_same : (j : ℕ) (q : Place) → Lists d j q → (k : ℕ) → k < links_start l (class_at cs q) → word_at ds q.at k ≡ word_at cs q.at k
   head_same j q e k low = h.word q.at k (λ o. above_head l cs sys d ms K s t g j q k e low o)
 
@@ -55,13 +55,13 @@ module _ (l : Layout) (cs : Cells) (sys : Ptr) (d : Directory) (ms : List Member
     end = h.word sys 1 (λ o. above_end l cs sys d ms K s t g 1 (omega arith) o) ∙ K.end;
     kinds = λ j q e x. K.kinds j q e (subst (λ c. IsPermanent (kind_of l c)) (class_spared j q (inl e)) x);
     made = made_spared;
-    classes = λ j q e. subst (λ c. c < length l.classes.items) (sym (class_spared j q e)) (K.classes j q e);
+    classes = λ j q e. subst (λ c. c < length l.classes) (sym (class_spared j q e)) (K.classes j q e);
     formed = λ j q e. subst (λ c. Formed l c (suc j) (words_at ds q.at)) (sym (class_spared j q e)) (formed_spared j q e);
     apart = K.apart;
     off_system = K.off_system;
     counted = h.count ∙ K.counted;
     names = λ r u e. by_same s r
-        (λ z q. subst (λ k. NameKept l ds sys d ns k u) q (subst (λ v. NameKept l ds sys d ns s v) (same_set (sym g ∙ ap (slice_get l.sets.items) q ∙ e)) here))
+        (λ z q. subst (λ k. NameKept l ds sys d ns k u) q (subst (λ v. NameKept l ds sys d ns s v) (same_set (sym g ∙ ap (slice_get l.sets) q ∙ e)) here))
         (λ z n. let f : members_of ns r ≡ members_of ms r = λ i p. others r p n i in
         subst (λ a. Shows (words_of (slots_of l r u) ds (entity_at sys d u.member) (owner_at sys d u.owner)) (entity_at sys d u.member) (owner_at sys d u.owner) (IsOf ds d u.member) (MayOwn ds d u.owner) a) (sym f)
         (names_same l cs sys d ms K ds class_spared r u e (λ q k o. h.word q k (λ here. names_apart l cs sys d ms K s t g r u q k e n here o))));

@@ -36,7 +36,7 @@ counter_is {m} {n} e = ap (λ w. counted w) e where
   counted (counter k) = k
   counted w = 0
 
-module _ (l : Layout) (cs : Cells) (sys : Ptr) (d : Directory) (ms : List Members) (K : Kept l cs sys d ms) (s : ℕ) (t : SetLayout) (g : slice_get l.sets.items s ≡ Some t) (i : ℕ) (p : Place) (e : Lists d i p) where
+module _ (l : Layout) (cs : Cells) (sys : Ptr) (d : Directory) (ms : List Members) (K : Kept l cs sys d ms) (s : ℕ) (t : SetLayout) (g : slice_get l.sets s ≡ Some t) (i : ℕ) (p : Place) (e : Lists d i p) where
   abbrev at : ℕ → Ptr
   at = entity_at sys d t.member
 

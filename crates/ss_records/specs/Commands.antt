@@ -42,14 +42,14 @@ KeepsLists call = (st t : State) → call st ≡ Ok t → t.lists ≡ st.lists
 
 -- a class whose entities are created one by one, or all together
 abbrev pub IsMadeSingly : Layout → ℕ → Type 0
-IsMadeSingly l c = (c < length l.classes.items) × (IsPermanent (kind_of l c) → ⊥)
+IsMadeSingly l c = (c < length l.classes) × (IsPermanent (kind_of l c) → ⊥)
 
 abbrev pub IsMadeTogether : Layout → ℕ → Type 0
-IsMadeTogether l c = (c < length l.classes.items) × IsPermanent (kind_of l c)
+IsMadeTogether l c = (c < length l.classes) × IsPermanent (kind_of l c)
 
 -- a class that has a field of a mode
 abbrev pub HasField : Layout → ℕ → ℕ → Mode → Type 0
-HasField l c f mode = (c < length l.classes.items) × (slice_get (modes_of l c) f ≡ Some mode)
+HasField l c f mode = (c < length l.classes) × (slice_get (modes_of l c) f ≡ Some mode)
 
 -- what a command fits: the class, the field and the set that it names are there, and of its kind
 abbrev pub FitsCommand : Layout → Command → Type 0
@@ -58,11 +58,11 @@ FitsCommand l (CreateAll class n) = IsMadeTogether l class
 FitsCommand l (Destroy class r) = IsMadeSingly l class
 FitsCommand l (SetValue class field r value) = HasField l class field (mode_of value)
 FitsCommand l (SetTime r time) = Unit {0}
-FitsCommand l (FileFirst set o member) = set < length l.sets.items
-FitsCommand l (FileLast set o member) = set < length l.sets.items
-FitsCommand l (FileBefore set o member beside) = set < length l.sets.items
-FitsCommand l (FileAfter set o member beside) = set < length l.sets.items
-FitsCommand l (Remove set o member) = set < length l.sets.items
+FitsCommand l (FileFirst set o member) = set < length l.sets
+FitsCommand l (FileLast set o member) = set < length l.sets
+FitsCommand l (FileBefore set o member beside) = set < length l.sets
+FitsCommand l (FileAfter set o member beside) = set < length l.sets
+FitsCommand l (Remove set o member) = set < length l.sets
 
 -- what a call answers that gives no value
 abbrev pub told : Result (Unit {0}) FaultKind → Answer

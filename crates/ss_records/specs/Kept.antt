@@ -33,8 +33,8 @@ IsPermanent Notice = ⊥
 -- the layout is no larger than a heap can serve
 pub record Small (l : Layout) : Type 0 where
   pub sound : IsTrue (is_sound l)
-  pub classes : length l.classes.items ≤ 2 ^ 20
-  pub sets : length l.sets.items ≤ 2 ^ 20
+  pub classes : length l.classes ≤ 2 ^ 20
+  pub sets : length l.sets ≤ 2 ^ 20
   pub fields : (c : ℕ) → length (modes_of l c) ≤ 2 ^ 20
 
 -- only the block at p has changed
@@ -63,21 +63,21 @@ pub record MadeOf (l : Layout) (cs : Cells) (c : ℕ) (ps : List Place) : Type 0
 pub record Kept (l : Layout) (cs : Cells) (sys : Ptr) (d : Directory) (ms : List Members) : Type 0 where
   pub small : Small l
   pub issued : length d.numbers < 2 ^ 62
-  pub width : length d.classes ≡ length l.classes.items
+  pub width : length d.classes ≡ length l.classes
   pub system : length (words_at cs sys) ≡ block_words l System
   pub end : word_of (words_at cs sys) 1 ≡ number 0
   pub kinds : (i : ℕ) (p : Place) → slice_get d.numbers i ≡ Some (Some p) → IsPermanent (kind_of l (class_at cs p)) → ⊥
   pub made : (c : ℕ) (ps : List Place) → slice_get d.classes c ≡ Some (Some ps) → MadeOf l cs c ps
-  pub classes : (i : ℕ) (p : Place) → Lists d i p → class_at cs p < length l.classes.items
+  pub classes : (i : ℕ) (p : Place) → Lists d i p → class_at cs p < length l.classes
   pub formed : (i : ℕ) (p : Place) → Lists d i p → Formed l (class_at cs p) (suc i) (words_at cs p.at)
   pub apart : (i j : ℕ) (p q : Place) → Lists d i p → Lists d j q → p.at ≡ q.at → i ≡ j
   pub off_system : (i : ℕ) (p : Place) → Lists d i p → p.at ≡ sys → ⊥
   pub counted : length cs ≡ living d.numbers + made_count d.classes + 1
-  pub names : (s : ℕ) (t : SetLayout) → slice_get l.sets.items s ≡ Some t → NameKept l cs sys d ms s t
+  pub names : (s : ℕ) (t : SetLayout) → slice_get l.sets s ≡ Some t → NameKept l cs sys d ms s t
 
 -- the blocks of the permanent entities are apart from one another and from that of the system, and no other is left
 pub record RowsHeld (l : Layout) (cs : Cells) (sys : Ptr) (ms : Made) : Type 0 where
-  pub width : length ms ≡ length l.classes.items
+  pub width : length ms ≡ length l.classes
   pub size : (c i : ℕ) (ps : List Place) (p : Place) → slice_get ms c ≡ Some (Some ps) → slice_get ps i ≡ Some p → length (words_at cs p.at) ≡ block_words l (Class c)
   pub apart : (c b i j : ℕ) (ps qs : List Place) (p q : Place) → slice_get ms c ≡ Some (Some ps) → slice_get ms b ≡ Some (Some qs) → slice_get ps i ≡ Some p → slice_get qs j ≡ Some q → p.at ≡ q.at → (i ≡ j) × (c ≡ b)
   pub off_system : (i : ℕ) (p : Place) → IsMade ms i p → p.at ≡ sys → ⊥

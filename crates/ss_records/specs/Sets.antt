@@ -17,7 +17,7 @@ member_in (Some t) = t.member
 
 -- the class of the members of the set s
 abbrev pub member_class : Layout → ℕ → ℕ
-member_class l s = member_in (slice_get l.sets.items s)
+member_class l s = member_in (slice_get l.sets s)
 
 abbrev pub owner_in : Option SetLayout → Owner
 owner_in None = System
@@ -25,7 +25,7 @@ owner_in (Some t) = t.owner
 
 -- who owns the set s
 abbrev pub owner_kind : Layout → ℕ → Owner
-owner_kind l s = owner_in (slice_get l.sets.items s)
+owner_kind l s = owner_in (slice_get l.sets s)
 
 -- what x means as one that may be a member of the set s
 abbrev pub joiner : State → ℕ → ℤ → Result ℕ FaultKind
@@ -137,6 +137,6 @@ removed st s o x = and_then (joiner st s x) (λ n. and_then (owner st s o) (λ m
 
 -- members are entities of their class; none is twice in a set, or in two sets of a name
 pub record Apart (st : State) : Type 0 where
-  pub distinct : (s o : ℕ) → s < length st.layout.sets.items → Distinct (members_of st.lists s o)
-  pub members : (s o x : ℕ) → s < length st.layout.sets.items → In x (members_of st.lists s o) → (0 ≡ x → ⊥) × (joiner st s (pos x) ≡ Ok x)
-  pub sole : (s o x : ℕ) → s < length st.layout.sets.items → In x (members_of st.lists s o) → owner_of st.lists s x ≡ Some o
+  pub distinct : (s o : ℕ) → s < length st.layout.sets → Distinct (members_of st.lists s o)
+  pub members : (s o x : ℕ) → s < length st.layout.sets → In x (members_of st.lists s o) → (0 ≡ x → ⊥) × (joiner st s (pos x) ≡ Ok x)
+  pub sole : (s o x : ℕ) → s < length st.layout.sets → In x (members_of st.lists s o) → owner_of st.lists s x ≡ Some o

@@ -40,8 +40,8 @@ count_sets p (t ∷ ts) = cond (p t) 1 0 + count_sets p ts
 -- where the words of owned sets begin
 abbrev pub owned_start : Layout → Owner → ℕ
 owned_start l System = 2
-owned_start l (Class c) = links_start l c + 3 * count_sets (joins c) l.sets.items
+owned_start l (Class c) = links_start l c + 3 * count_sets (joins c) l.sets
 
 -- how many words the block of an entity of a class has, or that of the system
 abbrev pub block_words : Layout → Owner → ℕ
-block_words l o = owned_start l o + 3 * count_sets (owned_by o) l.sets.items
+block_words l o = owned_start l o + 3 * count_sets (owned_by o) l.sets

@@ -13,10 +13,10 @@ use Rattle.ss_records.specs.Places.{Directory, listing, entity_at, owner_at, cla
 use Rattle.ss_records.specs.Links.{Slots, Shows, words_of, OfMember, OfOwner}
 
 abbrev pub member_base : Layout → ℕ → SetLayout → ℕ
-member_base l s t = links_start l t.member + 3 * count_before (joins t.member) l.sets.items s
+member_base l s t = links_start l t.member + 3 * count_before (joins t.member) l.sets s
 
 abbrev pub owner_base : Layout → ℕ → SetLayout → ℕ
-owner_base l s t = owned_start l t.owner + 3 * count_before (owned_by t.owner) l.sets.items s
+owner_base l s t = owned_start l t.owner + 3 * count_before (owned_by t.owner) l.sets s
 
 -- the words of the set name s: three in each member's block, three in each owner's
 abbrev pub slots_of : Layout → ℕ → SetLayout → Slots

@@ -52,14 +52,14 @@ kind_in None = Temporary
 kind_in (Some c) = c.kind
 
 abbrev pub kind_of : Layout → ℕ → ClassKind
-kind_of l c = kind_in (slice_get l.classes.items c)
+kind_of l c = kind_in (slice_get l.classes c)
 
 abbrev pub modes_in : Option ClassLayout → List Mode
 modes_in None = []
-modes_in (Some c) = c.fields.items
+modes_in (Some c) = c.fields
 
 abbrev pub modes_of : Layout → ℕ → List Mode
-modes_of l c = modes_in (slice_get l.classes.items c)
+modes_of l c = modes_in (slice_get l.classes c)
 
 -- ## References
 
@@ -256,8 +256,8 @@ owns_members (t ∷ ts) s ms c x = (is_owner_class t.owner c && has_members (mem
 
 abbrev pub let_go : State → ℕ → ℕ → Result State FaultKind
 let_go s c n =
-    if in_a_set s.layout.sets.items 0 s.lists c n then Err InASet
-    else (if owns_members s.layout.sets.items 0 s.lists c n then Err OwnsMembers
+    if in_a_set s.layout.sets 0 s.lists c n then Err InASet
+    else (if owns_members s.layout.sets 0 s.lists c n then Err OwnsMembers
     else Ok (record s { records = slice_set s.records (n - 1) None }))
 
 -- the state once a record is destroyed
@@ -271,7 +271,7 @@ not_made c = None
 
 -- no record, nothing made, all sets empty
 abbrev pub first_state : Layout → State
-first_state l = record { layout = l; records = []; permanents = map not_made l.classes.items; lists = [] }
+first_state l = record { layout = l; records = []; permanents = map not_made l.classes; lists = [] }
 
 abbrev pub no_value : {A : Type 0} → Result A FaultKind → Result (Unit {0}) FaultKind
 no_value (Ok a) = Ok tt

@@ -28,7 +28,7 @@ impl Records {
     #[inline(always)]
     fn pair(&self, s: usize, o: i64, x: i64) -> Result<Pair, FaultKind>
         requires kept { IsKept self.now }
-        requires set { s < length self.now.layout.sets.items }
+        requires set { s < length self.now.layout.sets }
         ensures found { MatchResult result (λ p. Owns self.now s p.owner × Joins self.now s p.x × (joiner (state self.now) s x ≡ Ok p.x.number) × (owner (state self.now) s o ≡ Ok p.owner.number)) (λ f. (g : ℕ → ℕ → Result State FaultKind) → and_then (joiner (state self.now) s x) (λ n. and_then (owner (state self.now) s o) (g n)) ≡ Err f) }
     {
         match self.joiner(s, x) {
@@ -43,7 +43,7 @@ impl Records {
     // What x, then y and then o mean.
     fn triple(&self, s: usize, o: i64, x: i64, y: i64) -> Result<Triple, FaultKind>
         requires kept { IsKept self.now }
-        requires set { s < length self.now.layout.sets.items }
+        requires set { s < length self.now.layout.sets }
         ensures found { MatchResult result (λ p. Owns self.now s p.owner × Joins self.now s p.x × Joins self.now s p.y × (joiner (state self.now) s x ≡ Ok p.x.number) × (joiner (state self.now) s y ≡ Ok p.y.number) × (owner (state self.now) s o ≡ Ok p.owner.number)) (λ f. (g : ℕ → ℕ → ℕ → Result State FaultKind) → and_then (joiner (state self.now) s x) (λ n. and_then (joiner (state self.now) s y) (λ k. and_then (owner (state self.now) s o) (g n k))) ≡ Err f) }
     {
         match self.joiner(s, x) {
@@ -62,7 +62,7 @@ impl Records {
     // Whether x is in the set of this owner: at most two touches.
     fn is_in(&mut self, s: usize, owner: Entry, x: Entry) -> bool
         requires kept { IsKept self.old }
-        requires set { s < length self.old.layout.sets.items }
+        requires set { s < length self.old.layout.sets }
         requires owns { Owns self.old s owner }
         requires joins { Joins self.old s x }
         requires touches { self.old.blocks.touches ≤ 8 }
@@ -82,7 +82,7 @@ impl Records {
     // Links x into the set of an owner between two neighbours: seven touches.
     fn link_in(&mut self, s: usize, owner: Entry, before: Entry, x: Entry, after: Entry)
         requires kept { IsKept self.old }
-        requires set { s < length self.old.layout.sets.items }
+        requires set { s < length self.old.layout.sets }
         requires owns { Owns self.old s owner }
         requires joins { Joins self.old s x }
         requires free { is_filed self.old.notes.lists s x.number ≡ false }
@@ -115,7 +115,7 @@ impl Records {
     // Links x out of the set of an owner, from between its neighbours: seven touches.
     fn link_out(&mut self, s: usize, owner: Entry, before: Entry, x: Entry, after: Entry)
         requires kept { IsKept self.old }
-        requires set { s < length self.old.layout.sets.items }
+        requires set { s < length self.old.layout.sets }
         requires owns { Owns self.old s owner }
         requires joins { Joins self.old s x }
         requires around { (xs : List ℕ) × (ys : List ℕ) × Around self.old s owner.number x.number before after xs ys }
@@ -146,7 +146,7 @@ impl Records {
     /// Files x first.
     pub(crate) fn file_first(&mut self, s: usize, o: i64, x: i64) -> Result<(), FaultKind>
         requires kept { IsKept self.old }
-        requires set { s < length self.old.layout.sets.items }
+        requires set { s < length self.old.layout.sets }
         requires touches { self.old.blocks.touches ≡ 0 }
         ensures kept { IsKept self.new }
         ensures done { MatchResult result (λ _. filed_first (state self.old) s o x ≡ Ok (state self.new)) (λ e. (filed_first (state self.old) s o x ≡ Err e) × (state self.new ≡ state self.old)) }
@@ -173,7 +173,7 @@ impl Records {
     /// Files x last.
     pub(crate) fn file_last(&mut self, s: usize, o: i64, x: i64) -> Result<(), FaultKind>
         requires kept { IsKept self.old }
-        requires set { s < length self.old.layout.sets.items }
+        requires set { s < length self.old.layout.sets }
         requires touches { self.old.blocks.touches ≡ 0 }
         ensures kept { IsKept self.new }
         ensures done { MatchResult result (λ _. filed_last (state self.old) s o x ≡ Ok (state self.new)) (λ e. (filed_last (state self.old) s o x ≡ Err e) × (state self.new ≡ state self.old)) }
@@ -200,7 +200,7 @@ impl Records {
     /// Files x directly before y.
     pub(crate) fn file_before(&mut self, s: usize, o: i64, x: i64, y: i64) -> Result<(), FaultKind>
         requires kept { IsKept self.old }
-        requires set { s < length self.old.layout.sets.items }
+        requires set { s < length self.old.layout.sets }
         requires touches { self.old.blocks.touches ≡ 0 }
         ensures kept { IsKept self.new }
         ensures done { MatchResult result (λ _. filed_before (state self.old) s o x y ≡ Ok (state self.new)) (λ e. (filed_before (state self.old) s o x y ≡ Err e) × (state self.new ≡ state self.old)) }
@@ -226,7 +226,7 @@ impl Records {
     /// Files x directly after y.
     pub(crate) fn file_after(&mut self, s: usize, o: i64, x: i64, y: i64) -> Result<(), FaultKind>
         requires kept { IsKept self.old }
-        requires set { s < length self.old.layout.sets.items }
+        requires set { s < length self.old.layout.sets }
         requires touches { self.old.blocks.touches ≡ 0 }
         ensures kept { IsKept self.new }
         ensures done { MatchResult result (λ _. filed_after (state self.old) s o x y ≡ Ok (state self.new)) (λ e. (filed_after (state self.old) s o x y ≡ Err e) × (state self.new ≡ state self.old)) }
@@ -252,7 +252,7 @@ impl Records {
     /// Takes x out of a set.
     pub(crate) fn remove(&mut self, s: usize, o: i64, x: i64) -> Result<(), FaultKind>
         requires kept { IsKept self.old }
-        requires set { s < length self.old.layout.sets.items }
+        requires set { s < length self.old.layout.sets }
         requires touches { self.old.blocks.touches ≡ 0 }
         ensures kept { IsKept self.new }
         ensures done { MatchResult result (λ _. removed (state self.old) s o x ≡ Ok (state self.new)) (λ e. (removed (state self.old) s o x ≡ Err e) × (state self.new ≡ state self.old)) }

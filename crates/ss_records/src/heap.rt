@@ -50,7 +50,7 @@ impl Heap {
 
     /// Whether r is an entity of a class. Faults: 1 to 4, or 5 for a permanent class.
     pub fn known(&self, class: usize, r: i64) -> Result<(), FaultKind>
-        requires class { class < length self.now.state.layout.classes.items }
+        requires class { class < length self.now.state.layout.classes }
         ensures { result ≡ known_in self.now.state class r }
     {
         match self.records.find(class, r) {
@@ -87,7 +87,7 @@ impl Heap {
 
     /// The value of an attribute. Faults: 1 to 5.
     pub fn value(&self, class: usize, field: usize, r: i64) -> Result<Value, FaultKind>
-        requires class { class < length self.now.state.layout.classes.items }
+        requires class { class < length self.now.state.layout.classes }
         requires field { field < length (modes_of self.now.state.layout class) }
         ensures { result ≡ value_in self.now.state class field r }
     {
@@ -102,7 +102,7 @@ impl Heap {
         r: i64,
         value: Value,
     ) -> Result<(), FaultKind>
-        requires class { class < length self.old.state.layout.classes.items }
+        requires class { class < length self.old.state.layout.classes }
         requires mode { slice_get (modes_of self.old.state.layout class) field ≡ Some (mode_of value) }
         ensures done { MatchResult result (λ _. assigned self.old.state class field r value ≡ Ok self.new.state) (λ e. (assigned self.old.state class field r value ≡ Err e) × (self.new.state ≡ self.old.state)) }
         ensures touches { (self.new.touches ≡ 0) × (self.new.total ≡ self.old.total) }
@@ -114,7 +114,7 @@ impl Heap {
     /// A new entity of a temporary class or a class of notices, with first values, in no set: its creation
     /// number. Faults: 14 after the last creation number. Want of memory is answered only where no fault is due.
     pub fn create(&mut self, class: usize) -> Result<i64, Refused>
-        requires class { class < length self.old.state.layout.classes.items }
+        requires class { class < length self.old.state.layout.classes }
         requires kind { IsPermanent (kind_of self.old.state.layout class) → ⊥ }
         ensures done { MatchResult result (λ n. created self.old.state class ≡ Ok (n, self.new.state)) (λ e. (self.new.state ≡ self.old.state) × RefusedFor (created self.old.state class) e) }
         ensures touches { self.new.total ≡ self.old.total + self.new.touches }
@@ -127,7 +127,7 @@ impl Heap {
     /// Faults: 18 where this was done before, then 22 where n is below 0 or above 1,048,576. Want of memory is answered only
     /// where no fault is due.
     pub fn create_all(&mut self, class: usize, n: i64) -> Result<(), Refused>
-        requires class { class < length self.old.state.layout.classes.items }
+        requires class { class < length self.old.state.layout.classes }
         requires kind { IsPermanent (kind_of self.old.state.layout class) }
         ensures done { MatchResult result (λ _. created_all self.old.state class n ≡ Ok self.new.state) (λ e. (self.new.state ≡ self.old.state) × RefusedFor (created_all self.old.state class n) e) }
         ensures touches { self.new.total ≡ self.old.total + self.new.touches }
@@ -138,7 +138,7 @@ impl Heap {
 
     /// Destroys an entity that is in no set and has no members. Faults: 1 to 4, then 9, then 10.
     pub fn destroy(&mut self, class: usize, r: i64) -> Result<(), FaultKind>
-        requires class { class < length self.old.state.layout.classes.items }
+        requires class { class < length self.old.state.layout.classes }
         requires kind { IsPermanent (kind_of self.old.state.layout class) → ⊥ }
         ensures done { MatchResult result (λ _. destroyed self.old.state class r ≡ Ok self.new.state) (λ e. (destroyed self.old.state class r ≡ Err e) × (self.new.state ≡ self.old.state)) }
         ensures touches { self.new.total ≡ self.old.total + self.new.touches }
@@ -150,7 +150,7 @@ impl Heap {
     /// The first member of the set of an owner, 0 where there is none. THE SYSTEM is the owner 0. Faults: 1 to
     /// 5.
     pub fn first(&mut self, set: usize, o: i64) -> Result<i64, FaultKind>
-        requires set { set < length self.old.state.layout.sets.items }
+        requires set { set < length self.old.state.layout.sets }
         ensures value { result ≡ first_in self.old.state set o }
         ensures same { self.new.state ≡ self.old.state }
         ensures touches { (self.new.touches ≤ 2) × (IsOk result → 1 ≤ self.new.touches) × (self.new.total ≡ self.old.total + self.new.touches) }
@@ -161,7 +161,7 @@ impl Heap {
 
     /// The last member of the set of an owner, 0 where there is none. Faults: 1 to 5.
     pub fn last(&mut self, set: usize, o: i64) -> Result<i64, FaultKind>
-        requires set { set < length self.old.state.layout.sets.items }
+        requires set { set < length self.old.state.layout.sets }
         ensures value { result ≡ last_in self.old.state set o }
         ensures same { self.new.state ≡ self.old.state }
         ensures touches { (self.new.touches ≤ 2) × (IsOk result → 1 ≤ self.new.touches) × (self.new.total ≡ self.old.total + self.new.touches) }
@@ -172,7 +172,7 @@ impl Heap {
 
     /// How many members the set of an owner has. Faults: 1 to 5.
     pub fn count(&mut self, set: usize, o: i64) -> Result<i64, FaultKind>
-        requires set { set < length self.old.state.layout.sets.items }
+        requires set { set < length self.old.state.layout.sets }
         ensures value { result ≡ count_in self.old.state set o }
         ensures same { self.new.state ≡ self.old.state }
         ensures touches { (self.new.touches ≤ 2) × (IsOk result → 1 ≤ self.new.touches) × (self.new.total ≡ self.old.total + self.new.touches) }
@@ -183,7 +183,7 @@ impl Heap {
 
     /// The member that follows x in its set, 0 where there is none or x is in no set. Faults: 1 to 5.
     pub fn next(&mut self, set: usize, x: i64) -> Result<i64, FaultKind>
-        requires set { set < length self.old.state.layout.sets.items }
+        requires set { set < length self.old.state.layout.sets }
         ensures value { result ≡ next_in self.old.state set x }
         ensures same { self.new.state ≡ self.old.state }
         ensures touches { (self.new.touches ≤ 2) × (IsOk result → 1 ≤ self.new.touches) × (self.new.total ≡ self.old.total + self.new.touches) }
@@ -194,7 +194,7 @@ impl Heap {
 
     /// The member that precedes x in its set, 0 where there is none or x is in no set. Faults: 1 to 5.
     pub fn previous(&mut self, set: usize, x: i64) -> Result<i64, FaultKind>
-        requires set { set < length self.old.state.layout.sets.items }
+        requires set { set < length self.old.state.layout.sets }
         ensures value { result ≡ previous_in self.old.state set x }
         ensures same { self.new.state ≡ self.old.state }
         ensures touches { (self.new.touches ≤ 2) × (IsOk result → 1 ≤ self.new.touches) × (self.new.total ≡ self.old.total + self.new.touches) }
@@ -205,7 +205,7 @@ impl Heap {
 
     /// The owner whose set of this name x is in, if any. Faults: 1 to 5.
     pub fn owner_in(&mut self, set: usize, x: i64) -> Result<Option<i64>, FaultKind>
-        requires set { set < length self.old.state.layout.sets.items }
+        requires set { set < length self.old.state.layout.sets }
         ensures value { result ≡ owner_of_member self.old.state set x }
         ensures same { self.new.state ≡ self.old.state }
         ensures touches { (self.new.touches ≤ 2) × (IsOk result → 1 ≤ self.new.touches) × (self.new.total ≡ self.old.total + self.new.touches) }
@@ -217,7 +217,7 @@ impl Heap {
     /// Files x as the first member of the set of an owner. Faults: those of x (1 to 5), then those of the owner,
     /// then 6 where x is in some set of this name.
     pub fn file_first(&mut self, set: usize, o: i64, x: i64) -> Result<(), FaultKind>
-        requires set { set < length self.old.state.layout.sets.items }
+        requires set { set < length self.old.state.layout.sets }
         ensures done { MatchResult result (λ _. filed_first self.old.state set o x ≡ Ok self.new.state) (λ e. (filed_first self.old.state set o x ≡ Err e) × (self.new.state ≡ self.old.state)) }
         ensures touches { (self.new.touches ≤ 12) × (IsOk result → 4 ≤ self.new.touches) × (self.new.total ≡ self.old.total + self.new.touches) }
     {
@@ -228,7 +228,7 @@ impl Heap {
     /// Files x as the last member of the set of an owner. Faults: those of x (1 to 5), then those of the owner,
     /// then 6 where x is in some set of this name.
     pub fn file_last(&mut self, set: usize, o: i64, x: i64) -> Result<(), FaultKind>
-        requires set { set < length self.old.state.layout.sets.items }
+        requires set { set < length self.old.state.layout.sets }
         ensures done { MatchResult result (λ _. filed_last self.old.state set o x ≡ Ok self.new.state) (λ e. (filed_last self.old.state set o x ≡ Err e) × (self.new.state ≡ self.old.state)) }
         ensures touches { (self.new.touches ≤ 12) × (IsOk result → 4 ≤ self.new.touches) × (self.new.total ≡ self.old.total + self.new.touches) }
     {
@@ -239,7 +239,7 @@ impl Heap {
     /// Files x directly before y in the set of an owner. Faults: those of x (1 to 5), of y, of the owner, then 6
     /// where x is in some set of this name, then 7 where y isn't in this one.
     pub fn file_before(&mut self, set: usize, o: i64, x: i64, y: i64) -> Result<(), FaultKind>
-        requires set { set < length self.old.state.layout.sets.items }
+        requires set { set < length self.old.state.layout.sets }
         ensures done { MatchResult result (λ _. filed_before self.old.state set o x y ≡ Ok self.new.state) (λ e. (filed_before self.old.state set o x y ≡ Err e) × (self.new.state ≡ self.old.state)) }
         ensures touches { (self.new.touches ≤ 12) × (IsOk result → 4 ≤ self.new.touches) × (self.new.total ≡ self.old.total + self.new.touches) }
     {
@@ -250,7 +250,7 @@ impl Heap {
     /// Files x directly after y in the set of an owner. Faults: those of x (1 to 5), of y, of the owner, then 6
     /// where x is in some set of this name, then 7 where y isn't in this one.
     pub fn file_after(&mut self, set: usize, o: i64, x: i64, y: i64) -> Result<(), FaultKind>
-        requires set { set < length self.old.state.layout.sets.items }
+        requires set { set < length self.old.state.layout.sets }
         ensures done { MatchResult result (λ _. filed_after self.old.state set o x y ≡ Ok self.new.state) (λ e. (filed_after self.old.state set o x y ≡ Err e) × (self.new.state ≡ self.old.state)) }
         ensures touches { (self.new.touches ≤ 12) × (IsOk result → 4 ≤ self.new.touches) × (self.new.total ≡ self.old.total + self.new.touches) }
     {
@@ -261,7 +261,7 @@ impl Heap {
     /// Takes x out of the set of an owner. Faults: those of x (1 to 5), of the owner, then 7 where x isn't in this
     /// set.
     pub fn remove(&mut self, set: usize, o: i64, x: i64) -> Result<(), FaultKind>
-        requires set { set < length self.old.state.layout.sets.items }
+        requires set { set < length self.old.state.layout.sets }
         ensures done { MatchResult result (λ _. removed self.old.state set o x ≡ Ok self.new.state) (λ e. (removed self.old.state set o x ≡ Err e) × (self.new.state ≡ self.old.state)) }
         ensures touches { (self.new.touches ≤ 12) × (IsOk result → 4 ≤ self.new.touches) × (self.new.total ≡ self.old.total + self.new.touches) }
     {

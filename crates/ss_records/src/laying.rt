@@ -75,7 +75,7 @@ pub(crate) fn lay(
     end: Place,
 )
     requires small { Small layout.now }
-    requires class { class < length layout.now.classes.items }
+    requires class { class < length layout.now.classes }
     requires room { length (words_at blocks.old.cells place.at) ≡ block_words layout.now (Owner.Class class) }
     requires blank { (k : ℕ) → word_at blocks.old.cells place.at k ≡ blank }
     requires touches { blocks.old.touches ≤ 2 ^ 60 }

@@ -83,7 +83,7 @@ pub(crate) fn lay_all(
     end: Place,
 )
     requires small { Small layout.now }
-    requires class { class < length layout.now.classes.items }
+    requires class { class < length layout.now.classes }
     requires blank { (i : ℕ) (p : Place) → slice_get places.now i ≡ Some p → words_at blocks.old.cells p.at ≡ blanks (block_words layout.now (Class class)) }
     requires apart { (i j : ℕ) (p q : Place) → slice_get places.now i ≡ Some p → slice_get places.now j ≡ Some q → p.at ≡ q.at → i ≡ j }
     requires few { length places.now ≤ 2 ^ 20 }

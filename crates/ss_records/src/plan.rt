@@ -74,42 +74,51 @@ impl Plan {
         &self.layout
     }
 
+    /// How many classes there are.
+    pub(crate) fn classes(&self) -> usize
+        ensures { result ≡ length self.now.classes }
+    {
+        let layout = &self.layout;
+        layout.classes.len()
+    }
+
     /// How many names of sets there are.
     pub(crate) fn names(&self) -> usize
-        ensures { result ≡ length self.now.sets.items }
+        ensures { result ≡ length self.now.sets }
     {
-        self.layout.sets.len()
+        let layout = &self.layout;
+        layout.sets.len()
     }
 
     /// The kind of a class.
     pub(crate) fn kind(&self, class: usize) -> ClassKind
-        requires { class < length self.now.classes.items }
+        requires { class < length self.now.classes }
         ensures { result ≡ kind_of self.now class }
     {
-        self.layout.classes[class].kind
+        shape::kind(&self.layout, class)
     }
 
     /// The mode of an attribute.
     pub(crate) fn mode(&self, class: usize, field: usize) -> Mode
-        requires class { class < length self.now.classes.items }
+        requires class { class < length self.now.classes }
         requires field { field < length (modes_of self.now class) }
         ensures { slice_get (modes_of self.now class) field ≡ Some result }
     {
-        self.layout.classes[class].fields[field]
+        shape::mode(&self.layout, class, field)
     }
 
     /// Where the values of a class end: there the time of a notice stands.
     pub(crate) fn values_end(&self, class: usize) -> usize
-        requires { class < length self.now.classes.items }
+        requires { class < length self.now.classes }
         ensures at { result ≡ values_end self.now class }
         ensures bound { result ≤ 1048578 }
     {
-        VALUES + self.layout.classes[class].fields.len()
+        shape::values_end(&self.layout, class)
     }
 
     /// Where the links of a class begin.
     pub(crate) fn links_start(&self, class: usize) -> usize
-        requires { class < length self.now.classes.items }
+        requires { class < length self.now.classes }
         ensures at { result ≡ links_start self.now class }
         ensures bound { result ≤ 1048579 }
     {
@@ -118,7 +127,7 @@ impl Plan {
 
     /// Where the words of the sets that a class owns begin.
     pub(crate) fn owned_start(&self, owner: Owner) -> usize
-        requires { (c : ℕ) → owner ≡ Owner.Class c → c < length self.now.classes.items }
+        requires { (c : ℕ) → owner ≡ Owner.Class c → c < length self.now.classes }
         ensures at { result ≡ owned_start self.now owner }
         ensures bound { result ≤ 4194307 }
     {
@@ -130,8 +139,8 @@ impl Plan {
 
     /// How many sets an owner has.
     pub(crate) fn owned_count(&self, owner: Owner) -> usize
-        requires { (c : ℕ) → owner ≡ Owner.Class c → c < length self.now.classes.items }
-        ensures value { result ≡ count_sets (owned_by owner) self.now.sets.items }
+        requires { (c : ℕ) → owner ≡ Owner.Class c → c < length self.now.classes }
+        ensures value { result ≡ count_sets (owned_by owner) self.now.sets }
         ensures bound { result ≤ 1048576 }
     {
         match owner {
@@ -142,7 +151,7 @@ impl Plan {
 
     /// How many words a block of a class has.
     pub(crate) fn block_words(&self, owner: Owner) -> usize
-        requires { (c : ℕ) → owner ≡ Owner.Class c → c < length self.now.classes.items }
+        requires { (c : ℕ) → owner ≡ Owner.Class c → c < length self.now.classes }
         ensures size { result ≡ block_words self.now owner }
         ensures bound { (2 ≤ result) × (result < 2 ^ 32) }
     {
@@ -151,8 +160,8 @@ impl Plan {
 
     /// Where the words of a set stand in a member.
     pub(crate) fn member_base(&self, s: usize) -> usize
-        requires { s < length self.now.sets.items }
-        ensures at { (t : SetLayout) → slice_get self.now.sets.items s ≡ Some t → result ≡ member_base self.now s t }
+        requires { s < length self.now.sets }
+        ensures at { (t : SetLayout) → slice_get self.now.sets s ≡ Some t → result ≡ member_base self.now s t }
         ensures bound { result ≤ 4194307 }
     {
         self.sets[s].member
@@ -160,8 +169,8 @@ impl Plan {
 
     /// Where the words of a set stand in an owner.
     pub(crate) fn owner_base(&self, s: usize) -> usize
-        requires { s < length self.now.sets.items }
-        ensures at { (t : SetLayout) → slice_get self.now.sets.items s ≡ Some t → result ≡ owner_base self.now s t }
+        requires { s < length self.now.sets }
+        ensures at { (t : SetLayout) → slice_get self.now.sets s ≡ Some t → result ≡ owner_base self.now s t }
         ensures bound { result ≤ 8388614 }
     {
         self.sets[s].owner
@@ -169,28 +178,28 @@ impl Plan {
 
     /// The class of the members of a set.
     pub(crate) fn member_class(&self, s: usize) -> usize
-        requires { s < length self.now.sets.items }
-        ensures is { (t : SetLayout) → slice_get self.now.sets.items s ≡ Some t → result ≡ t.member }
-        ensures class { result < length self.now.classes.items }
+        requires { s < length self.now.sets }
+        ensures is { (t : SetLayout) → slice_get self.now.sets s ≡ Some t → result ≡ t.member }
+        ensures class { result < length self.now.classes }
     {
         shape::member_class(&self.layout, s)
     }
 
     /// The owner of a set.
     pub(crate) fn owner_class(&self, s: usize) -> Owner
-        requires { s < length self.now.sets.items }
-        ensures is { (t : SetLayout) → slice_get self.now.sets.items s ≡ Some t → result ≡ t.owner }
-        ensures class { (c : ℕ) → result ≡ Owner.Class c → c < length self.now.classes.items }
+        requires { s < length self.now.sets }
+        ensures is { (t : SetLayout) → slice_get self.now.sets s ≡ Some t → result ≡ t.owner }
+        ensures class { (c : ℕ) → result ≡ Owner.Class c → c < length self.now.classes }
     {
         shape::owner_class(&self.layout, s)
     }
 
     /// Whether a class owns the sets of a name.
     pub(crate) fn is_owner(&self, s: usize, class: usize) -> bool
-        requires { s < length self.now.sets.items }
-        ensures { (t : SetLayout) → slice_get self.now.sets.items s ≡ Some t → result ≡ is_owner_class t.owner class }
+        requires { s < length self.now.sets }
+        ensures { (t : SetLayout) → slice_get self.now.sets s ≡ Some t → result ≡ is_owner_class t.owner class }
     {
-        match self.layout.sets[s].owner {
+        match shape::owner_class(&self.layout, s) {
             Owner::System => false,
             Owner::Class(owner) => owner == class,
         }

@@ -47,7 +47,7 @@ impl Records {
             blocks.close();
             return Err(AllocError);
         };
-        let Ok(permanents) = row::not_made(alloc, layout.layout().classes.len()) else {
+        let Ok(permanents) = row::not_made(alloc, layout.classes()) else {
             blocks.close();
             return Err(AllocError);
         };
@@ -148,7 +148,7 @@ impl Records {
     #[inline(always)]
     pub(crate) fn find(&self, class: usize, r: i64) -> Result<Place, FaultKind>
         requires kept { IsKept self.now }
-        requires class { class < length self.now.layout.classes.items }
+        requires class { class < length self.now.layout.classes }
         ensures found { MatchResult result (λ p. Found self.now class r p) (λ e. entity (state self.now) class r ≡ Err e) }
     {
         match self.layout.kind(class) {
@@ -213,7 +213,8 @@ impl Records {
     fn is_notice(&self, class: u64) -> bool
         ensures { result ≡ is_notice (kind_of self.now.layout class) }
     {
-        match self.layout.layout().classes.get(class as usize) {
+        let layout = self.layout.layout();
+        match layout.classes.get(class as usize) {
             Some(class) => matches!(class.kind, ClassKind::Notice),
             None => false,
         }
@@ -222,7 +223,7 @@ impl Records {
     /// The value of an attribute.
     pub(crate) fn value(&self, class: usize, field: usize, r: i64) -> Result<Value, FaultKind>
         requires kept { IsKept self.now }
-        requires class { class < length self.now.layout.classes.items }
+        requires class { class < length self.now.layout.classes }
         requires field { field < length (modes_of self.now.layout class) }
         ensures { result ≡ value_in (state self.now) class field r }
     {
@@ -244,7 +245,7 @@ impl Records {
         value: Value,
     ) -> Result<(), FaultKind>
         requires kept { IsKept self.old }
-        requires class { class < length self.old.layout.classes.items }
+        requires class { class < length self.old.layout.classes }
         requires mode { slice_get (modes_of self.old.layout class) field ≡ Some (mode_of value) }
         ensures kept { IsKept self.new }
         ensures done { MatchResult result (λ _. assigned (state self.old) class field r value ≡ Ok (state self.new)) (λ e. (assigned (state self.old) class field r value ≡ Err e) × (state self.new ≡ state self.old)) }
@@ -307,7 +308,7 @@ impl Records {
     /// A new entity, with the next creation number.
     pub(crate) fn create(&mut self, alloc: &Global, class: usize) -> Result<i64, Refused>
         requires kept { IsKept self.old }
-        requires class { class < length self.old.layout.classes.items }
+        requires class { class < length self.old.layout.classes }
         requires kind { IsPermanent (kind_of self.old.layout class) → ⊥ }
         requires touches { self.old.blocks.touches ≡ 0 }
         ensures kept { IsKept self.new }
@@ -345,7 +346,7 @@ impl Records {
     /// The entities of a permanent class, n of them, with the numbers from 1 on.
     pub(crate) fn create_all(&mut self, alloc: &Global, class: usize, n: i64) -> Result<(), Refused>
         requires kept { IsKept self.old }
-        requires class { class < length self.old.layout.classes.items }
+        requires class { class < length self.old.layout.classes }
         requires kind { IsPermanent (kind_of self.old.layout class) }
         requires touches { self.old.blocks.touches ≡ 0 }
         ensures kept { IsKept self.new }
@@ -367,7 +368,7 @@ impl Records {
     // So many entities of a permanent class that is not made.
     fn make(&mut self, alloc: &Global, class: usize, count: usize) -> Result<(), AllocError>
         requires kept { IsKept self.old }
-        requires class { class < length self.old.layout.classes.items }
+        requires class { class < length self.old.layout.classes }
         requires kind { IsPermanent (kind_of self.old.layout class) }
         requires free { slice_get self.old.permanents.items class ≡ Some None }
         requires few { count ≤ 2 ^ 20 }
@@ -391,7 +392,7 @@ impl Records {
         requires entry { (i : ℕ) × (slice_get self.old.directory.places i ≡ Some (Some place)) × (number ≡ suc i) }
         requires class { class_at self.old.blocks.cells place ≡ class }
         requires touches { self.old.blocks.touches ≤ 2 ^ 32 }
-        ensures value { result ≡ in_a_set self.old.layout.sets.items 0 self.old.notes.lists class number }
+        ensures value { result ≡ in_a_set self.old.layout.sets 0 self.old.notes.lists class number }
         ensures same { self.new ≡ record self.old { blocks = self.new.blocks } }
         ensures cells { self.new.blocks.cells ≡ self.old.blocks.cells }
         ensures touches { (self.new.blocks.touches ≤ self.old.blocks.touches + 1048576) × (self.new.blocks.total + self.old.blocks.touches ≡ self.old.blocks.total + self.new.blocks.touches) }
@@ -415,7 +416,7 @@ impl Records {
         requires entry { (i : ℕ) × (slice_get self.old.directory.places i ≡ Some (Some place)) × (number ≡ suc i) }
         requires class { class_at self.old.blocks.cells place ≡ class }
         requires touches { self.old.blocks.touches ≤ 2 ^ 33 }
-        ensures value { result ≡ owns_members self.old.layout.sets.items 0 self.old.notes.lists class number }
+        ensures value { result ≡ owns_members self.old.layout.sets 0 self.old.notes.lists class number }
         ensures same { self.new ≡ record self.old { blocks = self.new.blocks } }
         ensures cells { self.new.blocks.cells ≡ self.old.blocks.cells }
         ensures touches { (self.new.blocks.touches ≤ self.old.blocks.touches + 1048576) × (self.new.blocks.total + self.old.blocks.touches ≡ self.old.blocks.total + self.new.blocks.touches) }
@@ -436,7 +437,7 @@ impl Records {
     /// Gives the block of an entity back.
     pub(crate) fn destroy(&mut self, alloc: &Global, class: usize, r: i64) -> Result<(), FaultKind>
         requires kept { IsKept self.old }
-        requires class { class < length self.old.layout.classes.items }
+        requires class { class < length self.old.layout.classes }
         requires kind { IsPermanent (kind_of self.old.layout class) → ⊥ }
         requires touches { self.old.blocks.touches ≡ 0 }
         ensures kept { IsKept self.new }

@@ -20,7 +20,7 @@ impl Records {
     #[inline(always)]
     pub(crate) fn owner(&self, s: usize, o: i64) -> Result<Entry, FaultKind>
         requires kept { IsKept self.now }
-        requires set { s < length self.now.layout.sets.items }
+        requires set { s < length self.now.layout.sets }
         ensures found { MatchResult result (λ e. Owns self.now s e × (owner (state self.now) s o ≡ Ok e.number)) (λ f. owner (state self.now) s o ≡ Err f) }
     {
         match self.layout.owner_class(s) {
@@ -42,7 +42,7 @@ impl Records {
     #[inline(always)]
     pub(crate) fn joiner(&self, s: usize, x: i64) -> Result<Entry, FaultKind>
         requires kept { IsKept self.now }
-        requires set { s < length self.now.layout.sets.items }
+        requires set { s < length self.now.layout.sets }
         ensures found { MatchResult result (λ e. Joins self.now s e × (joiner (state self.now) s x ≡ Ok e.number)) (λ f. joiner (state self.now) s x ≡ Err f) }
     {
         match self.find(self.layout.member_class(s), x) {
@@ -57,7 +57,7 @@ impl Records {
     /// Whether an entity is in a set of the name: a touch.
     pub(crate) fn is_filed(&mut self, s: usize, x: Entry) -> bool
         requires kept { IsKept self.old }
-        requires set { s < length self.old.layout.sets.items }
+        requires set { s < length self.old.layout.sets }
         requires joins { Joins self.old s x }
         requires touches { self.old.blocks.touches ≤ 16 }
         ensures value { result ≡ is_filed self.old.notes.lists s x.number }
@@ -73,7 +73,7 @@ impl Records {
     /// The first member of a set, 0 where there is none: a touch.
     pub(crate) fn first(&mut self, s: usize, o: i64) -> Result<i64, FaultKind>
         requires kept { IsKept self.old }
-        requires set { s < length self.old.layout.sets.items }
+        requires set { s < length self.old.layout.sets }
         requires touches { self.old.blocks.touches ≡ 0 }
         ensures value { result ≡ first_in (state self.old) s o }
         ensures kept { IsKept self.new }
@@ -93,7 +93,7 @@ impl Records {
     /// The last member of a set, 0 where there is none: a touch.
     pub(crate) fn last(&mut self, s: usize, o: i64) -> Result<i64, FaultKind>
         requires kept { IsKept self.old }
-        requires set { s < length self.old.layout.sets.items }
+        requires set { s < length self.old.layout.sets }
         requires touches { self.old.blocks.touches ≡ 0 }
         ensures value { result ≡ last_in (state self.old) s o }
         ensures kept { IsKept self.new }
@@ -113,7 +113,7 @@ impl Records {
     /// How many members a set has: a touch.
     pub(crate) fn count(&mut self, s: usize, o: i64) -> Result<i64, FaultKind>
         requires kept { IsKept self.old }
-        requires set { s < length self.old.layout.sets.items }
+        requires set { s < length self.old.layout.sets }
         requires touches { self.old.blocks.touches ≡ 0 }
         ensures value { result ≡ count_in (state self.old) s o }
         ensures kept { IsKept self.new }
@@ -132,7 +132,7 @@ impl Records {
     /// The member that follows x in its set, 0 where there is none: a touch.
     pub(crate) fn next(&mut self, s: usize, x: i64) -> Result<i64, FaultKind>
         requires kept { IsKept self.old }
-        requires set { s < length self.old.layout.sets.items }
+        requires set { s < length self.old.layout.sets }
         requires touches { self.old.blocks.touches ≡ 0 }
         ensures value { result ≡ next_in (state self.old) s x }
         ensures kept { IsKept self.new }
@@ -152,7 +152,7 @@ impl Records {
     /// The member that precedes x in its set, 0 where there is none: a touch.
     pub(crate) fn previous(&mut self, s: usize, x: i64) -> Result<i64, FaultKind>
         requires kept { IsKept self.old }
-        requires set { s < length self.old.layout.sets.items }
+        requires set { s < length self.old.layout.sets }
         requires touches { self.old.blocks.touches ≡ 0 }
         ensures value { result ≡ previous_in (state self.old) s x }
         ensures kept { IsKept self.new }
@@ -172,7 +172,7 @@ impl Records {
     /// Whose set x is in: at most two touches.
     pub(crate) fn owner_in(&mut self, s: usize, x: i64) -> Result<Option<i64>, FaultKind>
         requires kept { IsKept self.old }
-        requires set { s < length self.old.layout.sets.items }
+        requires set { s < length self.old.layout.sets }
         requires touches { self.old.blocks.touches ≡ 0 }
         ensures value { result ≡ owner_of_member (state self.old) s x }
         ensures kept { IsKept self.new }

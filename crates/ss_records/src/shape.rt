@@ -1,11 +1,11 @@
 // Where the words of a block stand, as it follows from a layout.
 ghost use Rattle.std.specs.Prelude.{◌≡◌, ℕ, ◌+◌, ◌*◌, ◌<◌, ◌≤◌, length, IsTrue, slice_get, Some};
-ghost use Rattle.ss_records.specs.State.{kind_of};
+ghost use Rattle.ss_records.specs.State.{kind_of, modes_of};
 ghost use Rattle.ss_records.specs.Shape.{values_end, links_start, owned_start, joins, owned_by, count_sets};
 ghost use Rattle.ss_records.specs.Kept.{Small};
 ghost use Rattle.ss_records.specs.Slotted.{member_base, owner_base};
 
-use ss_base::{ClassKind, Layout, Owner, SetLayout};
+use ss_base::{ClassKind, Layout, Mode, Owner, SetLayout};
 
 /// The words of every block that name its class and its number, and the first word after them.
 pub(crate) const CLASS: usize = 0;
@@ -34,31 +34,43 @@ pub(crate) fn is_small(layout: &Layout) -> bool
 
 /// The kind of a class.
 pub(crate) fn kind(layout: &Layout, class: usize) -> ClassKind
-    requires class { class < length layout.now.classes.items }
+    requires class { class < length layout.now.classes }
     ensures { result ≡ kind_of layout.now class }
 {
-    layout.classes[class].kind
+    let class = &layout.classes[class];
+    class.kind
+}
+
+/// The mode of an attribute.
+pub(crate) fn mode(layout: &Layout, class: usize, field: usize) -> Mode
+    requires class { class < length layout.now.classes }
+    requires field { field < length (modes_of layout.now class) }
+    ensures { slice_get (modes_of layout.now class) field ≡ Some result }
+{
+    let class = &layout.classes[class];
+    class.fields[field]
 }
 
 /// Where the values of a class end: there the time of a notice stands.
 pub(crate) fn values_end(layout: &Layout, class: usize) -> usize
     requires small { Small layout.now }
-    requires class { class < length layout.now.classes.items }
+    requires class { class < length layout.now.classes }
     ensures at { result ≡ values_end layout.now class }
     ensures bound { result ≤ 1048578 }
 {
-    VALUES + layout.classes[class].fields.len()
+    let class = &layout.classes[class];
+    VALUES + class.fields.len()
 }
 
 /// Where the links of a class begin.
 pub(crate) fn links_start(layout: &Layout, class: usize) -> usize
     requires small { Small layout.now }
-    requires class { class < length layout.now.classes.items }
+    requires class { class < length layout.now.classes }
     ensures at { result ≡ links_start layout.now class }
     ensures bound { result ≤ 1048579 }
 {
     let end = values_end(layout, class);
-    match layout.classes[class].kind {
+    match kind(layout, class) {
         ClassKind::Notice => end + 1,
         ClassKind::Temporary | ClassKind::Permanent => end,
     }
@@ -67,7 +79,7 @@ pub(crate) fn links_start(layout: &Layout, class: usize) -> usize
 /// Where the words of the sets that a class owns begin.
 pub(crate) fn owned_start(layout: &Layout, owner: Owner) -> usize
     requires small { Small layout.now }
-    requires class { (c : ℕ) → owner ≡ Owner.Class c → c < length layout.now.classes.items }
+    requires class { (c : ℕ) → owner ≡ Owner.Class c → c < length layout.now.classes }
     ensures at { result ≡ owned_start layout.now owner }
     ensures bound { result ≤ 4194307 }
 {
@@ -80,7 +92,7 @@ pub(crate) fn owned_start(layout: &Layout, owner: Owner) -> usize
 /// How many sets an owner has.
 pub(crate) fn owned_count(layout: &Layout, owner: Owner) -> usize
     requires small { Small layout.now }
-    ensures value { result ≡ count_sets (owned_by owner) layout.now.sets.items }
+    ensures value { result ≡ count_sets (owned_by owner) layout.now.sets }
     ensures bound { result ≤ 1048576 }
 {
     owned(&layout.sets, owner)
@@ -117,8 +129,8 @@ fn owned(sets: &[SetLayout], owner: Owner) -> usize
 /// Where the words of a set stand in a member.
 pub(crate) fn member_base(layout: &Layout, s: usize) -> usize
     requires small { Small layout.now }
-    requires set { s < length layout.now.sets.items }
-    ensures at { (t : SetLayout) → slice_get layout.now.sets.items s ≡ Some t → result ≡ member_base layout.now s t }
+    requires set { s < length layout.now.sets }
+    ensures at { (t : SetLayout) → slice_get layout.now.sets s ≡ Some t → result ≡ member_base layout.now s t }
     ensures bound { result ≤ 4194307 }
 {
     let class = member_class(layout, s);
@@ -128,8 +140,8 @@ pub(crate) fn member_base(layout: &Layout, s: usize) -> usize
 /// Where the words of a set stand in an owner.
 pub(crate) fn owner_base(layout: &Layout, s: usize) -> usize
     requires small { Small layout.now }
-    requires set { s < length layout.now.sets.items }
-    ensures at { (t : SetLayout) → slice_get layout.now.sets.items s ≡ Some t → result ≡ owner_base layout.now s t }
+    requires set { s < length layout.now.sets }
+    ensures at { (t : SetLayout) → slice_get layout.now.sets s ≡ Some t → result ≡ owner_base layout.now s t }
     ensures bound { result ≤ 8388614 }
 {
     let owner = owner_class(layout, s);
@@ -139,9 +151,9 @@ pub(crate) fn owner_base(layout: &Layout, s: usize) -> usize
 /// The class of the members of a set.
 pub(crate) fn member_class(layout: &Layout, s: usize) -> usize
     requires small { Small layout.now }
-    requires set { s < length layout.now.sets.items }
-    ensures is { (t : SetLayout) → slice_get layout.now.sets.items s ≡ Some t → result ≡ t.member }
-    ensures class { result < length layout.now.classes.items }
+    requires set { s < length layout.now.sets }
+    ensures is { (t : SetLayout) → slice_get layout.now.sets s ≡ Some t → result ≡ t.member }
+    ensures class { result < length layout.now.classes }
 {
     layout.sets[s].member
 }
@@ -149,9 +161,9 @@ pub(crate) fn member_class(layout: &Layout, s: usize) -> usize
 /// The owner of a set.
 pub(crate) fn owner_class(layout: &Layout, s: usize) -> Owner
     requires small { Small layout.now }
-    requires set { s < length layout.now.sets.items }
-    ensures is { (t : SetLayout) → slice_get layout.now.sets.items s ≡ Some t → result ≡ t.owner }
-    ensures class { (c : ℕ) → result ≡ Owner.Class c → c < length layout.now.classes.items }
+    requires set { s < length layout.now.sets }
+    ensures is { (t : SetLayout) → slice_get layout.now.sets s ≡ Some t → result ≡ t.owner }
+    ensures class { (c : ℕ) → result ≡ Owner.Class c → c < length layout.now.classes }
 {
     layout.sets[s].owner
 }

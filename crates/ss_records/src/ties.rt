@@ -26,9 +26,9 @@ pub(crate) fn filed_in(
     number: u64,
 ) -> bool
     requires kept { Kept layout.now blocks.old.cells system.at (lying directory.now.places permanents.now) notes.now.lists }
-    requires set { s < length layout.now.sets.items }
+    requires set { s < length layout.now.sets }
     requires entry { (i : ℕ) × (slice_get directory.now.places i ≡ Some (Some place)) × (number ≡ suc i) }
-    requires class { (t : SetLayout) → slice_get layout.now.sets.items s ≡ Some t → class_at blocks.old.cells place ≡ t.member }
+    requires class { (t : SetLayout) → slice_get layout.now.sets s ≡ Some t → class_at blocks.old.cells place ≡ t.member }
     requires touches { blocks.old.touches + 1 < 2 ^ 64 }
     ensures value { result ≡ is_filed notes.now.lists s number }
     ensures cells { blocks.new.cells ≡ blocks.old.cells }
@@ -52,9 +52,9 @@ pub(crate) fn owns_in(
     number: u64,
 ) -> bool
     requires kept { Kept layout.now blocks.old.cells system.at (lying directory.now.places permanents.now) notes.now.lists }
-    requires set { s < length layout.now.sets.items }
+    requires set { s < length layout.now.sets }
     requires entry { (i : ℕ) × (slice_get directory.now.places i ≡ Some (Some place)) × (number ≡ suc i) }
-    requires class { (t : SetLayout) → slice_get layout.now.sets.items s ≡ Some t → t.owner ≡ Owner.Class (class_at blocks.old.cells place) }
+    requires class { (t : SetLayout) → slice_get layout.now.sets s ≡ Some t → t.owner ≡ Owner.Class (class_at blocks.old.cells place) }
     requires touches { blocks.old.touches + 1 < 2 ^ 64 }
     ensures value { result ≡ has_members (members_of notes.now.lists s number) }
     ensures cells { blocks.new.cells ≡ blocks.old.cells }
@@ -80,7 +80,7 @@ pub(crate) fn in_a_set(
     requires entry { (i : ℕ) × (slice_get directory.now.places i ≡ Some (Some place)) × (number ≡ suc i) }
     requires class { class_at blocks.old.cells place ≡ class }
     requires touches { blocks.old.touches ≤ 2 ^ 32 }
-    ensures value { result ≡ in_a_set layout.now.sets.items 0 notes.now.lists class number }
+    ensures value { result ≡ in_a_set layout.now.sets 0 notes.now.lists class number }
     ensures cells { blocks.new.cells ≡ blocks.old.cells }
     ensures touches { (blocks.new.touches ≤ blocks.old.touches + 1048576) × (blocks.new.total + blocks.old.touches ≡ blocks.old.total + blocks.new.touches) }
 {
@@ -112,7 +112,7 @@ pub(crate) fn owns_members(
     requires entry { (i : ℕ) × (slice_get directory.now.places i ≡ Some (Some place)) × (number ≡ suc i) }
     requires class { class_at blocks.old.cells place ≡ class }
     requires touches { blocks.old.touches ≤ 2 ^ 33 }
-    ensures value { result ≡ owns_members layout.now.sets.items 0 notes.now.lists class number }
+    ensures value { result ≡ owns_members layout.now.sets 0 notes.now.lists class number }
     ensures cells { blocks.new.cells ≡ blocks.old.cells }
     ensures touches { (blocks.new.touches ≤ blocks.old.touches + 1048576) × (blocks.new.total + blocks.old.touches ≡ blocks.old.total + blocks.new.touches) }
 {

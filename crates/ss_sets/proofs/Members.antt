@@ -22,7 +22,7 @@ number_is : (r : Option ℕ) (m : ℕ) → as_number r ≡ Some (pos m) → r �
 number_is None m h = cc
 number_is (Some k) m h = let q : k ≡ m = cc in ap Some q
 
-module _ (st : State) (A : Apart st) (s : ℕ) (o x : ℤ) (inside : s < length st.layout.sets.items) where
+module _ (st : State) (A : Apart st) (s : ℕ) (o x : ℤ) (inside : s < length st.layout.sets) where
   pub no_member : (e : FaultKind) → Err e ≡ owner_of_member st s x → Err e ≡ member_test st s o x
   no_member e h = sym (ap (λ r. and_then r (λ n. and_then (owner st s o) (λ m. Ok (contains (members_of st.lists s m) n)))) (stopped (joiner st s x) (λ n. as_number (owner_of st.lists s n)) e h))
 

@@ -63,7 +63,7 @@ joined st s (negsuc k) n h =
     let w = went_on (entity st (member_class st.layout s) (negsuc k)) (λ r. Ok (number_in (negsuc k))) n (sym h) in
     absurd (no_negative st (kind_of st.layout (member_class st.layout s)) (member_class st.layout s) k w.0 w.1)
 
-module _ (st : State) (A : Apart st) (ks : List RankKey) (s : ℕ) (inside : s < length st.layout.sets.items) (o x : ℤ) where
+module _ (st : State) (A : Apart st) (ks : List RankKey) (s : ℕ) (inside : s < length st.layout.sets) (o x : ℤ) where
   abbrev class : ℕ
   class = member_class st.layout s
 

@@ -64,7 +64,7 @@ onward_follower : (l : List ℕ) (z : ℕ) (zs : List ℕ) → Distinct l → fr
 onward_follower l z [] d h = refl
 onward_follower l z (w ∷ ws) d h = from_follower l z w ws d h
 
-module _ (st : State) (A : Apart st) (s : ℕ) (inside : s < length st.layout.sets.items) where
+module _ (st : State) (A : Apart st) (s : ℕ) (inside : s < length st.layout.sets) where
   -- a member's set is the owner's
   own_list : (r : Result ℕ FaultKind) (z : ℕ) → In z (owned_by st s r) → (m : ℕ) × (owned_by st s r ≡ members_of st.lists s m)
   own_list (Ok m) z h = (m, refl)

@@ -60,7 +60,7 @@ filed_ranked st ks s o x = and_then (joiner st s x) (λ n. and_then (owner st s 
 abbrev pub filed : State → Discipline → ℕ → ℤ → ℤ → Result State FaultKind
 filed st Fifo s o x = filed_last st s o x
 filed st Lifo s o x = filed_first st s o x
-filed st (Ranked ks) s o x = filed_ranked st ks.items s o x
+filed st (Ranked ks) s o x = filed_ranked st ks s o x
 
 -- ## What a caller keeps to, and what filing costs
 
@@ -72,7 +72,7 @@ AreFields l c ks = All (λ (k : RankKey). k.field < length (modes_of l c)) ks
 abbrev pub Fits : Layout → ℕ → Discipline → Type 0
 Fits l s Fifo = Unit {0}
 Fits l s Lifo = Unit {0}
-Fits l s (Ranked ks) = AreFields l (member_class l s) ks.items
+Fits l s (Ranked ks) = AreFields l (member_class l s) ks
 
 -- how many members x passes
 abbrev pub passed : State → ℕ → List RankKey → ℤ → List ℕ → ℕ
@@ -91,4 +91,4 @@ owned st s o = owned_by st s (owner st s o)
 abbrev pub passed_by : State → Discipline → ℕ → ℤ → ℤ → ℕ
 passed_by st Fifo s o x = 0
 passed_by st Lifo s o x = 0
-passed_by st (Ranked ks) s o x = passed st (member_class st.layout s) ks.items x (owned st s o)
+passed_by st (Ranked ks) s o x = passed st (member_class st.layout s) ks x (owned st s o)

@@ -6,7 +6,7 @@ use ss_base::{Discipline, Layout};
 
 /// Whether the keys of a discipline are fields of the class of a set's members, which `file` asks of its caller.
 pub fn fits(layout: &Layout, set: usize, discipline: &Discipline) -> bool
-    requires set { set < length layout.now.sets.items }
+    requires set { set < length layout.now.sets }
     ensures { IsTrue result ↔ Fits layout.now set discipline.now }
 {
     match discipline {
@@ -16,7 +16,7 @@ pub fn fits(layout: &Layout, set: usize, discipline: &Discipline) -> bool
                 Some(class) => class.fields.len(),
                 None => 0,
             };
-            keys.iter().all(|key| key.field < fields)
+            keys.as_slice().iter().all(|key| key.field < fields)
         }
     }
 }

@@ -20,7 +20,7 @@ pub fn file(
     o: i64,
     x: i64,
 ) -> Result<(), FaultKind>
-    requires set { set < length heap.old.state.layout.sets.items }
+    requires set { set < length heap.old.state.layout.sets }
     requires keys { Fits heap.old.state.layout set discipline.now }
     ensures done { MatchResult result (λ _. filed heap.old.state discipline.now set o x ≡ Ok heap.new.state) (λ e. (filed heap.old.state discipline.now set o x ≡ Err e) × (heap.new.state ≡ heap.old.state)) }
     ensures touches { (heap.old.total ≤ heap.new.total) × (heap.new.total ≤ heap.old.total + 16 + 2 * passed_by heap.old.state discipline.now set o x) }
@@ -29,7 +29,7 @@ pub fn file(
     match discipline {
         Discipline::Fifo => heap.file_last(set, o, x),
         Discipline::Lifo => heap.file_first(set, o, x),
-        Discipline::Ranked(keys) => file_ranked(heap, keys, set, o, x),
+        Discipline::Ranked(keys) => file_ranked(heap, keys.as_slice(), set, o, x),
     }
 }
 
@@ -41,7 +41,7 @@ fn file_ranked(
     o: i64,
     x: i64,
 ) -> Result<(), FaultKind>
-    requires set { set < length heap.old.state.layout.sets.items }
+    requires set { set < length heap.old.state.layout.sets }
     requires keys { AreFields heap.old.state.layout (member_class heap.old.state.layout set) keys.now }
     ensures done { MatchResult result (λ _. filed_ranked heap.old.state keys.now set o x ≡ Ok heap.new.state) (λ e. (filed_ranked heap.old.state keys.now set o x ≡ Err e) × (heap.new.state ≡ heap.old.state)) }
     ensures touches { (heap.old.total ≤ heap.new.total) × (heap.new.total ≤ heap.old.total + 16 + 2 * passed heap.old.state (member_class heap.old.state.layout set) keys.now x (owned heap.old.state set o)) }
@@ -59,7 +59,7 @@ fn file_ranked(
 
 // Files x directly before a member, last where there is none.
 fn file_at(heap: &mut Heap, set: usize, o: i64, x: i64, place: Option<i64>) -> Result<(), FaultKind>
-    requires set { set < length heap.old.state.layout.sets.items }
+    requires set { set < length heap.old.state.layout.sets }
     ensures done { MatchResult result (λ _. filed_at heap.old.state set o x place ≡ Ok heap.new.state) (λ e. (filed_at heap.old.state set o x place ≡ Err e) × (heap.new.state ≡ heap.old.state)) }
     ensures touches { (heap.old.total ≤ heap.new.total) × (heap.new.total ≤ heap.old.total + 12) }
     ensures least { IsOk result → heap.old.total + 4 ≤ heap.new.total }
@@ -79,7 +79,7 @@ fn first_after(
     o: i64,
     x: i64,
 ) -> Result<Option<i64>, FaultKind>
-    requires set { set < length heap.old.state.layout.sets.items }
+    requires set { set < length heap.old.state.layout.sets }
     requires keys { AreFields heap.old.state.layout (member_class heap.old.state.layout set) keys.now }
     ensures found { MatchResult result (λ y. IsOk (owner heap.old.state set o) × (y ≡ first_after heap.old.state (member_class heap.old.state.layout set) keys.now x (owned heap.old.state set o))) (λ e. owner heap.old.state set o ≡ Err e) }
     ensures same { heap.new.state ≡ heap.old.state }
@@ -105,15 +105,16 @@ fn first_after(
 
 // The class of the members of a set.
 fn class_of(heap: &Heap, set: usize) -> usize
-    requires set { set < length heap.now.state.layout.sets.items }
+    requires set { set < length heap.now.state.layout.sets }
     ensures { result ≡ member_class heap.now.state.layout set }
 {
-    heap.layout().sets[set].member
+    let layout = heap.layout();
+    layout.sets[set].member
 }
 
 // The first member of the set of an owner, if any.
 fn first_member(heap: &mut Heap, set: usize, o: i64) -> Result<Option<i64>, FaultKind>
-    requires set { set < length heap.old.state.layout.sets.items }
+    requires set { set < length heap.old.state.layout.sets }
     ensures first { result ≡ and_then (first_in heap.old.state set o) (λ y. Ok (as_member y)) }
     ensures same { heap.new.state ≡ heap.old.state }
     ensures touches { (heap.old.total ≤ heap.new.total) × (heap.new.total ≤ heap.old.total + 2) }
@@ -126,7 +127,7 @@ fn first_member(heap: &mut Heap, set: usize, o: i64) -> Result<Option<i64>, Faul
 
 // The member that follows y, if any.
 fn next_member(heap: &mut Heap, set: usize, y: i64) -> Result<Option<i64>, FaultKind>
-    requires set { set < length heap.old.state.layout.sets.items }
+    requires set { set < length heap.old.state.layout.sets }
     ensures next { result ≡ and_then (next_in heap.old.state set y) (λ z. Ok (as_member z)) }
     ensures same { heap.new.state ≡ heap.old.state }
     ensures touches { (heap.old.total ≤ heap.new.total) × (heap.new.total ≤ heap.old.total + 2) }

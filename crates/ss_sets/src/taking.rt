@@ -9,7 +9,7 @@ use ss_records::Heap;
 /// Takes the first member out of the set of an owner, and answers it. Faults: 1 to 5, then 8 where there is none;
 /// after a fault the heap is as it was.
 pub fn remove_first(heap: &mut Heap, set: usize, o: i64) -> Result<i64, FaultKind>
-    requires set { set < length heap.old.state.layout.sets.items }
+    requires set { set < length heap.old.state.layout.sets }
     ensures done { MatchResult result (λ x. first_removed heap.old.state set o ≡ Ok (x, heap.new.state)) (λ e. (first_removed heap.old.state set o ≡ Err e) × (heap.new.state ≡ heap.old.state)) }
     ensures touches { (heap.old.total ≤ heap.new.total) × (heap.new.total ≤ heap.old.total + 16) }
 {
@@ -30,7 +30,7 @@ pub fn remove_first(heap: &mut Heap, set: usize, o: i64) -> Result<i64, FaultKin
 /// Takes the last member out of the set of an owner, and answers it. Faults: 1 to 5, then 8 where there is none;
 /// after a fault the heap is as it was.
 pub fn remove_last(heap: &mut Heap, set: usize, o: i64) -> Result<i64, FaultKind>
-    requires set { set < length heap.old.state.layout.sets.items }
+    requires set { set < length heap.old.state.layout.sets }
     ensures done { MatchResult result (λ x. last_removed heap.old.state set o ≡ Ok (x, heap.new.state)) (λ e. (last_removed heap.old.state set o ≡ Err e) × (heap.new.state ≡ heap.old.state)) }
     ensures touches { (heap.old.total ≤ heap.new.total) × (heap.new.total ≤ heap.old.total + 16) }
 {
@@ -50,7 +50,7 @@ pub fn remove_last(heap: &mut Heap, set: usize, o: i64) -> Result<i64, FaultKind
 
 /// Whether x is in the set of an owner, in at most four touches. Faults: those of x (1 to 5), then those of the owner.
 pub fn is_in(heap: &mut Heap, set: usize, o: i64, x: i64) -> Result<bool, FaultKind>
-    requires set { set < length heap.old.state.layout.sets.items }
+    requires set { set < length heap.old.state.layout.sets }
     ensures value { result ≡ member_test heap.old.state set o x }
     ensures same { heap.new.state ≡ heap.old.state }
     ensures touches { (heap.old.total ≤ heap.new.total) × (heap.new.total ≤ heap.old.total + 4) }
@@ -70,10 +70,11 @@ pub fn is_in(heap: &mut Heap, set: usize, o: i64, x: i64) -> Result<bool, FaultK
 
 // The number of an owner: THE SYSTEM is 0.
 fn own_number(heap: &Heap, set: usize, o: i64) -> Option<i64>
-    requires set { set < length heap.now.state.layout.sets.items }
+    requires set { set < length heap.now.state.layout.sets }
     ensures { (n : ℕ) → owner heap.now.state set o ≡ Ok n → result ≡ Some (pos n) }
 {
-    match heap.layout().sets[set].owner {
+    let layout = heap.layout();
+    match layout.sets[set].owner {
         Owner::System => Some(0),
         Owner::Class(_) => Some(o),
     }

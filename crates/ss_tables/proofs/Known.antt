@@ -1,12 +1,13 @@
 -- What is known of a program, by what it says.
 use Rattle.std.proofs.Common.{◌≡◌, List, map, ap, ◌∙◌}
 use Rattle.std.specs.Map.{keys_of}
+use Rattle.ss_base.specs.declared.layout.Discipline.{Discipline}
 use Rattle.ss_tree.specs.Tree.{PreambleTree, ProgramTree}
 use Rattle.ss_tables.specs.declared.keep.Kept.TheVariants as kept
 use Rattle.ss_tables.specs.declared.place.Facts.{Facts}
 use Rattle.ss_tables.specs.declared.saying.Saying.{Saying}
 use Rattle.ss_tables.specs.Declarations.{kept_names}
-use Rattle.ss_tables.specs.Disciplines.{Order, orders_laid, set_order}
+use Rattle.ss_tables.specs.Disciplines.{orders_laid, set_order}
 use Rattle.ss_tables.specs.Layouts.{class_attributes, class_names, named_sets}
 use Rattle.ss_tables.specs.Marks.{marks_of}
 use Rattle.ss_tables.specs.Modes.{usual_mode}
@@ -38,7 +39,7 @@ are_tables p f says t e is n g r u s d = record {
 }
 
 -- what is made with the numbers of a program that says this are the orders of its sets
-pub orders_are : (n : NumbersSeen) (s t says : List Saying) (preamble : List PreambleTree) (orders : List Order) → AreNumbersOf s n → s ≡ says → t ≡ says → orders ≡ map (set_order n.classes n.attributes (members_of t) preamble) (keys_of n.sets) → orders ≡ orders_laid says preamble
+pub orders_are : (n : NumbersSeen) (s t says : List Saying) (preamble : List PreambleTree) (orders : List Discipline) → AreNumbersOf s n → s ≡ says → t ≡ says → orders ≡ map (set_order n.classes n.attributes (members_of t) preamble) (keys_of n.sets) → orders ≡ orders_laid says preamble
 orders_are n s t says preamble orders h is it e =
     let classes = h.classes_are ∙ ap class_names is in
     let attributes = h.attributes_are ∙ ap class_attributes is in

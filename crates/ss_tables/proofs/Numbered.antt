@@ -8,7 +8,7 @@ use Rattle.std.proofs.lemmas.List.Sums.{prefix_len_stops}
 use Rattle.std.proofs.lemmas.Option.{slice_get-map, slice_get-get_or}
 use Rattle.ss_tables.specs.Declarations.{NameBytes, is_one_of, place_among, same_name}
 use Rattle.ss_tables.specs.Disciplines.{set_order}
-use Rattle.ss_tables.specs.Layouts.{attributes_in, attributes_of, class_attributes, class_names, class_shape, field_mode, field_number, modes_of, named_sets, place_at, set_names}
+use Rattle.ss_tables.specs.Layouts.{attributes_in, attributes_of, class_attributes, class_names, class_laid, field_mode, field_number, modes_of, named_sets, place_at, set_names}
 use Rattle.ss_tables.specs.Ranks.{members_of}
 use Rattle.ss_tables.specs.Numbers.{HasClassesAtNumbers, HasModesAtNumbers, HasOrdersAtNumbers, HasSetsAtNumbers}
 
@@ -35,7 +35,7 @@ at_place f names name h =
     slice_get-map f names k ∙ ap (λ o. option_map f o) (slice_get-get_or names k [] lt) ∙ ap (λ n. Some (f n)) (sym same)
 
 pub classes_at : HasClassesAtNumbers
-classes_at kind usual says class h = at_place (class_shape kind (modes_of says) usual (attributes_in says)) (class_names says) class h
+classes_at kind usual says class h = at_place (class_laid kind (modes_of says) usual (attributes_in says)) (class_names says) class h
 
 pub modes_at : HasModesAtNumbers
 modes_at usual says class name h k =

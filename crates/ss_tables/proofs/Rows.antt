@@ -80,8 +80,3 @@ finds_section f xs i x now here after lt is e h more =
     let next : first_in_sections f 0 (map view_section (take (i + 1) xs)) ≡ line_or (first_in_sections f 0 seen) (first_in_body f i (view_section x).body) =
     ap (first_in_sections f 0) (next_taken view_section xs i x lt is) ∙ first_more f 0 seen (view_section x) ∙ ap (λ m. line_or (first_in_sections f 0 seen) (first_in_body f m (view_section x).body)) count in
     more ∙ (λ k. line_or (e k) (h k)) ∙ sym next
-
--- a loop that adds one for each, both seen as something else
-pub adds_seen : {A B X : Type 0} (seen : A → X) (f : B → X) (xs : List B) (i : ℕ) (x : B) (now after : List A) (made : A) → i < length xs → x ≡ get_or xs i x → map seen now ≡ map f (take i xs) → after ≡ now ++ made ∷ [] → seen made ≡ f x → map seen after ≡ map f (take (i + 1) xs)
-adds_seen seen f xs i x now after made lt is e more h =
-    ap (map seen) more ∙ map-append seen now (made ∷ []) ∙ (λ k. e k ++ h k ∷ []) ∙ sym (next_taken f xs i x lt is)

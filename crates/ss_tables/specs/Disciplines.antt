@@ -13,18 +13,6 @@ use Rattle.ss_tables.specs.Ranks.{Member, member_class, members_of}
 use Rattle.ss_tables.specs.Sayings.{sayings}
 use Rattle.ss_tables.specs.declared.saying.Saying.{Saying}
 
--- where FILE puts a member: last, first, or before the first member that ranks after it by these keys
-pub data Order : Type 0 where
-  files_last : Order
-  files_first : Order
-  files_by : List RankKey → Order
-
--- a discipline, without where its keys lie
-abbrev pub discipline_said : Discipline → Order
-discipline_said Fifo = files_last
-discipline_said Lifo = files_first
-discipline_said (Ranked keys) = files_by keys.items
-
 -- ---- the DEFINE of a set
 
 -- a set and how it is ordered
@@ -51,22 +39,22 @@ member_field classes attributes (Some class) name = field_among classes attribut
 abbrev pub rank_key : (List ℕ → ℕ) → Key → RankKey
 rank_key field key = record { field = field key.name; high = key.high }
 
--- an order with fields for names; a set without a DEFINE is FIFO
-abbrev pub order_by : (List ℕ → ℕ) → Option OrderTree → Order
-order_by field None = files_last
-order_by field (Some fifo) = files_last
-order_by field (Some lifo) = files_first
-order_by field (Some (ranked keys)) = files_by (map (rank_key field) keys)
+-- the discipline by an order, with fields for names; a set without a DEFINE is FIFO
+abbrev pub order_by : (List ℕ → ℕ) → Option OrderTree → Discipline
+order_by field None = Fifo
+order_by field (Some fifo) = Fifo
+order_by field (Some lifo) = Lifo
+order_by field (Some (ranked keys)) = Ranked (map (rank_key field) keys)
 
--- the order of a set, where these are the classes, the attributes of each, and the members' class of each set
-abbrev pub set_order : List (List ℕ) → List (List (List ℕ)) → List Member → List PreambleTree → List ℕ → Order
+-- the discipline of a set, where these are the classes, the attributes of each, and the members' class of each set
+abbrev pub set_order : List (List ℕ) → List (List (List ℕ)) → List Member → List PreambleTree → List ℕ → Discipline
 set_order classes attributes members preamble set =
     order_by (member_field classes attributes (member_class members set)) (order_of preamble set)
 
--- the order of each set of a program that says this, in the order of their numbers
-abbrev pub orders_laid : List Saying → List PreambleTree → List Order
+-- the discipline of each set of a program that says this, in the order of their numbers
+abbrev pub orders_laid : List Saying → List PreambleTree → List Discipline
 orders_laid says preamble =
     map (set_order (class_names says) (class_attributes says) (members_of says) preamble) (set_names says)
 
-abbrev pub disciplines : ProgramTree → List Order
+abbrev pub disciplines : ProgramTree → List Discipline
 disciplines p = orders_laid (sayings p) p.preamble

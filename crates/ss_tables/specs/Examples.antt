@@ -3,6 +3,7 @@ use Rattle.std.specs.Prelude.{◌≡◌, ℕ, Bool, true, false, [], ◌∷◌, 
 use Rattle.std.proofs.Common.{refl}
 use Rattle.ss_base.specs.declared.layout.ClassKind.TheVariants as class_kinds
 use Rattle.ss_base.specs.declared.layout.Mode.TheVariants.{Integer, Alpha}
+use Rattle.ss_base.specs.declared.layout.Discipline.TheVariants as disciplined
 use Rattle.ss_base.specs.declared.layout.Owner.TheVariants as owners
 use Rattle.ss_base.specs.declared.line.Line.{Line}
 use Rattle.ss_tree.specs.declared.preamble.ClassKind.TheVariants as kinds_said
@@ -11,7 +12,7 @@ use Rattle.ss_tree.specs.declared.preamble.Key.{Key}
 use Rattle.ss_tree.specs.Tree.{has, owns, belongs_to, lifo, ranked, permanent_entities, temporary_entities, every, normally, system_owns, define_variables, define_sets, ProgramTree}
 use Rattle.ss_tables.specs.declared.kind.Kind.TheVariants as kinds
 use Rattle.ss_tables.specs.Declarations.{NameBytes, globals, kind_of, place_among}
-use Rattle.ss_tables.specs.Disciplines.{files_last, files_first, files_by, disciplines}
+use Rattle.ss_tables.specs.Disciplines.{disciplines}
 use Rattle.ss_tables.specs.Layouts.{class_names, class_number, classes_laid, field_number, set_names, set_number, sets_laid}
 use Rattle.ss_tables.specs.Modes.{usual_mode}
 use Rattle.ss_tables.specs.Names.{count_name}
@@ -123,5 +124,5 @@ pub three_sets-layout : sets_laid (sayings three_sets) ≡ record { owner = owne
 three_sets-layout = refl
 
 -- Q has no DEFINE; of B, T is the field 1 and R the field 0
-pub three_sets-disciplines : disciplines three_sets ≡ files_last ∷ files_by (record { field = 1; high = true } ∷ record { field = 0; high = false } ∷ []) ∷ files_first ∷ []
+pub three_sets-disciplines : disciplines three_sets ≡ disciplined.Fifo ∷ disciplined.Ranked (record { field = 1; high = true } ∷ record { field = 0; high = false } ∷ []) ∷ disciplined.Lifo ∷ []
 three_sets-disciplines = refl

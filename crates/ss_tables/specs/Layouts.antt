@@ -132,20 +132,14 @@ fields_of modes usual owned class = map (field_mode modes usual) (attributes_of 
 
 -- ---- the layout of each class
 
--- the kind of a class and the modes of its fields
-abbrev pub ClassShape : Type 0
-ClassShape = ClassKind × List Mode
-
-abbrev pub shape_of : ClassLayout → ClassShape
-shape_of c = (c.kind, c.fields.items)
-
 -- how the entities of a class come and go, by what its name stands for
 abbrev pub class_kind : Option Kind → ClassKind
 class_kind (Some (kinds.Class kind)) = layout_kind kind
 class_kind _ = class_kinds.Permanent
 
-abbrev pub class_shape : (List ℕ → Option Kind) → List Moded → Option ModeSaid → List Owned → List ℕ → ClassShape
-class_shape kind modes usual owned class = (class_kind (kind class), fields_of modes usual owned class)
+-- the kind of a class and the modes of its fields
+abbrev pub class_laid : (List ℕ → Option Kind) → List Moded → Option ModeSaid → List Owned → List ℕ → ClassLayout
+class_laid kind modes usual owned class = record { kind = class_kind (kind class); fields = fields_of modes usual owned class }
 
 -- ---- sets
 
@@ -207,8 +201,8 @@ set_number names name = position_or_len (pointwise nat_eq name) names
 -- ---- the layout of a program that says this, where names stand for this and NORMALLY gives this mode
 
 -- the classes, in the order of their numbers
-abbrev pub classes_laid : (List ℕ → Option Kind) → Option ModeSaid → List Saying → List ClassShape
-classes_laid kind usual says = map (class_shape kind (modes_of says) usual (attributes_in says)) (class_names says)
+abbrev pub classes_laid : (List ℕ → Option Kind) → Option ModeSaid → List Saying → List ClassLayout
+classes_laid kind usual says = map (class_laid kind (modes_of says) usual (attributes_in says)) (class_names says)
 
 -- the sets, in the order of their numbers
 abbrev pub sets_laid : List Saying → List SetLayout

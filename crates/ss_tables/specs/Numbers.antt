@@ -7,7 +7,7 @@ use Rattle.ss_tables.specs.declared.saying.Saying.{Saying}
 use Rattle.ss_tables.specs.Declarations.{NameBytes, is_one_of}
 use Rattle.ss_tables.specs.Disciplines.{orders_laid, set_order}
 use Rattle.ss_tables.specs.Ranks.{members_of}
-use Rattle.ss_tables.specs.Layouts.{attributes_in, attributes_of, class_names, class_number, class_attributes, class_shape, classes_laid, field_mode, field_number, fields_of, modes_of, set_layout, set_names, set_number, sets_laid}
+use Rattle.ss_tables.specs.Layouts.{attributes_in, attributes_of, class_names, class_number, class_attributes, class_laid, classes_laid, field_mode, field_number, fields_of, modes_of, set_layout, set_names, set_number, sets_laid}
 
 -- the layout has each class at its number
 abbrev pub HasClassesAtNumbers : Type 0
@@ -15,7 +15,7 @@ HasClassesAtNumbers =
     (kind : NameBytes → Option Kind) (usual : Option Mode) (says : List Saying) (class : NameBytes) →
     is_one_of (class_names says) class ≡ true →
     slice_get (classes_laid kind usual says) (class_number (class_names says) class) ≡
-    Some (class_shape kind (modes_of says) usual (attributes_in says) class)
+    Some (class_laid kind (modes_of says) usual (attributes_in says) class)
 
 -- the fields of a class have the mode of each of its attributes at the attribute's number
 abbrev pub HasModesAtNumbers : Type 0

@@ -2,13 +2,14 @@
 use Rattle.std.specs.Prelude.{◌≡◌, ℕ, nat_lt, List, length, Option, None, if◌then◌else◌}
 use Rattle.std.specs.List.{position}
 use Rattle.std.specs.Map.{lookup, keys_of}
+use Rattle.ss_base.specs.declared.layout.Discipline.{Discipline}
 use Rattle.ss_tree.specs.declared.preamble.Mode.{Mode}
 use Rattle.ss_tree.specs.Tree.{ProgramTree}
 use Rattle.ss_tables.specs.declared.kind.Kind.{Kind}
 use Rattle.ss_tables.specs.declared.spelling.TheConstants.{SPELLING_LIMIT}
 use Rattle.ss_tables.specs.Declarations.{NameBytes, same_name, kind_of, globals, routines}
 use Rattle.ss_tables.specs.declared.saying.Saying.{Saying}
-use Rattle.ss_tables.specs.Disciplines.{Order, disciplines}
+use Rattle.ss_tables.specs.Disciplines.{disciplines}
 use Rattle.ss_tables.specs.Layouts.{NamedSet, class_attributes, class_names, named_sets}
 use Rattle.ss_tables.specs.Modes.{usual_mode}
 use Rattle.ss_tables.specs.Sayings.{sayings}
@@ -21,7 +22,7 @@ pub record TablesSeen : Type 0 where
   pub routines : List NameBytes
   pub usual : Option Mode
   pub says : List Saying
-  pub disciplines : List Order
+  pub disciplines : List Discipline
 
 -- what a name stands for by some entries
 abbrev pub kind_among : List (NameBytes × Kind) → NameBytes → Option Kind

@@ -4,13 +4,13 @@ ghost use Rattle.std.specs.Prelude.{◌≡◌, map, option_map, Some, IfOk};
 ghost use Rattle.ss_tree.specs.View.{view_order, view_preamble};
 ghost use Rattle.std.specs.Map.{keys_of, lookup};
 ghost use Rattle.ss_tables.specs.Ranks.{members_of};
-ghost use Rattle.ss_tables.specs.Disciplines.{discipline_said, member_field, order_by, order_of, orders_said, rank_key, set_order};
+ghost use Rattle.ss_tables.specs.Disciplines.{member_field, order_by, order_of, orders_said, rank_key, set_order};
 ghost use Rattle.ss_tables.specs.Declarations.{is_one_of, same_name};
 
 use crate::numbers::Numbers;
 use crate::rank::{Members, members_of};
 use crate::saying::Saying;
-use ss_base::{Discipline, RankKey};
+use ss_base::{Discipline, RankKey, RankKeys};
 use ss_lex::Name;
 use ss_tree::preamble::{Key, PreambleStatement, SetOrder};
 use std::alloc::{AllocError, Global};
@@ -67,8 +67,8 @@ fn rank_keys(
     numbers: &Numbers,
     class: &Option<Name>,
     keys: &[Key],
-) -> Result<Vec<RankKey>, AllocError>
-    ensures { IfOk result (λ ranks. ranks.items ≡ map (rank_key (member_field numbers.now.classes numbers.now.attributes class.now)) keys.now) }
+) -> Result<RankKeys, AllocError>
+    ensures { IfOk result (λ ranks. ranks ≡ map (rank_key (member_field numbers.now.classes numbers.now.attributes class.now)) keys.now) }
 {
     let mut ranks = Vec::new(alloc);
     for key in keys {
@@ -78,7 +78,7 @@ fn rank_keys(
             high: key.high,
         })?;
     }
-    Ok(ranks)
+    Ok(RankKeys::new(ranks))
 }
 
 /// The discipline of a set that a DEFINE orders so.
@@ -88,7 +88,7 @@ fn discipline_by(
     class: &Option<Name>,
     order: &SetOrder,
 ) -> Result<Discipline, AllocError>
-    ensures { IfOk result (λ made. discipline_said made ≡ order_by (member_field numbers.now.classes numbers.now.attributes class.now) (Some (view_order order.now))) }
+    ensures { IfOk result (λ made. made ≡ order_by (member_field numbers.now.classes numbers.now.attributes class.now) (Some (view_order order.now))) }
 {
     match order {
         SetOrder::Fifo => Ok(Discipline::Fifo),
@@ -108,7 +108,7 @@ fn discipline_of(
     preamble: &[PreambleStatement],
     set: Name,
 ) -> Result<Discipline, AllocError>
-    ensures { IfOk result (λ made. discipline_said made ≡ set_order numbers.now.classes numbers.now.attributes members.now (map view_preamble preamble.now) set) }
+    ensures { IfOk result (λ made. made ≡ set_order numbers.now.classes numbers.now.attributes members.now (map view_preamble preamble.now) set) }
 {
     match order_of(preamble, set) {
         None => Ok(Discipline::Fifo),
@@ -127,7 +127,7 @@ fn disciplines_of(
     preamble: &[PreambleStatement],
     sets: &[Name],
 ) -> Result<Vec<Discipline>, AllocError>
-    ensures { IfOk result (λ all. map discipline_said all.items ≡ map (set_order numbers.now.classes numbers.now.attributes members.now (map view_preamble preamble.now)) sets.now) }
+    ensures { IfOk result (λ all. all.items ≡ map (set_order numbers.now.classes numbers.now.attributes members.now (map view_preamble preamble.now)) sets.now) }
 {
     let mut all = Vec::new(alloc);
     for set in sets {
@@ -144,30 +144,9 @@ pub fn disciplines_in(
     sayings: &[Saying],
     preamble: &[PreambleStatement],
 ) -> Result<Vec<Discipline>, AllocError>
-    ensures { IfOk result (λ all. map discipline_said all.items ≡ map (set_order numbers.now.classes numbers.now.attributes (members_of sayings.now) (map view_preamble preamble.now)) (keys_of numbers.now.sets)) }
+    ensures { IfOk result (λ all. all.items ≡ map (set_order numbers.now.classes numbers.now.attributes (members_of sayings.now) (map view_preamble preamble.now)) (keys_of numbers.now.sets)) }
 {
     let members = members_of(alloc, sayings)?;
     let sets = numbers.sets(alloc)?;
     disciplines_of(alloc, numbers, &members, preamble, &sets)
-}
-
-fn copied(discipline: &Discipline) -> Result<Discipline, AllocError>
-    ensures { IfOk result (λ made. discipline_said made ≡ discipline_said discipline.now) }
-{
-    match discipline {
-        Discipline::Fifo => Ok(Discipline::Fifo),
-        Discipline::Lifo => Ok(Discipline::Lifo),
-        Discipline::Ranked(keys) => Ok(Discipline::Ranked(keys.clone()?)),
-    }
-}
-
-/// The same disciplines again.
-pub fn copies_of(alloc: Global, disciplines: &[Discipline]) -> Result<Vec<Discipline>, AllocError>
-    ensures { IfOk result (λ all. map discipline_said all.items ≡ map discipline_said disciplines.now) }
-{
-    let mut all = Vec::new(alloc);
-    for discipline in disciplines {
-        all.push(copied(discipline)?)?;
-    }
-    Ok(all)
 }

@@ -2,7 +2,7 @@
 
 ghost use Rattle.std.specs.Prelude.{◌≡◌, [], ◌∷◌, ◌++◌, map, OnOk, IfOk};
 ghost use Rattle.ss_tables.specs.Names.{kind_in};
-ghost use Rattle.ss_tables.specs.Layouts.{layout_mode, layout_kind, mode_in, with_mode, with_mode_said, modes_of, mode_or, with_class_said, class_names, class_number, field_mode, fields_of, shape_of, class_kind, class_shape};
+ghost use Rattle.ss_tables.specs.Layouts.{layout_mode, layout_kind, mode_in, with_mode, with_mode_said, modes_of, mode_or, with_class_said, class_names, class_number, field_mode, fields_of, class_kind, class_laid};
 
 use crate::attributes::{Owned, attributes_of, place_of};
 use crate::kind::Kind;
@@ -205,7 +205,7 @@ fn class_layout(
     owned: &[Owned],
     class: &Name,
 ) -> Result<ClassLayout, AllocError>
-    ensures { IfOk result (λ layout. shape_of layout ≡ class_shape (kind_in names.now.names) modes.now usual owned.now class.now) }
+    ensures { IfOk result (λ layout. layout ≡ class_laid (kind_in names.now.names) modes.now usual owned.now class.now) }
 {
     let fields = fields_of(alloc, modes, usual, owned, class)?;
     let kind = class_kind(names.kind(Spelling::of_name(class)));
@@ -221,7 +221,7 @@ pub fn class_layouts(
     owned: &[Owned],
     classes: &[Name],
 ) -> Result<Vec<ClassLayout>, AllocError>
-    ensures { IfOk result (λ layouts. map shape_of layouts.items ≡ map (class_shape (kind_in names.now.names) modes.now usual owned.now) classes.now) }
+    ensures { IfOk result (λ layouts. layouts.items ≡ map (class_laid (kind_in names.now.names) modes.now usual owned.now) classes.now) }
 {
     let mut layouts = Vec::new(alloc);
     for class in classes {

@@ -4,8 +4,8 @@ ghost use Rattle.std.specs.Prelude.{◌≡◌, ◌≢◌, ◌<◌, length, map, 
 ghost use Rattle.std.specs.Map.{keys_of};
 ghost use Rattle.ss_tree.specs.View.{view_preamble, view_program};
 ghost use Rattle.ss_tables.specs.Declarations.{place_among, kept_names};
-ghost use Rattle.ss_tables.specs.Disciplines.{discipline_said, orders_laid};
-ghost use Rattle.ss_tables.specs.Layouts.{shape_of, class_names, class_number, classes_laid, field_number, set_names, set_number, sets_laid};
+ghost use Rattle.ss_tables.specs.Disciplines.{orders_laid};
+ghost use Rattle.ss_tables.specs.Layouts.{class_names, class_number, classes_laid, field_number, set_names, set_number, sets_laid};
 ghost use Rattle.ss_tables.specs.Marks.{marks_of};
 ghost use Rattle.ss_tables.specs.Names.{count_name, declared};
 ghost use Rattle.ss_tables.specs.Refusals.{refusal};
@@ -13,7 +13,7 @@ ghost use Rattle.ss_tables.specs.Served.{served_program};
 ghost use Rattle.ss_tables.specs.Tables.{kind_among, found_among, AreTablesOf};
 
 use crate::attributes::attributes_in;
-use crate::discipline::{copies_of, disciplines_in};
+use crate::discipline::disciplines_in;
 use crate::error::TableError;
 use crate::keep::{Kept, kept_names};
 use crate::kind::Kind;
@@ -29,7 +29,7 @@ use crate::sayings::sayings;
 use crate::served::served;
 use crate::spelling::Spelling;
 use indexmap::IndexSet;
-use ss_base::{Discipline, Layout};
+use ss_base::{copied_disciplines, Discipline, Layout};
 use ss_lex::Name;
 use ss_tree::preamble::{Mode, PreambleStatement};
 use ss_tree::program::Program;
@@ -49,13 +49,11 @@ pub struct Tables {
 }
 
 impl Model for Tables {
-    ghost use Rattle.std.specs.Prelude.{map};
-    ghost use Rattle.ss_tables.specs.Disciplines.{discipline_said};
     ghost use Rattle.ss_tables.specs.Tables.{AreNumbersOf, TablesSeen};
 
     ghost Value = { TablesSeen };
 
-    ghost view = { λ t. record { names = t.names.names; globals = t.globals.keys; routines = t.routines.keys; usual = t.usual; says = t.sayings.items; disciplines = map discipline_said t.disciplines.items } };
+    ghost view = { λ t. record { names = t.names.names; globals = t.globals.keys; routines = t.routines.keys; usual = t.usual; says = t.sayings.items; disciplines = t.disciplines.items } };
 
     ghost invariant = { λ t. AreNumbersOf t.sayings.items t.numbers };
 }
@@ -192,8 +190,8 @@ impl Tables {
     /// # Errors
     /// `AllocError` where memory is refused.
     pub fn layout(&self, alloc: Global) -> Result<Layout, AllocError>
-        ensures classes { IfOk result (λ l. map shape_of l.classes.items ≡ classes_laid (kind_among self.now.names) self.now.usual self.now.says) }
-        ensures sets { IfOk result (λ l. l.sets.items ≡ sets_laid self.now.says) }
+        ensures classes { IfOk result (λ l. l.classes ≡ classes_laid (kind_among self.now.names) self.now.usual self.now.says) }
+        ensures sets { IfOk result (λ l. l.sets ≡ sets_laid self.now.says) }
     {
         let modes = modes_of(alloc, &self.sayings)?;
         let owned = attributes_in(alloc, &self.sayings)?;
@@ -256,9 +254,9 @@ impl Tables {
     /// # Errors
     /// `AllocError` where memory is refused.
     pub fn disciplines(&self, alloc: Global) -> Result<Vec<Discipline>, AllocError>
-        ensures { IfOk result (λ all. map discipline_said all.items ≡ self.now.disciplines) }
+        ensures { IfOk result (λ all. all.items ≡ self.now.disciplines) }
     {
-        copies_of(alloc, &self.disciplines)
+        copied_disciplines(alloc, &self.disciplines)
     }
 
     /// What each global variable stands for, in the order of their numbers.

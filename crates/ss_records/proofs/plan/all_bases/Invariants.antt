@@ -6,5 +6,5 @@ use Rattle.ss_records.proofs.plan.all_bases.Given as goal
 abbrev pub invariant-loop-s : goal.invariant-loop-s
 invariant-loop-s l = record {
   many : length l.bases.items ≡ l.s;
-  each : (k : ℕ) → k < l.s → (t : SetLayout) → slice_get l.layout.sets.items k ≡ Some t → slice_get l.bases.items k ≡ Some (bases_of l.layout k t);
+  each : (k : ℕ) → k < l.s → (t : SetLayout) → slice_get l.layout.sets k ≡ Some t → slice_get l.bases.items k ≡ Some (bases_of l.layout k t);
 }

@@ -19,7 +19,7 @@ pub block_words-words-requires : goal.block_words-words-requires
 block_words-words-requires c = λ k e.
     let same : c.number-class.result ≡ k = class_is e in
     let is : c.number-class.result ≡ class_at c.args.blocks.now.cells c.in-Some.place = sym (ap plain c.number-class.ensures) ∙ ap class_of (c.loop-i.invariant.kept c.loop-i.i c.in-Some.place (omega arith) c.in-Some.ensures) in
-    subst (λ n. n < length c.args.layout.now.classes.items) (sym is ∙ same) (c.requires.kept.classes c.loop-i.i c.in-Some.place (inl c.in-Some.ensures))
+    subst (λ n. n < length c.args.layout.now.classes) (sym is ∙ same) (c.requires.kept.classes c.loop-i.i c.in-Some.place (inl c.in-Some.ensures))
 
 pub loop-i-preserved : goal.loop-i-preserved
 loop-i-preserved c =

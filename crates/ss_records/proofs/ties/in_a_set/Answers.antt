@@ -5,12 +5,12 @@ use Rattle.ss_records.proofs.ties.in_a_set.Goals.{then-member_class-class+else-f
 
 pub returns-then-filed_in-clause-value : goal.returns-then-filed_in-clause-value
 returns-then-filed_in-clause-value c =
-    let ts = c.args.layout.now.sets.items in let s = c.loop-s.s in let y = get_there ts s (omega (arith, c.loop-s-test.true, c.names-s-end.ensures)) in
+    let ts = c.args.layout.now.sets in let s = c.loop-s.s in let y = get_there ts s (omega (arith, c.loop-s-test.true, c.names-s-end.ensures)) in
     sym (in_here ts s c.args.class c.args.number y.0 c.args.notes.now.lists y.1 (sym (c.member_class.ensures.is y.0 y.1) ∙ c.if-member_class-class.true) (sym c.if-filed_in.ensures.value)) ∙ c.loop-s.invariant.rest
 
 pub loop-s-preserved : goal.loop-s-preserved
 loop-s-preserved c =
-    let ts = c.args.layout.now.sets.items in let s = c.loop-s.s in let h = c.loop-s.invariant in let y = get_there ts s (omega (arith, c.loop-s-test.true, c.names-s-end.ensures)) in
+    let ts = c.args.layout.now.sets in let s = c.loop-s.s in let h = c.loop-s.invariant in let y = get_there ts s (omega (arith, c.loop-s-test.true, c.names-s-end.ensures)) in
     elim c.if-member_class-class.branch [
       | then-member_class-class+else-filed_in w ↦ record {
         cells = rw w.blocks-is (w.filed_in.ensures.cells ∙ h.cells);

@@ -11,12 +11,12 @@ owns_in-requires-clause-class c = λ t g.
 
 pub returns-then-owns_in-clause-value : goal.returns-then-owns_in-clause-value
 returns-then-owns_in-clause-value c =
-    let ts = c.args.layout.now.sets.items in let s = c.loop-s.s in let y = get_there ts s (omega (arith, c.loop-s-test.true, c.names-s-end.ensures)) in
+    let ts = c.args.layout.now.sets in let s = c.loop-s.s in let y = get_there ts s (omega (arith, c.loop-s-test.true, c.names-s-end.ensures)) in
     sym (owns_here ts s c.args.class c.args.number y.0 c.args.notes.now.lists y.1 (sym (c.if-is_owner.ensures y.0 y.1)) (sym c.if-owns_in.ensures.value)) ∙ c.loop-s.invariant.rest
 
 pub loop-s-preserved : goal.loop-s-preserved
 loop-s-preserved c =
-    let ts = c.args.layout.now.sets.items in let s = c.loop-s.s in let h = c.loop-s.invariant in let y = get_there ts s (omega (arith, c.loop-s-test.true, c.names-s-end.ensures)) in
+    let ts = c.args.layout.now.sets in let s = c.loop-s.s in let h = c.loop-s.invariant in let y = get_there ts s (omega (arith, c.loop-s-test.true, c.names-s-end.ensures)) in
     elim c.if-is_owner.branch [
       | then-is_owner+else-owns_in w ↦ record {
         cells = rw w.blocks-is (w.owns_in.ensures.cells ∙ h.cells);

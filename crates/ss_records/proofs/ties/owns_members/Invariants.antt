@@ -5,6 +5,6 @@ use Rattle.ss_records.proofs.ties.owns_members.Given as goal
 abbrev pub invariant-loop-s : goal.invariant-loop-s
 invariant-loop-s l = record {
   cells : l.blocks.cells ≡ l.initial.blocks.cells;
-  rest : owns_members (drop l.s l.layout.sets.items) l.s l.notes.lists l.class l.number ≡ owns_members l.layout.sets.items 0 l.notes.lists l.class l.number;
+  rest : owns_members (drop l.s l.layout.sets) l.s l.notes.lists l.class l.number ≡ owns_members l.layout.sets 0 l.notes.lists l.class l.number;
   touches : (l.blocks.touches ≤ l.initial.blocks.touches + l.s) × (l.blocks.total + l.initial.blocks.touches ≡ l.initial.blocks.total + l.blocks.touches);
 }

@@ -1,7 +1,5 @@
 use Rattle.std.proofs.Common.{ap, ◌∙◌, option_copied}
-use Rattle.std.specs.Prelude.{option_map}
 use Rattle.ss_code.specs.Entities.{with_heap}
-use Rattle.ss_code.specs.Orders.{order_said}
 use Rattle.ss_code.specs.Sets.{filed, filed_in_order, filed_at_first, filed_at_last}
 use Rattle.ss_machine.proofs.Filed.{settles_in}
 use Rattle.ss_machine.proofs.entities.Entities.file.Goals as goal
@@ -11,7 +9,7 @@ returns-in-ByDiscipline c = λ s e.
     let old = c.args.self.now in
     let m = c.args.member.now in
     let o = c.args.owner.now in
-    settles_in s (filed c.args.filing c.args.set m o) (filed_in_order (option_map order_said (option_copied c.args.discipline)) c.args.set m o) c.file_in_order.result old c.file_in_order.new.self
+    settles_in s (filed c.args.filing c.args.set m o) (filed_in_order (option_copied c.args.discipline) c.args.set m o) c.file_in_order.result old c.file_in_order.new.self
     (ap (λ k. filed k c.args.set m o (with_heap s old)) c.in-ByDiscipline.is ∙ ap (λ r. filed_in_order r c.args.set m o (with_heap s old)) e) c.file_in_order.ensures
 
 pub returns-in-First : goal.returns-in-First

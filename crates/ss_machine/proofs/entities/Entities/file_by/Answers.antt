@@ -4,7 +4,6 @@ use Rattle.std.proofs.lemmas.Int.{to_z-of_z}
 use Rattle.ss_base.specs.declared.layout.Layout.{Layout}
 use Rattle.ss_sets.specs.Disciplines.{Fits}
 use Rattle.ss_records.specs.State.{State}
-use Rattle.ss_code.specs.Orders.{order_said}
 use Rattle.ss_code.specs.Sets.{set_at, filed_in_order}
 use Rattle.ss_machine.specs.Peopled.{Settles}
 use Rattle.ss_machine.proofs.Filed.{settles_by, counts_kept, filed_keeps, order_fits, order_misfit}
@@ -22,7 +21,7 @@ returns c =
     let d = c.args.discipline.now in
     let m = c.args.member.now in
     let o = c.args.owner.now in
-    let f = filed_in_order (Rattle.std.specs.Prelude.Some (order_said d)) c.args.set m o in
+    let f = filed_in_order (Rattle.std.specs.Prelude.Some d) c.args.set m o in
     let there : is_some (set_at old c.args.set) ≡ true = ap (λ h. is_some (set_at h c.args.set)) c.self.view_is ∙ sym c.has_set.ensures.value ∙ c.if-not-has_set.false in
     let fits : Fits old.layout c.args.set d = subst (λ (l : Layout). Fits l c.args.set d) c.layout.ensures (c.fits.ensures.0 c.if-not-fits.false) in
     let zo = to_z-of_z w64 c.number.result (record { sfits = c.number.type_inv }) ∙ c.number.ensures in

@@ -1,6 +1,7 @@
 use Rattle.std.proofs.Common.{◌≡◌, List, [], ◌∷◌, length, map, None, refl, ap, sym, ◌∙◌}
 use Rattle.std.specs.Prelude.{replicate}
 use Rattle.ss_base.specs.declared.layout.ClassLayout.{ClassLayout}
+use Rattle.ss_base.specs.declared.layout.Layout.{Layout}
 use Rattle.ss_records.specs.State.{State, not_made}
 use Rattle.ss_machine.specs.Peopled.{counts_of}
 use Rattle.ss_machine.proofs.entities.Entities.new.Goals as goal
@@ -12,5 +13,5 @@ none_counted (c ∷ cs) = ap (λ l. None ∷ l) (none_counted cs)
 
 pub invariant_of-result : goal.invariant_of-result
 invariant_of-result c =
-    c.in_ok-made.ensures ∙ ap (λ n. replicate n None) (c.len.ensures ∙ c.args.layout.classes.ok.0) ∙ none_counted c.args.layout.classes.items
+    c.in_ok-made.ensures ∙ ap (λ n. replicate n None) (c.len.ensures ∙ c.layout.inside.classes.ok.0 ∙ ap (λ (l : Layout). length l.classes) c.layout.view_is) ∙ none_counted c.args.layout.classes
     ∙ sym (ap (λ (h : State). counts_of h.permanents) c.in_ok-heap.ensures)

@@ -1,5 +1,5 @@
 use Rattle.std.proofs.Common.{◌≡◌, ap, subst, ◌∙◌}
-use Rattle.std.specs.Prelude.{MatchResult, Ok, Err}
+use Rattle.std.specs.Prelude.{MatchResult, Ok}
 use Rattle.std.proofs.lemmas.Int.{to_z-of_z}
 use Rattle.ss_records.specs.State.{Heaped, State, RefusedFor, created_all}
 use Rattle.ss_records.specs.Parts.{state}

@@ -53,8 +53,8 @@ returns-else-owns_members-clause-kept c =
     let cells : q.blocks.cells ≡ r.blocks.cells = c.owns_members.ensures.cells ∙ c.in_a_set.ensures.cells in
     let m : nat_abs (cast_signed w64 (cast_unsigned w64 c.args.r)) ≡ suc f.index = ap nat_abs c.in-Ok.ensures.found.is in
     let m0 = by_number r c.requires.kept c.args.class _ p f c.requires.kind in let n : nat_abs (cast_signed w64 (cast_unsigned w64 c.args.r)) - 1 ≡ f.index = ap (λ z. z - 1) m ∙ omega arith in
-    let none : in_a_set r.layout.sets.items 0 r.notes.lists c.args.class (suc f.index) ≡ false = subst (λ k. in_a_set r.layout.sets.items 0 r.notes.lists c.args.class k ≡ false) m (sym c.if-in_a_set.ensures.value) in
-    let few : owns_members r.layout.sets.items 0 r.notes.lists c.args.class (suc f.index) ≡ false = subst (λ (z : Records). owns_members z.layout.sets.items 0 z.notes.lists c.args.class (suc f.index) ≡ false) first (subst (λ k. owns_members a.layout.sets.items 0 a.notes.lists c.args.class k ≡ false) m (sym c.if-owns_members.ensures.value)) in
+    let none : in_a_set r.layout.sets 0 r.notes.lists c.args.class (suc f.index) ≡ false = subst (λ k. in_a_set r.layout.sets 0 r.notes.lists c.args.class k ≡ false) m (sym c.if-in_a_set.ensures.value) in
+    let few : owns_members r.layout.sets 0 r.notes.lists c.args.class (suc f.index) ≡ false = subst (λ (z : Records). owns_members z.layout.sets 0 z.notes.lists c.args.class (suc f.index) ≡ false) first (subst (λ k. owns_members a.layout.sets 0 a.notes.lists c.args.class k ≡ false) m (sym c.if-owns_members.ensures.value)) in
     let k = kept_destroyed r.layout r.blocks.cells r.system.at (places r) r.notes.lists c.requires.kept f.index p m0 (free_by r.layout r.blocks.cells r.system.at (places r) r.notes.lists c.requires.kept f.index p m0 c.args.class f.class none few) in
     rw (c.give_back.ensures.cells, c.clear.ensures, n) (subst (λ (z : Records). Kept z.layout (without q.blocks.cells p.at) z.system.at (lying (slice_set z.directory.places f.index None) z.permanents.items) z.notes.lists) (sym whole) (rw cells k))
 
@@ -68,7 +68,7 @@ returns-else-owns_members-clause-done c =
     let cells : q.blocks.cells ≡ r.blocks.cells = c.owns_members.ensures.cells ∙ c.in_a_set.ensures.cells in
     let m : nat_abs (cast_signed w64 (cast_unsigned w64 c.args.r)) ≡ suc f.index = ap nat_abs c.in-Ok.ensures.found.is in
     let m0 = by_number r c.requires.kept c.args.class _ p f c.requires.kind in let n : nat_abs (cast_signed w64 (cast_unsigned w64 c.args.r)) - 1 ≡ f.index = ap (λ z. z - 1) m ∙ omega arith in
-    let none : in_a_set r.layout.sets.items 0 r.notes.lists c.args.class (suc f.index) ≡ false = subst (λ k. in_a_set r.layout.sets.items 0 r.notes.lists c.args.class k ≡ false) m (sym c.if-in_a_set.ensures.value) in
-    let few : owns_members r.layout.sets.items 0 r.notes.lists c.args.class (suc f.index) ≡ false = subst (λ (z : Records). owns_members z.layout.sets.items 0 z.notes.lists c.args.class (suc f.index) ≡ false) first (subst (λ k. owns_members a.layout.sets.items 0 a.notes.lists c.args.class k ≡ false) m (sym c.if-owns_members.ensures.value)) in
+    let none : in_a_set r.layout.sets 0 r.notes.lists c.args.class (suc f.index) ≡ false = subst (λ k. in_a_set r.layout.sets 0 r.notes.lists c.args.class k ≡ false) m (sym c.if-in_a_set.ensures.value) in
+    let few : owns_members r.layout.sets 0 r.notes.lists c.args.class (suc f.index) ≡ false = subst (λ (z : Records). owns_members z.layout.sets 0 z.notes.lists c.args.class (suc f.index) ≡ false) first (subst (λ k. owns_members a.layout.sets 0 a.notes.lists c.args.class k ≡ false) m (sym c.if-owns_members.ensures.value)) in
     let k = is_destroyed r.layout r.blocks.cells r.system.at (places r) r.notes.lists c.requires.kept f.index p m0 c.args.class c.args.r h.is h.entity none few in
     rw (c.give_back.ensures.cells, c.clear.ensures, n) (subst (λ (z : Records). destroyed (state r) c.args.class c.args.r ≡ Ok (state_of z.layout (without q.blocks.cells p.at) (lying (slice_set z.directory.places f.index None) z.permanents.items) z.notes.lists)) (sym whole) (rw cells k))

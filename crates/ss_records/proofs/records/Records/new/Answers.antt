@@ -1,4 +1,4 @@
-use Rattle.std.proofs.Common.{◌≡◌, rules, [], ◌∷◌, length, None, sym, ap, subst, ◌∙◌}
+use Rattle.std.proofs.Common.{◌≡◌, [], ◌∷◌, length, None, sym, ap, subst, ◌∙◌}
 use Rattle.std.specs.Prelude.{replicate}
 use Rattle.ss_records.specs.Cells.{blanks}
 use Rattle.ss_records.specs.State.{first_state}
@@ -21,9 +21,8 @@ returns c =
     let e : l ≡ c.args.layout = c.in_ok-layout.ensures.0 in
     let small : Small l = subst Small (sym e) c.in_ok-layout.ensures.1 in
     let laid = subst (λ bs. LaidSystem l bs c.lay_system.new.blocks.cells c.in-Ok-place.system.at) (c.in-Ok-place.ensures.placed.1 ∙ ap (λ bs. (c.in-Ok-place.system.at, blanks c.block_words-words.result) ∷ bs) c.new-blocks.ensures.cells) c.lay_system.ensures.laid in
-    let many : c.len.result ≡ length l.classes.items = search rules in
-    let rows : c.in-Ok-not_made.permanents.items ≡ replicate (length l.classes.items) None = c.in-Ok-not_made.ensures ∙ ap (λ n. replicate n None) many in
+    let rows : c.in-Ok-not_made.permanents.items ≡ replicate (length l.classes) None = c.in-Ok-not_made.ensures ∙ ap (λ n. replicate n None) c.classes.ensures in
     rw (c.in-Ok.ensures, c.new-3.ensures, rows) (
       kept_first l c.lay_system.new.blocks.cells c.in-Ok-place.system c.block_words-words.result small c.block_words-words.ensures.size laid,
-      ap (λ rs. record { layout = l; records = []; permanents = rs; lists = [] }) (none_made l c.lay_system.new.blocks.cells l.classes.items) ∙ ap first_state e,
+      ap (λ rs. record { layout = l; records = []; permanents = rs; lists = [] }) (none_made l c.lay_system.new.blocks.cells l.classes) ∙ ap first_state e,
     )

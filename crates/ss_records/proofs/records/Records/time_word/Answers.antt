@@ -8,4 +8,4 @@ pub number-class-requires : goal.number-class-requires
 number-class-requires c = subst IsNumber (sym (c.requires.kept.formed c.requires.entry.0 c.args.place (inl c.requires.entry.1)).class) tt
 
 pub values_end-requires : goal.values_end-requires
-values_end-requires c = rw (sym (ap plain c.number-class.ensures)) (notice_inside c.args.self.now.layout.classes.items _ c.requires.notice)
+values_end-requires c = rw (sym (ap plain c.number-class.ensures)) (notice_inside c.args.self.now.layout.classes _ c.requires.notice)

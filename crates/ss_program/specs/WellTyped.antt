@@ -1,0 +1,253 @@
+-- When a program is well typed: each number in it is that of something, and modes, kinds and counts agree.
+use Rattle.std.specs.Prelude.{◌≡◌, ◌≢◌, ℕ, Bool, true, false, List, ◌++◌, length, map, take, sum, Option, Some, None, slice_get, Contains, IfSome}
+use Rattle.std.specs.List.{AllZip, AllByRecursion as Every}
+use Rattle.std.specs.Option.{option_map, option_and_then}
+use Rattle.ss_base.specs.declared.layout.Mode.{Mode}
+use Rattle.ss_base.specs.declared.layout.Mode.TheVariants.{Integer}
+use Rattle.ss_base.specs.declared.layout.ClassKind.{ClassKind}
+use Rattle.ss_base.specs.declared.layout.ClassKind.TheVariants.{Permanent, Temporary, Notice}
+use Rattle.ss_base.specs.declared.layout.Owner.{Owner}
+use Rattle.ss_base.specs.declared.layout.Owner.TheVariants.{System, Class as OfClass}
+use Rattle.ss_base.specs.declared.layout.SetLayout.{SetLayout}
+use Rattle.ss_base.specs.declared.layout.RankKey.{RankKey}
+use Rattle.ss_base.specs.declared.layout.Discipline.{Discipline}
+use Rattle.ss_base.specs.declared.layout.Discipline.TheVariants.{Fifo, Lifo, Ranked}
+use Rattle.ss_base.specs.Layout.{mode_of, is_sound}
+use Rattle.ss_picture.specs.Pictures.{field_count}
+use Rattle.ss_program.specs.declared.expression.Variable.{Variable}
+use Rattle.ss_program.specs.declared.expression.Variable.TheVariants.{Global, Local}
+use Rattle.ss_program.specs.declared.statement.Counted.{Counted}
+use Rattle.ss_program.specs.declared.sections.Subject.{Subject}
+use Rattle.ss_program.specs.declared.sections.Subject.TheVariants.{OfVariable, OfAttribute, OfCount}
+use Rattle.ss_program.specs.declared.sections.Statistic.{Statistic}
+use Rattle.ss_program.specs.Program.{Expression, Constant, Fetch, Attribute, OfSystemSet, OfSet, OfMember, Clock, TimeOf, Figure, FigureOf, Signed, Absolute, Calculate, SetOwner, TheSystem, Entity, Test, Compare, DataEnded, Empty, Member, Condition, Start, AtEnd, From, After, Head, Numbers, Members, Each, Phrase, Place, ToVariable, ToAttribute, ToCount, Position, ByDiscipline, AsFirst, AsLast, BeforeMember, AfterMember, When, At, In, Now, Statement, Let, Change, Call, Return, Stop, Read, Simulate, If, Loop, For, Find, Create, CreateEvery, Destroy, File, RemoveEnd, Remove, ScheduleNew, Schedule, Cancel, Reset, Print, Skip, Block, Done, Then, Routine, Event, Program}
+
+-- ---- what numbers stand for
+
+abbrev pub kind_of : Program → (class : ℕ) → Option ClassKind
+kind_of p class = option_map (λ c. c.kind) (slice_get p.layout.classes class)
+
+-- the modes of the attributes of a class
+abbrev pub fields_of : Program → (class : ℕ) → Option (List Mode)
+fields_of p class = option_map (λ c. c.fields) (slice_get p.layout.classes class)
+
+abbrev pub field_mode : Program → (class field : ℕ) → Option Mode
+field_mode p class field = option_and_then (λ modes. slice_get modes field) (fields_of p class)
+
+abbrev pub owner_of : Program → (set : ℕ) → Option Owner
+owner_of p set = option_map (λ s. s.owner) (slice_get p.layout.sets set)
+
+-- the sets of the name belong to entities of a class
+abbrev pub IsOwned : Program → (set : ℕ) → Type 0
+IsOwned p k = (class : ℕ) × (owner_of p k ≡ Some (OfClass class))
+
+-- the sets of the name are there
+abbrev pub IsSet : Program → (set : ℕ) → Type 0
+IsSet p k = (set : SetLayout) × (slice_get p.layout.sets k ≡ Some set)
+
+-- entities of such a class are created one by one
+abbrev pub comes_alone : Option ClassKind → Bool
+comes_alone None = false
+comes_alone (Some Permanent) = false
+comes_alone (Some Temporary) = true
+comes_alone (Some Notice) = true
+
+-- the subject of a statistic is one thing, without an entity
+abbrev pub IsAlone : Program → Subject → Type 0
+IsAlone p (OfVariable k) = Unit {0}
+IsAlone p (OfAttribute class field) = ⊥
+IsAlone p (OfCount set) = owner_of p set ≡ Some System
+
+-- each entity has a subject of the statistic of its own
+abbrev pub IsOfEntities : Program → Subject → Type 0
+IsOfEntities p (OfVariable k) = ⊥
+IsOfEntities p (OfAttribute class field) = Unit {0}
+IsOfEntities p (OfCount set) = IsOwned p set
+
+-- the statistic is there, and its subject is such
+abbrev pub HasSubject : Program → (Program → Subject → Type 0) → (statistic : ℕ) → Type 0
+HasSubject p Fits k = (s : Statistic) × (slice_get p.statistics k ≡ Some s) × Fits p s.subject
+
+-- what a statement stands in: the program, the local variables of its section, and whether that is MAIN
+pub record Scope : Type 0 where
+  pub program : Program
+  pub locals : List Mode
+  pub is_main : Bool
+
+abbrev pub mode_at : Scope → Variable → Option Mode
+mode_at s (Global k) = slice_get s.program.globals k
+mode_at s (Local k) = slice_get s.locals k
+
+-- ---- expressions and conditions
+
+-- the expression has the mode
+abbrev pub HasMode : Scope → Expression → Mode → Type 0
+HasMode s (Constant v) m = mode_of v ≡ m
+HasMode s (Fetch x) m = mode_at s x ≡ Some m
+HasMode s (Attribute class field e) m = (field_mode s.program class field ≡ Some m) × HasMode s e Integer
+HasMode s (OfSystemSet query set) m = (m ≡ Integer) × (owner_of s.program set ≡ Some System)
+HasMode s (OfSet query set e) m = (m ≡ Integer) × IsOwned s.program set × HasMode s e Integer
+HasMode s (OfMember query set e) m = (m ≡ Integer) × IsSet s.program set × HasMode s e Integer
+HasMode s Clock m = m ≡ Integer
+HasMode s (TimeOf e) m = (m ≡ Integer) × HasMode s e Integer
+HasMode s (Figure fold k) m = (m ≡ Integer) × HasSubject s.program IsAlone k
+HasMode s (FigureOf fold k e) m = (m ≡ Integer) × HasSubject s.program IsOfEntities k × HasMode s e Integer
+HasMode s (Signed sign e) m = (m ≡ Integer) × HasMode s e Integer
+HasMode s (Absolute e) m = (m ≡ Integer) × HasMode s e Integer
+HasMode s (Calculate operator a b) m = (m ≡ Integer) × HasMode s a Integer × HasMode s b Integer
+
+-- the expressions have these modes, and are as many
+abbrev pub HaveModes : Scope → List Expression → List Mode → Type 0
+HaveModes s = AllZip (HasMode s)
+
+-- the owner is such as the sets of the name have
+abbrev pub OwnerFits : Scope → (set : ℕ) → SetOwner → Type 0
+OwnerFits s set TheSystem = owner_of s.program set ≡ Some System
+OwnerFits s set (Entity e) = IsOwned s.program set × HasMode s e Integer
+
+abbrev pub GoodTest : Scope → Test → Type 0
+GoodTest s (Compare relation a b) = (m : Mode) × HasMode s a m × HasMode s b m
+GoodTest s (DataEnded negated) = Unit {0}
+GoodTest s (Empty negated set owner) = OwnerFits s set owner
+GoodTest s (Member negated set e owner) = HasMode s e Integer × OwnerFits s set owner
+
+abbrev pub GoodCondition : Scope → Condition → Type 0
+GoodCondition s = Every (Every (GoodTest s))
+
+-- ---- places and heads of loops
+
+-- the variable isn't N. of a permanent class
+abbrev pub IsPlain : Program → Variable → Type 0
+IsPlain p (Global k) = Every (λ count. count.variable ≢ k) p.counts
+IsPlain p (Local k) = Unit {0}
+
+-- the place takes values of the mode
+abbrev pub TakesMode : Scope → Place → Mode → Type 0
+TakesMode s (ToVariable x) m = (mode_at s x ≡ Some m) × IsPlain s.program x
+TakesMode s (ToAttribute class field e) m = (field_mode s.program class field ≡ Some m) × HasMode s e Integer
+TakesMode s (ToCount count) m = (m ≡ Integer) × Contains s.program.counts count
+
+abbrev pub GoodStart : Scope → Start → Type 0
+GoodStart s AtEnd = Unit {0}
+GoodStart s (From e) = HasMode s e Integer
+GoodStart s (After e) = HasMode s e Integer
+
+abbrev pub GoodHead : Scope → Head → Type 0
+GoodHead s (Numbers x a b step) = TakesMode s (ToVariable x) Integer × HasMode s a Integer × HasMode s b Integer × IfSome step (λ e. HasMode s e Integer)
+GoodHead s (Members x set owner start reverse) = TakesMode s (ToVariable x) Integer × OwnerFits s set owner × GoodStart s start
+GoodHead s (Each x class) = TakesMode s (ToVariable x) Integer × (kind_of s.program class ≡ Some Permanent)
+
+-- the same of a phrase's
+abbrev pub GoodPhrase : Scope → Phrase → Type 0
+GoodPhrase s phrase = GoodCondition s phrase.condition
+
+-- ---- statements
+
+-- the routine is there, and takes and yields as many values, of the same modes
+abbrev pub GoodCall : Scope → (routine : ℕ) → List Expression → List Place → Type 0
+GoodCall s k given yielding =
+    (r : Routine) × (slice_get s.program.routines k ≡ Some r) × HaveModes s given r.given × AllZip (TakesMode s) yielding r.yielding
+
+abbrev pub GoodPosition : Scope → Position → Type 0
+GoodPosition s ByDiscipline = Unit {0}
+GoodPosition s AsFirst = Unit {0}
+GoodPosition s AsLast = Unit {0}
+GoodPosition s (BeforeMember e) = HasMode s e Integer
+GoodPosition s (AfterMember e) = HasMode s e Integer
+
+abbrev pub GoodWhen : Scope → When → Type 0
+GoodWhen s (At e) = HasMode s e Integer
+GoodWhen s (In e) = HasMode s e Integer
+GoodWhen s Now = Unit {0}
+
+-- the class is one of notices, whose first attributes take the values given
+abbrev pub GoodGiven : Scope → (class : ℕ) → List Expression → Type 0
+GoodGiven s class given =
+    (kind_of s.program class ≡ Some Notice) × ((modes : List Mode) × (fields_of s.program class ≡ Some modes) × HaveModes s given (take (length given) modes))
+
+-- the statistic is that of one thing or, with an expression, of each entity
+abbrev pub GoodRestart : Scope → (statistic : ℕ) → Option Expression → Type 0
+GoodRestart s k None = HasSubject s.program IsAlone k
+GoodRestart s k (Some e) = HasSubject s.program IsOfEntities k × HasMode s e Integer
+
+-- each item has a mode, and the pictures have as many fields as there are items
+abbrev pub GoodPrint : Scope → List Expression → List (List ℕ) → Type 0
+GoodPrint s items pictures = Every (λ e. (m : Mode) × HasMode s e m) items × (sum (map field_count pictures) ≡ length items)
+
+abbrev mutual
+  pub Good : Scope → Statement → Type 0
+  Good s (Let l x e) = (m : Mode) × TakesMode s x m × HasMode s e m
+  Good s (Change l sign x e) = TakesMode s x Integer × HasMode s e Integer
+  Good s (Call l routine given yielding) = GoodCall s routine given yielding
+  Good s Return = Unit {0}
+  Good s Stop = Unit {0}
+  Good s (Read l targets) = Every (λ t. TakesMode s t.place t.mode) targets
+  Good s Simulate = s.is_main ≡ true
+  Good s (If l condition a b) = GoodCondition s condition × GoodBlock s a × GoodBlock s b
+  Good s (Loop l guards body) = Every (λ guard. GoodCondition s guard.condition) guards × GoodBlock s body
+  Good s (For l head phrases body) = GoodHead s head × Every (GoodPhrase s) phrases × GoodBlock s body
+  Good s (Find l head phrases found none) = GoodHead s head × Every (GoodPhrase s) phrases × GoodBlock s found × GoodBlock s none
+  Good s (Create l class x) = (comes_alone (kind_of s.program class) ≡ true) × TakesMode s x Integer
+  Good s (CreateEvery l counts) = Every (Contains s.program.counts) counts
+  Good s (Destroy l class e) = (comes_alone (kind_of s.program class) ≡ true) × HasMode s e Integer
+  Good s (File l set e position owner) = HasMode s e Integer × GoodPosition s position × OwnerFits s set owner
+  Good s (RemoveEnd l end set x owner) = TakesMode s x Integer × OwnerFits s set owner
+  Good s (Remove l set e owner) = HasMode s e Integer × OwnerFits s set owner
+  Good s (ScheduleNew l class x given when) = GoodGiven s class given × TakesMode s x Integer × GoodWhen s when
+  Good s (Schedule l class e given when) = GoodGiven s class given × HasMode s e Integer × GoodWhen s when
+  Good s (Cancel l class e) = (kind_of s.program class ≡ Some Notice) × HasMode s e Integer
+  Good s (Reset l restarts) = Every (λ r. GoodRestart s r.statistic r.of) restarts
+  Good s (Print l items pictures) = GoodPrint s items pictures
+  Good s (Skip l e) = HasMode s e Integer
+
+  pub GoodBlock : Scope → Block → Type 0
+  GoodBlock s Done = Unit {0}
+  GoodBlock s (Then statement rest) = Good s statement × GoodBlock s rest
+
+-- ---- programs
+
+-- the keys name fields of the class
+abbrev pub GoodKeys : Program → (class : ℕ) → List RankKey → Type 0
+GoodKeys p class = Every (λ key. (m : Mode) × (field_mode p class key.field ≡ Some m))
+
+abbrev pub GoodDiscipline : Program → SetLayout → Discipline → Type 0
+GoodDiscipline p set Fifo = Unit {0}
+GoodDiscipline p set Lifo = Unit {0}
+GoodDiscipline p set (Ranked keys) = GoodKeys p set.member keys
+
+-- N. of a class is that of a permanent one
+abbrev pub GoodCount : Program → Counted → Type 0
+GoodCount p count = (kind_of p count.class ≡ Some Permanent) × (slice_get p.globals count.variable ≡ Some Integer)
+
+-- the subject of a statistic is there, and a whole number
+abbrev pub GoodSubject : Program → Subject → Type 0
+GoodSubject p (OfVariable k) = (slice_get p.globals k ≡ Some Integer) × IsPlain p (Global k)
+GoodSubject p (OfAttribute class field) = field_mode p class field ≡ Some Integer
+GoodSubject p (OfCount set) = IsSet p set
+
+abbrev pub GoodRoutine : Program → Routine → Type 0
+GoodRoutine p r = GoodBlock (record { program = p; locals = r.given ++ (r.yielding ++ r.others); is_main = false }) r.body
+
+-- the class is one of notices; its ties are fields of it, and what the routine is given are its first fields
+pub record GoodEvent (p : Program) (e : Event) : Type 0 where
+  pub modes : List Mode
+  pub fields : fields_of p e.class ≡ Some modes
+  pub notice : kind_of p e.class ≡ Some Notice
+  pub ties : GoodKeys p e.class e.ties
+  pub given : e.given ≡ take (length e.given) modes
+  -- the variable that takes the number of a notice that is saved
+  pub saved : IfSome e.saved (λ k. (slice_get p.globals k ≡ Some Integer) × IsPlain p (Global k))
+  pub body : GoodBlock (record { program = p; locals = e.given ++ e.others; is_main = false }) e.body
+
+pub record WellTyped (p : Program) : Type 0 where
+  -- the owners and member classes of the sets are there
+  pub sets : is_sound p.layout ≡ true
+  -- each set has a discipline
+  pub disciplines : AllZip (GoodDiscipline p) p.layout.sets p.disciplines
+  pub counts : Every (GoodCount p) p.counts
+  pub statistics : Every (λ s. GoodSubject p s.subject) p.statistics
+  pub routines : Every (GoodRoutine p) p.routines
+  pub events : Every (GoodEvent p) p.events
+  -- each notice class has its event routine
+  pub served : (class : ℕ) → kind_of p class ≡ Some Notice → Contains (map (λ e. e.class) p.events) class
+  pub main : GoodBlock (record { program = p; locals = p.locals; is_main = true }) p.main
