@@ -1,0 +1,28 @@
+-- What a name means in a section.
+use Rattle.std.specs.Prelude.{Bool, is_some, Option, Some, None}
+use Rattle.std.specs.Map.{lookup}
+use Rattle.ss_base.specs.declared.layout.Mode.{Mode as ValueMode}
+use Rattle.ss_base.specs.declared.layout.Mode.TheVariants.{Integer, Alpha}
+use Rattle.ss_tree.specs.declared.preamble.Mode.{Mode}
+use Rattle.ss_tree.specs.declared.preamble.Mode.TheVariants as said
+use Rattle.ss_walk.specs.Mentions.{NameBytes}
+use Rattle.ss_scopes.specs.declared.meaning.Meaning.{Meaning}
+use Rattle.ss_scopes.specs.declared.meaning.Meaning.TheVariants.{Local}
+use Rattle.ss_scopes.specs.Locals.{same_name, Moded}
+
+-- the mode of values of a mode that is said; REAL, and a name without a mode, are refused before
+abbrev pub value_mode : Option Mode → ValueMode
+value_mode (Some said.Alpha) = Alpha
+value_mode _ = Integer
+
+-- the names that mean something in the whole program
+abbrev pub is_global : (NameBytes → Option Meaning) → NameBytes → Bool
+is_global meanings name = is_some (meanings name)
+
+abbrev pub local_or : Option (Option Mode) → Option Meaning → Option Meaning
+local_or (Some mode) other = Some (Local (value_mode mode))
+local_or None other = other
+
+-- what a name means in a section: a local variable hides what it means in the whole program
+abbrev pub meaning_in : (NameBytes → Option Meaning) → Moded → NameBytes → Option Meaning
+meaning_in meanings locals name = local_or (lookup (same_name name) locals) (meanings name)

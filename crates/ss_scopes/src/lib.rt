@@ -1,0 +1,17 @@
+//! What names mean in a section of a program.
+#![tactic(auto)]
+
+mod heading;
+mod laws;
+mod locals;
+mod meaning;
+mod modes;
+mod scope;
+mod signature;
+
+pub use heading::Heading;
+pub use laws::numbers_are_places;
+pub use locals::Locals;
+pub use meaning::{Globals, Holder, Meaning};
+pub use scope::{meaning_in, value_mode};
+pub use signature::Signature;

@@ -1,0 +1,165 @@
+//! Local variables.
+
+ghost use Rattle.std.specs.Prelude.{◌≡◌, ◌++◌, ◌==◌, [], ◌∷◌, map, length, slice_get, IfOk, OnOk};
+ghost use Rattle.std.specs.List.{flat_map, fold};
+ghost use Rattle.std.specs.Map.{lookup, keys_of};
+ghost use Rattle.ss_tree.specs.View.{view_definition, view_section};
+ghost use Rattle.ss_scopes.specs.Locals.{declares, first_entries, is_local_at, is_variable, local_mentioned, locals, moded_in, number_of, same_name, with_entry};
+ghost use Rattle.ss_scopes.specs.Meanings.{is_global};
+
+use crate::meaning::Globals;
+use crate::modes::{add, mode_in, modes_of};
+use indexmap::IndexMap;
+use ss_lex::Name;
+use ss_tree::preamble::Mode;
+use ss_tree::program::Section;
+use ss_walk::{Mention, Mentioned, Role, mentions_of};
+use std::alloc::{AllocError, Global};
+use std::marker::Model;
+
+/// The local variables of a section, each with its mode, in the order of their numbers.
+///
+/// A contract sees the list of their names with their modes.
+#[derive(Drop)]
+pub struct Locals {
+    entries: IndexMap<Name, Option<Mode>>,
+}
+
+impl Model for Locals {
+    ghost use Rattle.std.specs.Prelude.{List, ℕ, Option};
+    ghost use Rattle.ss_tree.specs.declared.preamble.Mode.{Mode};
+
+    ghost Value = { List (List ℕ × Option Mode) };
+
+    ghost view = { λ l. l.entries.entries };
+}
+
+// Whether the head of a section or a DEFINE names a local variable in this role.
+fn declares(role: Role) -> bool
+    ensures { result ≡ declares role }
+{
+    match role {
+        Role::Given | Role::Yielding | Role::Define(_) => true,
+        _ => false,
+    }
+}
+
+// Whether a name without subscript is a variable in this role.
+fn is_variable(role: Role) -> bool
+    ensures { result ≡ is_variable role }
+{
+    match role {
+        Role::Value | Role::Target | Role::Reset | Role::LoopVariable => true,
+        _ => false,
+    }
+}
+
+// Whether a name that stands so is a local variable.
+fn is_local_at<G: Globals>(globals: &G, mention: &Mention, name: Name) -> bool
+    ensures { result ≡ is_local_at (is_global (G.meanings globals.now)) mention.now name }
+{
+    declares(mention.role)
+        || (is_variable(mention.role)
+            && mention.subscripts == 0
+            && globals.meaning_of(name).is_none())
+}
+
+// Adds the local variable that is mentioned, where one is.
+fn add_mentioned<G: Globals>(
+    entries: &mut IndexMap<Name, Option<Mode>>,
+    globals: &G,
+    modes: &IndexMap<Name, Option<Mode>>,
+    usual: Option<Mode>,
+    mention: &Mention,
+) -> Result<(), AllocError>
+    ensures { OnOk result (entries.new.entries ≡ fold with_entry entries.old.entries (map (moded_in usual modes.now.entries) (local_mentioned (is_global (G.meanings globals.now)) mention.now))) }
+{
+    match mention.what {
+        Mentioned::Name(name) => {
+            if is_local_at(globals, mention, name) {
+                add(entries, name, mode_in(modes, usual, name))
+            } else {
+                Ok(())
+            }
+        }
+        Mentioned::TimeV | Mentioned::TimeA | Mentioned::Simulation => Ok(()),
+    }
+}
+
+impl Locals {
+    /// The local variables of a section: its parameters, given ones before yielded ones, those that its
+    /// DEFINEs name, and those that its statements only use. Their modes are those of its DEFINEs, else
+    /// the usual one.
+    ///
+    /// # Errors
+    /// `AllocError` where memory is refused.
+    pub fn of<G: Globals>(
+        alloc: Global,
+        globals: &G,
+        usual: Option<Mode>,
+        section: &Section,
+    ) -> Result<Locals, AllocError>
+        ensures { IfOk result (λ l. l ≡ locals (is_global (G.meanings globals.now)) usual (view_section section.now)) }
+    {
+        let modes = modes_of(alloc, &section.definitions)?;
+        let mentions = mentions_of(alloc, section)?;
+        let entries = collect(alloc, globals, &modes, usual, &mentions)?;
+        Ok(Locals { entries })
+    }
+
+    /// How many there are.
+    pub fn len(&self) -> usize
+        ensures { result ≡ length self.now }
+    {
+        self.entries.len()
+    }
+
+    /// Whether there is none.
+    pub fn is_empty(&self) -> bool
+        ensures { result ≡ (length self.now == 0) }
+    {
+        self.entries.is_empty()
+    }
+
+    /// The number of a local variable. None where the name isn't one.
+    pub fn number(&self, name: Name) -> Option<usize>
+        ensures { result ≡ number_of self.now name }
+    {
+        self.entries.get_index_of(&name)
+    }
+
+    /// The mode of a local variable, which is None where nothing gives it one. None where the name isn't
+    /// a local variable.
+    pub fn mode(&self, name: Name) -> Option<Option<Mode>>
+        ensures { result ≡ lookup (same_name name) self.now }
+    {
+        self.entries.get(&name).copied()
+    }
+
+    /// The name of the local variable of a number. None where there is none.
+    pub fn name(&self, number: usize) -> Option<Name>
+        ensures { result ≡ slice_get (keys_of self.now) number }
+    {
+        match self.entries.get_index(number) {
+            Some((name, _)) => Some(*name),
+            None => None,
+        }
+    }
+}
+
+// The local variables that are mentioned.
+fn collect<G: Globals>(
+    alloc: Global,
+    globals: &G,
+    modes: &IndexMap<Name, Option<Mode>>,
+    usual: Option<Mode>,
+    mentions: &[Mention],
+) -> Result<IndexMap<Name, Option<Mode>>, AllocError>
+    ensures { IfOk result (λ found. found.entries ≡ first_entries (map (moded_in usual modes.now.entries) (flat_map (local_mentioned (is_global (G.meanings globals.now))) mentions.now))) }
+{
+    let mut entries = IndexMap::new(alloc);
+    for mention in mentions {
+        add_mentioned(&mut entries, globals, modes, usual, mention)?;
+    }
+    Ok(entries)
+}

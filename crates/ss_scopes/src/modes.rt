@@ -1,0 +1,72 @@
+//! The modes that local DEFINEs give.
+
+ghost use Rattle.std.specs.Prelude.{◌≡◌, ◌++◌, [], ◌∷◌, map, IfOk, OnOk};
+ghost use Rattle.std.specs.List.{fold};
+ghost use Rattle.ss_tree.specs.View.{view_definition};
+ghost use Rattle.std.specs.Map.{lookup};
+ghost use Rattle.ss_scopes.specs.Locals.{all_defined, defined, first_entries, or_usual, same_name, with_entry};
+
+use indexmap::IndexMap;
+use ss_lex::Name;
+use ss_tree::preamble::Mode;
+use ss_tree::program::LocalDefinition;
+use std::alloc::{AllocError, Global};
+
+// Adds a name with its mode, unless the name is there.
+pub(crate) fn add(
+    entries: &mut IndexMap<Name, Option<Mode>>,
+    name: Name,
+    mode: Option<Mode>,
+) -> Result<(), AllocError>
+    ensures { OnOk result (entries.new.entries ≡ with_entry entries.old.entries (name, mode)) }
+{
+    match entries.get(&name) {
+        Some(_) => Ok(()),
+        None => {
+            entries.insert(name, mode)?;
+            Ok(())
+        }
+    }
+}
+
+// Adds the names that a DEFINE gives a mode.
+fn add_defined(
+    entries: &mut IndexMap<Name, Option<Mode>>,
+    mode: Mode,
+    names: &[Name],
+) -> Result<(), AllocError>
+    ensures { OnOk result (entries.new.entries ≡ fold with_entry entries.old.entries (map (defined mode) names.now)) }
+{
+    for name in names {
+        add(entries, *name, Some(mode))?;
+    }
+    Ok(())
+}
+
+// Each name that DEFINEs give a mode, with the first of its modes.
+pub(crate) fn modes_of(
+    alloc: Global,
+    definitions: &[LocalDefinition],
+) -> Result<IndexMap<Name, Option<Mode>>, AllocError>
+    ensures { IfOk result (λ modes. modes.entries ≡ first_entries (all_defined (map view_definition definitions.now))) }
+{
+    let mut modes = IndexMap::new(alloc);
+    for definition in definitions {
+        add_defined(&mut modes, definition.mode, &definition.names)?;
+    }
+    Ok(modes)
+}
+
+// The mode of a name: the first that DEFINEs give it, or else the usual one.
+pub(crate) fn mode_in(
+    modes: &IndexMap<Name, Option<Mode>>,
+    usual: Option<Mode>,
+    name: Name,
+) -> Option<Mode>
+    ensures { result ≡ or_usual usual (lookup (same_name name) modes.now.entries) }
+{
+    match modes.get(&name) {
+        Some(mode) => *mode,
+        None => usual,
+    }
+}
