@@ -1,0 +1,112 @@
+-- What global and derived names stand for.
+use Rattle.std.specs.Prelude.{ℕ, is_some, List, [], ◌∷◌, ◌++◌, option_map, Option, Some, None, if◌then◌else◌}
+use Rattle.std.specs.List.{flat_map}
+use Rattle.ss_tree.specs.declared.preamble.ClassKind.{ClassKind}
+use Rattle.ss_tree.specs.declared.preamble.ClassKind.TheVariants as class_kinds
+use Rattle.ss_sayings.specs.declared.saying.Said.{Said}
+use Rattle.ss_sayings.specs.declared.saying.Said.TheVariants as said
+use Rattle.ss_sayings.specs.declared.saying.Saying.{Saying}
+use Rattle.ss_sayings.specs.Sayings.{NameBytes}
+use Rattle.ss_names.specs.declared.meaning.Attribute.{Attribute}
+use Rattle.ss_names.specs.declared.meaning.Class.{Class}
+use Rattle.ss_names.specs.declared.meaning.Derived.{Derived}
+use Rattle.ss_names.specs.declared.meaning.Derived.TheVariants.{FirstMember, LastMember, MemberCount, Predecessor, Successor, Membership}
+use Rattle.ss_names.specs.declared.meaning.Meaning.{Meaning}
+use Rattle.ss_names.specs.declared.meaning.Meaning.TheVariants as meanings
+use Rattle.ss_names.specs.declared.meaning.Routine.{Routine}
+use Rattle.ss_names.specs.declared.meaning.Statistic.{Statistic}
+use Rattle.ss_names.specs.declared.meaning.Variable.{Variable}
+use Rattle.ss_names.specs.Entities.{attributes, classes, set_names}
+use Rattle.ss_names.specs.Firsts.{entry_if, firsts, place_among, place_in, told_of}
+use Rattle.ss_names.specs.Statistics.{statistics}
+use Rattle.ss_names.specs.Variables.{count_name, routines, variables}
+
+-- what is numbered: classes, attributes, sets, global variables, statistics and routines
+pub record Numbered : Type 0 where
+  pub classes : List (NameBytes × Class)
+  pub attributes : List (NameBytes × Attribute)
+  pub set_names : List NameBytes
+  pub variables : List (NameBytes × Variable)
+  pub statistics : List (NameBytes × Statistic)
+  pub routines : List (NameBytes × Routine)
+
+abbrev pub numbered : List Saying → Numbered
+numbered says = record {
+  classes = classes says;
+  attributes = attributes says;
+  set_names = set_names says;
+  variables = variables says;
+  statistics = statistics says;
+  routines = routines says;
+}
+
+-- ---- derived names
+
+-- the letter of a derived name
+abbrev pub letter_of : Derived → ℕ
+letter_of FirstMember = 70
+letter_of LastMember = 76
+letter_of MemberCount = 78
+letter_of Predecessor = 80
+letter_of Successor = 83
+letter_of Membership = 77
+
+-- a derived name of a set: a letter, a period and its name
+abbrev pub derived : NameBytes → ℕ → Derived → NameBytes × Meaning
+derived name set d = (letter_of d ∷ 46 ∷ name, meanings.Derived d set)
+
+-- a set and its derived names
+abbrev pub set_meanings : NameBytes → Option ℕ → List (NameBytes × Meaning)
+set_meanings name None = []
+set_meanings name (Some set) =
+    (name, meanings.Set set)
+    ∷ derived name set FirstMember
+    ∷ derived name set LastMember
+    ∷ derived name set MemberCount
+    ∷ derived name set Predecessor
+    ∷ derived name set Successor
+    ∷ derived name set Membership
+    ∷ []
+
+-- ---- what is declared
+
+-- the numbers of a class and of one of its variables
+abbrev pub class_meaning : (ℕ → ℕ → Meaning) → Option ℕ → Option ℕ → Option Meaning
+class_meaning meaning (Some class) (Some variable) = Some (meaning class variable)
+class_meaning meaning _ _ = None
+
+abbrev pub class_name_meaning : Numbered → NameBytes → Option Meaning
+class_name_meaning t name = class_meaning meanings.Class (place_in t.classes name) (place_in t.variables name)
+
+abbrev pub count_meaning : Numbered → NameBytes → Option Meaning
+count_meaning t name = class_meaning meanings.Count (place_in t.classes name) (place_in t.variables (count_name name))
+
+-- a class, and N. of it where it is permanent
+abbrev pub class_meanings : Numbered → ClassKind → NameBytes → List (NameBytes × Meaning)
+class_meanings t class_kinds.Permanent name =
+    entry_if name (class_name_meaning t name) ++ entry_if (count_name name) (count_meaning t name)
+class_meanings t class_kinds.Temporary name = entry_if name (class_name_meaning t name)
+class_meanings t class_kinds.EventNotice name = entry_if name (class_name_meaning t name)
+
+-- What is declared by what is said of a name. A DEFINE of an attribute as a variable gives its mode and declares nothing;
+-- a set is declared where it is first owned or belonged to.
+abbrev pub meaning_told : Numbered → Said → Option NameBytes → List (NameBytes × Meaning)
+meaning_told t (said.Class kind) (Some name) = class_meanings t kind name
+meaning_told t (said.Attribute class) (Some name) = entry_if name (option_map meanings.Attribute (place_in t.attributes name))
+meaning_told t said.SystemSet (Some name) = set_meanings name (place_among t.set_names name)
+meaning_told t (said.OwnedSet class) (Some name) = set_meanings name (place_among t.set_names name)
+meaning_told t (said.MemberSet class) (Some name) = set_meanings name (place_among t.set_names name)
+meaning_told t (said.Variable mode) (Some name) =
+    if is_some (told_of t.attributes name) then [] else entry_if name (option_map meanings.Variable (place_in t.variables name))
+meaning_told t (said.Statistic weighting kind subject) (Some name) =
+    entry_if name (option_map meanings.Statistic (place_in t.statistics name))
+meaning_told t (said.Routine section given yielding) (Some name) =
+    entry_if name (option_map meanings.Routine (place_in t.routines name))
+meaning_told t _ _ = []
+
+abbrev pub meaning_by : Numbered → Saying → List (NameBytes × Meaning)
+meaning_by t s = meaning_told t s.said s.name
+
+-- each global and derived name, with what it stands for by its first declaration, where this is numbered
+abbrev pub meanings_in : Numbered → List Saying → List (NameBytes × Meaning)
+meanings_in t says = firsts (flat_map (meaning_by t) says)

@@ -1,0 +1,16 @@
+-- How a spelling lies in its bytes.
+use Rattle.std.specs.Prelude.{◌≡◌, ℕ, ◌-◌, List, ◌++◌, length, take, replicate, nat_lt, Option, Some, None, if◌then◌else◌}
+use Rattle.ss_names.specs.declared.spelling.TheConstants.{SPELLING_LIMIT}
+
+-- a spelling with zeros behind it, as many as fill its room
+abbrev pub padded : List ℕ → List ℕ
+padded bytes = bytes ++ replicate (SPELLING_LIMIT - length bytes) 0
+
+-- what is true of the bytes and the length of every spelling
+pub record IsRoom (room : List ℕ) (len : ℕ) : Type 0 where
+  pub counted : length (take len room) ≡ len
+  pub zeros : padded (take len room) ≡ room
+
+-- the spelling of these bytes, if they are few enough
+abbrev pub spelling_of : List ℕ → Option (List ℕ)
+spelling_of bytes = if nat_lt SPELLING_LIMIT (length bytes) then None else Some bytes

@@ -1,0 +1,101 @@
+-- One table of what a program declares. What has a number has it by its place in a list.
+use Rattle.std.specs.Prelude.{ℕ, Bool, List, [], ◌∷◌, Option, Some, None}
+use Rattle.std.specs.List.{flat_map}
+use Rattle.ss_tree.specs.declared.preamble.Mode.{Mode}
+use Rattle.ss_tree.specs.declared.preamble.Weighting.{Weighting}
+use Rattle.ss_tree.specs.Tree.{ProgramTree}
+use Rattle.ss_sayings.specs.declared.saying.Said.{Said}
+use Rattle.ss_sayings.specs.declared.saying.Said.TheVariants as said
+use Rattle.ss_sayings.specs.declared.saying.Saying.{Saying}
+use Rattle.ss_sayings.specs.Sayings.{NameBytes, sayings}
+use Rattle.ss_names.specs.declared.meaning.Attribute.{Attribute}
+use Rattle.ss_names.specs.declared.meaning.Class.{Class}
+use Rattle.ss_names.specs.declared.meaning.Event.{Event}
+use Rattle.ss_names.specs.declared.meaning.History.{History}
+use Rattle.ss_names.specs.declared.meaning.Meaning.{Meaning}
+use Rattle.ss_names.specs.declared.meaning.Routine.{Routine}
+use Rattle.ss_names.specs.declared.meaning.Set.{Set}
+use Rattle.ss_names.specs.declared.meaning.Statistic.{Statistic}
+use Rattle.ss_names.specs.declared.meaning.Variable.{Variable}
+use Rattle.ss_names.specs.declared.keys.RankedBy.{RankedBy}
+use Rattle.ss_names.specs.declared.keys.TiedBy.{TiedBy}
+use Rattle.ss_names.specs.Entities.{attributes, classes, fields, set_names, sets, usual_mode}
+use Rattle.ss_names.specs.Meanings.{meanings_in, numbered}
+use Rattle.ss_names.specs.Statistics.{histories, statistics, weighings}
+use Rattle.ss_names.specs.Variables.{events, ranks, routines, variables}
+
+-- ---- keys
+
+abbrev pub rank_told : Said → Option NameBytes → List RankedBy
+rank_told (said.RankKey statement high) (Some name) = record { statement = statement; attribute = name; high = high } ∷ []
+rank_told _ _ = []
+
+abbrev pub rank_by : Saying → List RankedBy
+rank_by s = rank_told s.said s.name
+
+-- the keys of ranked sets, in the order of the text
+abbrev pub rank_keys : List Saying → List RankedBy
+rank_keys says = flat_map rank_by says
+
+abbrev pub tie_told : Said → Option NameBytes → List TiedBy
+tie_told (said.TieKey class high) (Some name) = record { class = class; attribute = name; high = high } ∷ []
+tie_told _ _ = []
+
+abbrev pub tie_by : Saying → List TiedBy
+tie_by s = tie_told s.said s.name
+
+-- the keys for the ties of notices, in the order of the text
+abbrev pub tie_keys : List Saying → List TiedBy
+tie_keys says = flat_map tie_by says
+
+-- ---- the table
+
+pub record Table : Type 0 where
+  -- each global and derived name, with what it stands for
+  pub names : List (NameBytes × Meaning)
+  -- the mode that NORMALLY gives
+  pub usual : Option Mode
+  pub classes : List (NameBytes × Class)
+  pub attributes : List (NameBytes × Attribute)
+  -- the attributes of each class
+  pub fields : List (List NameBytes)
+  pub set_names : List NameBytes
+  pub sets : List Set
+  pub variables : List (NameBytes × Variable)
+  pub routines : List (NameBytes × Routine)
+  -- the EVENT sections, by the names that they have
+  pub events : List (NameBytes × Event)
+  -- the classes of notices with their numbers, in the order of rank
+  pub ranks : List (NameBytes × ℕ)
+  pub statistics : List (NameBytes × Statistic)
+  -- the names of the subjects of histories, and the histories
+  pub weighings : List (NameBytes × Weighting)
+  pub histories : List History
+  -- the keys of ranked sets and those for the ties of notices
+  pub rank_keys : List RankedBy
+  pub tie_keys : List TiedBy
+
+-- what is declared where this is said
+abbrev pub declared : List Saying → Table
+declared says = record {
+  names = meanings_in (numbered says) says;
+  usual = usual_mode says;
+  classes = classes says;
+  attributes = attributes says;
+  fields = fields says;
+  set_names = set_names says;
+  sets = sets says;
+  variables = variables says;
+  routines = routines says;
+  events = events says;
+  ranks = ranks says;
+  statistics = statistics says;
+  weighings = weighings says;
+  histories = histories (meanings_in (numbered says) says) says;
+  rank_keys = rank_keys says;
+  tie_keys = tie_keys says;
+}
+
+-- the table of a program
+abbrev pub table : ProgramTree → Table
+table p = declared (sayings p)
