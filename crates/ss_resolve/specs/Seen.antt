@@ -1,10 +1,7 @@
--- The context that the table of names and the local variables of a section are.
-use Rattle.std.specs.Prelude.{ℕ, Option, None}
-use Rattle.ss_tree.specs.declared.expression.Designator.{Designator}
-use Rattle.ss_sayings.specs.Sayings.{NameBytes}
+-- Stands in.
+use Rattle.std.specs.Prelude.{ℕ, [], Option, None}
+use Rattle.ss_names.specs.Table.{Table, table}
 use Rattle.ss_resolve.specs.declared.names.Names.{Names}
-use Rattle.ss_resolve.specs.declared.names.Locals.{Locals}
-use Rattle.ss_resolve.specs.Contexts.{Context}
 
-unfoldable pub context_in : Names → Locals → Context
-context_in n l = record { meaning = λ d. None; set = λ d. None; class = λ d. None; routine = λ d. None; statistic = λ d. None }
+unfoldable pub table_in : Names → Table
+table_in n = table (record { preamble = []; sections = [] })

@@ -9,13 +9,15 @@ ghost use Rattle.ss_program.specs.View.{view_expression as view_resolved, view_o
 ghost use Rattle.ss_program.specs.Views.{with_operation};
 ghost use Rattle.ss_resolve.specs.Answers.{Gives};
 ghost use Rattle.ss_resolve.specs.Expressions.{entity_of, expression, factors, one, plain, subscript, terms, time_of, two, value_of};
-ghost use Rattle.ss_resolve.specs.Seen.{context_in};
+ghost use Rattle.ss_resolve.specs.Meanings.{context_in};
+ghost use Rattle.ss_resolve.specs.Seen.{table_in};
 
 use crate::error::ResolveError;
 use crate::meaning::Meaning;
-use crate::names::{Locals, Names, meaning_of};
+use crate::names::{Names, meaning_of};
 use crate::words::{operator_of, sign_of};
 use ss_base::Value;
+use ss_scopes::Locals;
 use ss_program::expression::{Expression as Resolved, Operation, Operator, Variable};
 use ss_tree::expression::{Designator, Expression, Function, Term};
 use std::alloc::Global;
@@ -133,7 +135,7 @@ pub(crate) fn resolve_expression(
     locals: &Locals,
     tree: &Expression,
 ) -> Result<Resolved, ResolveError>
-    ensures { Gives view_resolved result (expression (context_in names.now locals.now) (view_expression tree.now)) }
+    ensures { Gives view_resolved result (expression (context_in (table_in names.now) locals.now) (view_expression tree.now)) }
 {
     match tree {
         Expression::Number(number) => Ok(Resolved::Constant {
@@ -183,7 +185,7 @@ fn resolve_named(
     designator: Designator,
     subscripts: &[Expression],
 ) -> Result<Resolved, ResolveError>
-    ensures { Gives view_resolved result (expression (context_in names.now locals.now) (named designator (expression_row (map view_expression subscripts.now)))) }
+    ensures { Gives view_resolved result (expression (context_in (table_in names.now) locals.now) (named designator (expression_row (map view_expression subscripts.now)))) }
 {
     let subscript = resolve_subscript(alloc, names, locals, subscripts)?;
     let meaning = meaning_of(names, locals, designator)?;
@@ -199,7 +201,7 @@ pub(crate) fn resolve_subscript(
     locals: &Locals,
     subscripts: &[Expression],
 ) -> Result<Option<Resolved>, ResolveError>
-    ensures { Gives (view_option view_resolved) result (subscript (context_in names.now locals.now) (expression_row (map view_expression subscripts.now))) }
+    ensures { Gives (view_option view_resolved) result (subscript (context_in (table_in names.now) locals.now) (expression_row (map view_expression subscripts.now))) }
 {
     match subscripts {
         [] => Ok(None),
@@ -221,7 +223,7 @@ fn resolve_call(
     function: Function,
     arguments: &[Expression],
 ) -> Result<Resolved, ResolveError>
-    ensures { Gives view_resolved result (expression (context_in names.now locals.now) (call function (expression_row (map view_expression arguments.now)))) }
+    ensures { Gives view_resolved result (expression (context_in (table_in names.now) locals.now) (call function (expression_row (map view_expression arguments.now)))) }
 {
     match function {
         Function::Abs => {
@@ -257,7 +259,7 @@ fn resolve_one(
     locals: &Locals,
     arguments: &[Expression],
 ) -> Result<Resolved, ResolveError>
-    ensures { Gives view_resolved result (one (context_in names.now locals.now) (expression_row (map view_expression arguments.now))) }
+    ensures { Gives view_resolved result (one (context_in (table_in names.now) locals.now) (expression_row (map view_expression arguments.now))) }
 {
     match arguments {
         [only] => resolve_expression(alloc, names, locals, only),
@@ -275,7 +277,7 @@ fn resolve_two(
     locals: &Locals,
     arguments: &[Expression],
 ) -> Result<(Resolved, Resolved), ResolveError>
-    ensures { Gives (λ p. (view_resolved p.0, view_resolved p.1)) result (two (context_in names.now locals.now) (expression_row (map view_expression arguments.now))) }
+    ensures { Gives (λ p. (view_resolved p.0, view_resolved p.1)) result (two (context_in (table_in names.now) locals.now) (expression_row (map view_expression arguments.now))) }
 {
     match arguments {
         [left, right] => {
@@ -297,7 +299,7 @@ fn resolve_factors(
     locals: &Locals,
     trees: &[Expression],
 ) -> Result<Vec<Operation>, ResolveError>
-    ensures { (left : _) → Gives (λ v. fold with_operation left v.items) result (factors (context_in names.now locals.now) left (expression_row (map view_expression trees.now))) }
+    ensures { (left : _) → Gives (λ v. fold with_operation left v.items) result (factors (context_in (table_in names.now) locals.now) left (expression_row (map view_expression trees.now))) }
 {
     let mut operations = Vec::new(alloc);
     for tree in trees {
@@ -318,7 +320,7 @@ fn resolve_terms(
     locals: &Locals,
     trees: &[Term],
 ) -> Result<Vec<Operation>, ResolveError>
-    ensures { (left : _) → Gives (λ v. fold with_operation left v.items) result (terms (context_in names.now locals.now) left (term_row (map view_term trees.now))) }
+    ensures { (left : _) → Gives (λ v. fold with_operation left v.items) result (terms (context_in (table_in names.now) locals.now) left (term_row (map view_term trees.now))) }
 {
     let mut operations = Vec::new(alloc);
     for tree in trees {

@@ -3,22 +3,18 @@
 ghost use Rattle.std.specs.Prelude.{◌≡◌};
 ghost use Rattle.ss_resolve.specs.Answers.{Gives};
 ghost use Rattle.ss_resolve.specs.Contexts.{Context};
-ghost use Rattle.ss_resolve.specs.Seen.{context_in};
+ghost use Rattle.ss_resolve.specs.Meanings.{context_in};
+ghost use Rattle.ss_resolve.specs.Seen.{table_in};
 
 use crate::error::ResolveError;
 use crate::meaning::{ClassMeant, Meaning, RoutineMeant, SetMeant};
 use ss_lex::Name;
+use ss_scopes::Locals;
 use ss_tree::expression::Designator;
 
 /// Stands in.
 #[derive(Clone, Copy, PartialEq, Eq, Debug)]
 pub struct Names {
-    pub number: u32,
-}
-
-/// Stands in.
-#[derive(Clone, Copy, PartialEq, Eq, Debug)]
-pub struct Locals {
     pub number: u32,
 }
 
@@ -28,7 +24,7 @@ pub(crate) fn meaning_of(
     locals: &Locals,
     designator: Designator,
 ) -> Result<Meaning, ResolveError>
-    ensures { Gives (λ x. x) result ((context_in names.now locals.now).meaning designator) }
+    ensures { Gives (λ x. x) result ((context_in (table_in names.now) locals.now).meaning designator) }
 {
     Err(ResolveError::Memory)
 }
@@ -39,7 +35,7 @@ pub(crate) fn set_of(
     locals: &Locals,
     designator: Designator,
 ) -> Result<SetMeant, ResolveError>
-    ensures { Gives (λ x. x) result ((context_in names.now locals.now).set designator) }
+    ensures { Gives (λ x. x) result ((context_in (table_in names.now) locals.now).set designator) }
 {
     Err(ResolveError::Memory)
 }
@@ -50,7 +46,7 @@ pub(crate) fn class_of(
     locals: &Locals,
     name: Name,
 ) -> Result<ClassMeant, ResolveError>
-    ensures { Gives (λ x. x) result ((context_in names.now locals.now).class name) }
+    ensures { Gives (λ x. x) result ((context_in (table_in names.now) locals.now).class name) }
 {
     Err(ResolveError::Memory)
 }
@@ -61,7 +57,7 @@ pub(crate) fn routine_of(
     locals: &Locals,
     name: Name,
 ) -> Result<RoutineMeant, ResolveError>
-    ensures { Gives (λ x. x) result ((context_in names.now locals.now).routine name) }
+    ensures { Gives (λ x. x) result ((context_in (table_in names.now) locals.now).routine name) }
 {
     Err(ResolveError::Memory)
 }
@@ -72,7 +68,7 @@ pub(crate) fn statistic_of(
     locals: &Locals,
     designator: Designator,
 ) -> Result<u32, ResolveError>
-    ensures { Gives (λ x. x) result ((context_in names.now locals.now).statistic designator) }
+    ensures { Gives (λ x. x) result ((context_in (table_in names.now) locals.now).statistic designator) }
 {
     Err(ResolveError::Memory)
 }
