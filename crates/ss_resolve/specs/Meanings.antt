@@ -28,6 +28,7 @@ use Rattle.ss_names.specs.Table.{Table}
 use Rattle.ss_scopes.specs.Locals.{Moded, number_of}
 use Rattle.ss_program.specs.declared.expression.Fold.{Fold}
 use Rattle.ss_program.specs.declared.expression.Fold.TheVariants as folds
+use Rattle.ss_program.specs.declared.expression.MemberQuery.{MemberQuery}
 use Rattle.ss_program.specs.declared.expression.MemberQuery.TheVariants.{Predecessor, Successor, Membership}
 use Rattle.ss_program.specs.declared.expression.SetQuery.{SetQuery}
 use Rattle.ss_program.specs.declared.expression.SetQuery.TheVariants.{FirstMember, LastMember, MemberCount}
@@ -108,7 +109,7 @@ module _ (t : Table) (locals : Moded) where
     of_owner query number owner
 
   -- P., S. or M. of a set
-  abbrev pub of_member : _ → ℕ → Set → Option Meaning
+  abbrev pub of_member : MemberQuery → ℕ → Set → Option Meaning
   of_member query number set = do
     class ← set.member
     implied ← class_variable class
