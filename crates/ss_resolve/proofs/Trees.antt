@@ -218,8 +218,8 @@ terms_next c xs i x old new o lt is e m h g left =
 
 -- ---- an operation by itself
 
-pub calculated : (left right : Made) (x : Box Made) (xs : Vec Operation) (o : Operation) (new : List Operation) → x.value ≡ left → xs.items ≡ new → new ≡ [] ++ o ∷ [] → o.operand ≡ right →
+pub calculated : (left right : Made) (x : Box Made) (xs : Vec Operation) (o : Operation) (before : List Operation) → x.value ≡ left → before ≡ [] → xs.items ≡ before ++ o ∷ [] → o.operand ≡ right →
     Calculate o.operator (view_made left) (view_made right) ≡ view_made (made.Calculate x xs)
-calculated left right x xs o new a b d e =
-    let one : xs.items ≡ o ∷ [] = b ∙ d in
+calculated left right x xs o before a b d e =
+    let one : xs.items ≡ o ∷ [] = d ∙ ap (λ l. l ++ o ∷ []) b in
     rw (view_calculate_made x xs, one, a, ← e) refl

@@ -1,5 +1,5 @@
 -- Steps that may have no result, and what a call answers for them.
-use Rattle.std.specs.Prelude.{◌≡◌, List, [], ◌∷◌, Option, Some, None, Result, Ok, Err}
+use Rattle.std.specs.Prelude.{◌≡◌, ℕ, zero, suc, Bool, true, false, List, [], ◌∷◌, ◌++◌, Option, Some, None, Result, Ok, Err}
 use Rattle.ss_resolve.specs.declared.error.ResolveError.{ResolveError}
 use Rattle.ss_resolve.specs.declared.error.ResolveError.TheVariants.{Memory, Unresolved}
 
@@ -23,6 +23,16 @@ if_there step None = Some None
 if_there step (Some x) = do
   y ← step x
   Some (Some y)
+
+-- a value, where a test holds
+abbrev pub where_holds : {A : Type 0} → Bool → A → Option A
+where_holds true x = Some x
+where_holds false x = None
+
+-- numbers below one
+unfoldable pub upto : ℕ → List ℕ
+upto zero = []
+upto (suc n) = upto n ++ n ∷ []
 
 -- what a call failed with, where this was to be found: there is nothing to find, or memory was refused
 abbrev pub Fails : {Y : Type 0} → ResolveError → Option Y → Type 0

@@ -1,6 +1,6 @@
 -- What the names in a section mean, by the table of the program and the local variables of the section.
-use Rattle.std.specs.Prelude.{ℕ, Bool, is_some, List, [], ◌∷◌, length, slice_get, Option, Some, None}
-use Rattle.std.specs.Map.{lookup}
+use Rattle.std.specs.Prelude.{ℕ, ◌+◌, ◌==◌, List, [], length, slice_get, get_or, Option, Some, None}
+use Rattle.std.specs.Map.{keys_of, lookup, values_of}
 use Rattle.ss_base.specs.declared.layout.ClassKind.{ClassKind}
 use Rattle.ss_base.specs.declared.layout.ClassKind.TheVariants.{Permanent, Temporary, Notice}
 use Rattle.ss_base.specs.declared.layout.Mode.{Mode}
@@ -23,9 +23,11 @@ use Rattle.ss_names.specs.declared.meaning.Meaning.TheVariants as globals
 use Rattle.ss_names.specs.declared.meaning.Set.{Set}
 use Rattle.ss_names.specs.declared.meaning.Subject.{Subject}
 use Rattle.ss_names.specs.declared.meaning.Subject.TheVariants as subjects
+use Rattle.ss_names.specs.declared.meaning.VariableKind.{VariableKind}
+use Rattle.ss_names.specs.declared.meaning.VariableKind.TheVariants.{CountOf}
 use Rattle.ss_names.specs.Firsts.{place_in, told_of}
 use Rattle.ss_names.specs.Table.{Table}
-use Rattle.ss_scopes.specs.Locals.{Moded, number_of}
+use Rattle.ss_scopes.specs.Locals.{Moded, number_of, same_name}
 use Rattle.ss_program.specs.declared.expression.Fold.{Fold}
 use Rattle.ss_program.specs.declared.expression.Fold.TheVariants as folds
 use Rattle.ss_program.specs.declared.expression.MemberQuery.{MemberQuery}
@@ -40,7 +42,7 @@ use Rattle.ss_resolve.specs.declared.meaning.Meaning.TheVariants as meanings
 use Rattle.ss_resolve.specs.declared.meaning.RoutineMeant.{RoutineMeant}
 use Rattle.ss_resolve.specs.declared.meaning.SetMeant.{SetMeant}
 use Rattle.ss_resolve.specs.declared.meaning.SetMeant.TheVariants.{OfSystem, OfEntity}
-use Rattle.ss_resolve.specs.Answers.{◌>>=◌}
+use Rattle.ss_resolve.specs.Answers.{◌>>=◌, where_holds}
 use Rattle.ss_resolve.specs.Contexts.{Context}
 
 -- ---- words
@@ -76,25 +78,29 @@ module _ (t : Table) (locals : Moded) where
   abbrev pub variable_of : NameBytes → ℕ → Variable
   variable_of name global = hidden_by (number_of locals name) global
 
+  abbrev pub variable_of_class : NameBytes → Global → Option Variable
+  variable_of_class name (globals.Class class variable) = Some (variable_of name variable)
+  variable_of_class name _ = None
+
   -- the variable of a class, which is meant where an entity of the class isn't named
   abbrev pub class_variable : ℕ → Option Variable
   class_variable class = do
-    entry ← slice_get t.classes class
-    global ← place_in t.variables entry.0
-    Some (variable_of entry.0 global)
+    name ← slice_get (keys_of t.classes) class
+    global ← told_of t.names name
+    variable_of_class name global
 
   -- ---- values and targets
 
   abbrev pub global_variable : ℕ → Option Meaning
   global_variable n = do
-    entry ← slice_get t.variables n
-    Some (meanings.Variable (variables.Global n) (mode_said entry.1.mode))
+    variable ← slice_get (values_of t.variables) n
+    Some (meanings.Variable (variables.Global n) (mode_said variable.mode))
 
   abbrev pub attribute : ℕ → Option Meaning
   attribute n = do
-    entry ← slice_get t.attributes n
-    implied ← class_variable entry.1.class
-    Some (meanings.Attribute entry.1.class entry.1.field (mode_given entry.1.mode) implied)
+    attribute ← slice_get (values_of t.attributes) n
+    implied ← class_variable attribute.class
+    Some (meanings.Attribute attribute.class attribute.field (mode_given attribute.mode) implied)
 
   -- F., L. or N. of the set of an owner
   abbrev pub of_owner : SetQuery → ℕ → Owner → Option Meaning
@@ -123,6 +129,11 @@ module _ (t : Table) (locals : Moded) where
   asked derived.Successor number set = of_member Successor number set
   asked derived.Membership number set = of_member Membership number set
 
+  abbrev pub derived_name : Derived → ℕ → Option Meaning
+  derived_name what n = do
+    set ← slice_get t.sets n
+    asked what n set
+
   -- a statistic of N. of the set of an owner
   abbrev pub figure_owned : Fold → ℕ → Owner → Option Meaning
   figure_owned fold history owners.System = Some (meanings.Figure fold history)
@@ -134,8 +145,8 @@ module _ (t : Table) (locals : Moded) where
   abbrev pub figure : Fold → ℕ → Subject → Option Meaning
   figure fold history (subjects.Variable n) = Some (meanings.Figure fold history)
   figure fold history (subjects.Attribute n) = do
-    entry ← slice_get t.attributes n
-    implied ← class_variable entry.1.class
+    attribute ← slice_get (values_of t.attributes) n
+    implied ← class_variable attribute.class
     Some (meanings.FigureOf fold history implied)
   figure fold history (subjects.MemberCount n) = do
     set ← slice_get t.sets n
@@ -144,10 +155,10 @@ module _ (t : Table) (locals : Moded) where
 
   abbrev pub statistic : ℕ → Option Meaning
   statistic n = do
-    entry ← slice_get t.statistics n
-    history ← slice_get t.histories entry.1.history
+    statistic ← slice_get (values_of t.statistics) n
+    history ← slice_get t.histories statistic.history
     subject ← history.subject
-    figure (fold_of entry.1.kind) entry.1.history subject
+    figure (fold_of statistic.kind) statistic.history subject
 
   -- as a value or a target; a set and a routine are neither
   abbrev pub global_meaning : Global → Option Meaning
@@ -156,20 +167,18 @@ module _ (t : Table) (locals : Moded) where
   global_meaning (globals.Count class variable) = Some (meanings.Count (record { class = class; variable = variable }))
   global_meaning (globals.Attribute n) = attribute n
   global_meaning (globals.Set n) = None
-  global_meaning (globals.Derived what n) = do
-    set ← slice_get t.sets n
-    asked what n set
+  global_meaning (globals.Derived what n) = derived_name what n
   global_meaning (globals.Statistic n) = statistic n
   global_meaning (globals.Routine n) = None
 
   -- a local variable and its mode
-  abbrev pub local_meaning : ℕ → Option Meaning
-  local_meaning n = do
-    entry ← slice_get locals n
-    Some (meanings.Variable (variables.Local n) (mode_given entry.1))
+  abbrev pub local_meaning : ℕ → NameBytes → Option Meaning
+  local_meaning n name = do
+    mode ← lookup (same_name name) locals
+    Some (meanings.Variable (variables.Local n) (mode_given mode))
 
   abbrev pub meaning_or : Option ℕ → NameBytes → Option Meaning
-  meaning_or (Some local) name = local_meaning local
+  meaning_or (Some local) name = local_meaning local name
   meaning_or None name = do
     global ← told_of t.names name
     global_meaning global
@@ -204,21 +213,25 @@ module _ (t : Table) (locals : Moded) where
 
   -- ---- classes and routines, which nothing hides
 
-  -- N. of a class, if there is one: the name stands for it
-  abbrev pub count_of : Option Global → Option ℕ
-  count_of (Some (globals.Count class variable)) = Some variable
-  count_of _ = None
+  abbrev pub count_kind : ℕ → ℕ → VariableKind → Option ℕ
+  count_kind class number (CountOf counted) = where_holds (counted == class) number
+  count_kind class number _ = None
+
+  -- N. of a permanent class: the variable behind that of the class
+  abbrev pub count_behind : ℕ → ℕ → Option ℕ
+  count_behind class variable = do
+    next ← slice_get (values_of t.variables) (variable + 1)
+    count_kind class (variable + 1) next.kind
 
   abbrev pub global_class : NameBytes → Global → Option ClassMeant
   global_class name (globals.Class class variable) = do
-    entry ← slice_get t.classes class
-    fields ← slice_get t.fields class
+    known ← slice_get (values_of t.classes) class
     Some (record {
       class = class;
-      kind = class_kind entry.1.kind;
-      attributes = length fields;
+      kind = class_kind known.kind;
+      attributes = length (get_or t.fields class []);
       variable = variable_of name variable;
-      count = count_of (told_of t.names (78 ∷ 46 ∷ name));
+      count = count_behind class variable;
     })
   global_class name _ = None
 
@@ -229,8 +242,8 @@ module _ (t : Table) (locals : Moded) where
 
   abbrev pub global_routine : Global → Option RoutineMeant
   global_routine (globals.Routine n) = do
-    entry ← slice_get t.routines n
-    Some (record { routine = n; given = entry.1.given; yielding = entry.1.yielding })
+    known ← slice_get (values_of t.routines) n
+    Some (record { routine = n; given = known.given; yielding = known.yielding })
   global_routine _ = None
 
   abbrev pub routine_of : NameBytes → Option RoutineMeant

@@ -1,96 +1,105 @@
 -- A program in which each name is replaced by what it stands for.
-use Rattle.std.specs.Prelude.{ℕ, ◌+◌, nat_le, Bool, true, false, is_some, List, [], ◌∷◌, length, take, drop, map, slice_get, Option, Some, None}
-use Rattle.std.specs.List.{find}
+use Rattle.std.specs.Prelude.{ℕ, ◌+◌, nat_le, Bool, true, false, is_some, List, [], length, take, drop, slice_get, get_or, Option, Some, None}
+use Rattle.std.specs.List.{find, list_all}
+use Rattle.std.specs.Map.{keys_of, lookup, values_of}
 use Rattle.ss_base.specs.declared.layout.Mode.{Mode}
-use Rattle.ss_tree.specs.declared.preamble.Mode.{Mode as ModeWord}
-use Rattle.ss_tree.specs.Tree.{SectionKindTree, main, routine, event, SectionTree, ProgramTree, StatementTree, statement_row}
+use Rattle.ss_tree.specs.Tree.{SectionKindTree, main, routine, event, SectionTree, statement_row}
 use Rattle.ss_sayings.specs.Sayings.{NameBytes}
 use Rattle.ss_names.specs.declared.meaning.Event.{Event as EventSection}
-use Rattle.ss_names.specs.declared.meaning.Routine.{Routine as RoutineSection}
+use Rattle.ss_names.specs.declared.meaning.Meaning.{Meaning as Global}
+use Rattle.ss_names.specs.declared.meaning.Meaning.TheVariants as globals
 use Rattle.ss_names.specs.Firsts.{place_in, told_of}
-use Rattle.ss_names.specs.Table.{Table, table}
-use Rattle.ss_scopes.specs.Locals.{Moded, locals}
+use Rattle.ss_names.specs.Table.{Table}
+use Rattle.ss_scopes.specs.Locals.{Moded, same_name}
+use Rattle.ss_scopes.specs.Whole.{Whole, locals_of}
 use Rattle.ss_program.specs.Program.{Block, Routine, Event, Program}
-use Rattle.ss_resolve.specs.Answers.{◌>>=◌, each}
-use Rattle.ss_resolve.specs.Contexts.{Context}
-use Rattle.ss_resolve.specs.Layouts.{where_holds, layout, discipline, ties, global_mode, counted_from, statistic_kept}
+use Rattle.ss_resolve.specs.Answers.{◌>>=◌, each, upto, where_holds}
+use Rattle.ss_resolve.specs.Layouts.{counts, discipline, global_mode, layout, statistic_kept, tie_keys}
 use Rattle.ss_resolve.specs.Meanings.{context_in, mode_given}
 use Rattle.ss_resolve.specs.Statements.{statements}
 
 -- ---- sections
 
--- the local variables of a section
-abbrev pub locals_of : Table → SectionTree → Moded
-locals_of t s = locals (λ name. is_some (told_of t.names name)) t.usual s
-
-abbrev pub local_mode : NameBytes × Option ModeWord → Option Mode
-local_mode l = mode_given l.1
+-- the mode of the local variable of a number
+abbrev pub local_mode : Moded → ℕ → Option Mode
+local_mode locals n = do
+  name ← slice_get (keys_of locals) n
+  mode ← lookup (same_name name) locals
+  mode_given mode
 
 -- the modes of the local variables, in the order of their numbers
-abbrev pub local_modes : Table → SectionTree → Option (List Mode)
-local_modes t s = each local_mode (locals_of t s)
+abbrev pub local_modes : Moded → Option (List Mode)
+local_modes locals = each (local_mode locals) (upto (length locals))
 
--- the statements of a section
-abbrev pub body : Table → SectionTree → Option Block
-body t s = statements (context_in t (locals_of t s)) (statement_row s.body)
+-- the statements of a section with these local variables
+abbrev pub body : Table → Moded → SectionTree → Option Block
+body t locals s = statements (context_in t locals) (statement_row s.body)
 
 -- ---- routines
 
 -- a routine that is given and yields so many values, by the modes of its local variables: given ones stand first, then
 -- yielded ones
 abbrev pub routine_of : ℕ → ℕ → List Mode → Block → Routine
-routine_of given yielding modes statements = record {
+routine_of given yielding modes done = record {
   given = take given modes;
   yielding = take yielding (drop given modes);
   others = drop (given + yielding) modes;
-  body = statements;
+  body = done;
 }
 
-abbrev pub resolved_routine : Table → List SectionTree → NameBytes × RoutineSection → Option Routine
-resolved_routine t sections r = do
-  s ← slice_get sections r.1.section
-  modes ← local_modes t s
-  statements ← body t s
-  Some (routine_of r.1.given r.1.yielding modes statements)
+-- the routine of a number
+abbrev pub resolved_routine : Table → Whole → List SectionTree → ℕ → Option Routine
+resolved_routine t w sections n = do
+  known ← slice_get (values_of t.routines) n
+  s ← slice_get sections known.section
+  modes ← local_modes (locals_of w s)
+  done ← body t (locals_of w s) s
+  Some (routine_of known.given known.yielding modes done)
 
 -- ---- event routines
 
--- the global variable that gets the number of the notice; a local one of that name hides it from statements alone
+abbrev pub class_variable : Global → Option (Option ℕ)
+class_variable (globals.Class class variable) = Some (Some variable)
+class_variable _ = None
+
+-- the global variable that gets the number of the notice, also where the routine has a local one of its name
 abbrev pub saved : Table → NameBytes → Bool → Option (Option ℕ)
-saved t class false = Some None
-saved t class true = do
-  variable ← place_in t.variables class
-  Some (Some variable)
+saved t name false = Some None
+saved t name true = do
+  global ← told_of t.names name
+  class_variable global
 
--- how many attributes a class has, if it has so many as are given
-abbrev pub given_fits : Table → ℕ → ℕ → Option ℕ
-given_fits t class given = do
-  fields ← slice_get t.fields class
-  where_holds (nat_le given (length fields)) given
-
--- a notice class, by its name and number, with its EVENT section
-abbrev pub resolved_event : Table → List SectionTree → NameBytes × ℕ → Option Event
-resolved_event t sections notice = do
-  e ← told_of t.events notice.0
-  given ← given_fits t notice.1 e.given
-  keys ← ties t notice.0 notice.1
-  variable ← saved t notice.0 e.saving
-  s ← slice_get sections e.section
-  modes ← local_modes t s
-  statements ← body t s
+-- the notice class of this place in the order of rank, with its EVENT section; as many values are given as the class has
+-- attributes at most
+abbrev pub resolved_event : Table → Whole → List SectionTree → ℕ → Option Event
+resolved_event t w sections rank = do
+  class ← slice_get (values_of t.ranks) rank
+  name ← slice_get (keys_of t.classes) class
+  known ← told_of t.events name
+  given ← where_holds (nat_le known.given (length (get_or t.fields class []))) known.given
+  keys ← tie_keys t class name
+  variable ← saved t name known.saving
+  s ← slice_get sections known.section
+  modes ← local_modes (locals_of w s)
+  done ← body t (locals_of w s) s
   Some (record {
-    class = notice.1;
+    class = class;
     ties = keys;
     line = s.line;
     given = take given modes;
     others = drop given modes;
     saved = variable;
-    body = statements;
+    body = done;
   })
 
--- each EVENT section is one of a notice class
-abbrev pub notice_of : Table → NameBytes × EventSection → Option ℕ
-notice_of t e = told_of t.ranks e.0
+-- an EVENT section is one of a notice class
+abbrev pub is_known_kind : Table → SectionKindTree → Bool
+is_known_kind t main = true
+is_known_kind t (routine name given yielding) = true
+is_known_kind t (event name given saving) = is_some (place_in t.ranks name)
+
+abbrev pub is_known : Table → SectionTree → Bool
+is_known t s = is_known_kind t s.kind
 
 -- ---- the program
 
@@ -102,31 +111,30 @@ is_main_kind (event name given saving) = false
 abbrev pub is_main : SectionTree → Bool
 is_main s = is_main_kind s.kind
 
--- the program with its names replaced; None where a name isn't of the kind that its place needs, a subscript is missing
--- or too many, or a count of arguments doesn't fit
-unfoldable pub resolved_by : Table → List SectionTree → Option Program
-resolved_by t sections = do
+-- The program that has these sections, by its table and by what it says of names, with each name replaced by what it
+-- stands for. None where a name isn't of the kind that its place needs, a subscript is missing or too many, or a count of
+-- arguments doesn't fit.
+unfoldable pub resolved : Table → Whole → List SectionTree → Option Program
+resolved t w sections = do
   laid ← layout t
-  ordered ← each (discipline t) t.sets
-  modes ← each (global_mode t) t.variables
-  kept ← each (statistic_kept t) t.histories
-  noticed ← each (notice_of t) t.events
-  routines ← each (resolved_routine t sections) t.routines
-  events ← each (resolved_event t sections) t.ranks
-  s ← find is_main sections
-  locals ← local_modes t s
-  statements ← body t s
+  ordered ← each (discipline t) (upto (length t.sets))
+  modes ← each (global_mode t) (upto (length t.variables))
+  counted ← counts t
+  kept ← each (statistic_kept t) (upto (length t.histories))
+  known ← where_holds (list_all (is_known t) sections) sections
+  routines ← each (resolved_routine t w known) (upto (length t.routines))
+  events ← each (resolved_event t w known) (upto (length t.ranks))
+  s ← find is_main known
+  locals ← local_modes (locals_of w s)
+  done ← body t (locals_of w s) s
   Some (record {
     layout = laid;
     disciplines = ordered;
     globals = modes;
-    counts = counted_from t 0 t.variables;
+    counts = counted;
     statistics = kept;
     routines = routines;
     events = events;
     locals = locals;
-    main = statements;
+    main = done;
   })
-
-abbrev pub resolved : ProgramTree → Option Program
-resolved p = resolved_by (table p) p.sections

@@ -1,5 +1,5 @@
 -- Statements in which each name is replaced by what it stands for.
-use Rattle.std.specs.Prelude.{ℕ, nat_le, Bool, true, false, ◌&&◌, ◌==◌, List, [], ◌∷◌, length, Option, Some, None, if◌then◌else◌}
+use Rattle.std.specs.Prelude.{nat_le, ◌&&◌, ◌==◌, List, [], ◌∷◌, length, Option, Some, None}
 use Rattle.ss_base.specs.declared.line.Line.{Line}
 use Rattle.ss_base.specs.declared.layout.Mode.{Mode}
 use Rattle.ss_base.specs.declared.layout.Mode.TheVariants.{Integer}
@@ -15,10 +15,11 @@ use Rattle.ss_program.specs.declared.expression.Sign.TheVariants.{Plus, Minus}
 use Rattle.ss_program.specs.declared.statement.End.{End}
 use Rattle.ss_program.specs.declared.statement.End.TheVariants as ends
 use Rattle.ss_program.specs.Program.{Expression, Fetch, Place, ToVariable, Target, Position, ByDiscipline, AsFirst, AsLast, BeforeMember, AfterMember, When, At, In, Now, Restart, Statement, Let, Change, Call, Return, Stop, Read, Simulate, If, Loop, For, Find, Create, CreateEvery, Destroy, File, RemoveEnd, Remove, ScheduleNew, Schedule, Cancel, Reset, Print, Skip, Block, Done, Then}
+use Rattle.ss_resolve.specs.declared.meaning.ClassMeant.{ClassMeant}
 use Rattle.ss_resolve.specs.declared.meaning.Meaning.{Meaning}
 use Rattle.ss_resolve.specs.declared.meaning.Meaning.TheVariants as meanings
 use Rattle.ss_resolve.specs.declared.meaning.RoutineMeant.{RoutineMeant}
-use Rattle.ss_resolve.specs.Answers.{◌>>=◌, each, if_there}
+use Rattle.ss_resolve.specs.Answers.{◌>>=◌, each, where_holds}
 use Rattle.ss_resolve.specs.Contexts.{Context, single_class, notice_class, counted}
 use Rattle.ss_resolve.specs.Expressions.{entity_of, plain, expression, subscript, target, set_named}
 use Rattle.ss_resolve.specs.Conditions.{condition}
@@ -29,13 +30,6 @@ use Rattle.ss_resolve.specs.Heads.{phrase, guard, phrases_of, head}
 abbrev pub end_of : SetEnd → End
 end_of end_words.First = ends.First
 end_of end_words.Last = ends.Last
-
--- ---- counts
-
--- a value, where a test holds
-abbrev pub guarded_by : {A : Type 0} → Bool → A → Option A
-guarded_by true x = Some x
-guarded_by false x = None
 
 -- ---- targets
 
@@ -106,28 +100,48 @@ when c now = Some Now
 
 -- ---- statements
 
--- a FIND: what follows where a case was found, and where none was
+-- a FIND, with what follows where a case was found and where none was
 abbrev pub find : Line → Context → HeadTree → Block → Block → Option Statement
 find line c over found none = do
   h ← head c over
   phrases ← each (phrase c) (phrases_of over)
   Some (Find line h phrases found none)
 
+-- the statements behind a FIND stand first for a case that was found, or for none
+abbrev pub find_by : FindOutcome → Line → Context → HeadTree → Block → Block → Option Statement
+find_by outcomes.Found line c over first second = find line c over first second
+find_by outcomes.None line c over first second = find line c over second first
+
+-- a FOR with its body
+abbrev pub for_over : Line → Context → HeadTree → Block → Option Statement
+for_over line c over body = do
+  h ← head c over
+  phrases ← each (phrase c) (phrases_of over)
+  Some (For line h phrases body)
+
 -- a loop with its body
 abbrev pub loop : Line → Context → HeadTree → Block → Option Statement
 loop line c (guarded guards) body = do
   gs ← each (guard c) guards
   Some (Loop line gs body)
-loop line c over body = do
-  h ← head c over
-  phrases ← each (phrase c) (phrases_of over)
-  Some (For line h phrases body)
+loop line c (over_range variable from to step phrases) body = for_over line c (over_range variable from to step phrases) body
+loop line c (over_members variable set from reverse phrases) body = for_over line c (over_members variable set from reverse phrases) body
+loop line c (over_class class called phrases) body = for_over line c (over_class class called phrases) body
 
 -- a CALL, where the routine is given and yields as many values
 abbrev pub call_of : Line → RoutineMeant → List Expression → List Place → Option Statement
 call_of line routine given yielding =
-    guarded_by ((length given == routine.given) && (length yielding == routine.yielding))
+    where_holds ((length given == routine.given) && (length yielding == routine.yielding))
     (Call line routine.routine given yielding)
+
+-- SCHEDULE A and SCHEDULE THE, where the class has as many attributes as are given at least
+abbrev pub new_notice : Line → ClassMeant → Place → List Expression → When → Option Statement
+new_notice line class place given due =
+    where_holds (nat_le (length given) class.attributes) (ScheduleNew line class.class place given due)
+
+abbrev pub old_notice : Line → ClassMeant → Expression → List Expression → When → Option Statement
+old_notice line class notice given due =
+    where_holds (nat_le (length given) class.attributes) (Schedule line class.class notice given due)
 
 module _ (c : Context) where
   unfoldable mutual
@@ -164,14 +178,10 @@ module _ (c : Context) where
       body ← statements row
       loop line c over body
     statement (find_statement line over) = find line c over Done Done
-    statement (find_if_statement line over outcomes.Found first second) = do
+    statement (find_if_statement line over outcome first second) = do
       a ← statements first
       b ← statements second
-      find line c over a b
-    statement (find_if_statement line over outcomes.None first second) = do
-      a ← statements first
-      b ← statements second
-      find line c over b a
+      find_by outcome line c over a b
     statement (create_statement line name called) = do
       class ← single_class c name
       place ← new_place c class.variable called
@@ -201,13 +211,13 @@ module _ (c : Context) where
       place ← new_place c class.variable called
       values ← each (expression c) given
       due ← when c time
-      guarded_by (nat_le (length values) class.attributes) (ScheduleNew line class.class place values due)
+      new_notice line class place values due
     statement (schedule_statement line name called given time) = do
       class ← notice_class c name
       notice ← entity_called c class.variable called
       values ← each (expression c) given
       due ← when c time
-      guarded_by (nat_le (length values) class.attributes) (Schedule line class.class notice values due)
+      old_notice line class notice values due
     statement (cancel_statement line name called) = do
       class ← notice_class c name
       notice ← entity_called c class.variable called

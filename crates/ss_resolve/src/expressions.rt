@@ -17,8 +17,8 @@ use crate::meaning::Meaning;
 use crate::names::{Names, meaning_of};
 use crate::words::{operator_of, sign_of};
 use ss_base::Value;
-use ss_scopes::Locals;
 use ss_program::expression::{Expression as Resolved, Operation, Operator, Variable};
+use ss_scopes::Locals;
 use ss_tree::expression::{Designator, Expression, Function, Term};
 use std::alloc::Global;
 

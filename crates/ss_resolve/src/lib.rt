@@ -1,12 +1,20 @@
 //! Each name of a program replaced by what it stands for.
 #![tactic(auto)]
 
+mod bodies;
+mod classes;
 mod conditions;
+mod entities;
 mod error;
 mod expressions;
+mod heads;
+mod lists;
+mod loops;
 mod meaning;
 mod names;
+mod notices;
 mod places;
+mod statements;
 mod words;
 
 pub use error::ResolveError;

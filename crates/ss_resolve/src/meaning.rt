@@ -14,7 +14,9 @@ pub enum Meaning {
         mode: Option<Mode>,
     },
     /// N. of a permanent class.
-    Count { count: Counted },
+    Count {
+        count: Counted,
+    },
     /// An attribute of a class, and its mode, if anything gives it one.
     Attribute {
         class: u32,
@@ -23,7 +25,10 @@ pub enum Meaning {
         implied: Variable,
     },
     /// F., L. or N. of a set of THE SYSTEM.
-    OfSystemSet { query: SetQuery, set: u32 },
+    OfSystemSet {
+        query: SetQuery,
+        set: u32,
+    },
     /// F., L. or N. of a set that the entities of a class own.
     OfSet {
         query: SetQuery,
@@ -37,7 +42,10 @@ pub enum Meaning {
         implied: Variable,
     },
     /// A statistic of a global variable, or of N. of a set of THE SYSTEM.
-    Figure { fold: Fold, statistic: u32 },
+    Figure {
+        fold: Fold,
+        statistic: u32,
+    },
     /// A statistic of an attribute, or of N. of a set that the entities of a class own.
     FigureOf {
         fold: Fold,

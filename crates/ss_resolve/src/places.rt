@@ -178,10 +178,7 @@ pub(crate) fn resolve_entity_called(
 // ---- sets
 
 // The number of a set, and whose it is.
-fn owned_by(
-    set: SetMeant,
-    subscript: Option<Resolved>,
-) -> Result<(u32, SetOwner), ResolveError>
+fn owned_by(set: SetMeant, subscript: Option<Resolved>) -> Result<(u32, SetOwner), ResolveError>
     ensures { Gives (λ p. (p.0, view_owner p.1)) result (owned_by set (option_seen view_resolved subscript)) }
 {
     match set {
@@ -223,10 +220,7 @@ fn told_of_program(subscript: Option<Resolved>) -> Result<Option<Resolved>, Reso
 }
 
 // Whose statistic of what is named starts afresh.
-fn told_of(
-    meaning: Meaning,
-    subscript: Option<Resolved>,
-) -> Result<Option<Resolved>, ResolveError>
+fn told_of(meaning: Meaning, subscript: Option<Resolved>) -> Result<Option<Resolved>, ResolveError>
     ensures { Gives (option_seen view_resolved) result (told_of meaning (option_seen view_resolved subscript)) }
 {
     match meaning {
