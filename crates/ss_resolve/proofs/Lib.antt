@@ -1,3 +1,4 @@
+mod Bodies
 mod Each
 mod Steps
 mod Trees
