@@ -1,5 +1,6 @@
 pub mod Locals
 pub mod Signatures
+pub mod Whole
 pub mod Meanings
 pub mod Laws
 pub mod Examples

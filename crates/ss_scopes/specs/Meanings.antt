@@ -1,5 +1,5 @@
 -- What a name means in a section.
-use Rattle.std.specs.Prelude.{Bool, is_some, Option, Some, None}
+use Rattle.std.specs.Prelude.{Option, Some, None}
 use Rattle.std.specs.Map.{lookup}
 use Rattle.ss_base.specs.declared.layout.Mode.{Mode as ValueMode}
 use Rattle.ss_base.specs.declared.layout.Mode.TheVariants.{Integer, Alpha}
@@ -14,10 +14,6 @@ use Rattle.ss_scopes.specs.Locals.{same_name, Moded}
 abbrev pub value_mode : Option Mode → ValueMode
 value_mode (Some said.Alpha) = Alpha
 value_mode _ = Integer
-
--- the names that mean something in the whole program
-abbrev pub is_global : (NameBytes → Option Meaning) → NameBytes → Bool
-is_global meanings name = is_some (meanings name)
 
 abbrev pub local_or : Option (Option Mode) → Option Meaning → Option Meaning
 local_or (Some mode) other = Some (Local (value_mode mode))

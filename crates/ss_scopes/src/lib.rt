@@ -1,6 +1,7 @@
 //! What names mean in a section of a program.
 #![tactic(auto)]
 
+mod globals;
 mod heading;
 mod laws;
 mod locals;
@@ -9,9 +10,10 @@ mod modes;
 mod scope;
 mod signature;
 
+pub use globals::Globals;
 pub use heading::Heading;
 pub use laws::numbers_are_places;
 pub use locals::Locals;
-pub use meaning::{Globals, Holder, Meaning};
+pub use meaning::{Holder, Meaning};
 pub use scope::{meaning_in, value_mode};
 pub use signature::Signature;

@@ -4,10 +4,10 @@ ghost use Rattle.std.specs.Prelude.{◌≡◌, ◌++◌, ◌==◌, [], ◌∷◌
 ghost use Rattle.std.specs.List.{flat_map, fold};
 ghost use Rattle.std.specs.Map.{lookup, keys_of};
 ghost use Rattle.ss_tree.specs.View.{view_definition, view_section};
-ghost use Rattle.ss_scopes.specs.Locals.{declares, first_entries, is_local_at, is_variable, local_mentioned, locals, moded_in, number_of, same_name, with_entry};
-ghost use Rattle.ss_scopes.specs.Meanings.{is_global};
+ghost use Rattle.ss_scopes.specs.Locals.{declares, first_entries, is_local_at, is_variable, local_mentioned, moded_in, number_of, same_name, with_entry};
+ghost use Rattle.ss_scopes.specs.Whole.{is_global, locals_of};
 
-use crate::meaning::Globals;
+use crate::globals::Globals;
 use crate::modes::{add, mode_in, modes_of};
 use indexmap::IndexMap;
 use ss_lex::Name;
@@ -56,7 +56,7 @@ fn is_variable(role: Role) -> bool
 
 // Whether a name that stands so is a local variable.
 fn is_local_at<G: Globals>(globals: &G, mention: &Mention, name: Name) -> bool
-    ensures { result ≡ is_local_at (is_global (G.meanings globals.now)) mention.now name }
+    ensures { result ≡ is_local_at (is_global (G.whole globals.now).meanings) mention.now name }
 {
     declares(mention.role)
         || (is_variable(mention.role)
@@ -72,7 +72,7 @@ fn add_mentioned<G: Globals>(
     usual: Option<Mode>,
     mention: &Mention,
 ) -> Result<(), AllocError>
-    ensures { OnOk result (entries.new.entries ≡ fold with_entry entries.old.entries (map (moded_in usual modes.now.entries) (local_mentioned (is_global (G.meanings globals.now)) mention.now))) }
+    ensures { OnOk result (entries.new.entries ≡ fold with_entry entries.old.entries (map (moded_in usual modes.now.entries) (local_mentioned (is_global (G.whole globals.now).meanings) mention.now))) }
 {
     match mention.what {
         Mentioned::Name(name) => {
@@ -89,21 +89,20 @@ fn add_mentioned<G: Globals>(
 impl Locals {
     /// The local variables of a section: its parameters, given ones before yielded ones, those that its
     /// DEFINEs name, and those that its statements only use. Their modes are those of its DEFINEs, else
-    /// the usual one.
+    /// that of NORMALLY.
     ///
     /// # Errors
     /// `AllocError` where memory is refused.
     pub fn of<G: Globals>(
         alloc: Global,
         globals: &G,
-        usual: Option<Mode>,
         section: &Section,
     ) -> Result<Locals, AllocError>
-        ensures { IfOk result (λ l. l ≡ locals (is_global (G.meanings globals.now)) usual (view_section section.now)) }
+        ensures { IfOk result (λ l. l ≡ locals_of (G.whole globals.now) (view_section section.now)) }
     {
         let modes = modes_of(alloc, &section.definitions)?;
         let mentions = mentions_of(alloc, section)?;
-        let entries = collect(alloc, globals, &modes, usual, &mentions)?;
+        let entries = collect(alloc, globals, &modes, globals.usual(), &mentions)?;
         Ok(Locals { entries })
     }
 
@@ -155,7 +154,7 @@ fn collect<G: Globals>(
     usual: Option<Mode>,
     mentions: &[Mention],
 ) -> Result<IndexMap<Name, Option<Mode>>, AllocError>
-    ensures { IfOk result (λ found. found.entries ≡ first_entries (map (moded_in usual modes.now.entries) (flat_map (local_mentioned (is_global (G.meanings globals.now))) mentions.now))) }
+    ensures { IfOk result (λ found. found.entries ≡ first_entries (map (moded_in usual modes.now.entries) (flat_map (local_mentioned (is_global (G.whole globals.now).meanings)) mentions.now))) }
 {
     let mut entries = IndexMap::new(alloc);
     for mention in mentions {

@@ -1,8 +1,5 @@
 //! What names mean.
 
-ghost use Rattle.std.specs.Prelude.{◌≡◌, List, ℕ, Option};
-ghost use Rattle.ss_scopes.specs.declared.meaning.Meaning.{Meaning};
-
 use ss_base::Mode;
 use ss_lex::Name;
 use ss_tree::preamble::ClassKind;
@@ -37,13 +34,4 @@ pub enum Meaning {
     /// A statistic, which what has its subject has.
     Statistic(Holder),
     Routine,
-}
-
-/// What names mean in the whole program.
-pub trait Globals {
-    ghost meanings: { Self → List ℕ → Option Meaning };
-
-    /// What a name means in the whole program. None where it means nothing there.
-    fn meaning_of(&self, name: Name) -> Option<Meaning>
-        ensures { result ≡ meanings self.now name };
 }

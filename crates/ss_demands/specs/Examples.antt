@@ -1,0 +1,94 @@
+-- Worked examples: what small statements demand, read off by hand.
+use Rattle.std.specs.Prelude.{◌≡◌, ℕ, pos, true, false, [], ◌∷◌, Some, None, codes, refl}
+use Rattle.ss_base.specs.declared.line.Line.{Line}
+use Rattle.ss_tree.specs.declared.expression.Sign.TheVariants.{Plus}
+use Rattle.ss_tree.specs.declared.expression.Function.TheVariants.{Min}
+use Rattle.ss_tree.specs.declared.expression.Designator.TheVariants as designators
+use Rattle.ss_tree.specs.declared.condition.Relation.TheVariants.{Equal}
+use Rattle.ss_tree.specs.Tree.{ExpressionTree, number, text, named, call, parenthesised, sum, no_expression, and_expression, no_term, and_term, NamedTree, compare, over_class, at_time, let_statement, call_statement, if_statement, loop_statement, schedule_new, cancel_statement, print_statement, skip_statement, no_statement, and_statement, event}
+use Rattle.ss_picture.specs.Pictures.{widths}
+use Rattle.ss_demands.specs.declared.demand.Aspect.TheVariants.{Integer, Alpha, Named, Implied, Given, Yielded, Attribute, Count, ArgumentCount, GivenCount, YieldedCount, AttributeCount, Fits}
+use Rattle.ss_demands.specs.Demands.{NameBytes, demand, a_number, in_statement, demands}
+
+abbrev line : ℕ → Line
+line n = record { 0 = n }
+
+abbrev name : NameBytes → ExpressionTree
+name n = named (designators.Name n) no_expression
+
+-- a name with one subscript
+abbrev name_at : NameBytes → ExpressionTree → ExpressionTree
+name_at n e = named (designators.Name n) (and_expression e no_expression)
+
+abbrev at : NameBytes → NamedTree
+at n = record { designator = designators.Name n; subscripts = no_expression }
+
+abbrev one : ExpressionTree
+one = number (pos 1)
+
+-- LET W = RANK(J): both of one mode, J a number; W and J may imply an entity, RANK has one
+pub a_let : in_statement (let_statement (line 3) (at (codes "W")) (name_at (codes "RANK") (name (codes "J")))) ≡
+    demand (line 3) (Named (codes "W")) (Named (codes "RANK")) ∷ a_number (line 3) (Implied (codes "W")) ∷
+    a_number (line 3) (Named (codes "J")) ∷ a_number (line 3) (Implied (codes "J")) ∷ []
+a_let = refl
+
+-- LET X = "A" + 1: a sum is a number, and so is each of its terms
+pub a_sum : in_statement (let_statement (line 1) (at (codes "X")) (sum (text (codes "A")) (and_term Plus one no_term))) ≡
+    demand (line 1) (Named (codes "X")) Integer ∷ a_number (line 1) (Implied (codes "X")) ∷
+    a_number (line 1) Alpha ∷ a_number (line 1) Integer ∷ []
+a_sum = refl
+
+-- LET W = (V): parentheses make no number
+pub parentheses : in_statement (let_statement (line 1) (at (codes "W")) (parenthesised (name (codes "V")))) ≡
+    demand (line 1) (Named (codes "W")) (Named (codes "V")) ∷ a_number (line 1) (Implied (codes "W")) ∷ a_number (line 1) (Implied (codes "V")) ∷ []
+parentheses = refl
+
+-- SKIP MIN.F(1) OUTPUT LINES
+pub a_function : in_statement (skip_statement (line 1) (call Min (and_expression one no_expression))) ≡
+    a_number (line 1) Integer ∷ demand (line 1) (Count 1) (ArgumentCount Min) ∷ a_number (line 1) Integer ∷ []
+a_function = refl
+
+-- IF W = "YES" (in line 4) SKIP N OUTPUT LINES (in line 5) ALWAYS
+pub an_if : in_statement (if_statement (line 4) ((compare (name (codes "W")) Equal (text (codes "YES")) ∷ []) ∷ []) (and_statement (skip_statement (line 5) (name (codes "N"))) no_statement) no_statement) ≡
+    demand (line 4) (Named (codes "W")) Alpha ∷ a_number (line 4) (Implied (codes "W")) ∷
+    a_number (line 5) (Named (codes "N")) ∷ a_number (line 5) (Implied (codes "N")) ∷ []
+an_if = refl
+
+-- CALL R GIVING 1, W YIELDING Y
+pub a_call : in_statement (call_statement (line 1) (codes "R") (one ∷ name (codes "W") ∷ []) (at (codes "Y") ∷ [])) ≡
+    demand (line 1) (Count 2) (GivenCount (codes "R")) ∷ demand (line 1) (Count 1) (YieldedCount (codes "R")) ∷
+    demand (line 1) Integer (Given (codes "R") 0) ∷ demand (line 1) (Named (codes "W")) (Given (codes "R") 1) ∷ a_number (line 1) (Implied (codes "W")) ∷
+    demand (line 1) (Named (codes "Y")) (Yielded (codes "R") 0) ∷ a_number (line 1) (Implied (codes "Y")) ∷ []
+a_call = refl
+
+-- FOR EACH MACHINE .. takes numbers in the variable MACHINE; FOR EACH MACHINE CALLED M in M
+pub a_loop : in_statement (loop_statement (line 1) (over_class (codes "MACHINE") None []) no_statement) ≡ a_number (line 1) (Named (codes "MACHINE")) ∷ []
+a_loop = refl
+
+pub a_loop_called : in_statement (loop_statement (line 1) (over_class (codes "MACHINE") (Some (codes "M")) []) no_statement) ≡ a_number (line 1) (Named (codes "M")) ∷ []
+a_loop_called = refl
+
+-- SCHEDULE A BELL GIVEN 8 AT T
+pub a_schedule : in_statement (schedule_new (line 1) (codes "BELL") None (one ∷ []) (at_time (name (codes "T")))) ≡
+    a_number (line 1) (Named (codes "BELL")) ∷ demand (line 1) (Count 1) (AttributeCount (codes "BELL")) ∷ demand (line 1) Integer (Attribute (codes "BELL") 0) ∷
+    a_number (line 1) (Named (codes "T")) ∷ a_number (line 1) (Implied (codes "T")) ∷ []
+a_schedule = refl
+
+-- CANCEL THE BELL
+pub a_cancel : in_statement (cancel_statement (line 1) (codes "BELL") None) ≡ a_number (line 1) (Named (codes "BELL")) ∷ []
+a_cancel = refl
+
+-- PRINT 1 LINE WITH 1, 1 THUS *; and ** *
+pub one_field : in_statement (print_statement (line 2) (one ∷ one ∷ []) (codes "*" ∷ [])) ≡ demand (line 2) (Fits false) (Fits true) ∷ []
+unfolding widths
+one_field = refl
+
+pub two_fields : in_statement (print_statement (line 2) (one ∷ one ∷ []) (codes "** *" ∷ [])) ≡ demand (line 2) (Fits true) (Fits true) ∷ []
+unfolding widths
+two_fields = refl
+
+-- EVENT BELL GIVEN T, U (in line 1) END
+pub an_event : demands (record { line = line 1; kind = event (codes "BELL") (codes "T" ∷ codes "U" ∷ []) false; definitions = []; body = [] }) ≡
+    demand (line 1) (Count 2) (AttributeCount (codes "BELL")) ∷
+    demand (line 1) (Named (codes "T")) (Attribute (codes "BELL") 0) ∷ demand (line 1) (Named (codes "U")) (Attribute (codes "BELL") 1) ∷ []
+an_event = refl

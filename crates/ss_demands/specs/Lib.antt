@@ -1,0 +1,2 @@
+pub mod Demands
+pub mod Examples

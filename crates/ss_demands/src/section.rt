@@ -1,0 +1,40 @@
+//! What a section demands.
+
+ghost use Rattle.std.specs.Prelude.{◌≡◌, ◌++◌, map, IfOk};
+ghost use Rattle.ss_tree.specs.View.{view_kind, view_section};
+ghost use Rattle.ss_demands.specs.Demands.{demands, in_kind};
+
+use crate::demand::{Aspect, Demand};
+use crate::expressions::note;
+use crate::handed::{Receiver, note_parameters};
+use crate::statements::note_body;
+use ss_base::Line;
+use ss_tree::program::{Section, SectionKind};
+use std::alloc::{AllocError, Global};
+
+// Notes the demands of the head of a section.
+fn note_kind(into: &mut Vec<Demand>, line: Line, kind: &SectionKind) -> Result<(), AllocError>
+    ensures { IfOk result (λ _. into.new.items ≡ into.old.items ++ in_kind line (view_kind kind.now)) }
+{
+    match kind {
+        SectionKind::Main | SectionKind::Routine { .. } => Ok(()),
+        SectionKind::Event { name, given, .. } => {
+            let count = Aspect::Count(given.len());
+            note(into, line, count, Aspect::AttributeCount(*name))?;
+            note_parameters(into, line, &Receiver::Attributes(*name), given)
+        }
+    }
+}
+
+/// What a section demands, in the order of the text.
+///
+/// # Errors
+/// `AllocError` where memory is refused.
+pub fn demands_of(alloc: Global, section: &Section) -> Result<Vec<Demand>, AllocError>
+    ensures { IfOk result (λ found. found.items ≡ demands (view_section section.now)) }
+{
+    let mut found = Vec::new(alloc);
+    note_kind(&mut found, section.line, &section.kind)?;
+    note_body(alloc, &mut found, &section.body)?;
+    Ok(found)
+}
