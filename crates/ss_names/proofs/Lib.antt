@@ -1,1 +1,3 @@
 pub mod Rooms
+mod Fields
+mod Short

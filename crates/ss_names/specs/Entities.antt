@@ -1,6 +1,6 @@
 -- Classes, their attributes, and sets.
-use Rattle.std.specs.Prelude.{ℕ, ◌+◌, nat_eq, Bool, true, false, List, [], ◌∷◌, ◌++◌, length, map, option_map, is_some, Option, Some, None}
-use Rattle.std.specs.List.{filter, flat_map}
+use Rattle.std.specs.Prelude.{◌≡◌, ℕ, nat_eq, Bool, true, false, List, [], ◌∷◌, ◌++◌, length, map, option_map, is_some, Option, Some, None}
+use Rattle.std.specs.List.{filter, flat_map, range_with_len}
 use Rattle.std.specs.Map.{keys_of}
 use Rattle.std.specs.Option.{option_or}
 use Rattle.ss_base.specs.declared.layout.Owner.{Owner}
@@ -88,14 +88,22 @@ attributes_behind usual defined before (e ∷ es) =
 abbrev pub attributes : List Saying → List (NameBytes × Attribute)
 attributes says = attributes_behind (usual_mode says) (defined_modes says) [] (attribute_classes says)
 
--- the attributes of the class of each number from this one on
-abbrev pub fields_from : List (NameBytes × ℕ) → ℕ → List (NameBytes × Class) → List (List NameBytes)
-fields_from owned number [] = []
-fields_from owned number (c ∷ cs) = fields_among owned number ∷ fields_from owned (number + 1) cs
+-- the attributes of each of so many classes, in the order of their numbers
+abbrev pub fields_of : List (NameBytes × ℕ) → ℕ → List (List NameBytes)
+fields_of owned count = map (fields_among owned) (range_with_len 0 count)
 
--- the attributes of each class, in the order of their numbers
 abbrev pub fields : List Saying → List (List NameBytes)
-fields says = fields_from (attribute_classes says) 0 (classes says)
+fields says = fields_of (attribute_classes says) (length (classes says))
+
+-- attributes, and those of each class
+pub record AttributesSeen : Type 0 where
+  pub entries : List (NameBytes × Attribute)
+  pub fields : List (List NameBytes)
+
+-- the attributes of so many classes, where each has a class of this number and these modes are said
+pub record AreAttributes (usual : Option Mode) (defined : List (NameBytes × Mode)) (count : ℕ) (owned : List (NameBytes × ℕ)) (a : AttributesSeen) : Type 0 where
+  pub entries : a.entries ≡ attributes_behind usual defined [] owned
+  pub fields : a.fields ≡ fields_of owned count
 
 -- ---- sets
 

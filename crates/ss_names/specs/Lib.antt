@@ -1,7 +1,11 @@
 pub mod Firsts
 pub mod Spellings
+pub mod Rows
 pub mod Entities
 pub mod Variables
 pub mod Statistics
 pub mod Meanings
+pub mod Keys
+pub mod Notices
 pub mod Table
+pub mod Examples

@@ -3,6 +3,7 @@ use Rattle.std.specs.Prelude.{ℕ, is_some, List, [], ◌∷◌, ◌++◌, optio
 use Rattle.std.specs.List.{flat_map}
 use Rattle.ss_tree.specs.declared.preamble.ClassKind.{ClassKind}
 use Rattle.ss_tree.specs.declared.preamble.ClassKind.TheVariants as class_kinds
+use Rattle.ss_tree.specs.declared.preamble.Weighting.{Weighting}
 use Rattle.ss_sayings.specs.declared.saying.Said.{Said}
 use Rattle.ss_sayings.specs.declared.saying.Said.TheVariants as said
 use Rattle.ss_sayings.specs.declared.saying.Saying.{Saying}
@@ -16,28 +17,34 @@ use Rattle.ss_names.specs.declared.meaning.Meaning.TheVariants as meanings
 use Rattle.ss_names.specs.declared.meaning.Routine.{Routine}
 use Rattle.ss_names.specs.declared.meaning.Statistic.{Statistic}
 use Rattle.ss_names.specs.declared.meaning.Variable.{Variable}
-use Rattle.ss_names.specs.Entities.{attributes, classes, set_names}
+use Rattle.ss_names.specs.Entities.{attributes, classes, fields, set_names}
 use Rattle.ss_names.specs.Firsts.{entry_if, firsts, place_among, place_in, told_of}
-use Rattle.ss_names.specs.Statistics.{statistics}
+use Rattle.ss_names.specs.Statistics.{statistics, weighings}
 use Rattle.ss_names.specs.Variables.{count_name, routines, variables}
 
 -- what is numbered: classes, attributes, sets, global variables, statistics and routines
 pub record Numbered : Type 0 where
   pub classes : List (NameBytes × Class)
   pub attributes : List (NameBytes × Attribute)
+  -- the attributes of each class
+  pub fields : List (List NameBytes)
   pub set_names : List NameBytes
   pub variables : List (NameBytes × Variable)
   pub statistics : List (NameBytes × Statistic)
   pub routines : List (NameBytes × Routine)
+  -- what TALLY and ACCUMULATE name
+  pub weighings : List (NameBytes × Weighting)
 
 abbrev pub numbered : List Saying → Numbered
 numbered says = record {
   classes = classes says;
   attributes = attributes says;
+  fields = fields says;
   set_names = set_names says;
   variables = variables says;
   statistics = statistics says;
   routines = routines says;
+  weighings = weighings says;
 }
 
 -- ---- derived names
@@ -52,20 +59,20 @@ letter_of Successor = 83
 letter_of Membership = 77
 
 -- a derived name of a set: a letter, a period and its name
-abbrev pub derived : NameBytes → ℕ → Derived → NameBytes × Meaning
-derived name set d = (letter_of d ∷ 46 ∷ name, meanings.Derived d set)
+abbrev pub derived_entry : NameBytes → ℕ → Derived → NameBytes × Meaning
+derived_entry name set d = (letter_of d ∷ 46 ∷ name, meanings.Derived d set)
 
 -- a set and its derived names
 abbrev pub set_meanings : NameBytes → Option ℕ → List (NameBytes × Meaning)
 set_meanings name None = []
 set_meanings name (Some set) =
     (name, meanings.Set set)
-    ∷ derived name set FirstMember
-    ∷ derived name set LastMember
-    ∷ derived name set MemberCount
-    ∷ derived name set Predecessor
-    ∷ derived name set Successor
-    ∷ derived name set Membership
+    ∷ derived_entry name set FirstMember
+    ∷ derived_entry name set LastMember
+    ∷ derived_entry name set MemberCount
+    ∷ derived_entry name set Predecessor
+    ∷ derived_entry name set Successor
+    ∷ derived_entry name set Membership
     ∷ []
 
 -- ---- what is declared
@@ -88,6 +95,11 @@ class_meanings t class_kinds.Permanent name =
 class_meanings t class_kinds.Temporary name = entry_if name (class_name_meaning t name)
 class_meanings t class_kinds.EventNotice name = entry_if name (class_name_meaning t name)
 
+-- a variable of a DEFINE, unless it is an attribute
+abbrev pub variable_meaning : Numbered → NameBytes → Option Meaning
+variable_meaning t name =
+    if is_some (place_in t.attributes name) then None else option_map meanings.Variable (place_in t.variables name)
+
 -- What is declared by what is said of a name. A DEFINE of an attribute as a variable gives its mode and declares nothing;
 -- a set is declared where it is first owned or belonged to.
 abbrev pub meaning_told : Numbered → Said → Option NameBytes → List (NameBytes × Meaning)
@@ -96,8 +108,7 @@ meaning_told t (said.Attribute class) (Some name) = entry_if name (option_map me
 meaning_told t said.SystemSet (Some name) = set_meanings name (place_among t.set_names name)
 meaning_told t (said.OwnedSet class) (Some name) = set_meanings name (place_among t.set_names name)
 meaning_told t (said.MemberSet class) (Some name) = set_meanings name (place_among t.set_names name)
-meaning_told t (said.Variable mode) (Some name) =
-    if is_some (told_of t.attributes name) then [] else entry_if name (option_map meanings.Variable (place_in t.variables name))
+meaning_told t (said.Variable mode) (Some name) = entry_if name (variable_meaning t name)
 meaning_told t (said.Statistic weighting kind subject) (Some name) =
     entry_if name (option_map meanings.Statistic (place_in t.statistics name))
 meaning_told t (said.Routine section given yielding) (Some name) =

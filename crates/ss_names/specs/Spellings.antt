@@ -1,5 +1,6 @@
 -- How a spelling lies in its bytes.
-use Rattle.std.specs.Prelude.{◌≡◌, ℕ, ◌-◌, List, ◌++◌, length, take, replicate, nat_lt, Option, Some, None, if◌then◌else◌}
+use Rattle.std.specs.Prelude.{◌≡◌, ℕ, Bool, nat_le, ◌-◌, List, ◌++◌, length, take, replicate, nat_lt, Option, Some, None, if◌then◌else◌}
+use Rattle.std.specs.List.{list_all}
 use Rattle.ss_names.specs.declared.spelling.TheConstants.{SPELLING_LIMIT}
 
 -- a spelling with zeros behind it, as many as fill its room
@@ -14,3 +15,7 @@ pub record IsRoom (room : List ℕ) (len : ℕ) : Type 0 where
 -- the spelling of these bytes, if they are few enough
 abbrev pub spelling_of : List ℕ → Option (List ℕ)
 spelling_of bytes = if nat_lt SPELLING_LIMIT (length bytes) then None else Some bytes
+
+-- whether names are short enough to be spellings
+abbrev pub are_short : List (List ℕ) → Bool
+are_short names = list_all (λ name. nat_le (length name) SPELLING_LIMIT) names

@@ -1,11 +1,8 @@
 -- One table of what a program declares. What has a number has it by its place in a list.
 use Rattle.std.specs.Prelude.{ℕ, Bool, List, [], ◌∷◌, Option, Some, None}
-use Rattle.std.specs.List.{flat_map}
 use Rattle.ss_tree.specs.declared.preamble.Mode.{Mode}
 use Rattle.ss_tree.specs.declared.preamble.Weighting.{Weighting}
 use Rattle.ss_tree.specs.Tree.{ProgramTree}
-use Rattle.ss_sayings.specs.declared.saying.Said.{Said}
-use Rattle.ss_sayings.specs.declared.saying.Said.TheVariants as said
 use Rattle.ss_sayings.specs.declared.saying.Saying.{Saying}
 use Rattle.ss_sayings.specs.Sayings.{NameBytes, sayings}
 use Rattle.ss_names.specs.declared.meaning.Attribute.{Attribute}
@@ -20,33 +17,10 @@ use Rattle.ss_names.specs.declared.meaning.Variable.{Variable}
 use Rattle.ss_names.specs.declared.keys.RankedBy.{RankedBy}
 use Rattle.ss_names.specs.declared.keys.TiedBy.{TiedBy}
 use Rattle.ss_names.specs.Entities.{attributes, classes, fields, set_names, sets, usual_mode}
+use Rattle.ss_names.specs.Keys.{rank_keys, tie_keys}
 use Rattle.ss_names.specs.Meanings.{meanings_in, numbered}
 use Rattle.ss_names.specs.Statistics.{histories, statistics, weighings}
 use Rattle.ss_names.specs.Variables.{events, ranks, routines, variables}
-
--- ---- keys
-
-abbrev pub rank_told : Said → Option NameBytes → List RankedBy
-rank_told (said.RankKey statement high) (Some name) = record { statement = statement; attribute = name; high = high } ∷ []
-rank_told _ _ = []
-
-abbrev pub rank_by : Saying → List RankedBy
-rank_by s = rank_told s.said s.name
-
--- the keys of ranked sets, in the order of the text
-abbrev pub rank_keys : List Saying → List RankedBy
-rank_keys says = flat_map rank_by says
-
-abbrev pub tie_told : Said → Option NameBytes → List TiedBy
-tie_told (said.TieKey class high) (Some name) = record { class = class; attribute = name; high = high } ∷ []
-tie_told _ _ = []
-
-abbrev pub tie_by : Saying → List TiedBy
-tie_by s = tie_told s.said s.name
-
--- the keys for the ties of notices, in the order of the text
-abbrev pub tie_keys : List Saying → List TiedBy
-tie_keys says = flat_map tie_by says
 
 -- ---- the table
 

@@ -101,5 +101,8 @@ abbrev pub declared_by : List (NameBytes × Class) → Saying → List (NameByte
 declared_by cs s = declared_told cs s.said s.name
 
 -- the classes of notices with their numbers: those of PRIORITY ORDER in that order, then the others as declared
+abbrev pub ranks_among : List (NameBytes × Class) → List Saying → List (NameBytes × ℕ)
+ranks_among cs says = firsts (flat_map (priority_by cs) says ++ flat_map (declared_by cs) says)
+
 abbrev pub ranks : List Saying → List (NameBytes × ℕ)
-ranks says = firsts (flat_map (priority_by (classes says)) says ++ flat_map (declared_by (classes says)) says)
+ranks says = ranks_among (classes says) says

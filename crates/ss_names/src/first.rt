@@ -1,9 +1,11 @@
 //! The first of what is told of each name.
 
-ghost use Rattle.std.specs.Prelude.{◌≡◌, OnOk};
+ghost use Rattle.std.specs.Prelude.{◌≡◌, is_some, slice_get, OnErr, OnOk};
 ghost use Rattle.std.specs.List.{fold};
-ghost use Rattle.ss_names.specs.Firsts.{entry_if, with_first};
+ghost use Rattle.std.specs.Map.{keys_of, values_of};
+ghost use Rattle.ss_names.specs.Firsts.{entry_if, told_of, with_first};
 
+use crate::spelling::Spelling;
 use indexmap::IndexMap;
 use ss_lex::Name;
 use std::alloc::AllocError;
@@ -36,5 +38,60 @@ pub fn keep_if<V: Copy>(
     match value {
         Some(value) => keep_first(entries, name, value),
         None => Ok(()),
+    }
+}
+
+/// Keeps what is told of a spelling, unless something is.
+pub fn keep_spelled<V: Copy>(
+    entries: &mut IndexMap<Spelling, V>,
+    name: Spelling,
+    value: V,
+) -> Result<(), AllocError>
+    ensures err { OnErr result (entries.new.entries ≡ entries.old.entries) }
+    ensures ok { OnOk result (entries.new.entries ≡ with_first entries.old.entries (name, value)) }
+{
+    match entries.get(&name) {
+        Some(_) => Ok(()),
+        None => {
+            entries.insert(name, value)?;
+            Ok(())
+        }
+    }
+}
+
+/// Whether something is told of a name.
+pub fn is_told<V: Copy>(entries: &IndexMap<Name, V>, name: &Name) -> bool
+    ensures { result ≡ is_some (told_of entries.now.entries name.now) }
+{
+    entries.get(name).is_some()
+}
+
+/// The name of this number.
+pub fn key_at<V: Copy>(entries: &IndexMap<Name, V>, number: usize) -> Option<Name>
+    ensures { result ≡ slice_get (keys_of entries.now.entries) number }
+{
+    match entries.get_index(number) {
+        Some((name, _)) => Some(*name),
+        None => None,
+    }
+}
+
+/// What is told of the name of this number.
+pub fn value_at<V: Copy>(entries: &IndexMap<Name, V>, number: usize) -> Option<V>
+    ensures { result ≡ slice_get (values_of entries.now.entries) number }
+{
+    match entries.get_index(number) {
+        Some((_, value)) => Some(*value),
+        None => None,
+    }
+}
+
+/// What is told of the spelling of this number.
+pub fn spelled_at<V: Copy>(entries: &IndexMap<Spelling, V>, number: usize) -> Option<V>
+    ensures { result ≡ slice_get (values_of entries.now.entries) number }
+{
+    match entries.get_index(number) {
+        Some((_, value)) => Some(*value),
+        None => None,
     }
 }

@@ -2,7 +2,7 @@
 
 ghost use Rattle.std.specs.Prelude.{◌≡◌, map, OnOk, IfOk};
 ghost use Rattle.std.specs.List.{flat_map, fold};
-ghost use Rattle.ss_names.specs.Entities.{member_by, ordering_by, owner_by, set_by, set_of};
+ghost use Rattle.ss_names.specs.Entities.{classes as classes_said, member_by, ordering_by, owner_by, set_by, set_names as set_names_said, set_of, sets as sets_said};
 ghost use Rattle.ss_names.specs.Firsts.{each_once, firsts, with_first, with_name, with_name_if};
 
 use crate::first::{keep_first, keep_if};
@@ -185,4 +185,21 @@ pub fn sets_of(
         sets.push(set_of(owners, members, orderings, name))?;
     }
     Ok(sets)
+}
+
+/// The sets of these names, where these are the classes.
+pub fn sets_in(
+    alloc: Global,
+    classes: &IndexMap<Name, Class>,
+    names: &IndexSet<Name>,
+    sayings: &[Saying],
+) -> Result<Vec<Set>, AllocError>
+    requires classes { classes.now.entries ≡ classes_said sayings.now }
+    requires names { names.now.keys ≡ set_names_said sayings.now }
+    ensures { IfOk result (λ out. out.items ≡ sets_said sayings.now) }
+{
+    let owners = owners_of(alloc, classes, sayings)?;
+    let members = members_of(alloc, classes, sayings)?;
+    let orderings = orderings_of(alloc, sayings)?;
+    sets_of(alloc, &owners, &members, &orderings, names.as_slice())
 }

@@ -1,0 +1,54 @@
+//! The histories that statistics tell of.
+
+ghost use Rattle.std.specs.Prelude.{◌≡◌, map, IfOk};
+ghost use Rattle.ss_names.specs.Firsts.{told_of};
+ghost use Rattle.ss_names.specs.Statistics.{history_of, subject_of};
+
+use crate::meaning::{Derived, History, Meaning, Subject};
+use crate::meanings::Meanings;
+use indexmap::IndexMap;
+use ss_lex::Name;
+use ss_tree::preamble::Weighting;
+use std::alloc::{AllocError, Global};
+
+// What a name stands for that may have a history.
+fn subject_of(meaning: Option<Meaning>) -> Option<Subject>
+    ensures { result ≡ subject_of meaning }
+{
+    match meaning {
+        Some(Meaning::Variable(variable)) => Some(Subject::Variable(variable)),
+        Some(Meaning::Attribute(attribute)) => Some(Subject::Attribute(attribute)),
+        Some(
+            Meaning::Derived {
+                derived: Derived::MemberCount,
+                set,
+            },
+        ) => Some(Subject::MemberCount(set)),
+        _ => None,
+    }
+}
+
+// The history of what a name stands for.
+fn history_of(names: &Meanings, name: &Name, weighting: Weighting) -> History
+    ensures { result ≡ history_of names.now (name.now, weighting) }
+{
+    History {
+        weighting,
+        subject: subject_of(names.meaning(name)),
+    }
+}
+
+/// The histories, in the order of their names.
+pub fn histories_of(
+    alloc: Global,
+    names: &Meanings,
+    weighings: &IndexMap<Name, Weighting>,
+) -> Result<Vec<History>, AllocError>
+    ensures { IfOk result (λ out. out.items ≡ map (history_of names.now) weighings.now.entries) }
+{
+    let mut out = Vec::new(alloc);
+    for (name, weighting) in weighings.iter() {
+        out.push(history_of(names, name, *weighting))?;
+    }
+    Ok(out)
+}

@@ -1,0 +1,217 @@
+//! What global and derived names stand for.
+
+ghost use Rattle.std.specs.Prelude.{◌≡◌, ◌<◌, [], ◌∷◌, length, slice_get, is_some, if◌then◌else◌, option_map, None, Some, OnOk, IfOk};
+ghost use Rattle.std.specs.List.{flat_map, fold};
+ghost use Rattle.std.specs.Map.{keys_of, values_of};
+ghost use Rattle.ss_names.specs.declared.meaning.Meaning.TheVariants as meanings;
+ghost use Rattle.ss_names.specs.Firsts.{entry_if, firsts, place_among, place_in, told_of, with_first};
+ghost use Rattle.ss_names.specs.Meanings.{class_meanings, class_name_meaning, count_meaning, derived_entry, letter_of, meaning_by, meaning_told, meanings_in, set_meanings, variable_meaning};
+ghost use Rattle.ss_names.specs.Variables.{count_name};
+
+use crate::first::{keep_spelled, spelled_at};
+use crate::meaning::{Derived, Meaning};
+use crate::numbers::Numbers;
+use crate::spelling::Spelling;
+use indexmap::IndexMap;
+use ss_lex::Name;
+use ss_sayings::{Said, Saying};
+use ss_tree::preamble::ClassKind;
+use std::alloc::{AllocError, Global};
+use std::marker::Model;
+
+fn letter_of(derived: Derived) -> u8
+    ensures { result ≡ letter_of derived }
+{
+    match derived {
+        Derived::FirstMember => b'F',
+        Derived::LastMember => b'L',
+        Derived::MemberCount => b'N',
+        Derived::Predecessor => b'P',
+        Derived::Successor => b'S',
+        Derived::Membership => b'M',
+    }
+}
+
+/// The names that are declared, each with what it stands for. A contract sees the list of the pairs.
+#[derive(Drop)]
+pub struct Meanings {
+    map: IndexMap<Spelling, Meaning>,
+}
+
+impl Model for Meanings {
+    ghost use Rattle.std.specs.Prelude.{◌≡◌, true, List};
+    ghost use Rattle.std.specs.Map.{keys_of};
+    ghost use Rattle.ss_sayings.specs.Sayings.{NameBytes};
+    ghost use Rattle.ss_names.specs.declared.meaning.Meaning.{Meaning};
+    ghost use Rattle.ss_names.specs.Spellings.{are_short};
+
+    ghost Value = { List (NameBytes × Meaning) };
+
+    ghost view = { λ m. m.map.entries };
+
+    ghost invariant = { λ m. are_short (keys_of m.map.entries) ≡ true };
+}
+
+impl Meanings {
+    // No names.
+    fn new(alloc: Global) -> Meanings
+        ensures { result ≡ [] }
+    {
+        Meanings {
+            map: IndexMap::new(alloc),
+        }
+    }
+
+    // Keeps what a name stands for, unless it stands for something.
+    fn keep(&mut self, name: Spelling, meaning: Meaning) -> Result<(), AllocError>
+        ensures { OnOk result (self.new ≡ with_first self.old (name, meaning)) }
+    {
+        // no spelling is longer than SPELLING_LIMIT
+        let _ = name.bytes();
+        keep_spelled(&mut self.map, name, meaning)
+    }
+
+    // The same, where there is something.
+    fn keep_if(&mut self, name: Spelling, meaning: Option<Meaning>) -> Result<(), AllocError>
+        ensures { OnOk result (self.new ≡ fold with_first self.old (entry_if name meaning)) }
+    {
+        match meaning {
+            Some(meaning) => self.keep(name, meaning),
+            None => Ok(()),
+        }
+    }
+
+    // Keeps a class, and N. of it where it is permanent.
+    fn keep_class(
+        &mut self,
+        numbers: &Numbers,
+        kind: ClassKind,
+        name: &Name,
+    ) -> Result<(), AllocError>
+        ensures { OnOk result (self.new ≡ fold with_first self.old (class_meanings numbers.now kind name.now)) }
+    {
+        self.keep_if(Spelling::of_name(name), numbers.class(name))?;
+        match kind {
+            ClassKind::Permanent => self.keep_if(Spelling::count_of(name), numbers.count(name)),
+            ClassKind::Temporary => Ok(()),
+            ClassKind::EventNotice => Ok(()),
+        }
+    }
+
+    // Keeps a derived name of a set.
+    fn keep_derived(&mut self, name: &Name, set: usize, derived: Derived) -> Result<(), AllocError>
+        ensures { OnOk result (self.new ≡ with_first self.old (derived_entry name.now set derived)) }
+    {
+        let spelling = Spelling::derived(letter_of(derived), name);
+        self.keep(spelling, Meaning::Derived { derived, set })
+    }
+
+    // Keeps a set and its derived names.
+    fn keep_set(&mut self, name: &Name, set: usize) -> Result<(), AllocError>
+        ensures { OnOk result (self.new ≡ fold with_first self.old (set_meanings name.now (Some set))) }
+    {
+        self.keep(Spelling::of_name(name), Meaning::Set(set))?;
+        self.keep_derived(name, set, Derived::FirstMember)?;
+        self.keep_derived(name, set, Derived::LastMember)?;
+        self.keep_derived(name, set, Derived::MemberCount)?;
+        self.keep_derived(name, set, Derived::Predecessor)?;
+        self.keep_derived(name, set, Derived::Successor)?;
+        self.keep_derived(name, set, Derived::Membership)
+    }
+
+    // The same, where it has a number.
+    fn keep_set_if(&mut self, name: &Name, set: Option<usize>) -> Result<(), AllocError>
+        ensures { OnOk result (self.new ≡ fold with_first self.old (set_meanings name.now set)) }
+    {
+        match set {
+            Some(set) => self.keep_set(name, set),
+            None => Ok(()),
+        }
+    }
+
+    // Keeps what is declared by what is said of a name.
+    fn keep_said(&mut self, numbers: &Numbers, said: &Said, name: &Name) -> Result<(), AllocError>
+        ensures { OnOk result (self.new ≡ fold with_first self.old (meaning_told numbers.now said.now (Some name.now))) }
+    {
+        let spelling = Spelling::of_name(name);
+        match said {
+            Said::Class { kind } => self.keep_class(numbers, *kind, name),
+            Said::Attribute { .. } => self.keep_if(spelling, numbers.attribute(name)),
+            Said::SystemSet => self.keep_set_if(name, numbers.set(name)),
+            Said::OwnedSet { .. } => self.keep_set_if(name, numbers.set(name)),
+            Said::MemberSet { .. } => self.keep_set_if(name, numbers.set(name)),
+            Said::Variable { .. } => self.keep_if(spelling, numbers.variable(name)),
+            Said::Statistic { .. } => self.keep_if(spelling, numbers.statistic(name)),
+            Said::Routine { .. } => self.keep_if(spelling, numbers.routine(name)),
+            _ => Ok(()),
+        }
+    }
+
+    // Keeps what a saying declares.
+    fn note(&mut self, numbers: &Numbers, saying: &Saying) -> Result<(), AllocError>
+        ensures { OnOk result (self.new ≡ fold with_first self.old (meaning_by numbers.now saying.now)) }
+    {
+        match &saying.name {
+            Some(name) => self.keep_said(numbers, &saying.said, name),
+            None => Ok(()),
+        }
+    }
+
+    /// The place of the name of this spelling.
+    pub fn place(&self, spelling: &[u8]) -> Option<usize>
+        ensures { result ≡ place_in self.now spelling.now }
+    {
+        let map = &self.map;
+        match Spelling::of(spelling) {
+            Some(spelling) => map.get_index_of(&spelling),
+            None => None,
+        }
+    }
+
+    /// What a name stands for.
+    pub fn meaning(&self, name: &Name) -> Option<Meaning>
+        ensures { result ≡ told_of self.now name.now }
+    {
+        self.map.get(&Spelling::of_name(name)).copied()
+    }
+
+    /// The spelling of the name at this place.
+    pub fn spelling(&self, place: usize) -> &[u8]
+        requires { place < length self.now }
+        ensures { slice_get (keys_of self.now) place ≡ Some result.now }
+    {
+        match self.map.get_index(place) {
+            Some((name, _)) => name.bytes(),
+            None => &[],
+        }
+    }
+
+    /// What the name at this place stands for.
+    pub fn at(&self, place: usize) -> Option<Meaning>
+        ensures { result ≡ slice_get (values_of self.now) place }
+    {
+        spelled_at(&self.map, place)
+    }
+
+    /// How many names there are.
+    pub fn len(&self) -> usize
+        ensures { result ≡ length self.now }
+    {
+        self.map.len()
+    }
+}
+
+/// What the names stand for that some sayings declare, where this is numbered.
+pub fn meanings_of(
+    alloc: Global,
+    numbers: &Numbers,
+    sayings: &[Saying],
+) -> Result<Meanings, AllocError>
+    ensures { IfOk result (λ names. names ≡ meanings_in numbers.now sayings.now) }
+{
+    let mut names = Meanings::new(alloc);
+    for saying in sayings {
+        names.note(numbers, saying)?;
+    }
+    Ok(names)
+}

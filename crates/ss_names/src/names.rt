@@ -1,0 +1,297 @@
+//! The table of a program.
+
+ghost use Rattle.std.specs.Prelude.{◌≡◌, ◌<◌, [], length, slice_get, get_or, option_map, Some, IfOk};
+ghost use Rattle.std.specs.Map.{keys_of, values_of};
+ghost use Rattle.ss_tree.specs.View.{view_program};
+ghost use Rattle.ss_names.specs.Firsts.{place_in, told_of};
+ghost use Rattle.ss_names.specs.Table.{declared, table};
+
+use crate::classes::usual_mode;
+use crate::first::{key_at, spelled_at, value_at};
+use crate::histories::histories_of;
+use crate::keys::{RankedBy, TiedBy};
+use crate::meaning::{
+    Attribute, Class, Event, History, Meaning, Routine, Set, Statistic, Variable,
+};
+use crate::meanings::{Meanings, meanings_of};
+use crate::notices::{Notices, notices_of};
+use crate::numbers::{Numbers, numbers_of};
+use crate::sets::sets_in;
+use ss_lex::Name;
+use ss_sayings::{Saying, sayings_of};
+use ss_tree::preamble::Mode;
+use ss_tree::program::Program;
+use std::alloc::{AllocError, Global};
+use std::marker::Model;
+
+/// What a program declares. What has a number has it by its place in the order of the text, from 0.
+///
+/// A contract sees a record of lists.
+#[derive(Drop)]
+pub struct Names {
+    names: Meanings,
+    usual: Option<Mode>,
+    numbers: Numbers,
+    sets: Vec<Set>,
+    notices: Notices,
+    histories: Vec<History>,
+}
+
+impl Model for Names {
+    ghost use Rattle.ss_names.specs.Table.{Table};
+
+    ghost Value = { Table };
+
+    ghost view = { λ n. record { names = n.names; usual = n.usual; classes = n.numbers.classes; attributes = n.numbers.attributes; fields = n.numbers.fields; set_names = n.numbers.set_names; sets = n.sets.items; variables = n.numbers.variables; routines = n.numbers.routines; events = n.notices.events; ranks = n.notices.ranks; statistics = n.numbers.statistics; weighings = n.numbers.weighings; histories = n.histories.items; rank_keys = n.notices.rank_keys; tie_keys = n.notices.tie_keys } };
+}
+
+/// A global or a derived name, by its place in the table.
+#[derive(Clone, Copy, PartialEq, Eq, Debug)]
+pub struct NameId(pub usize);
+
+// What is declared where this is said.
+fn declared(alloc: Global, sayings: &[Saying]) -> Result<Names, AllocError>
+    ensures { IfOk result (λ n. n ≡ declared sayings.now) }
+{
+    let numbers = numbers_of(alloc, sayings)?;
+    let names = meanings_of(alloc, &numbers, sayings)?;
+    let sets = sets_in(alloc, &numbers.classes, &numbers.set_names, sayings)?;
+    let notices = notices_of(alloc, &numbers.classes, sayings)?;
+    let histories = histories_of(alloc, &names, &numbers.weighings)?;
+    Ok(Names {
+        names,
+        usual: usual_mode(sayings),
+        numbers,
+        sets,
+        notices,
+        histories,
+    })
+}
+
+impl Names {
+    /// The table of a program, also of one that breaks rules: of two declarations of a name the first
+    /// counts.
+    ///
+    /// # Errors
+    /// `AllocError` where memory is refused.
+    pub fn of(alloc: Global, program: &Program) -> Result<Names, AllocError>
+        ensures { IfOk result (λ n. n ≡ table (view_program program.now)) }
+    {
+        let sayings = sayings_of(alloc, program)?;
+        declared(alloc, &sayings)
+    }
+
+    /// The global or derived name of this spelling, in capitals. None where there is none.
+    pub fn find(&self, spelling: &[u8]) -> Option<NameId>
+        ensures { option_map (λ id. id.0) result ≡ place_in self.now.names spelling.now }
+    {
+        let place = self.names.place(spelling)?;
+        Some(NameId(place))
+    }
+
+    /// How many global and derived names there are. They have the places below that.
+    pub fn len(&self) -> usize
+        ensures { result ≡ length self.now.names }
+    {
+        self.names.len()
+    }
+
+    /// The spelling of a name, which is one of this table.
+    pub fn name(&self, id: NameId) -> &[u8]
+        requires { id.0 < length self.now.names }
+        ensures { slice_get (keys_of self.now.names) id.0 ≡ Some result.now }
+    {
+        self.names.spelling(id.0)
+    }
+
+    /// What a name of this table stands for. None where it is none of them.
+    pub fn meaning_of(&self, id: NameId) -> Option<Meaning>
+        ensures { result ≡ slice_get (values_of self.now.names) id.0 }
+    {
+        self.names.at(id.0)
+    }
+
+    /// What a name stands for. None where it is no global or derived name.
+    pub fn meaning(&self, name: &Name) -> Option<Meaning>
+        ensures { result ≡ told_of self.now.names name.now }
+    {
+        self.names.meaning(name)
+    }
+
+    /// The mode that NORMALLY gives to every name that has none.
+    pub fn usual_mode(&self) -> Option<Mode>
+        ensures { result ≡ self.now.usual }
+    {
+        self.usual
+    }
+
+    /// How many classes there are.
+    pub fn classes(&self) -> usize
+        ensures { result ≡ length self.now.classes }
+    {
+        self.numbers.classes.len()
+    }
+
+    /// The class of this number.
+    pub fn class(&self, number: usize) -> Option<Class>
+        ensures { result ≡ slice_get (values_of self.now.classes) number }
+    {
+        value_at(&self.numbers.classes, number)
+    }
+
+    /// The name of the class of this number.
+    pub fn class_name(&self, number: usize) -> Option<Name>
+        ensures { result ≡ slice_get (keys_of self.now.classes) number }
+    {
+        key_at(&self.numbers.classes, number)
+    }
+
+    /// The attribute of this number.
+    pub fn attribute(&self, number: usize) -> Option<Attribute>
+        ensures { result ≡ slice_get (values_of self.now.attributes) number }
+    {
+        value_at(self.numbers.attributes.entries(), number)
+    }
+
+    /// The number of an attribute, if it is one.
+    pub fn attribute_number(&self, name: &Name) -> Option<usize>
+        ensures { result ≡ place_in self.now.attributes name.now }
+    {
+        self.numbers.attributes.place(name)
+    }
+
+    /// The attributes of a class, in the order of the text; none where there is no such class.
+    pub fn fields(&self, class: usize) -> &[Name]
+        ensures { result.now ≡ get_or self.now.fields class [] }
+    {
+        self.numbers.attributes.fields(class)
+    }
+
+    /// How many sets there are.
+    pub fn sets(&self) -> usize
+        ensures { result ≡ length self.now.sets }
+    {
+        self.sets.len()
+    }
+
+    /// The set of this number.
+    pub fn set(&self, number: usize) -> Option<Set>
+        ensures { result ≡ slice_get self.now.sets number }
+    {
+        self.sets.get(number).copied()
+    }
+
+    /// The name of the set of this number.
+    pub fn set_name(&self, number: usize) -> Option<Name>
+        ensures { result ≡ slice_get self.now.set_names number }
+    {
+        self.numbers.set_names.get_index(number).copied()
+    }
+
+    /// How many global variables there are: those of DEFINE, the variable of each class, and N. of each
+    /// permanent class.
+    pub fn variables(&self) -> usize
+        ensures { result ≡ length self.now.variables }
+    {
+        self.numbers.variables.len()
+    }
+
+    /// The global variable of this number.
+    pub fn variable(&self, number: usize) -> Option<Variable>
+        ensures { result ≡ slice_get (values_of self.now.variables) number }
+    {
+        spelled_at(&self.numbers.variables, number)
+    }
+
+    /// How many routines there are.
+    pub fn routines(&self) -> usize
+        ensures { result ≡ length self.now.routines }
+    {
+        self.numbers.routines.len()
+    }
+
+    /// The routine of this number.
+    pub fn routine(&self, number: usize) -> Option<Routine>
+        ensures { result ≡ slice_get (values_of self.now.routines) number }
+    {
+        value_at(&self.numbers.routines, number)
+    }
+
+    /// The EVENT section of this name.
+    pub fn event(&self, name: &Name) -> Option<Event>
+        ensures { result ≡ told_of self.now.events name.now }
+    {
+        self.notices.events.get(name).copied()
+    }
+
+    /// How many classes of notices there are.
+    pub fn ranks(&self) -> usize
+        ensures { result ≡ length self.now.ranks }
+    {
+        self.notices.ranks.len()
+    }
+
+    /// The number of the class of notices that has this place in the order of rank: those of PRIORITY ORDER
+    /// in that order, then the others as declared.
+    pub fn ranked(&self, rank: usize) -> Option<usize>
+        ensures { result ≡ slice_get (values_of self.now.ranks) rank }
+    {
+        value_at(&self.notices.ranks, rank)
+    }
+
+    /// The place of a class of notices in the order of rank.
+    pub fn rank(&self, class: &Name) -> Option<usize>
+        ensures { result ≡ place_in self.now.ranks class.now }
+    {
+        self.notices.ranks.get_index_of(class)
+    }
+
+    /// How many statistics there are.
+    pub fn statistics(&self) -> usize
+        ensures { result ≡ length self.now.statistics }
+    {
+        self.numbers.statistics.len()
+    }
+
+    /// The statistic of this number.
+    pub fn statistic(&self, number: usize) -> Option<Statistic>
+        ensures { result ≡ slice_get (values_of self.now.statistics) number }
+    {
+        value_at(&self.numbers.statistics, number)
+    }
+
+    /// How many histories there are: one of each name that a TALLY or an ACCUMULATE is of.
+    pub fn histories(&self) -> usize
+        ensures { result ≡ length self.now.histories }
+    {
+        self.histories.len()
+    }
+
+    /// The history of this number.
+    pub fn history(&self, number: usize) -> Option<History>
+        ensures { result ≡ slice_get self.now.histories number }
+    {
+        self.histories.get(number).copied()
+    }
+
+    /// The number of the history of a name, if a TALLY or an ACCUMULATE is of it.
+    pub fn history_of(&self, name: &Name) -> Option<usize>
+        ensures { result ≡ place_in self.now.weighings name.now }
+    {
+        self.numbers.weighings.get_index_of(name)
+    }
+
+    /// The keys of ranked sets, in the order of the text, each with the number of its DEFINE.
+    pub fn rank_keys(&self) -> &[RankedBy]
+        ensures { result.now ≡ self.now.rank_keys }
+    {
+        &self.notices.rank_keys
+    }
+
+    /// The keys for the ties of notices, in the order of the text, each with its class.
+    pub fn tie_keys(&self) -> &[TiedBy]
+        ensures { result.now ≡ self.now.tie_keys }
+    {
+        &self.notices.tie_keys
+    }
+}
