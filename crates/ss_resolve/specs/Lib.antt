@@ -4,7 +4,3 @@ pub mod Expressions
 pub mod Conditions
 pub mod Heads
 pub mod Statements
-pub mod Meanings
-pub mod Layouts
-pub mod Resolved
-pub mod Seen

@@ -5,8 +5,6 @@ ghost use Rattle.ss_tree.specs.View.{view_statement};
 ghost use Rattle.ss_tree.specs.Tree.{statement_row};
 ghost use Rattle.ss_program.specs.View.{view_body, view_statement as view_resolved};
 ghost use Rattle.ss_resolve.specs.Answers.{Gives};
-ghost use Rattle.ss_resolve.specs.Meanings.{context_in};
-ghost use Rattle.ss_resolve.specs.Seen.{table_in};
 ghost use Rattle.ss_resolve.specs.Statements.{statement, statements};
 
 use crate::conditions::resolve_condition;
@@ -16,105 +14,101 @@ use crate::entities::{
 };
 use crate::error::ResolveError;
 use crate::loops::{resolve_find, resolve_find_by, resolve_loop};
-use crate::names::Names;
 use crate::notices::{resolve_cancel, resolve_reset, resolve_schedule, resolve_schedule_new};
+use crate::scope::Scope;
 use crate::statements::{
     resolve_add, resolve_let, resolve_print, resolve_read, resolve_routine_call, resolve_skip,
     resolve_subtract,
 };
 use ss_program::statement::Statement as Resolved;
-use ss_scopes::Locals;
 use ss_tree::statement::Statement;
 use std::alloc::Global;
 
 // A statement.
 #[cycle(nesting)]
 #[tactic(auto, unfolding(crate::specs::Statements::statement, ss_tree::specs::View::view_statement, ss_program::specs::View::view_statement))]
-fn resolve_statement(
+fn resolve_statement<S: Scope>(
     alloc: Global,
-    names: &Names,
-    locals: &Locals,
+    scope: &S,
     tree: &Statement,
 ) -> Result<Resolved, ResolveError>
-    ensures { Gives view_resolved result (statement (context_in (table_in names.now) locals.now) (view_statement tree.now)) }
+    ensures { Gives view_resolved result (statement (S.context scope.now) (view_statement tree.now)) }
 {
     match tree {
         Statement::Let {
             line,
             target,
             value,
-        } => resolve_let(alloc, names, locals, *line, target, value),
+        } => resolve_let(alloc, scope, *line, target, value),
         Statement::Add {
             line,
             amount,
             target,
-        } => resolve_add(alloc, names, locals, *line, amount, target),
+        } => resolve_add(alloc, scope, *line, amount, target),
         Statement::Subtract {
             line,
             amount,
             target,
-        } => resolve_subtract(alloc, names, locals, *line, amount, target),
+        } => resolve_subtract(alloc, scope, *line, amount, target),
         Statement::Call {
             line,
             routine,
             given,
             yielding,
-        } => resolve_routine_call(alloc, names, locals, *line, *routine, given, yielding),
-        Statement::Read { line, targets } => resolve_read(alloc, names, locals, *line, targets),
+        } => resolve_routine_call(alloc, scope, *line, *routine, given, yielding),
+        Statement::Read { line, targets } => resolve_read(alloc, scope, *line, targets),
         Statement::Create {
             line,
             class,
             called,
-        } => resolve_create(alloc, names, locals, *line, *class, called),
+        } => resolve_create(alloc, scope, *line, *class, called),
         Statement::CreateEvery { line, classes } => resolve_create_every(
-            alloc, names, locals, *line, classes,
+            alloc, scope, *line, classes,
         ),
         Statement::Destroy {
             line,
             class,
             called,
-        } => resolve_destroy(alloc, names, locals, *line, *class, called),
+        } => resolve_destroy(alloc, scope, *line, *class, called),
         Statement::File {
             line,
             member,
             position,
             set,
-        } => resolve_file(alloc, names, locals, *line, member, position, set),
+        } => resolve_file(alloc, scope, *line, member, position, set),
         Statement::RemoveEnd {
             line,
             end,
             target,
             set,
-        } => resolve_remove_end(alloc, names, locals, *line, *end, target, set),
-        Statement::Remove { line, member, set } => resolve_remove(
-            alloc, names, locals, *line, member, set,
-        ),
+        } => resolve_remove_end(alloc, scope, *line, *end, target, set),
+        Statement::Remove { line, member, set } => resolve_remove(alloc, scope, *line, member, set),
         Statement::ScheduleNew {
             line,
             class,
             called,
             given,
             when,
-        } => resolve_schedule_new(alloc, names, locals, *line, *class, called, given, when),
+        } => resolve_schedule_new(alloc, scope, *line, *class, called, given, when),
         Statement::Schedule {
             line,
             class,
             called,
             given,
             when,
-        } => resolve_schedule(alloc, names, locals, *line, *class, called, given, when),
+        } => resolve_schedule(alloc, scope, *line, *class, called, given, when),
         Statement::Cancel {
             line,
             class,
             called,
-        } => resolve_cancel(alloc, names, locals, *line, *class, called),
-        Statement::Reset { line, targets } => resolve_reset(alloc, names, locals, *line, targets),
+        } => resolve_cancel(alloc, scope, *line, *class, called),
+        Statement::Reset { line, targets } => resolve_reset(alloc, scope, *line, targets),
         Statement::Print {
             line,
             items,
             pictures,
-        } => resolve_print(alloc, names, locals, *line, items, pictures),
-        Statement::Skip { line, count } => resolve_skip(alloc, names, locals, *line, count),
+        } => resolve_print(alloc, scope, *line, items, pictures),
+        Statement::Skip { line, count } => resolve_skip(alloc, scope, *line, count),
         Statement::Return { .. } => Ok(Resolved::Return),
         Statement::Stop { .. } => Ok(Resolved::Stop),
         Statement::StartSimulation { .. } => Ok(Resolved::Simulate),
@@ -124,9 +118,9 @@ fn resolve_statement(
             then,
             otherwise,
         } => {
-            let condition = resolve_condition(alloc, names, locals, condition)?;
-            let then = resolve_body(alloc, names, locals, then)?;
-            let otherwise = resolve_body(alloc, names, locals, otherwise)?;
+            let condition = resolve_condition(alloc, scope, condition)?;
+            let then = resolve_body(alloc, scope, then)?;
+            let otherwise = resolve_body(alloc, scope, otherwise)?;
             Ok(Resolved::If {
                 line: *line,
                 condition,
@@ -135,13 +129,13 @@ fn resolve_statement(
             })
         }
         Statement::Loop { line, head, body } => {
-            let body = resolve_body(alloc, names, locals, body)?;
-            resolve_loop(alloc, names, locals, *line, head, body)
+            let body = resolve_body(alloc, scope, body)?;
+            resolve_loop(alloc, scope, *line, head, body)
         }
         Statement::Find { line, head } => {
             let found = Vec::new(alloc);
             let none = Vec::new(alloc);
-            resolve_find(alloc, names, locals, *line, head, found, none)
+            resolve_find(alloc, scope, *line, head, found, none)
         }
         Statement::FindIf {
             line,
@@ -150,26 +144,25 @@ fn resolve_statement(
             then,
             otherwise,
         } => {
-            let then = resolve_body(alloc, names, locals, then)?;
-            let otherwise = resolve_body(alloc, names, locals, otherwise)?;
-            resolve_find_by(alloc, names, locals, *line, head, *outcome, then, otherwise)
+            let then = resolve_body(alloc, scope, then)?;
+            let otherwise = resolve_body(alloc, scope, otherwise)?;
+            resolve_find_by(alloc, scope, *line, head, *outcome, then, otherwise)
         }
     }
 }
 
 /// Statements one after the other.
 #[cycle(nesting)]
-pub(crate) fn resolve_body(
+pub fn resolve_body<S: Scope>(
     alloc: Global,
-    names: &Names,
-    locals: &Locals,
+    scope: &S,
     trees: &[Statement],
 ) -> Result<Vec<Resolved>, ResolveError>
-    ensures { Gives (λ v. view_body v.items) result (statements (context_in (table_in names.now) locals.now) (statement_row (map view_statement trees.now))) }
+    ensures { Gives (λ v. view_body v.items) result (statements (S.context scope.now) (statement_row (map view_statement trees.now))) }
 {
     let mut resolved = Vec::new(alloc);
     for tree in trees {
-        let one = resolve_statement(alloc, names, locals, tree)?;
+        let one = resolve_statement(alloc, scope, tree)?;
         resolved.push(one)?;
     }
     Ok(resolved)

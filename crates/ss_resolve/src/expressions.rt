@@ -9,16 +9,13 @@ ghost use Rattle.ss_program.specs.View.{view_expression as view_resolved, view_o
 ghost use Rattle.ss_program.specs.Views.{with_operation};
 ghost use Rattle.ss_resolve.specs.Answers.{Gives};
 ghost use Rattle.ss_resolve.specs.Expressions.{entity_of, expression, factors, one, plain, subscript, terms, time_of, two, value_of};
-ghost use Rattle.ss_resolve.specs.Meanings.{context_in};
-ghost use Rattle.ss_resolve.specs.Seen.{table_in};
 
 use crate::error::ResolveError;
 use crate::meaning::Meaning;
-use crate::names::{Names, meaning_of};
+use crate::scope::Scope;
 use crate::words::{operator_of, sign_of};
 use ss_base::Value;
 use ss_program::expression::{Expression as Resolved, Operation, Operator, Variable};
-use ss_scopes::Locals;
 use ss_tree::expression::{Designator, Expression, Function, Term};
 use std::alloc::Global;
 
@@ -129,13 +126,12 @@ fn value_of(
 // The expression with each name replaced by what it stands for.
 #[cycle(resolving)]
 #[tactic(auto, unfolding(ss_tree::specs::View::view_expression, ss_program::specs::View::view_expression, crate::specs::Expressions::expression))]
-pub(crate) fn resolve_expression(
+pub(crate) fn resolve_expression<S: Scope>(
     alloc: Global,
-    names: &Names,
-    locals: &Locals,
+    scope: &S,
     tree: &Expression,
 ) -> Result<Resolved, ResolveError>
-    ensures { Gives view_resolved result (expression (context_in (table_in names.now) locals.now) (view_expression tree.now)) }
+    ensures { Gives view_resolved result (expression (S.context scope.now) (view_expression tree.now)) }
 {
     match tree {
         Expression::Number(number) => Ok(Resolved::Constant {
@@ -145,21 +141,21 @@ pub(crate) fn resolve_expression(
             value: Value::Text(*text),
         }),
         Expression::Named(named) => {
-            resolve_named(alloc, names, locals, named.designator, &named.subscripts)
+            resolve_named(alloc, scope, named.designator, &named.subscripts)
         }
         Expression::Call {
             function,
             arguments,
-        } => resolve_call(alloc, names, locals, *function, arguments),
-        Expression::Parenthesised(inner) => resolve_expression(alloc, names, locals, inner),
+        } => resolve_call(alloc, scope, *function, arguments),
+        Expression::Parenthesised(inner) => resolve_expression(alloc, scope, inner),
         Expression::Product { first, further } => {
-            let first = resolve_expression(alloc, names, locals, first)?;
+            let first = resolve_expression(alloc, scope, first)?;
             let first = Box::new(alloc, first)?;
-            let further = resolve_factors(alloc, names, locals, further)?;
+            let further = resolve_factors(alloc, scope, further)?;
             Ok(Resolved::Calculate { first, further })
         }
         Expression::Signed { sign, term } => {
-            let term = resolve_expression(alloc, names, locals, term)?;
+            let term = resolve_expression(alloc, scope, term)?;
             let term = Box::new(alloc, term)?;
             Ok(Resolved::Signed {
                 sign: sign_of(*sign),
@@ -167,9 +163,9 @@ pub(crate) fn resolve_expression(
             })
         }
         Expression::Sum { first, further } => {
-            let first = resolve_expression(alloc, names, locals, first)?;
+            let first = resolve_expression(alloc, scope, first)?;
             let first = Box::new(alloc, first)?;
-            let further = resolve_terms(alloc, names, locals, further)?;
+            let further = resolve_terms(alloc, scope, further)?;
             Ok(Resolved::Calculate { first, further })
         }
     }
@@ -178,35 +174,33 @@ pub(crate) fn resolve_expression(
 // What is named, with its subscripts.
 #[cycle(resolving)]
 #[tactic(auto, unfolding(crate::specs::Expressions::expression))]
-fn resolve_named(
+fn resolve_named<S: Scope>(
     alloc: Global,
-    names: &Names,
-    locals: &Locals,
+    scope: &S,
     designator: Designator,
     subscripts: &[Expression],
 ) -> Result<Resolved, ResolveError>
-    ensures { Gives view_resolved result (expression (context_in (table_in names.now) locals.now) (named designator (expression_row (map view_expression subscripts.now)))) }
+    ensures { Gives view_resolved result (expression (S.context scope.now) (named designator (expression_row (map view_expression subscripts.now)))) }
 {
-    let subscript = resolve_subscript(alloc, names, locals, subscripts)?;
-    let meaning = meaning_of(names, locals, designator)?;
+    let subscript = resolve_subscript(alloc, scope, subscripts)?;
+    let meaning = scope.meaning(designator)?;
     value_of(alloc, meaning, subscript)
 }
 
 // The subscript, if there is one.
 #[cycle(resolving)]
 #[tactic(auto, unfolding(crate::specs::Expressions::subscript))]
-pub(crate) fn resolve_subscript(
+pub(crate) fn resolve_subscript<S: Scope>(
     alloc: Global,
-    names: &Names,
-    locals: &Locals,
+    scope: &S,
     subscripts: &[Expression],
 ) -> Result<Option<Resolved>, ResolveError>
-    ensures { Gives (view_option view_resolved) result (subscript (context_in (table_in names.now) locals.now) (expression_row (map view_expression subscripts.now))) }
+    ensures { Gives (view_option view_resolved) result (subscript (S.context scope.now) (expression_row (map view_expression subscripts.now))) }
 {
     match subscripts {
         [] => Ok(None),
         [only] => {
-            let entity = resolve_expression(alloc, names, locals, only)?;
+            let entity = resolve_expression(alloc, scope, only)?;
             Ok(Some(entity))
         }
         [_, _, ..] => Err(ResolveError::Unresolved),
@@ -216,35 +210,34 @@ pub(crate) fn resolve_subscript(
 // A function with its arguments.
 #[cycle(resolving)]
 #[tactic(auto, unfolding(crate::specs::Expressions::expression, ss_program::specs::View::view_expression))]
-fn resolve_call(
+fn resolve_call<S: Scope>(
     alloc: Global,
-    names: &Names,
-    locals: &Locals,
+    scope: &S,
     function: Function,
     arguments: &[Expression],
 ) -> Result<Resolved, ResolveError>
-    ensures { Gives view_resolved result (expression (context_in (table_in names.now) locals.now) (call function (expression_row (map view_expression arguments.now)))) }
+    ensures { Gives view_resolved result (expression (S.context scope.now) (call function (expression_row (map view_expression arguments.now)))) }
 {
     match function {
         Function::Abs => {
-            let argument = resolve_one(alloc, names, locals, arguments)?;
+            let argument = resolve_one(alloc, scope, arguments)?;
             let argument = Box::new(alloc, argument)?;
             Ok(Resolved::Absolute { argument })
         }
         Function::Div => {
-            let (left, right) = resolve_two(alloc, names, locals, arguments)?;
+            let (left, right) = resolve_two(alloc, scope, arguments)?;
             calculate(alloc, left, Operator::Quotient, right)
         }
         Function::Mod => {
-            let (left, right) = resolve_two(alloc, names, locals, arguments)?;
+            let (left, right) = resolve_two(alloc, scope, arguments)?;
             calculate(alloc, left, Operator::Remainder, right)
         }
         Function::Min => {
-            let (left, right) = resolve_two(alloc, names, locals, arguments)?;
+            let (left, right) = resolve_two(alloc, scope, arguments)?;
             calculate(alloc, left, Operator::Least, right)
         }
         Function::Max => {
-            let (left, right) = resolve_two(alloc, names, locals, arguments)?;
+            let (left, right) = resolve_two(alloc, scope, arguments)?;
             calculate(alloc, left, Operator::Greatest, right)
         }
     }
@@ -253,16 +246,15 @@ fn resolve_call(
 // One argument.
 #[cycle(resolving)]
 #[tactic(auto, unfolding(crate::specs::Expressions::one))]
-fn resolve_one(
+fn resolve_one<S: Scope>(
     alloc: Global,
-    names: &Names,
-    locals: &Locals,
+    scope: &S,
     arguments: &[Expression],
 ) -> Result<Resolved, ResolveError>
-    ensures { Gives view_resolved result (one (context_in (table_in names.now) locals.now) (expression_row (map view_expression arguments.now))) }
+    ensures { Gives view_resolved result (one (S.context scope.now) (expression_row (map view_expression arguments.now))) }
 {
     match arguments {
-        [only] => resolve_expression(alloc, names, locals, only),
+        [only] => resolve_expression(alloc, scope, only),
         [] => Err(ResolveError::Unresolved),
         [_, _, ..] => Err(ResolveError::Unresolved),
     }
@@ -271,18 +263,17 @@ fn resolve_one(
 // Two arguments.
 #[cycle(resolving)]
 #[tactic(auto, unfolding(crate::specs::Expressions::two))]
-fn resolve_two(
+fn resolve_two<S: Scope>(
     alloc: Global,
-    names: &Names,
-    locals: &Locals,
+    scope: &S,
     arguments: &[Expression],
 ) -> Result<(Resolved, Resolved), ResolveError>
-    ensures { Gives (λ p. (view_resolved p.0, view_resolved p.1)) result (two (context_in (table_in names.now) locals.now) (expression_row (map view_expression arguments.now))) }
+    ensures { Gives (λ p. (view_resolved p.0, view_resolved p.1)) result (two (S.context scope.now) (expression_row (map view_expression arguments.now))) }
 {
     match arguments {
         [left, right] => {
-            let left = resolve_expression(alloc, names, locals, left)?;
-            let right = resolve_expression(alloc, names, locals, right)?;
+            let left = resolve_expression(alloc, scope, left)?;
+            let right = resolve_expression(alloc, scope, right)?;
             Ok((left, right))
         }
         [] => Err(ResolveError::Unresolved),
@@ -293,17 +284,16 @@ fn resolve_two(
 
 // The further factors of a product.
 #[cycle(resolving)]
-fn resolve_factors(
+fn resolve_factors<S: Scope>(
     alloc: Global,
-    names: &Names,
-    locals: &Locals,
+    scope: &S,
     trees: &[Expression],
 ) -> Result<Vec<Operation>, ResolveError>
-    ensures { (left : _) → Gives (λ v. fold with_operation left v.items) result (factors (context_in (table_in names.now) locals.now) left (expression_row (map view_expression trees.now))) }
+    ensures { (left : _) → Gives (λ v. fold with_operation left v.items) result (factors (S.context scope.now) left (expression_row (map view_expression trees.now))) }
 {
     let mut operations = Vec::new(alloc);
     for tree in trees {
-        let operand = resolve_expression(alloc, names, locals, tree)?;
+        let operand = resolve_expression(alloc, scope, tree)?;
         operations.push(Operation {
             operator: Operator::Multiply,
             operand,
@@ -314,17 +304,16 @@ fn resolve_factors(
 
 // The further terms of a sum.
 #[cycle(resolving)]
-fn resolve_terms(
+fn resolve_terms<S: Scope>(
     alloc: Global,
-    names: &Names,
-    locals: &Locals,
+    scope: &S,
     trees: &[Term],
 ) -> Result<Vec<Operation>, ResolveError>
-    ensures { (left : _) → Gives (λ v. fold with_operation left v.items) result (terms (context_in (table_in names.now) locals.now) left (term_row (map view_term trees.now))) }
+    ensures { (left : _) → Gives (λ v. fold with_operation left v.items) result (terms (S.context scope.now) left (term_row (map view_term trees.now))) }
 {
     let mut operations = Vec::new(alloc);
     for tree in trees {
-        let operand = resolve_expression(alloc, names, locals, &tree.value)?;
+        let operand = resolve_expression(alloc, scope, &tree.value)?;
         operations.push(Operation {
             operator: operator_of(tree.sign),
             operand,

@@ -7,23 +7,20 @@ ghost use Rattle.ss_resolve.specs.Answers.{Gives, each, if_there};
 ghost use Rattle.ss_resolve.specs.Contexts.{if_permanent, permanent_class};
 ghost use Rattle.ss_resolve.specs.Expressions.{expression};
 ghost use Rattle.ss_resolve.specs.Heads.{called_variable, guard, head, if_variable, loop_variable, phrase, phrases_of, start};
-ghost use Rattle.ss_resolve.specs.Meanings.{context_in};
-ghost use Rattle.ss_resolve.specs.Seen.{table_in};
 
 use crate::classes::permanent_class;
 use crate::conditions::resolve_condition;
 use crate::error::ResolveError;
 use crate::expressions::resolve_expression;
 use crate::meaning::Meaning;
-use crate::names::{Names, meaning_of};
 use crate::places::resolve_set;
+use crate::scope::Scope;
 use crate::words::{guard_kind_of, phrase_kind_of};
 use ss_lex::Name;
 use ss_program::expression::{Expression as Resolved, Variable};
 use ss_program::head::{
     Guard as ResolvedGuard, Head as ResolvedHead, Phrase as ResolvedPhrase, Start,
 };
-use ss_scopes::Locals;
 use ss_tree::expression::{Designator, Expression};
 use ss_tree::head::{Guard, Head, MemberStart, Phrase};
 use std::alloc::Global;
@@ -31,15 +28,14 @@ use std::alloc::Global;
 // ---- conditions of loops
 
 // A phrase.
-fn resolve_phrase(
+fn resolve_phrase<S: Scope>(
     alloc: Global,
-    names: &Names,
-    locals: &Locals,
+    scope: &S,
     tree: &Phrase,
 ) -> Result<ResolvedPhrase, ResolveError>
-    ensures { Gives phrase_seen result (phrase (context_in (table_in names.now) locals.now) (view_phrase tree.now)) }
+    ensures { Gives phrase_seen result (phrase (S.context scope.now) (view_phrase tree.now)) }
 {
-    let condition = resolve_condition(alloc, names, locals, &tree.condition)?;
+    let condition = resolve_condition(alloc, scope, &tree.condition)?;
     Ok(ResolvedPhrase {
         kind: phrase_kind_of(tree.kind),
         condition,
@@ -47,32 +43,30 @@ fn resolve_phrase(
 }
 
 /// Phrases.
-pub(crate) fn resolve_phrases(
+pub(crate) fn resolve_phrases<S: Scope>(
     alloc: Global,
-    names: &Names,
-    locals: &Locals,
+    scope: &S,
     trees: &[Phrase],
 ) -> Result<Vec<ResolvedPhrase>, ResolveError>
-    ensures { Gives (λ v. map phrase_seen v.items) result (each (phrase (context_in (table_in names.now) locals.now)) (map view_phrase trees.now)) }
+    ensures { Gives (λ v. map phrase_seen v.items) result (each (phrase (S.context scope.now)) (map view_phrase trees.now)) }
 {
     let mut resolved = Vec::new(alloc);
     for tree in trees {
-        let one = resolve_phrase(alloc, names, locals, tree)?;
+        let one = resolve_phrase(alloc, scope, tree)?;
         resolved.push(one)?;
     }
     Ok(resolved)
 }
 
 // A condition of a loop that begins with WHILE or UNTIL.
-fn resolve_guard(
+fn resolve_guard<S: Scope>(
     alloc: Global,
-    names: &Names,
-    locals: &Locals,
+    scope: &S,
     tree: &Guard,
 ) -> Result<ResolvedGuard, ResolveError>
-    ensures { Gives guard_seen result (guard (context_in (table_in names.now) locals.now) (view_guard tree.now)) }
+    ensures { Gives guard_seen result (guard (S.context scope.now) (view_guard tree.now)) }
 {
-    let condition = resolve_condition(alloc, names, locals, &tree.condition)?;
+    let condition = resolve_condition(alloc, scope, &tree.condition)?;
     Ok(ResolvedGuard {
         kind: guard_kind_of(tree.kind),
         condition,
@@ -80,17 +74,16 @@ fn resolve_guard(
 }
 
 /// The conditions of a loop that begins with WHILE or UNTIL.
-pub(crate) fn resolve_guards(
+pub(crate) fn resolve_guards<S: Scope>(
     alloc: Global,
-    names: &Names,
-    locals: &Locals,
+    scope: &S,
     trees: &[Guard],
 ) -> Result<Vec<ResolvedGuard>, ResolveError>
-    ensures { Gives (λ v. map guard_seen v.items) result (each (guard (context_in (table_in names.now) locals.now)) (map view_guard trees.now)) }
+    ensures { Gives (λ v. map guard_seen v.items) result (each (guard (S.context scope.now)) (map view_guard trees.now)) }
 {
     let mut resolved = Vec::new(alloc);
     for tree in trees {
-        let one = resolve_guard(alloc, names, locals, tree)?;
+        let one = resolve_guard(alloc, scope, tree)?;
         resolved.push(one)?;
     }
     Ok(resolved)
@@ -128,63 +121,60 @@ fn if_variable(meaning: Meaning) -> Result<Variable, ResolveError>
 }
 
 // The variable that takes the items of a loop.
-fn loop_variable(names: &Names, locals: &Locals, name: Name) -> Result<Variable, ResolveError>
-    ensures { Gives (λ x. x) result (loop_variable (context_in (table_in names.now) locals.now) name) }
+fn loop_variable<S: Scope>(scope: &S, name: Name) -> Result<Variable, ResolveError>
+    ensures { Gives (λ x. x) result (loop_variable (S.context scope.now) name) }
 {
-    let meaning = meaning_of(names, locals, Designator::Name(name))?;
+    let meaning = scope.meaning(Designator::Name(name))?;
     if_variable(meaning)
 }
 
 // The variable behind CALLED, or else that of the class.
-fn called_variable(
-    names: &Names,
-    locals: &Locals,
+fn called_variable<S: Scope>(
+    scope: &S,
     implied: Variable,
     called: &Option<Name>,
 ) -> Result<Variable, ResolveError>
-    ensures { Gives (λ x. x) result (called_variable (context_in (table_in names.now) locals.now) implied called.now) }
+    ensures { Gives (λ x. x) result (called_variable (S.context scope.now) implied called.now) }
 {
     match called {
         None => Ok(implied),
-        Some(name) => loop_variable(names, locals, *name),
+        Some(name) => loop_variable(scope, *name),
     }
 }
 
 // The member with which a FOR over a set begins.
-fn resolve_start(
+fn resolve_start<S: Scope>(
     alloc: Global,
-    names: &Names,
-    locals: &Locals,
+    scope: &S,
     tree: &MemberStart,
 ) -> Result<Start, ResolveError>
-    ensures { Gives start_seen result (start (context_in (table_in names.now) locals.now) (view_start tree.now)) }
+    ensures { Gives start_seen result (start (S.context scope.now) (view_start tree.now)) }
 {
     match tree {
         MemberStart::End => Ok(Start::AtEnd),
         MemberStart::From(member) => {
-            let member = resolve_expression(alloc, names, locals, member)?;
+            let member = resolve_expression(alloc, scope, member)?;
             Ok(Start::From { member })
         }
         MemberStart::After(member) => {
-            let member = resolve_expression(alloc, names, locals, member)?;
+            let member = resolve_expression(alloc, scope, member)?;
             Ok(Start::After { member })
         }
     }
 }
 
 // The step of a FOR, where one is written.
-fn resolve_step(
+fn resolve_step<S: Scope>(
     alloc: Global,
-    names: &Names,
-    locals: &Locals,
+    scope: &S,
     tree: &Option<Expression>,
 ) -> Result<Option<Resolved>, ResolveError>
-    ensures { Gives (option_seen view_resolved) result (if_there (expression (context_in (table_in names.now) locals.now)) (view_option view_expression tree.now)) }
+    ensures { Gives (option_seen view_resolved) result (if_there (expression (S.context scope.now)) (view_option view_expression tree.now)) }
 {
     match tree {
         None => Ok(None),
         Some(tree) => {
-            let step = resolve_expression(alloc, names, locals, tree)?;
+            let step = resolve_expression(alloc, scope, tree)?;
             Ok(Some(step))
         }
     }
@@ -192,13 +182,12 @@ fn resolve_step(
 
 /// What a FOR goes over.
 #[tactic(auto, unfolding(crate::specs::Heads::head))]
-pub(crate) fn resolve_head(
+pub(crate) fn resolve_head<S: Scope>(
     alloc: Global,
-    names: &Names,
-    locals: &Locals,
+    scope: &S,
     tree: &Head,
 ) -> Result<ResolvedHead, ResolveError>
-    ensures { Gives head_seen result (head (context_in (table_in names.now) locals.now) (view_head tree.now)) }
+    ensures { Gives head_seen result (head (S.context scope.now) (view_head tree.now)) }
 {
     match tree {
         Head::Range {
@@ -208,10 +197,10 @@ pub(crate) fn resolve_head(
             step,
             ..
         } => {
-            let variable = loop_variable(names, locals, *variable)?;
-            let first = resolve_expression(alloc, names, locals, from)?;
-            let limit = resolve_expression(alloc, names, locals, to)?;
-            let step = resolve_step(alloc, names, locals, step)?;
+            let variable = loop_variable(scope, *variable)?;
+            let first = resolve_expression(alloc, scope, from)?;
+            let limit = resolve_expression(alloc, scope, to)?;
+            let step = resolve_step(alloc, scope, step)?;
             Ok(ResolvedHead::Numbers {
                 variable,
                 first,
@@ -226,9 +215,9 @@ pub(crate) fn resolve_head(
             reverse,
             ..
         } => {
-            let variable = loop_variable(names, locals, *variable)?;
-            let (set, owner) = resolve_set(alloc, names, locals, set)?;
-            let start = resolve_start(alloc, names, locals, start)?;
+            let variable = loop_variable(scope, *variable)?;
+            let (set, owner) = resolve_set(alloc, scope, set)?;
+            let start = resolve_start(alloc, scope, start)?;
             Ok(ResolvedHead::Members {
                 variable,
                 set,
@@ -238,8 +227,8 @@ pub(crate) fn resolve_head(
             })
         }
         Head::Class { class, called, .. } => {
-            let class = permanent_class(names, locals, *class)?;
-            let variable = called_variable(names, locals, class.variable, called)?;
+            let class = permanent_class(scope, *class)?;
+            let variable = called_variable(scope, class.variable, called)?;
             Ok(ResolvedHead::Each {
                 variable,
                 class: class.class,

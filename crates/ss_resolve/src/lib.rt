@@ -11,11 +11,13 @@ mod heads;
 mod lists;
 mod loops;
 mod meaning;
-mod names;
 mod notices;
 mod places;
+mod scope;
 mod statements;
 mod words;
 
+pub use bodies::resolve_body;
 pub use error::ResolveError;
 pub use meaning::{ClassMeant, Meaning, RoutineMeant, SetMeant};
+pub use scope::Scope;

@@ -5,8 +5,6 @@ ghost use Rattle.ss_tree.specs.View.{view_expression, view_named, view_option, v
 ghost use Rattle.ss_tree.specs.Tree.{cancel_statement, reset_statement, schedule_new, schedule_statement};
 ghost use Rattle.ss_program.specs.View.{view_expression as expression_seen, view_place, view_statement as view_resolved, view_when as when_seen};
 ghost use Rattle.ss_resolve.specs.Answers.{Gives};
-ghost use Rattle.ss_resolve.specs.Meanings.{context_in};
-ghost use Rattle.ss_resolve.specs.Seen.{table_in};
 ghost use Rattle.ss_resolve.specs.Statements.{new_notice, old_notice, statement, when};
 
 use crate::classes::notice_class;
@@ -14,33 +12,31 @@ use crate::error::ResolveError;
 use crate::expressions::resolve_expression;
 use crate::lists::resolve_all;
 use crate::meaning::ClassMeant;
-use crate::names::Names;
 use crate::places::{resolve_entity_called, resolve_new_place, resolve_restarts};
+use crate::scope::Scope;
 use ss_base::Line;
 use ss_lex::Name;
 use ss_program::expression::Expression as Value;
 use ss_program::statement::{Place, Statement as Resolved, When as ResolvedWhen};
-use ss_scopes::Locals;
 use ss_tree::expression::{Expression, Named};
 use ss_tree::statement::When;
 use std::alloc::Global;
 
 // The time for which a notice is scheduled.
-fn resolve_when(
+fn resolve_when<S: Scope>(
     alloc: Global,
-    names: &Names,
-    locals: &Locals,
+    scope: &S,
     tree: &When,
 ) -> Result<ResolvedWhen, ResolveError>
-    ensures { Gives when_seen result (when (context_in (table_in names.now) locals.now) (view_when tree.now)) }
+    ensures { Gives when_seen result (when (S.context scope.now) (view_when tree.now)) }
 {
     match tree {
         When::At(time) => {
-            let time = resolve_expression(alloc, names, locals, time)?;
+            let time = resolve_expression(alloc, scope, time)?;
             Ok(ResolvedWhen::At { time })
         }
         When::In(units) => {
-            let units = resolve_expression(alloc, names, locals, units)?;
+            let units = resolve_expression(alloc, scope, units)?;
             Ok(ResolvedWhen::In { units })
         }
         When::Now => Ok(ResolvedWhen::Now),
@@ -97,60 +93,57 @@ fn old_notice(
 
 /// SCHEDULE A.
 #[tactic(auto, unfolding(crate::specs::Statements::statement, ss_program::specs::View::view_statement))]
-pub(crate) fn resolve_schedule_new(
+pub(crate) fn resolve_schedule_new<S: Scope>(
     alloc: Global,
-    names: &Names,
-    locals: &Locals,
+    scope: &S,
     line: Line,
     class: Name,
     called: &Option<Named>,
     given: &[Expression],
     when: &When,
 ) -> Result<Resolved, ResolveError>
-    ensures { Gives view_resolved result (statement (context_in (table_in names.now) locals.now) (schedule_new line class (view_option view_named called.now) (map view_expression given.now) (view_when when.now))) }
+    ensures { Gives view_resolved result (statement (S.context scope.now) (schedule_new line class (view_option view_named called.now) (map view_expression given.now) (view_when when.now))) }
 {
-    let class = notice_class(names, locals, class)?;
-    let into = resolve_new_place(alloc, names, locals, class.variable, called)?;
-    let given = resolve_all(alloc, names, locals, given)?;
-    let when = resolve_when(alloc, names, locals, when)?;
+    let class = notice_class(scope, class)?;
+    let into = resolve_new_place(alloc, scope, class.variable, called)?;
+    let given = resolve_all(alloc, scope, given)?;
+    let when = resolve_when(alloc, scope, when)?;
     new_notice(line, class, into, given, when)
 }
 
 /// SCHEDULE THE.
 #[tactic(auto, unfolding(crate::specs::Statements::statement, ss_program::specs::View::view_statement))]
-pub(crate) fn resolve_schedule(
+pub(crate) fn resolve_schedule<S: Scope>(
     alloc: Global,
-    names: &Names,
-    locals: &Locals,
+    scope: &S,
     line: Line,
     class: Name,
     called: &Option<Expression>,
     given: &[Expression],
     when: &When,
 ) -> Result<Resolved, ResolveError>
-    ensures { Gives view_resolved result (statement (context_in (table_in names.now) locals.now) (schedule_statement line class (view_option view_expression called.now) (map view_expression given.now) (view_when when.now))) }
+    ensures { Gives view_resolved result (statement (S.context scope.now) (schedule_statement line class (view_option view_expression called.now) (map view_expression given.now) (view_when when.now))) }
 {
-    let class = notice_class(names, locals, class)?;
-    let notice = resolve_entity_called(alloc, names, locals, class.variable, called)?;
-    let given = resolve_all(alloc, names, locals, given)?;
-    let when = resolve_when(alloc, names, locals, when)?;
+    let class = notice_class(scope, class)?;
+    let notice = resolve_entity_called(alloc, scope, class.variable, called)?;
+    let given = resolve_all(alloc, scope, given)?;
+    let when = resolve_when(alloc, scope, when)?;
     old_notice(line, class, notice, given, when)
 }
 
 /// CANCEL.
 #[tactic(auto, unfolding(crate::specs::Statements::statement, ss_program::specs::View::view_statement))]
-pub(crate) fn resolve_cancel(
+pub(crate) fn resolve_cancel<S: Scope>(
     alloc: Global,
-    names: &Names,
-    locals: &Locals,
+    scope: &S,
     line: Line,
     class: Name,
     called: &Option<Expression>,
 ) -> Result<Resolved, ResolveError>
-    ensures { Gives view_resolved result (statement (context_in (table_in names.now) locals.now) (cancel_statement line class (view_option view_expression called.now))) }
+    ensures { Gives view_resolved result (statement (S.context scope.now) (cancel_statement line class (view_option view_expression called.now))) }
 {
-    let class = notice_class(names, locals, class)?;
-    let notice = resolve_entity_called(alloc, names, locals, class.variable, called)?;
+    let class = notice_class(scope, class)?;
+    let notice = resolve_entity_called(alloc, scope, class.variable, called)?;
     Ok(Resolved::Cancel {
         line,
         class: class.class,
@@ -160,15 +153,14 @@ pub(crate) fn resolve_cancel(
 
 /// RESET.
 #[tactic(auto, unfolding(crate::specs::Statements::statement, ss_program::specs::View::view_statement))]
-pub(crate) fn resolve_reset(
+pub(crate) fn resolve_reset<S: Scope>(
     alloc: Global,
-    names: &Names,
-    locals: &Locals,
+    scope: &S,
     line: Line,
     targets: &[Named],
 ) -> Result<Resolved, ResolveError>
-    ensures { Gives view_resolved result (statement (context_in (table_in names.now) locals.now) (reset_statement line (map view_named targets.now))) }
+    ensures { Gives view_resolved result (statement (S.context scope.now) (reset_statement line (map view_named targets.now))) }
 {
-    let restarts = resolve_restarts(alloc, names, locals, targets)?;
+    let restarts = resolve_restarts(alloc, scope, targets)?;
     Ok(Resolved::Reset { line, restarts })
 }

@@ -5,18 +5,15 @@ ghost use Rattle.ss_tree.specs.View.{view_expression, view_named, view_option};
 ghost use Rattle.ss_program.specs.View.{view_expression as view_resolved, view_option as option_seen, view_owner, view_place, view_restart, view_target};
 ghost use Rattle.ss_resolve.specs.Answers.{Gives, each};
 ghost use Rattle.ss_resolve.specs.Expressions.{owned_by, place_of, plain, set_named, target};
-ghost use Rattle.ss_resolve.specs.Meanings.{context_in};
-ghost use Rattle.ss_resolve.specs.Seen.{table_in};
 ghost use Rattle.ss_resolve.specs.Statements.{entity_called, mode_of, new_place, reader, restart, told_of};
 
 use crate::error::ResolveError;
 use crate::expressions::{entity_of, resolve_expression, resolve_subscript};
 use crate::meaning::{Meaning, SetMeant};
-use crate::names::{Names, meaning_of, set_of, statistic_of};
+use crate::scope::Scope;
 use ss_base::Mode;
 use ss_program::expression::{Expression as Resolved, SetOwner, Variable};
 use ss_program::statement::{Place, Restart, Target};
-use ss_scopes::Locals;
 use ss_tree::expression::{Expression, Named};
 use std::alloc::Global;
 
@@ -61,31 +58,29 @@ fn place_of(meaning: Meaning, subscript: Option<Resolved>) -> Result<Place, Reso
 }
 
 /// A target.
-pub(crate) fn resolve_target(
+pub(crate) fn resolve_target<S: Scope>(
     alloc: Global,
-    names: &Names,
-    locals: &Locals,
+    scope: &S,
     tree: &Named,
 ) -> Result<Place, ResolveError>
-    ensures { Gives view_place result (target (context_in (table_in names.now) locals.now) (view_named tree.now)) }
+    ensures { Gives view_place result (target (S.context scope.now) (view_named tree.now)) }
 {
-    let subscript = resolve_subscript(alloc, names, locals, &tree.subscripts)?;
-    let meaning = meaning_of(names, locals, tree.designator)?;
+    let subscript = resolve_subscript(alloc, scope, &tree.subscripts)?;
+    let meaning = scope.meaning(tree.designator)?;
     place_of(meaning, subscript)
 }
 
 /// Targets.
-pub(crate) fn resolve_targets(
+pub(crate) fn resolve_targets<S: Scope>(
     alloc: Global,
-    names: &Names,
-    locals: &Locals,
+    scope: &S,
     trees: &[Named],
 ) -> Result<Vec<Place>, ResolveError>
-    ensures { Gives (λ v. map view_place v.items) result (each (target (context_in (table_in names.now) locals.now)) (map view_named trees.now)) }
+    ensures { Gives (λ v. map view_place v.items) result (each (target (S.context scope.now)) (map view_named trees.now)) }
 {
     let mut resolved = Vec::new(alloc);
     for tree in trees {
-        let one = resolve_target(alloc, names, locals, tree)?;
+        let one = resolve_target(alloc, scope, tree)?;
         resolved.push(one)?;
     }
     Ok(resolved)
@@ -111,67 +106,59 @@ fn mode_of(meaning: Meaning) -> Result<Mode, ResolveError>
 }
 
 // A target of READ.
-fn resolve_reader(
-    alloc: Global,
-    names: &Names,
-    locals: &Locals,
-    tree: &Named,
-) -> Result<Target, ResolveError>
-    ensures { Gives view_target result (reader (context_in (table_in names.now) locals.now) (view_named tree.now)) }
+fn resolve_reader<S: Scope>(alloc: Global, scope: &S, tree: &Named) -> Result<Target, ResolveError>
+    ensures { Gives view_target result (reader (S.context scope.now) (view_named tree.now)) }
 {
-    let place = resolve_target(alloc, names, locals, tree)?;
-    let meaning = meaning_of(names, locals, tree.designator)?;
+    let place = resolve_target(alloc, scope, tree)?;
+    let meaning = scope.meaning(tree.designator)?;
     let mode = mode_of(meaning)?;
     Ok(Target { place, mode })
 }
 
 /// The targets of READ.
-pub(crate) fn resolve_readers(
+pub(crate) fn resolve_readers<S: Scope>(
     alloc: Global,
-    names: &Names,
-    locals: &Locals,
+    scope: &S,
     trees: &[Named],
 ) -> Result<Vec<Target>, ResolveError>
-    ensures { Gives (λ v. map view_target v.items) result (each (reader (context_in (table_in names.now) locals.now)) (map view_named trees.now)) }
+    ensures { Gives (λ v. map view_target v.items) result (each (reader (S.context scope.now)) (map view_named trees.now)) }
 {
     let mut resolved = Vec::new(alloc);
     for tree in trees {
-        let one = resolve_reader(alloc, names, locals, tree)?;
+        let one = resolve_reader(alloc, scope, tree)?;
         resolved.push(one)?;
     }
     Ok(resolved)
 }
 
 /// What takes the number of a new entity: the target behind CALLED, or else the variable of the class.
-pub(crate) fn resolve_new_place(
+pub(crate) fn resolve_new_place<S: Scope>(
     alloc: Global,
-    names: &Names,
-    locals: &Locals,
+    scope: &S,
     variable: Variable,
     called: &Option<Named>,
 ) -> Result<Place, ResolveError>
-    ensures { Gives view_place result (new_place (context_in (table_in names.now) locals.now) variable (view_option view_named called.now)) }
+    ensures { Gives view_place result (new_place (S.context scope.now) variable (view_option view_named called.now)) }
 {
     match called {
         None => Ok(Place::ToVariable { variable }),
-        Some(tree) => resolve_target(alloc, names, locals, tree),
+        Some(tree) => resolve_target(alloc, scope, tree),
     }
 }
 
 /// The entity behind CALLED, or else the one in the variable of the class.
 #[tactic(auto, unfolding(ss_program::specs::View::view_expression))]
-pub(crate) fn resolve_entity_called(
+pub(crate) fn resolve_entity_called<S: Scope>(
     alloc: Global,
-    names: &Names,
-    locals: &Locals,
+    scope: &S,
     variable: Variable,
     called: &Option<Expression>,
 ) -> Result<Resolved, ResolveError>
-    ensures { Gives view_resolved result (entity_called (context_in (table_in names.now) locals.now) variable (view_option view_expression called.now)) }
+    ensures { Gives view_resolved result (entity_called (S.context scope.now) variable (view_option view_expression called.now)) }
 {
     match called {
         None => Ok(Resolved::Fetch { variable }),
-        Some(tree) => resolve_expression(alloc, names, locals, tree),
+        Some(tree) => resolve_expression(alloc, scope, tree),
     }
 }
 
@@ -194,16 +181,15 @@ fn owned_by(set: SetMeant, subscript: Option<Resolved>) -> Result<(u32, SetOwner
 }
 
 /// The number of the set that is named, and whose it is.
-pub(crate) fn resolve_set(
+pub(crate) fn resolve_set<S: Scope>(
     alloc: Global,
-    names: &Names,
-    locals: &Locals,
+    scope: &S,
     tree: &Named,
 ) -> Result<(u32, SetOwner), ResolveError>
-    ensures { Gives (λ p. (p.0, view_owner p.1)) result (set_named (context_in (table_in names.now) locals.now) (view_named tree.now)) }
+    ensures { Gives (λ p. (p.0, view_owner p.1)) result (set_named (S.context scope.now) (view_named tree.now)) }
 {
-    let subscript = resolve_subscript(alloc, names, locals, &tree.subscripts)?;
-    let set = set_of(names, locals, tree.designator)?;
+    let subscript = resolve_subscript(alloc, scope, &tree.subscripts)?;
+    let set = scope.set(tree.designator)?;
     owned_by(set, subscript)
 }
 
@@ -241,33 +227,31 @@ fn told_of(meaning: Meaning, subscript: Option<Resolved>) -> Result<Option<Resol
 }
 
 // A statistic that starts afresh.
-fn resolve_restart(
+fn resolve_restart<S: Scope>(
     alloc: Global,
-    names: &Names,
-    locals: &Locals,
+    scope: &S,
     tree: &Named,
 ) -> Result<Restart, ResolveError>
-    ensures { Gives view_restart result (restart (context_in (table_in names.now) locals.now) (view_named tree.now)) }
+    ensures { Gives view_restart result (restart (S.context scope.now) (view_named tree.now)) }
 {
-    let subscript = resolve_subscript(alloc, names, locals, &tree.subscripts)?;
-    let meaning = meaning_of(names, locals, tree.designator)?;
+    let subscript = resolve_subscript(alloc, scope, &tree.subscripts)?;
+    let meaning = scope.meaning(tree.designator)?;
     let of = told_of(meaning, subscript)?;
-    let statistic = statistic_of(names, locals, tree.designator)?;
+    let statistic = scope.statistic(tree.designator)?;
     Ok(Restart { statistic, of })
 }
 
 /// The statistics of a RESET.
-pub(crate) fn resolve_restarts(
+pub(crate) fn resolve_restarts<S: Scope>(
     alloc: Global,
-    names: &Names,
-    locals: &Locals,
+    scope: &S,
     trees: &[Named],
 ) -> Result<Vec<Restart>, ResolveError>
-    ensures { Gives (λ v. map view_restart v.items) result (each (restart (context_in (table_in names.now) locals.now)) (map view_named trees.now)) }
+    ensures { Gives (λ v. map view_restart v.items) result (each (restart (S.context scope.now)) (map view_named trees.now)) }
 {
     let mut resolved = Vec::new(alloc);
     for tree in trees {
-        let one = resolve_restart(alloc, names, locals, tree)?;
+        let one = resolve_restart(alloc, scope, tree)?;
         resolved.push(one)?;
     }
     Ok(resolved)

@@ -5,38 +5,34 @@ ghost use Rattle.ss_tree.specs.View.{view_expression, view_named};
 ghost use Rattle.ss_tree.specs.Tree.{add_statement, call_statement, let_statement, print_statement, read_statement, skip_statement, subtract_statement};
 ghost use Rattle.ss_program.specs.View.{view_expression as expression_seen, view_place, view_statement as view_resolved};
 ghost use Rattle.ss_resolve.specs.Answers.{Gives};
-ghost use Rattle.ss_resolve.specs.Meanings.{context_in};
-ghost use Rattle.ss_resolve.specs.Seen.{table_in};
 ghost use Rattle.ss_resolve.specs.Statements.{call_of, statement};
 
 use crate::error::ResolveError;
 use crate::expressions::resolve_expression;
 use crate::lists::resolve_all;
 use crate::meaning::RoutineMeant;
-use crate::names::{Names, routine_of};
 use crate::places::{resolve_readers, resolve_target, resolve_targets};
+use crate::scope::Scope;
 use ss_base::Line;
 use ss_lex::{Name, PictureLine};
 use ss_program::expression::{Expression as Value, Sign};
 use ss_program::statement::{Place, Statement as Resolved};
-use ss_scopes::Locals;
 use ss_tree::expression::{Expression, Named};
 use std::alloc::{AllocError, Global};
 
 /// LET.
 #[tactic(auto, unfolding(crate::specs::Statements::statement, ss_program::specs::View::view_statement))]
-pub(crate) fn resolve_let(
+pub(crate) fn resolve_let<S: Scope>(
     alloc: Global,
-    names: &Names,
-    locals: &Locals,
+    scope: &S,
     line: Line,
     target: &Named,
     value: &Expression,
 ) -> Result<Resolved, ResolveError>
-    ensures { Gives view_resolved result (statement (context_in (table_in names.now) locals.now) (let_statement line (view_named target.now) (view_expression value.now))) }
+    ensures { Gives view_resolved result (statement (S.context scope.now) (let_statement line (view_named target.now) (view_expression value.now))) }
 {
-    let target = resolve_target(alloc, names, locals, target)?;
-    let value = resolve_expression(alloc, names, locals, value)?;
+    let target = resolve_target(alloc, scope, target)?;
+    let value = resolve_expression(alloc, scope, value)?;
     Ok(Resolved::Let {
         line,
         target,
@@ -46,18 +42,17 @@ pub(crate) fn resolve_let(
 
 /// ADD.
 #[tactic(auto, unfolding(crate::specs::Statements::statement, ss_program::specs::View::view_statement))]
-pub(crate) fn resolve_add(
+pub(crate) fn resolve_add<S: Scope>(
     alloc: Global,
-    names: &Names,
-    locals: &Locals,
+    scope: &S,
     line: Line,
     amount: &Expression,
     target: &Named,
 ) -> Result<Resolved, ResolveError>
-    ensures { Gives view_resolved result (statement (context_in (table_in names.now) locals.now) (add_statement line (view_expression amount.now) (view_named target.now))) }
+    ensures { Gives view_resolved result (statement (S.context scope.now) (add_statement line (view_expression amount.now) (view_named target.now))) }
 {
-    let value = resolve_expression(alloc, names, locals, amount)?;
-    let target = resolve_target(alloc, names, locals, target)?;
+    let value = resolve_expression(alloc, scope, amount)?;
+    let target = resolve_target(alloc, scope, target)?;
     Ok(Resolved::Change {
         line,
         sign: Sign::Plus,
@@ -68,18 +63,17 @@ pub(crate) fn resolve_add(
 
 /// SUBTRACT.
 #[tactic(auto, unfolding(crate::specs::Statements::statement, ss_program::specs::View::view_statement))]
-pub(crate) fn resolve_subtract(
+pub(crate) fn resolve_subtract<S: Scope>(
     alloc: Global,
-    names: &Names,
-    locals: &Locals,
+    scope: &S,
     line: Line,
     amount: &Expression,
     target: &Named,
 ) -> Result<Resolved, ResolveError>
-    ensures { Gives view_resolved result (statement (context_in (table_in names.now) locals.now) (subtract_statement line (view_expression amount.now) (view_named target.now))) }
+    ensures { Gives view_resolved result (statement (S.context scope.now) (subtract_statement line (view_expression amount.now) (view_named target.now))) }
 {
-    let value = resolve_expression(alloc, names, locals, amount)?;
-    let target = resolve_target(alloc, names, locals, target)?;
+    let value = resolve_expression(alloc, scope, amount)?;
+    let target = resolve_target(alloc, scope, target)?;
     Ok(Resolved::Change {
         line,
         sign: Sign::Minus,
@@ -112,35 +106,33 @@ fn call_of(
 
 /// CALL.
 #[tactic(auto, unfolding(crate::specs::Statements::statement, ss_program::specs::View::view_statement))]
-pub(crate) fn resolve_routine_call(
+pub(crate) fn resolve_routine_call<S: Scope>(
     alloc: Global,
-    names: &Names,
-    locals: &Locals,
+    scope: &S,
     line: Line,
     routine: Name,
     given: &[Expression],
     yielding: &[Named],
 ) -> Result<Resolved, ResolveError>
-    ensures { Gives view_resolved result (statement (context_in (table_in names.now) locals.now) (call_statement line routine (map view_expression given.now) (map view_named yielding.now))) }
+    ensures { Gives view_resolved result (statement (S.context scope.now) (call_statement line routine (map view_expression given.now) (map view_named yielding.now))) }
 {
-    let routine = routine_of(names, locals, routine)?;
-    let given = resolve_all(alloc, names, locals, given)?;
-    let yielding = resolve_targets(alloc, names, locals, yielding)?;
+    let routine = scope.routine(routine)?;
+    let given = resolve_all(alloc, scope, given)?;
+    let yielding = resolve_targets(alloc, scope, yielding)?;
     call_of(line, routine, given, yielding)
 }
 
 /// READ.
 #[tactic(auto, unfolding(crate::specs::Statements::statement, ss_program::specs::View::view_statement))]
-pub(crate) fn resolve_read(
+pub(crate) fn resolve_read<S: Scope>(
     alloc: Global,
-    names: &Names,
-    locals: &Locals,
+    scope: &S,
     line: Line,
     targets: &[Named],
 ) -> Result<Resolved, ResolveError>
-    ensures { Gives view_resolved result (statement (context_in (table_in names.now) locals.now) (read_statement line (map view_named targets.now))) }
+    ensures { Gives view_resolved result (statement (S.context scope.now) (read_statement line (map view_named targets.now))) }
 {
-    let targets = resolve_readers(alloc, names, locals, targets)?;
+    let targets = resolve_readers(alloc, scope, targets)?;
     Ok(Resolved::Read { line, targets })
 }
 
@@ -157,17 +149,16 @@ fn picture_lines(alloc: Global, pictures: &[PictureLine]) -> Result<Vec<Vec<u8>>
 
 /// PRINT.
 #[tactic(auto, unfolding(crate::specs::Statements::statement, ss_program::specs::View::view_statement))]
-pub(crate) fn resolve_print(
+pub(crate) fn resolve_print<S: Scope>(
     alloc: Global,
-    names: &Names,
-    locals: &Locals,
+    scope: &S,
     line: Line,
     items: &[Expression],
     pictures: &[PictureLine],
 ) -> Result<Resolved, ResolveError>
-    ensures { Gives view_resolved result (statement (context_in (table_in names.now) locals.now) (print_statement line (map view_expression items.now) pictures.now)) }
+    ensures { Gives view_resolved result (statement (S.context scope.now) (print_statement line (map view_expression items.now) pictures.now)) }
 {
-    let items = resolve_all(alloc, names, locals, items)?;
+    let items = resolve_all(alloc, scope, items)?;
     let pictures = picture_lines(alloc, pictures)?;
     Ok(Resolved::Print {
         line,
@@ -178,15 +169,14 @@ pub(crate) fn resolve_print(
 
 /// SKIP.
 #[tactic(auto, unfolding(crate::specs::Statements::statement, ss_program::specs::View::view_statement))]
-pub(crate) fn resolve_skip(
+pub(crate) fn resolve_skip<S: Scope>(
     alloc: Global,
-    names: &Names,
-    locals: &Locals,
+    scope: &S,
     line: Line,
     count: &Expression,
 ) -> Result<Resolved, ResolveError>
-    ensures { Gives view_resolved result (statement (context_in (table_in names.now) locals.now) (skip_statement line (view_expression count.now))) }
+    ensures { Gives view_resolved result (statement (S.context scope.now) (skip_statement line (view_expression count.now))) }
 {
-    let count = resolve_expression(alloc, names, locals, count)?;
+    let count = resolve_expression(alloc, scope, count)?;
     Ok(Resolved::Skip { line, count })
 }

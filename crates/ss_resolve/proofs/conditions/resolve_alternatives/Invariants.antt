@@ -3,9 +3,7 @@ use Rattle.ss_tree.specs.View.{view_conjunction}
 use Rattle.ss_program.specs.View.{view_conjunction as conjunction_seen}
 use Rattle.ss_resolve.specs.Answers.{each}
 use Rattle.ss_resolve.specs.Conditions.{conjunction}
-use Rattle.ss_resolve.specs.Meanings.{context_in}
-use Rattle.ss_resolve.specs.Seen.{table_in}
 use Rattle.ss_resolve.proofs.conditions.resolve_alternatives.Given as goal
 
 abbrev pub invariant-loop-tree : goal.invariant-loop-tree
-invariant-loop-tree l = each (conjunction (context_in (table_in l.names) l.locals)) (map view_conjunction (take l.tree-index l.trees)) ≡ Some (map conjunction_seen l.resolved.items)
+invariant-loop-tree g l = each (conjunction (g.S.Scope.context l.scope)) (map view_conjunction (take l.tree-index l.trees)) ≡ Some (map conjunction_seen l.resolved.items)

@@ -3,9 +3,7 @@ use Rattle.ss_tree.specs.View.{view_guard}
 use Rattle.ss_program.specs.View.{view_guard as guard_seen}
 use Rattle.ss_resolve.specs.Answers.{each}
 use Rattle.ss_resolve.specs.Heads.{guard}
-use Rattle.ss_resolve.specs.Meanings.{context_in}
-use Rattle.ss_resolve.specs.Seen.{table_in}
 use Rattle.ss_resolve.proofs.heads.resolve_guards.Given as goal
 
 abbrev pub invariant-loop-tree : goal.invariant-loop-tree
-invariant-loop-tree l = each (guard (context_in (table_in l.names) l.locals)) (map view_guard (take l.tree-index l.trees)) ≡ Some (map guard_seen l.resolved.items)
+invariant-loop-tree g l = each (guard (g.S.Scope.context l.scope)) (map view_guard (take l.tree-index l.trees)) ≡ Some (map guard_seen l.resolved.items)

@@ -3,9 +3,7 @@ use Rattle.ss_tree.specs.View.{view_expression}
 use Rattle.ss_program.specs.View.{view_expression as view_resolved}
 use Rattle.ss_resolve.specs.Answers.{each}
 use Rattle.ss_resolve.specs.Expressions.{expression}
-use Rattle.ss_resolve.specs.Meanings.{context_in}
-use Rattle.ss_resolve.specs.Seen.{table_in}
 use Rattle.ss_resolve.proofs.lists.resolve_all.Given as goal
 
 abbrev pub invariant-loop-tree : goal.invariant-loop-tree
-invariant-loop-tree l = each (expression (context_in (table_in l.names) l.locals)) (map view_expression (take l.tree-index l.trees)) ≡ Some (map view_resolved l.resolved.items)
+invariant-loop-tree g l = each (expression (g.S.Scope.context l.scope)) (map view_expression (take l.tree-index l.trees)) ≡ Some (map view_resolved l.resolved.items)

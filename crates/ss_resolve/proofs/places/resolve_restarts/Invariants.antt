@@ -3,9 +3,7 @@ use Rattle.ss_tree.specs.View.{view_named}
 use Rattle.ss_program.specs.View.{view_restart}
 use Rattle.ss_resolve.specs.Answers.{each}
 use Rattle.ss_resolve.specs.Statements.{restart}
-use Rattle.ss_resolve.specs.Meanings.{context_in}
-use Rattle.ss_resolve.specs.Seen.{table_in}
 use Rattle.ss_resolve.proofs.places.resolve_restarts.Given as goal
 
 abbrev pub invariant-loop-tree : goal.invariant-loop-tree
-invariant-loop-tree l = each (restart (context_in (table_in l.names) l.locals)) (map view_named (take l.tree-index l.trees)) ≡ Some (map view_restart l.resolved.items)
+invariant-loop-tree g l = each (restart (g.S.Scope.context l.scope)) (map view_named (take l.tree-index l.trees)) ≡ Some (map view_restart l.resolved.items)
