@@ -1,4 +1,4 @@
-mod Bodies
 mod Each
+mod Nested
 mod Steps
 mod Trees

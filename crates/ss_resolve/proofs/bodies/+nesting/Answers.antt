@@ -2,7 +2,7 @@ use Rattle.std.proofs.Common.{refl, subst}
 use Rattle.ss_tree.specs.View.{view_statement}
 use Rattle.ss_program.specs.View.{view_body, view_statement as view_resolved}
 use Rattle.ss_resolve.specs.Answers.{Gives}
-use Rattle.ss_resolve.proofs.Bodies.{if_is, if_made, loop_is, loop_rest, find_if_is, find_if_rest, no_statements, statements_fail, statements_next}
+use Rattle.ss_resolve.proofs.Nested.{if_is, if_made, loop_is, loop_rest, find_if_is, find_if_rest, no_statements, statements_fail, statements_next}
 use Rattle.ss_resolve.proofs.Steps.{failed, fails_then}
 use Rattle.ss_resolve.proofs.bodies.+nesting.Goals as goal
 

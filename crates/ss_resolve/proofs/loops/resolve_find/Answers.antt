@@ -1,5 +1,5 @@
 use Rattle.ss_tree.specs.View.{view_head}
-use Rattle.ss_resolve.proofs.Bodies.{find_made}
+use Rattle.ss_resolve.proofs.Nested.{find_made}
 use Rattle.ss_resolve.proofs.loops.resolve_find.Goals as goal
 
 pub returns : goal.returns

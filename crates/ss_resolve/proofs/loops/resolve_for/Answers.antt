@@ -1,5 +1,5 @@
 use Rattle.ss_tree.specs.View.{view_head}
-use Rattle.ss_resolve.proofs.Bodies.{for_made}
+use Rattle.ss_resolve.proofs.Nested.{for_made}
 use Rattle.ss_resolve.proofs.loops.resolve_for.Goals as goal
 
 pub returns : goal.returns

@@ -1,6 +1,6 @@
 use Rattle.std.proofs.Common.{ap, map}
 use Rattle.ss_tree.specs.View.{view_guard, view_head}
-use Rattle.ss_resolve.proofs.Bodies.{loop_made}
+use Rattle.ss_resolve.proofs.Nested.{loop_made}
 use Rattle.ss_resolve.proofs.loops.resolve_loop.Goals as goal
 
 pub returns-in_ok-guards-in-Guards : goal.returns-in_ok-guards-in-Guards
