@@ -1,0 +1,4 @@
+pub mod Meanings
+pub mod Layouts
+pub mod Resolved
+pub mod Examples
