@@ -1,12 +1,11 @@
 -- The code of what a tree holds in vectors of its own kind.
-use Rattle.std.proofs.Common.{◌≡◌, List, [], ◌∷◌, ◌++◌, refl, sym, ap, ◌∙◌, append_assoc, append-nil}
+use Rattle.std.proofs.Common.{◌≡◌, List, [], ◌∷◌, ◌++◌, sym, ◌∙◌, append_assoc, append-nil}
 use Rattle.std.specs.List.{fold}
 use Rattle.ss_base.specs.declared.line.Line.{Line}
 use Rattle.ss_program.specs.declared.expression.Operation.{Operation}
-use Rattle.ss_program.specs.Program.{Expression, Calculate}
+use Rattle.ss_program.specs.Program.{Expression}
 use Rattle.ss_program.specs.Views.{with_operation}
 use Rattle.ss_program.specs.View.{view_expression}
-use Rattle.ss_machine_code.specs.declared.instruction.Instruction.{Instruction}
 use Rattle.ss_machine_code.specs.declared.instruction.Instruction.TheVariants as i
 use Rattle.ss_machine_code.specs.Translation.{expression_code}
 use Rattle.ss_generate.specs.Emitted.{operations_code}

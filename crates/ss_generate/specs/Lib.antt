@@ -1,2 +1,3 @@
 pub mod Pieces
 pub mod Emitted
+pub mod Listing

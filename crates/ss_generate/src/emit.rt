@@ -11,13 +11,11 @@ use ss_program::expression::{Expression, MemberQuery, Operation, SetOwner, SetQu
 use std::alloc::AllocError;
 
 /// One more instruction.
-pub(crate) fn put(
-    code: &mut Vec<Instruction>,
-    instruction: Instruction,
-) -> Result<(), AllocError>
+pub(crate) fn put(code: &mut Vec<Instruction>, instruction: Instruction) -> Result<(), AllocError>
     ensures { OnOk result (code.new.items ≡ code.old.items ++ instruction ∷ []) }
 {
-    let _any: Option<Value> = None;
+    // names the type of values, which the proof of the push needs
+    let _none: Option<Value> = None;
     code.push(instruction)?;
     Ok(())
 }

@@ -1,0 +1,188 @@
+//! The code of a program.
+
+ghost use Rattle.std.specs.Prelude.{◌≡◌, ◌<◌, ◌^◌, length, map, slice_get, IfOk};
+ghost use Rattle.ss_generate.specs.Listing.{listed};
+ghost use Rattle.ss_generate.specs.Emitted.{IsCode};
+
+use crate::entry::Entry;
+use crate::lines::Lines;
+use crate::listing::listing;
+use crate::notices::NoticeClass;
+use ss_base::{Discipline, Layout, Mode};
+use ss_events::TieShape;
+use ss_machine_code::instruction::Instruction;
+use ss_program::sections::Statistic;
+use std::alloc::{AllocError, Global};
+use std::marker::Model;
+
+/// What a program says of its classes and sets, its notices and its statistics.
+#[derive(Drop)]
+pub(crate) struct Sayings {
+    pub(crate) layout: Layout,
+    pub(crate) disciplines: Vec<Discipline>,
+    pub(crate) notices: Vec<NoticeClass>,
+    pub(crate) ties: Vec<Vec<TieShape>>,
+    pub(crate) statistics: Vec<Statistic>,
+}
+
+impl Model for Sayings {
+    ghost use Rattle.std.specs.Prelude.{map};
+    ghost use Rattle.ss_generate.specs.Emitted.{Said};
+
+    ghost Value = { Said };
+
+    ghost view = { λ s. record { layout = s.layout; setting = record { disciplines = s.disciplines.items; notices = s.notices.items; statistics = s.statistics.items }; ties = map (λ shapes. shapes.items) s.ties.items } };
+}
+
+/// The instructions of a program, the pictures that they print by, where its routines and those of its events begin, what it
+/// says of classes, sets, notices and statistics, and the modes of the global variables and of MAIN's own.
+///
+/// A contract sees it as a record of these. It is the code of a program.
+#[derive(Drop)]
+pub struct Code {
+    instructions: Vec<Instruction>,
+    pictures: Vec<Lines>,
+    routines: Vec<Entry>,
+    events: Vec<Entry>,
+    sayings: Sayings,
+    globals: Vec<Mode>,
+    locals: Vec<Mode>,
+}
+
+impl Model for Code {
+    ghost use Rattle.ss_machine_code.specs.Machine.{Code as CodeValue};
+    ghost use Rattle.ss_generate.specs.Emitted.{IsCode};
+
+    ghost Value = { CodeValue };
+
+    ghost view = { λ c. record { instructions = c.instructions.items; pictures = c.pictures.items; routines = c.routines.items; events = c.events.items; layout = c.sayings.layout; setting = c.sayings.setting; ties = c.sayings.ties; globals = c.globals.items; locals = c.locals.items } };
+
+    ghost invariant = { λ c. IsCode (record { instructions = c.instructions.items; pictures = c.pictures.items; routines = c.routines.items; events = c.events.items; layout = c.sayings.layout; setting = c.sayings.setting; ties = c.sayings.ties; globals = c.globals.items; locals = c.locals.items }) };
+}
+
+impl Code {
+    /// The code of a program, of these parts.
+    pub(crate) fn new(
+        instructions: Vec<Instruction>,
+        pictures: Vec<Lines>,
+        routines: Vec<Entry>,
+        events: Vec<Entry>,
+        sayings: Sayings,
+        globals: Vec<Mode>,
+        locals: Vec<Mode>,
+    ) -> Code
+        requires { IsCode (record { instructions = instructions.items; pictures = pictures.items; routines = routines.items; events = events.items; layout = sayings.layout; setting = sayings.setting; ties = sayings.ties; globals = globals.items; locals = locals.items }) }
+        ensures { result ≡ record { instructions = instructions.items; pictures = pictures.items; routines = routines.items; events = events.items; layout = sayings.layout; setting = sayings.setting; ties = sayings.ties; globals = globals.items; locals = locals.items } }
+    {
+        Code {
+            instructions,
+            pictures,
+            routines,
+            events,
+            sayings,
+            globals,
+            locals,
+        }
+    }
+
+    /// How many instructions there are. They are those of a program.
+    pub fn len(&self) -> usize
+        ensures value { result ≡ length self.now.instructions }
+        ensures small { length self.now.instructions < 2 ^ 63 }
+        ensures made { IsCode self.now }
+    {
+        self.instructions.len()
+    }
+
+    /// The instruction at a place, the first of which is 0; None behind the last one.
+    pub fn instruction(&self, place: usize) -> Option<Instruction>
+        ensures { result ≡ slice_get self.now.instructions place }
+    {
+        self.instructions.get(place).copied()
+    }
+
+    /// The instructions, from the first on.
+    pub fn instructions(&self) -> &[Instruction]
+        ensures { result.now ≡ self.now.instructions }
+    {
+        &self.instructions
+    }
+
+    /// The pictures of each PRINT, by the number that its instruction has.
+    pub fn pictures(&self) -> &[Lines]
+        ensures { result.now ≡ self.now.pictures }
+    {
+        &self.pictures
+    }
+
+    /// Where the routines begin, by their numbers.
+    pub fn routines(&self) -> &[Entry]
+        ensures { result.now ≡ self.now.routines }
+    {
+        &self.routines
+    }
+
+    /// Where the routines of the events begin, by the ranks of their classes.
+    pub fn events(&self) -> &[Entry]
+        ensures { result.now ≡ self.now.events }
+    {
+        &self.events
+    }
+
+    /// The classes and sets.
+    pub fn layout(&self) -> &Layout
+        ensures { result.now ≡ self.now.layout }
+    {
+        &self.sayings.layout
+    }
+
+    /// The disciplines of the sets, by their numbers.
+    pub fn disciplines(&self) -> &[Discipline]
+        ensures { result.now ≡ self.now.setting.disciplines }
+    {
+        &self.sayings.disciplines
+    }
+
+    /// The classes of notices, in the order in which they come at one time.
+    pub fn notices(&self) -> &[NoticeClass]
+        ensures { result.now ≡ self.now.setting.notices }
+    {
+        &self.sayings.notices
+    }
+
+    /// The shapes of the ties of each class of notices, in the same order.
+    pub fn ties(&self) -> &[Vec<TieShape>]
+        ensures { map (λ shapes. shapes.items) result.now ≡ self.now.ties }
+    {
+        &self.sayings.ties
+    }
+
+    /// The statistics, by their numbers.
+    pub fn statistics(&self) -> &[Statistic]
+        ensures { result.now ≡ self.now.setting.statistics }
+    {
+        &self.sayings.statistics
+    }
+
+    /// The modes of the global variables.
+    pub fn globals(&self) -> &[Mode]
+        ensures { result.now ≡ self.now.globals }
+    {
+        &self.globals
+    }
+
+    /// The modes of MAIN's own variables.
+    pub fn locals(&self) -> &[Mode]
+        ensures { result.now ≡ self.now.locals }
+    {
+        &self.locals
+    }
+
+    /// A line for each instruction, which begins with its number from 0 and a blank. The error comes
+    /// where memory was refused.
+    pub fn listing(&self, alloc: Global) -> Result<Vec<u8>, AllocError>
+        ensures { IfOk result (λ text. text.items ≡ listed 0 self.now.instructions) }
+    {
+        listing(alloc, &self.instructions)
+    }
+}

@@ -1,0 +1,293 @@
+//! The instructions of statements.
+
+ghost use Rattle.std.specs.Prelude.{◌≡◌, ◌∷◌, ◌++◌, [], length, map, IfOk, OnOk};
+ghost use Rattle.ss_program.specs.Program.{Simulate};
+ghost use Rattle.ss_program.specs.View.{view_expression, view_condition, view_place, view_statement, view_body};
+ghost use Rattle.ss_machine_code.specs.declared.instruction.Instruction.TheVariants.{Call, Destroy, Cancel, Skip, Print};
+ghost use Rattle.ss_machine_code.specs.Translation.{expression_code, values_code, gives_code, if_code, statement_code, statement_pictures, block_code, block_pictures, section_code};
+
+use crate::conditions::{emit_condition, emit_phrases};
+use crate::emit::{emit_expression, emit_values, put};
+use crate::events::{emit_restarts, emit_schedule, emit_schedule_new};
+use crate::lines::Lines;
+use crate::loops::{emit_find, emit_for, emit_loop};
+use crate::places::{
+    emit_change, emit_create, emit_creates, emit_gives, emit_let, emit_reads, emit_remove_end,
+};
+use crate::sets::{emit_file, emit_remove};
+use ss_base::Line;
+use ss_machine_code::instruction::Instruction;
+use ss_program::condition::Condition;
+use ss_program::expression::Expression;
+use ss_program::statement::{Place, Statement};
+use std::alloc::{AllocError, Global};
+
+// A condition, and two sides.
+fn emit_if(
+    alloc: Global,
+    code: &mut Vec<Instruction>,
+    line: Line,
+    condition: &Condition,
+    mut then: Vec<Instruction>,
+    mut otherwise: Vec<Instruction>,
+) -> Result<(), AllocError>
+    ensures { OnOk result (code.new.items ≡ code.old.items ++ if_code line (view_condition condition.now) then.items otherwise.items) }
+{
+    let mut test = emit_condition(alloc, line, then.len() + 1, condition)?;
+    code.append(&mut test)?;
+    code.append(&mut then)?;
+    put(
+        code,
+        Instruction::Jump {
+            skip: otherwise.len(),
+        },
+    )?;
+    code.append(&mut otherwise)
+}
+
+// CALL.
+fn emit_call(
+    code: &mut Vec<Instruction>,
+    line: Line,
+    routine: u32,
+    given: &[Expression],
+    yielding: &[Place],
+) -> Result<(), AllocError>
+    ensures { OnOk result (code.new.items ≡ code.old.items ++ (values_code line (map view_expression given.now) ++ Call routine (length given.now) (length yielding.now) ∷ gives_code line (map view_place yielding.now))) }
+{
+    emit_values(code, line, given)?;
+    put(
+        code,
+        Instruction::Call {
+            routine,
+            given: given.len(),
+            yielding: yielding.len(),
+        },
+    )?;
+    emit_gives(code, line, yielding)
+}
+
+// START SIMULATION.
+fn emit_simulate(code: &mut Vec<Instruction>) -> Result<(), AllocError>
+    ensures { OnOk result (code.new.items ≡ code.old.items ++ statement_code 0 Simulate) }
+{
+    put(code, Instruction::Await { skip: 2 })?;
+    put(code, Instruction::TakeEvent)?;
+    put(code, Instruction::NextEvent { back: 1 })
+}
+
+// DESTROY.
+fn emit_destroy(
+    code: &mut Vec<Instruction>,
+    line: Line,
+    class: u32,
+    entity: &Expression,
+) -> Result<(), AllocError>
+    ensures { OnOk result (code.new.items ≡ code.old.items ++ (expression_code line (view_expression entity.now) ++ Destroy class line ∷ [])) }
+{
+    emit_expression(code, line, entity)?;
+    put(code, Instruction::Destroy { class, line })
+}
+
+// CANCEL.
+fn emit_cancel(
+    code: &mut Vec<Instruction>,
+    line: Line,
+    class: u32,
+    notice: &Expression,
+) -> Result<(), AllocError>
+    ensures { OnOk result (code.new.items ≡ code.old.items ++ (expression_code line (view_expression notice.now) ++ Cancel class line ∷ [])) }
+{
+    emit_expression(code, line, notice)?;
+    put(code, Instruction::Cancel { class, line })
+}
+
+// SKIP.
+fn emit_skip(code: &mut Vec<Instruction>, line: Line, count: &Expression) -> Result<(), AllocError>
+    ensures { OnOk result (code.new.items ≡ code.old.items ++ (expression_code line (view_expression count.now) ++ Skip line ∷ [])) }
+{
+    emit_expression(code, line, count)?;
+    put(code, Instruction::Skip { line })
+}
+
+// PRINT.
+fn emit_print(
+    alloc: Global,
+    code: &mut Vec<Instruction>,
+    pictures: &mut Vec<Lines>,
+    line: Line,
+    items: &[Expression],
+    lines: &[Vec<u8>],
+) -> Result<(), AllocError>
+    ensures code { OnOk result (code.new.items ≡ code.old.items ++ (values_code line (map view_expression items.now) ++ Print (length pictures.old.items) (length items.now) ∷ [])) }
+    ensures pictures { OnOk result (pictures.new.items ≡ pictures.old.items ++ map (λ line. line.items) lines.now ∷ []) }
+{
+    let number = pictures.len();
+    let made = Lines::of(alloc, lines)?;
+    pictures.push(made)?;
+    emit_values(code, line, items)?;
+    put(
+        code,
+        Instruction::Print {
+            lines: number,
+            items: items.len(),
+        },
+    )
+}
+
+// A statement.
+#[tactic(auto, unfolding(ss_program::specs::View::view_statement))]
+#[cycle(statements)]
+fn emit_statement(
+    alloc: Global,
+    code: &mut Vec<Instruction>,
+    pictures: &mut Vec<Lines>,
+    s: &Statement,
+) -> Result<(), AllocError>
+    ensures code { OnOk result (code.new.items ≡ code.old.items ++ statement_code (length pictures.old.items) (view_statement s.now)) }
+    ensures pictures { OnOk result (pictures.new.items ≡ pictures.old.items ++ statement_pictures (view_statement s.now)) }
+{
+    match s {
+        Statement::Let {
+            line,
+            target,
+            value,
+        } => emit_let(code, *line, target, value),
+        Statement::Change {
+            line,
+            sign,
+            target,
+            value,
+        } => emit_change(code, *line, *sign, target, value),
+        Statement::Call {
+            line,
+            routine,
+            given,
+            yielding,
+        } => emit_call(code, *line, *routine, given, yielding),
+        Statement::Return => put(code, Instruction::Leave),
+        Statement::Stop => put(code, Instruction::Halt),
+        Statement::Read { line, targets } => emit_reads(code, *line, targets),
+        Statement::Simulate => emit_simulate(code),
+        Statement::If {
+            line,
+            condition,
+            then,
+            otherwise,
+        } => {
+            let first = emit_body(alloc, pictures, then)?;
+            let second = emit_body(alloc, pictures, otherwise)?;
+            emit_if(alloc, code, *line, condition, first, second)
+        }
+        Statement::Loop { line, guards, body } => {
+            let turn = emit_body(alloc, pictures, body)?;
+            emit_loop(alloc, code, *line, guards, turn)
+        }
+        Statement::For {
+            line,
+            head,
+            phrases,
+            body,
+        } => {
+            let inner = emit_body(alloc, pictures, body)?;
+            let turn = emit_phrases(alloc, *line, phrases, inner)?;
+            emit_for(code, *line, head, turn)
+        }
+        Statement::Find {
+            line,
+            head,
+            phrases,
+            found,
+            none,
+        } => {
+            let first = emit_body(alloc, pictures, found)?;
+            let second = emit_body(alloc, pictures, none)?;
+            emit_find(alloc, code, *line, head, phrases, first, second)
+        }
+        Statement::Create { line, class, into } => emit_create(code, *line, *class, into),
+        Statement::CreateEvery { line, classes } => emit_creates(code, *line, classes),
+        Statement::Destroy {
+            line,
+            class,
+            entity,
+        } => emit_destroy(code, *line, *class, entity),
+        Statement::File {
+            line,
+            set,
+            member,
+            position,
+            owner,
+        } => emit_file(code, *line, *set, member, position, owner),
+        Statement::RemoveEnd {
+            line,
+            end,
+            set,
+            into,
+            owner,
+        } => emit_remove_end(code, *line, *end, *set, into, owner),
+        Statement::Remove {
+            line,
+            set,
+            member,
+            owner,
+        } => emit_remove(code, *line, *set, member, owner),
+        Statement::ScheduleNew {
+            line,
+            class,
+            into,
+            given,
+            when,
+        } => emit_schedule_new(code, *line, *class, into, given, when),
+        Statement::Schedule {
+            line,
+            class,
+            notice,
+            given,
+            when,
+        } => emit_schedule(code, *line, *class, notice, given, when),
+        Statement::Cancel {
+            line,
+            class,
+            notice,
+        } => emit_cancel(code, *line, *class, notice),
+        Statement::Reset { line, restarts } => emit_restarts(code, *line, restarts),
+        Statement::Print {
+            line,
+            items,
+            pictures: lines,
+        } => emit_print(alloc, code, pictures, *line, items, lines),
+        Statement::Skip { line, count } => emit_skip(code, *line, count),
+    }
+}
+
+// One statement after another.
+#[cycle(statements)]
+fn emit_body(
+    alloc: Global,
+    pictures: &mut Vec<Lines>,
+    body: &[Statement],
+) -> Result<Vec<Instruction>, AllocError>
+    ensures code { IfOk result (λ code. code.items ≡ block_code (length pictures.old.items) (view_body body.now)) }
+    ensures pictures { OnOk result (pictures.new.items ≡ pictures.old.items ++ block_pictures (view_body body.now)) }
+{
+    let mut code = Vec::new(alloc);
+    for s in body {
+        emit_statement(alloc, &mut code, pictures, s)?;
+    }
+    Ok(code)
+}
+
+/// MAIN, a routine or an event routine, which ends with a return.
+pub(crate) fn emit_section(
+    alloc: Global,
+    code: &mut Vec<Instruction>,
+    pictures: &mut Vec<Lines>,
+    body: &[Statement],
+) -> Result<(), AllocError>
+    ensures code { OnOk result (code.new.items ≡ code.old.items ++ section_code (length pictures.old.items) (view_body body.now)) }
+    ensures pictures { OnOk result (pictures.new.items ≡ pictures.old.items ++ block_pictures (view_body body.now)) }
+{
+    let mut own = emit_body(alloc, pictures, body)?;
+    code.append(&mut own)?;
+    put(code, Instruction::Leave)
+}
