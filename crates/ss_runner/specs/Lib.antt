@@ -1,4 +1,3 @@
 pub mod Frames
 pub mod Told
-pub mod Ranged
 pub mod Holding

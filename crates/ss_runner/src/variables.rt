@@ -42,7 +42,7 @@ impl Variables {
     pub fn get(&self, number: u32) -> Option<Value>
         ensures { result ≡ slice_get self.now number }
     {
-        self.values.get(number as usize).copied()
+        value_at(&self.values, number as usize)
     }
 
     /// Assigns a value to a variable, and says whether one of its mode is there. If not, nothing changes.
@@ -67,15 +67,23 @@ fn is_alike(x: &Value, y: &Value) -> bool
     }
 }
 
+// The value with a number, if it is there.
+#[inline(always)]
+fn value_at(values: &[Value], number: usize) -> Option<Value>
+    ensures { result ≡ slice_get values.now number }
+{
+    values.get(number).copied()
+}
+
 // Changes one of these values to another of its mode, and says whether it is there.
 #[inline(always)]
 fn put(values: &mut [Value], number: usize, value: Value) -> bool
     ensures { put_at values.old number value ≡ put_told result values.new }
 {
-    let Some(old) = values.get(number) else {
+    let Some(old) = value_at(values, number) else {
         return false;
     };
-    if !is_alike(&value, old) {
+    if !is_alike(&value, &old) {
         return false;
     }
     values[number] = value;

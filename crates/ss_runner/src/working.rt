@@ -43,11 +43,7 @@ pub enum Outcome {
 impl Working {
     // Puts what an operation gave on top, and goes on to the next instruction.
     #[inline(always)]
-    fn answer(
-        &mut self,
-        answer: Result<Value, Trouble>,
-        line: Line,
-    ) -> Result<Outcome, AllocError>
+    fn answer(&mut self, answer: Result<Value, Trouble>, line: Line) -> Result<Outcome, AllocError>
         requires { self.old.place + 1 < 2 ^ 64 }
         ensures { IfOk result (λ outcome. (scene : Scene) → Told outcome (did line (told answer) (λ v. onward (v ∷ self.old.operands.here) (core_of self.old scene) (store_of self.old scene))) (core_of self.new scene)) }
     {

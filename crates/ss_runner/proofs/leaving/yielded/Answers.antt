@@ -1,6 +1,4 @@
-use Rattle.std.proofs.Common.{◌≡◌, ◌<◌, ◌≤◌, length, drop, take, arith, sym, ap, ◌∙◌, Some}
-use Rattle.std.proofs.lemmas.List.{length-drop}
-use Rattle.ss_meaning.specs.Store.{front}
+use Rattle.std.proofs.Common.{◌≡◌, length, drop, take, arith, sym, ap, ◌∙◌, Some}
 use Rattle.ss_runner.proofs.Yields.{front_some, front_none, yielded_past, yielded_from}
 use Rattle.ss_runner.proofs.leaving.yielded.Goals as goal
 

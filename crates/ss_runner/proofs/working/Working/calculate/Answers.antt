@@ -3,7 +3,6 @@ use Rattle.std.proofs.lemmas.Result.{IfOk-weaker}
 use Rattle.ss_machine_code.specs.declared.instruction.Instruction.TheVariants.{Calculate}
 use Rattle.ss_machine_code.specs.States.{did, onward}
 use Rattle.ss_machine_code.specs.Machine.{act}
-use Rattle.ss_runner.specs.declared.working.Working.{Working}
 use Rattle.ss_runner.specs.Frames.{Stacked}
 use Rattle.ss_runner.specs.Holding.{store_of, core_of, Told}
 use Rattle.ss_runner.proofs.Popped.{popped_two, with_operands}
