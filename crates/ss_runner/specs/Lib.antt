@@ -1,3 +1,4 @@
 pub mod Frames
 pub mod Told
+pub mod Ranged
 pub mod Holding

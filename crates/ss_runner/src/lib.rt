@@ -5,6 +5,7 @@ pub mod assigning;
 pub mod frame;
 pub mod frames;
 pub mod leaving;
+pub mod looping;
 pub mod numbers;
 pub mod operands;
 pub mod stack;
