@@ -1,0 +1,144 @@
+-- Statements that have statements in them, by lists.
+use Rattle.std.proofs.Common.{◌≡◌, ℕ, zero, suc, ◌+◌, ◌<◌, List, [], ◌∷◌, ◌++◌, length, get_or, take, map, Option, Some, None, refl, sym, ap, subst, ◌∙◌, arith}
+use Rattle.std.proofs.lemmas.List.{take_more, map-append}
+use Rattle.std.specs.Global.{Vec}
+use Rattle.ss_base.specs.declared.line.Line.{Line}
+use Rattle.ss_tree.specs.declared.condition.Condition.{Condition as ConditionParsed}
+use Rattle.ss_tree.specs.declared.head.Head.{Head as HeadParsed}
+use Rattle.ss_tree.specs.declared.statement.FindOutcome.{FindOutcome}
+use Rattle.ss_tree.specs.declared.statement.Statement.{Statement as Parsed}
+use Rattle.ss_tree.specs.declared.statement.Statement.TheVariants as parsed
+use Rattle.ss_tree.specs.Tree.{StatementTree, statement_row, HeadTree, guarded, GuardTree}
+use Rattle.ss_tree.specs.View.{view_condition, view_head, view_statement}
+use Rattle.ss_tree.specs.Views.{view_if_made, view_loop_made, view_find_if_made}
+use Rattle.ss_program.specs.declared.condition.Condition.{Condition as ConditionMade}
+use Rattle.ss_program.specs.declared.head.Guard.{Guard}
+use Rattle.ss_program.specs.declared.head.Head.{Head}
+use Rattle.ss_program.specs.declared.head.Phrase.{Phrase}
+use Rattle.ss_program.specs.declared.statement.Statement.{Statement as Made}
+use Rattle.ss_program.specs.declared.statement.Statement.TheVariants as made
+use Rattle.ss_program.specs.Program.{Statement, If, Block, Done, Then}
+use Rattle.ss_program.specs.View.{block_of, view_body, view_condition as condition_seen, view_guard as guard_seen, view_head as head_seen, view_phrase as phrase_seen, view_statement as view_made}
+use Rattle.ss_program.specs.Views.{view_if_made as if_seen, view_loop_made as loop_seen, view_for_made as for_seen, view_find_made as find_seen}
+use Rattle.ss_resolve.specs.declared.error.ResolveError.{ResolveError}
+use Rattle.ss_resolve.specs.declared.error.ResolveError.TheVariants.{Memory, Unresolved}
+use Rattle.ss_resolve.specs.Answers.{◌>>=◌, each, Fails}
+use Rattle.ss_resolve.specs.Contexts.{Context}
+use Rattle.ss_resolve.specs.Conditions.{condition}
+use Rattle.ss_resolve.specs.Heads.{guard, head, phrase, phrases_of}
+use Rattle.ss_resolve.specs.Statements.{find, find_by, for_over, loop, statement, statements}
+use Rattle.ss_resolve.proofs.Steps.{none_after}
+
+-- ---- loops around resolved statements
+
+pub find_made : (c : Context) (line : Line) (t : HeadTree) (h : Head) (ps : Vec Phrase) (a b : Vec Made) →
+    head c t ≡ Some (head_seen h) → each (phrase c) (phrases_of t) ≡ Some (map phrase_seen ps.items) →
+    find line c t (view_body a.items) (view_body b.items) ≡ Some (view_made (made.Find line h ps a b))
+find_made c line t h ps a b p q = rw (p, q) (ap (λ z. Some z) (sym (find_seen line h ps a b)))
+
+pub for_made : (c : Context) (line : Line) (t : HeadTree) (h : Head) (ps : Vec Phrase) (a : Vec Made) →
+    head c t ≡ Some (head_seen h) → each (phrase c) (phrases_of t) ≡ Some (map phrase_seen ps.items) →
+    for_over line c t (view_body a.items) ≡ Some (view_made (made.For line h ps a))
+for_made c line t h ps a p q = rw (p, q) (ap (λ z. Some z) (sym (for_seen line h ps a)))
+
+pub loop_made : (c : Context) (line : Line) (t : HeadTree) (gs : List GuardTree) (rs : Vec Guard) (a : Vec Made) →
+    t ≡ guarded gs → each (guard c) gs ≡ Some (map guard_seen rs.items) →
+    loop line c t (view_body a.items) ≡ Some (view_made (made.Loop line rs a))
+loop_made c line t gs rs a is q = rw (is, q) (ap (λ z. Some z) (sym (loop_seen line rs a)))
+
+-- ---- statements that have statements in them
+
+pub if_is : (c : Context) (t : Parsed) (line : Line) (x : ConditionParsed) (a b : Vec Parsed) (ts us : List Parsed) →
+    t ≡ parsed.If line x a b → ts ≡ a.items → us ≡ b.items →
+    statement c (view_statement t) ≡
+    (condition c (view_condition x) >>= λ tests. statements c (statement_row (map view_statement ts)) >>= λ p. statements c (statement_row (map view_statement us)) >>= λ q. Some (If line tests p q))
+unfolding statement
+if_is c t line x a b ts us is e f = rw (is, e, f) (ap (statement c) (view_if_made line x a b))
+
+pub if_made : (c : Context) (t : Parsed) (line : Line) (x : ConditionParsed) (a b : Vec Parsed) (ts us : List Parsed) (y : ConditionMade) (xs ys : Vec Made) →
+    t ≡ parsed.If line x a b → ts ≡ a.items → us ≡ b.items → condition c (view_condition x) ≡ Some (condition_seen y) →
+    statements c (statement_row (map view_statement ts)) ≡ Some (view_body xs.items) → statements c (statement_row (map view_statement us)) ≡ Some (view_body ys.items) →
+    statement c (view_statement t) ≡ Some (view_made (made.If line y xs ys))
+if_made c t line x a b ts us y xs ys is e f h k l = rw (if_is c t line x a b ts us is e f, h, k, l) (ap (λ z. Some z) (sym (if_seen line y xs ys)))
+
+pub loop_is : (c : Context) (t : Parsed) (line : Line) (x : HeadParsed) (a : Vec Parsed) (ts : List Parsed) →
+    t ≡ parsed.Loop line x a → ts ≡ a.items →
+    statement c (view_statement t) ≡ (statements c (statement_row (map view_statement ts)) >>= λ p. loop line c (view_head x) p)
+unfolding statement
+loop_is c t line x a ts is e = rw (is, e) (ap (statement c) (view_loop_made line x a))
+
+pub loop_rest : (c : Context) (t : Parsed) (line : Line) (x : HeadParsed) (a : Vec Parsed) (ts : List Parsed) (p : Block) →
+    t ≡ parsed.Loop line x a → ts ≡ a.items → statements c (statement_row (map view_statement ts)) ≡ Some p →
+    loop line c (view_head x) p ≡ statement c (view_statement t)
+loop_rest c t line x a ts p is e h = sym (rw (loop_is c t line x a ts is e, h) refl)
+
+pub find_if_is : (c : Context) (t : Parsed) (line : Line) (x : HeadParsed) (o : FindOutcome) (a b : Vec Parsed) (ts us : List Parsed) →
+    t ≡ parsed.FindIf line x o a b → ts ≡ a.items → us ≡ b.items →
+    statement c (view_statement t) ≡
+    (statements c (statement_row (map view_statement ts)) >>= λ p. statements c (statement_row (map view_statement us)) >>= λ q. find_by o line c (view_head x) p q)
+unfolding statement
+find_if_is c t line x o a b ts us is e f = rw (is, e, f) (ap (statement c) (view_find_if_made line x o a b))
+
+pub find_if_rest : (c : Context) (t : Parsed) (line : Line) (x : HeadParsed) (o : FindOutcome) (a b : Vec Parsed) (ts us : List Parsed) (p q : Block) →
+    t ≡ parsed.FindIf line x o a b → ts ≡ a.items → us ≡ b.items →
+    statements c (statement_row (map view_statement ts)) ≡ Some p → statements c (statement_row (map view_statement us)) ≡ Some q →
+    find_by o line c (view_head x) p q ≡ statement c (view_statement t)
+find_if_rest c t line x o a b ts us p q is e f h k = sym (rw (find_if_is c t line x o a b ts us is e f, h, k) refl)
+
+-- ---- statements one after the other
+
+pub no_statements : (c : Context) (xs : List Made) → xs ≡ [] → statements c (statement_row []) ≡ Some (view_body xs)
+unfolding statement statements
+no_statements c xs e = rw e refl
+
+statements_none : (c : Context) (xs : List Parsed) (i : ℕ) (d : Parsed) → i < length xs →
+    statement c (view_statement (get_or xs i d)) ≡ None → statements c (statement_row (map view_statement xs)) ≡ None
+unfolding statement statements
+statements_none c [] i d lt h = absurd (omega (arith, lt))
+statements_none c (x ∷ xs) zero d lt h = rw h refl
+statements_none c (x ∷ xs) (suc i) d lt h =
+    let rest : statements c (statement_row (map view_statement xs)) ≡ None = statements_none c xs i d (omega (arith, lt)) h in
+    none_after (statement c (view_statement x)) (λ y. statements c (statement_row (map view_statement xs)) >>= λ ys. Some (Then y ys)) (λ y. rw rest refl)
+
+pub statements_fail : (c : Context) (xs : List Parsed) (i : ℕ) (x : Parsed) (e : ResolveError) → i < length xs → x ≡ get_or xs i x →
+    Fails e (statement c (view_statement x)) → Fails e (statements c (statement_row (map view_statement xs)))
+statements_fail c xs i x Memory lt is h = tt
+statements_fail c xs i x Unresolved lt is h = statements_none c xs i x lt (subst (λ y. statement c (view_statement y) ≡ None) is h)
+
+abbrev then_of : Option Statement → Option Block → Option Block
+then_of r q = r >>= λ x. q >>= λ rest. Some (Then x rest)
+
+then_more : (r : Option Statement) (q p : Option Block) (b : Statement) (k l : Block) →
+    then_of r q ≡ Some (Then b k) → (q ≡ Some k → p ≡ Some l) → then_of r p ≡ Some (Then b l)
+then_more None q p b k l h f = absurd cc
+then_more (Some x) None p b k l h f = absurd cc
+then_more (Some x) (Some rest) p b k l h f =
+    let same : rest ≡ k = cc in
+    let first : x ≡ b = cc in
+    let g : p ≡ Some l = f (ap (λ z. Some z) same) in
+    rw (g, first) refl
+
+then_not_done : (r : Option Statement) (q : Option Block) → then_of r q ≡ Some Done → ⊥
+then_not_done None q h = cc
+then_not_done (Some x) None h = cc
+then_not_done (Some x) (Some rest) h = cc
+
+statements_more : (c : Context) (ts : List StatementTree) (t : StatementTree) (bs : List Statement) (b : Statement) →
+    statements c (statement_row ts) ≡ Some (block_of bs) → statement c t ≡ Some b → statements c (statement_row (ts ++ t ∷ [])) ≡ Some (block_of (bs ++ b ∷ []))
+unfolding statement statements
+statements_more c [] t [] b h k = rw k refl
+statements_more c [] t (d ∷ ds) b h k = absurd cc
+statements_more c (s ∷ ss) t [] b h k = absurd (then_not_done (statement c s) (statements c (statement_row ss)) h)
+statements_more c (s ∷ ss) t (d ∷ ds) b h k =
+    then_more (statement c s) (statements c (statement_row ss)) (statements c (statement_row (ss ++ t ∷ []))) d (block_of ds) (block_of (ds ++ b ∷ [])) h (λ q. statements_more c ss t ds b q k)
+
+pub statements_next : (c : Context) (xs : List Parsed) (i : ℕ) (x : Parsed) (old new : List Made) (y : Made) →
+    i < length xs → x ≡ get_or xs i x → new ≡ old ++ y ∷ [] →
+    statements c (statement_row (map view_statement (take i xs))) ≡ Some (view_body old) → statement c (view_statement x) ≡ Some (view_made y) →
+    statements c (statement_row (map view_statement (take (i + 1) xs))) ≡ Some (view_body new)
+statements_next c xs i x old new y lt is e h g =
+    let before = map view_statement (take i xs) in
+    let taken : map view_statement (take (i + 1) xs) ≡ before ++ view_statement x ∷ [] =
+    ap (map view_statement) (take_more xs i x lt) ∙ map-append view_statement (take i xs) (get_or xs i x ∷ []) ∙ ap (λ z. before ++ view_statement z ∷ []) (sym is) in
+    let grown : view_body new ≡ block_of (map view_made old ++ view_made y ∷ []) = ap view_body e ∙ ap block_of (map-append view_made old (y ∷ [])) in
+    rw (taken, grown) (statements_more c before (view_statement x) (map view_made old) (view_made y) h g)
