@@ -1,0 +1,94 @@
+-- What a name stands for is what the rules on uses know of it, and its numbers are those of something in the program.
+use Rattle.std.specs.Prelude.{◌≡◌, ℕ, Bool, true, List, length, slice_get, Option, Some, None, Contains}
+use Rattle.ss_base.specs.declared.layout.Mode.{Mode}
+use Rattle.ss_base.specs.declared.layout.Mode.TheVariants.{Integer}
+use Rattle.ss_base.specs.declared.layout.ClassKind.{ClassKind}
+use Rattle.ss_base.specs.declared.layout.ClassKind.TheVariants as class_kinds
+use Rattle.ss_base.specs.declared.layout.Owner.TheVariants.{System}
+use Rattle.ss_tree.specs.declared.expression.Designator.TheVariants.{Name, TimeV, TimeA}
+use Rattle.ss_tree.specs.declared.preamble.ClassKind.{ClassKind as ClassWord}
+use Rattle.ss_tree.specs.declared.preamble.ClassKind.TheVariants as class_words
+use Rattle.ss_walk.specs.Mentions.{NameBytes}
+use Rattle.ss_scopes.specs.declared.meaning.Holder.{Holder}
+use Rattle.ss_scopes.specs.declared.meaning.Holder.TheVariants.{Program as TheProgram, Entity as EachOf}
+use Rattle.ss_scopes.specs.declared.meaning.Meaning.{Meaning as Known}
+use Rattle.ss_scopes.specs.declared.meaning.Meaning.TheVariants as knowns
+use Rattle.ss_scopes.specs.Locals.{Moded}
+use Rattle.ss_scopes.specs.Meanings.{meaning_in}
+use Rattle.ss_scopes.specs.Whole.{Whole}
+use Rattle.ss_uses.specs.Unknown.{has_value}
+use Rattle.ss_uses.specs.Modes.{mode_in}
+use Rattle.ss_program.specs.declared.expression.Variable.{Variable}
+use Rattle.ss_program.specs.declared.statement.Counted.{Counted}
+use Rattle.ss_program.specs.Program.{ToVariable, Routine}
+use Rattle.ss_program.specs.WellTyped.{Scope, mode_at, kind_of, fields_of, field_mode, owner_of, IsOwned, IsSet, IsAlone, IsOfEntities, HasSubject, TakesMode, GoodCount}
+use Rattle.ss_resolve.specs.declared.meaning.Meaning.{Meaning}
+use Rattle.ss_resolve.specs.declared.meaning.Meaning.TheVariants as meanings
+use Rattle.ss_resolve.specs.declared.meaning.SetMeant.{SetMeant}
+use Rattle.ss_resolve.specs.declared.meaning.SetMeant.TheVariants.{OfSystem, OfEntity}
+use Rattle.ss_resolve.specs.declared.meaning.ClassMeant.{ClassMeant}
+use Rattle.ss_resolve.specs.declared.meaning.RoutineMeant.{RoutineMeant}
+use Rattle.ss_resolve.specs.Contexts.{Context}
+
+module _ (w : Whole) (locals : Moded) (s : Scope) where
+  -- ---- values and targets
+
+  -- the variable is the one that has an entity of the class where none is written
+  abbrev pub IsImplied : NameBytes → Variable → Type 0
+  IsImplied class x = (m : Mode) × (mode_in w locals class ≡ Some m) × (mode_at s x ≡ Some m)
+
+  -- a variable of the mode
+  abbrev pub IsVariable : Mode → Meaning → Type 0
+  IsVariable m (meanings.Variable x mode) = (mode ≡ Some m) × TakesMode s (ToVariable x) m
+  IsVariable m _ = ⊥
+
+  -- an attribute of the class, of the mode
+  abbrev pub IsAttribute : NameBytes → Mode → Meaning → Type 0
+  IsAttribute class m (meanings.Attribute k field mode implied) = (mode ≡ Some m) × (field_mode s.program k field ≡ Some m) × IsImplied class implied
+  IsAttribute class m _ = ⊥
+
+  -- N. of a permanent class
+  abbrev pub IsCount : Meaning → Type 0
+  IsCount (meanings.Count n) = Contains s.program.counts n × (mode_at s (Rattle.ss_program.specs.declared.expression.Variable.TheVariants.Global n.variable) ≡ Some Integer)
+  IsCount _ = ⊥
+
+  -- what is told of a set, or of a member
+  abbrev pub IsTold : Holder → Meaning → Type 0
+  IsTold TheProgram (meanings.OfSystemSet query set) = owner_of s.program set ≡ Some System
+  IsTold (EachOf class) (meanings.OfSet query set implied) = IsOwned s.program set × IsImplied class implied
+  IsTold (EachOf class) (meanings.OfMember query set implied) = IsSet s.program set × IsImplied class implied
+  IsTold _ _ = ⊥
+
+  -- a statistic
+  abbrev pub IsFigure : Holder → Meaning → Type 0
+  IsFigure TheProgram (meanings.Figure fold statistic) = HasSubject s.program IsAlone statistic
+  IsFigure (EachOf class) (meanings.FigureOf fold statistic implied) = HasSubject s.program IsOfEntities statistic × IsImplied class implied
+  IsFigure _ _ = ⊥
+
+  -- what the rules know of a name, and what it stands for; a set and a routine are no values
+  abbrev pub Fits : Known → Meaning → Type 0
+  Fits (knowns.Local m) stands = IsVariable m stands
+  Fits (knowns.Variable m) stands = IsVariable m stands
+  Fits (knowns.Class kind) stands = IsVariable Integer stands
+  Fits (knowns.Attribute class m) stands = IsAttribute class m stands
+  Fits (knowns.Set holder) stands = ⊥
+  Fits (knowns.MemberCount holder) stands = IsTold holder stands
+  Fits (knowns.Membership holder) stands = IsTold holder stands
+  Fits knowns.EntityCount stands = IsCount stands
+  Fits (knowns.Statistic holder) stands = IsFigure holder stands
+  Fits knowns.Routine stands = ⊥
+
+  -- ---- sets
+
+  abbrev pub IsSetOf : Holder → SetMeant → Type 0
+  IsSetOf TheProgram (OfSystem set) = owner_of s.program set ≡ Some System
+  IsSetOf (EachOf class) (OfEntity set implied) = IsOwned s.program set × IsImplied class implied
+  IsSetOf _ _ = ⊥
+
+-- what a context says of names is what the rules on uses know of them
+pub record Linked (w : Whole) (locals : Moded) (c : Context) (s : Scope) : Type 0 where
+  pub value : (name : NameBytes) (known : Known) → meaning_in w.meanings locals name ≡ Some known → has_value known ≡ true → (stands : Meaning) × (c.meaning (Name name) ≡ Some stands) × Fits w locals s known stands
+  pub clock : c.meaning TimeV ≡ Some meanings.Clock
+  pub notice_time : c.meaning TimeA ≡ Some meanings.NoticeTime
+  -- a set isn't hidden
+  pub set : (name : NameBytes) (holder : Holder) → w.meanings name ≡ Some (knowns.Set holder) → (stands : SetMeant) × (meaning_in w.meanings locals name ≡ Some (knowns.Set holder)) × (c.set (Name name) ≡ Some stands) × IsSetOf w locals s holder stands

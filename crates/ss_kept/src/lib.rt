@@ -1,0 +1,2 @@
+//! A program that keeps the rules.
+#![tactic(auto)]
