@@ -1,2 +1,4 @@
-//! A program that keeps the rules.
+//! What keeps the rules on uses resolves, and is well typed.
 #![tactic(auto)]
+
+pub mod laws;
