@@ -172,11 +172,11 @@ module _ (w : Whole) (locals : Moded) (c : Context) (s : Scope) where
         ap known_mode k ∙ r.1,
         r.2.2)
 
-    no_subscript : subscript c no_expression ≡ Some None
+    pub no_subscript : subscript c no_expression ≡ Some None
     unfolding subscript
     no_subscript = refl
 
-    one_subscript : (e : ExpressionTree) (n : Number e) → subscript c (and_expression e no_expression) ≡ Some (Some n.0)
+    pub one_subscript : (e : ExpressionTree) (n : Number e) → subscript c (and_expression e no_expression) ≡ Some (Some n.0)
     unfolding subscript
     one_subscript e n = step (expression c e) (λ x. Some (Some x)) n.0 (Some n.0) n.1 refl
 

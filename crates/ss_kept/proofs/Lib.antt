@@ -1,3 +1,4 @@
 pub mod Steps
 pub mod Named
 pub mod Expressions
+pub mod Places

@@ -1,17 +1,21 @@
 -- What keeps the rules on uses resolves, and is well typed.
-use Rattle.std.specs.Prelude.{◌≡◌, Some}
+use Rattle.std.specs.Prelude.{◌≡◌, ℕ, Some}
 use Rattle.ss_base.specs.declared.line.Line.{Line}
 use Rattle.ss_base.specs.declared.layout.Mode.{Mode}
-use Rattle.ss_tree.specs.Tree.{ExpressionTree}
+use Rattle.ss_tree.specs.Tree.{ExpressionTree, NamedTree, ConditionTree}
+use Rattle.ss_walk.specs.declared.mention.Role.TheVariants as roles
 use Rattle.ss_walk.specs.Mentions as mentioned
 use Rattle.ss_demands.specs.Demands as demanded
 use Rattle.ss_scopes.specs.Locals.{Moded}
 use Rattle.ss_scopes.specs.Whole.{Whole}
 use Rattle.ss_uses.specs.Modes.{aspect_mode}
-use Rattle.ss_program.specs.Program.{Expression}
-use Rattle.ss_program.specs.WellTyped.{Scope, HasMode}
+use Rattle.ss_program.specs.Program.{Expression, SetOwner, Condition, Place}
+use Rattle.ss_program.specs.WellTyped.{Scope, HasMode, TakesMode, OwnerFits, GoodCondition}
+use Rattle.ss_resolve.specs.declared.meaning.Meaning.{Meaning}
 use Rattle.ss_resolve.specs.Contexts.{Context}
-use Rattle.ss_resolve.specs.Expressions.{expression}
+use Rattle.ss_resolve.specs.Expressions.{expression, target, set_named}
+use Rattle.ss_resolve.specs.Conditions.{condition}
+use Rattle.ss_resolve.specs.Statements.{mode_of}
 use Rattle.ss_kept.specs.Rules.{KeptMentions, KeptDemands}
 use Rattle.ss_kept.specs.Links.{Linked}
 
@@ -19,9 +23,44 @@ use Rattle.ss_kept.specs.Links.{Linked}
 abbrev pub Resolves : Whole → Moded → Context → Scope → ExpressionTree → Type 0
 Resolves w locals c s e = (x : Expression) × (m : Mode) × (expression c e ≡ Some x) × (aspect_mode w locals (demanded.mode_of e) ≡ Some m) × HasMode s x m
 
+-- the target has a resolved form, which takes values of the mode that the rules give it; READ finds the same mode
+abbrev pub TargetResolves : Whole → Moded → Context → Scope → NamedTree → Type 0
+TargetResolves w locals c s n =
+    (x : Place) × (m : Mode) × (target c n ≡ Some x) × (aspect_mode w locals (demanded.target_mode n) ≡ Some m) × TakesMode s x m ×
+    (stands : Meaning) × (c.meaning n.designator ≡ Some stands) × (mode_of stands ≡ Some m)
+
+-- the set has a resolved form, with an owner such as its sets have
+abbrev pub SetResolves : Context → Scope → NamedTree → Type 0
+SetResolves c s n = (p : ℕ × SetOwner) × (set_named c n ≡ Some p) × OwnerFits s p.0 p.1
+
+-- the condition has a resolved form, which is well typed
+abbrev pub ConditionResolves : Context → Scope → ConditionTree → Type 0
+ConditionResolves c s t = (x : Condition) × (condition c t ≡ Some x) × GoodCondition s x
+
 -- an expression without a broken mention or demand resolves, to one of the mode that the rules give it
 abbrev pub KeptExpressionsResolve : Type 0
 KeptExpressionsResolve =
     (w : Whole) (locals : Moded) (c : Context) (s : Scope) → Linked w locals c s → (line : Line) (e : ExpressionTree) →
     KeptMentions w locals (mentioned.in_expression line e) → KeptDemands w locals (demanded.in_expression line e) →
     Resolves w locals c s e
+
+-- the same of a target
+abbrev pub KeptTargetsResolve : Type 0
+KeptTargetsResolve =
+    (w : Whole) (locals : Moded) (c : Context) (s : Scope) → Linked w locals c s → (line : Line) (n : NamedTree) →
+    KeptMentions w locals (mentioned.in_named line roles.Target n) → KeptDemands w locals (demanded.in_named line n) →
+    TargetResolves w locals c s n
+
+-- the same of a set
+abbrev pub KeptSetsResolve : Type 0
+KeptSetsResolve =
+    (w : Whole) (locals : Moded) (c : Context) (s : Scope) → Linked w locals c s → (line : Line) (n : NamedTree) →
+    KeptMentions w locals (mentioned.in_named line roles.Set n) → KeptDemands w locals (demanded.in_named line n) →
+    SetResolves c s n
+
+-- the same of a condition
+abbrev pub KeptConditionsResolve : Type 0
+KeptConditionsResolve =
+    (w : Whole) (locals : Moded) (c : Context) (s : Scope) → Linked w locals c s → (line : Line) (t : ConditionTree) →
+    KeptMentions w locals (mentioned.in_condition line t) → KeptDemands w locals (demanded.in_condition line t) →
+    ConditionResolves c s t
