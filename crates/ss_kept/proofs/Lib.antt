@@ -2,3 +2,4 @@ pub mod Steps
 pub mod Named
 pub mod Expressions
 pub mod Places
+pub mod Conditions

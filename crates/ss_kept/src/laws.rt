@@ -1,9 +1,13 @@
 //! Laws of what keeps the rules.
 
-ghost use Rattle.ss_kept.specs.Laws.{KeptExpressionsResolve};
+ghost use Rattle.ss_kept.specs.Laws.{KeptExpressionsResolve, KeptTargetsResolve, KeptSetsResolve, KeptConditionsResolve};
 
-/// What is proved of what keeps the rules on uses: an expression without a broken mention or demand
-/// resolves, and its resolved form has the mode that the rules give it.
+/// What is proved of what keeps the rules on uses, where each name stands for what the rules know of it:
+/// an expression, a target, a set and a condition without a broken mention or demand has a resolved form,
+/// and that is well typed.
 pub fn laws()
     ensures expressions { KeptExpressionsResolve }
+    ensures targets { KeptTargetsResolve }
+    ensures sets { KeptSetsResolve }
+    ensures conditions { KeptConditionsResolve }
 {}
