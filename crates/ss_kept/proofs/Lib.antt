@@ -3,3 +3,4 @@ pub mod Named
 pub mod Expressions
 pub mod Places
 pub mod Conditions
+pub mod Heads

@@ -1,20 +1,23 @@
 -- What keeps the rules on uses resolves, and is well typed.
-use Rattle.std.specs.Prelude.{◌≡◌, ℕ, Some}
+use Rattle.std.specs.Prelude.{◌≡◌, ℕ, List, Some}
+use Rattle.std.specs.List.{AllByRecursion as Every}
 use Rattle.ss_base.specs.declared.line.Line.{Line}
 use Rattle.ss_base.specs.declared.layout.Mode.{Mode}
-use Rattle.ss_tree.specs.Tree.{ExpressionTree, NamedTree, ConditionTree}
+use Rattle.ss_tree.specs.Tree.{ExpressionTree, NamedTree, ConditionTree, HeadTree, over_range, over_members, over_class, guarded}
 use Rattle.ss_walk.specs.declared.mention.Role.TheVariants as roles
 use Rattle.ss_walk.specs.Mentions as mentioned
 use Rattle.ss_demands.specs.Demands as demanded
 use Rattle.ss_scopes.specs.Locals.{Moded}
 use Rattle.ss_scopes.specs.Whole.{Whole}
 use Rattle.ss_uses.specs.Modes.{aspect_mode}
-use Rattle.ss_program.specs.Program.{Expression, SetOwner, Condition, Place}
-use Rattle.ss_program.specs.WellTyped.{Scope, HasMode, TakesMode, OwnerFits, GoodCondition}
+use Rattle.ss_program.specs.Program.{Expression, SetOwner, Condition, Place, Head, Phrase, Guard}
+use Rattle.ss_program.specs.WellTyped.{Scope, HasMode, TakesMode, OwnerFits, GoodCondition, GoodHead, GoodPhrase}
 use Rattle.ss_resolve.specs.declared.meaning.Meaning.{Meaning}
 use Rattle.ss_resolve.specs.Contexts.{Context}
 use Rattle.ss_resolve.specs.Expressions.{expression, target, set_named}
 use Rattle.ss_resolve.specs.Conditions.{condition}
+use Rattle.ss_resolve.specs.Answers.{each}
+use Rattle.ss_resolve.specs.Heads.{head, phrase, guard, phrases_of}
 use Rattle.ss_resolve.specs.Statements.{mode_of}
 use Rattle.ss_kept.specs.Rules.{KeptMentions, KeptDemands}
 use Rattle.ss_kept.specs.Links.{Linked}
@@ -36,6 +39,18 @@ SetResolves c s n = (p : ℕ × SetOwner) × (set_named c n ≡ Some p) × Owner
 -- the condition has a resolved form, which is well typed
 abbrev pub ConditionResolves : Context → Scope → ConditionTree → Type 0
 ConditionResolves c s t = (x : Condition) × (condition c t ≡ Some x) × GoodCondition s x
+
+-- the head of a FOR and its phrases have resolved forms, which are well typed
+abbrev pub ForResolves : Context → Scope → HeadTree → Type 0
+ForResolves c s over =
+    (h : Head) × (head c over ≡ Some h) × GoodHead s h × (ps : List Phrase) × (each (phrase c) (phrases_of over) ≡ Some ps) × Every (GoodPhrase s) ps
+
+-- the same of the head of a loop; one that begins with WHILE or UNTIL has conditions alone
+abbrev pub HeadResolves : Context → Scope → HeadTree → Type 0
+HeadResolves c s (over_range variable from to step phrases) = ForResolves c s (over_range variable from to step phrases)
+HeadResolves c s (over_members variable set start reverse phrases) = ForResolves c s (over_members variable set start reverse phrases)
+HeadResolves c s (over_class class called phrases) = ForResolves c s (over_class class called phrases)
+HeadResolves c s (guarded guards) = (gs : List Guard) × (each (guard c) guards ≡ Some gs) × Every (λ g. GoodCondition s g.condition) gs
 
 -- an expression without a broken mention or demand resolves, to one of the mode that the rules give it
 abbrev pub KeptExpressionsResolve : Type 0
@@ -64,3 +79,10 @@ KeptConditionsResolve =
     (w : Whole) (locals : Moded) (c : Context) (s : Scope) → Linked w locals c s → (line : Line) (t : ConditionTree) →
     KeptMentions w locals (mentioned.in_condition line t) → KeptDemands w locals (demanded.in_condition line t) →
     ConditionResolves c s t
+
+-- the same of the head of a loop
+abbrev pub KeptHeadsResolve : Type 0
+KeptHeadsResolve =
+    (w : Whole) (locals : Moded) (c : Context) (s : Scope) → Linked w locals c s → (line : Line) (over : HeadTree) →
+    KeptMentions w locals (mentioned.in_head line over) → KeptDemands w locals (demanded.in_head line over) →
+    HeadResolves c s over

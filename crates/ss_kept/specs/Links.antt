@@ -85,6 +85,20 @@ module _ (w : Whole) (locals : Moded) (s : Scope) where
   IsSetOf (EachOf class) (OfEntity set implied) = IsOwned s.program set × IsImplied class implied
   IsSetOf _ _ = ⊥
 
+-- ---- classes
+
+abbrev pub kind_said : ClassWord → ClassKind
+kind_said class_words.Permanent = class_kinds.Permanent
+kind_said class_words.Temporary = class_kinds.Temporary
+kind_said class_words.EventNotice = class_kinds.Notice
+
+-- the class of a name and a kind: what its name means as a variable in the section, and its attributes
+pub record IsClass (w : Whole) (locals : Moded) (s : Scope) (name : NameBytes) (kind : ClassWord) (stands : ClassMeant) : Type 0 where
+  pub kind_meant : stands.kind ≡ kind_said kind
+  pub kind_there : kind_of s.program stands.class ≡ Some (kind_said kind)
+  pub variable_there : (m : Mode) × (mode_in w locals name ≡ Some m) × TakesMode s (ToVariable stands.variable) m
+  pub fields_there : (modes : List Mode) × (fields_of s.program stands.class ≡ Some modes) × (w.attributes name ≡ Some modes) × (stands.attributes ≡ length modes)
+
 -- what a context says of names is what the rules on uses know of them
 pub record Linked (w : Whole) (locals : Moded) (c : Context) (s : Scope) : Type 0 where
   pub value : (name : NameBytes) (known : Known) → meaning_in w.meanings locals name ≡ Some known → has_value known ≡ true → (stands : Meaning) × (c.meaning (Name name) ≡ Some stands) × Fits w locals s known stands
@@ -92,3 +106,4 @@ pub record Linked (w : Whole) (locals : Moded) (c : Context) (s : Scope) : Type 
   pub notice_time : c.meaning TimeA ≡ Some meanings.NoticeTime
   -- a set isn't hidden
   pub set : (name : NameBytes) (holder : Holder) → w.meanings name ≡ Some (knowns.Set holder) → (stands : SetMeant) × (meaning_in w.meanings locals name ≡ Some (knowns.Set holder)) × (c.set (Name name) ≡ Some stands) × IsSetOf w locals s holder stands
+  pub class : (name : NameBytes) (kind : ClassWord) → w.meanings name ≡ Some (knowns.Class kind) → (stands : ClassMeant) × (c.class name ≡ Some stands) × IsClass w locals s name kind stands
