@@ -1,8 +1,7 @@
 -- Expressions that keep the rules resolve, and are well typed.
-use Rattle.std.proofs.Common.{◌≡◌, ℕ, zero, suc, Bool, true, false, List, [], ◌∷◌, ◌++◌, Option, Some, None, refl, sym, subst, ap, ◌∙◌, arith}
+use Rattle.std.proofs.Common.{◌≡◌, ℕ, suc, true, false, List, Option, Some, None, refl, sym, subst, ap, ◌∙◌, arith}
 use Rattle.std.specs.Prelude.{not, ◌==◌}
 use Rattle.ss_base.specs.declared.line.Line.{Line}
-use Rattle.ss_base.specs.declared.layout.Mode.{Mode}
 use Rattle.ss_base.specs.declared.layout.Mode.TheVariants as modes
 use Rattle.ss_base.specs.declared.value.Value.TheVariants.{Whole as WholeValue, Text}
 use Rattle.ss_tree.specs.declared.expression.Designator.{Designator}
@@ -166,11 +165,13 @@ module _ (w : Whole) (locals : Moded) (c : Context) (s : Scope) where
     unfolding expression
     name_resolves name es e known h k v f =
         let stands = linked.value name known k v in
-        let r = known_value w locals s known stands.0 e stands.2 f in
-        (r.2.0, r.0,
-        two_steps (subscript c es) (c.meaning (Name name)) (λ y m. value_of m y) e stands.0 r.2.0 h stands.1 r.2.1,
-        ap known_mode k ∙ r.1,
-        r.2.2)
+        let r = known_value w locals s known stands.0 e stands.2 f in (
+          r.2.0,
+          r.0,
+          two_steps (subscript c es) (c.meaning (Name name)) (λ y m. value_of m y) e stands.0 r.2.0 h stands.1 r.2.1,
+          ap known_mode k ∙ r.1,
+          r.2.2,
+        )
 
     pub no_subscript : subscript c no_expression ≡ Some None
     unfolding subscript
@@ -225,12 +226,14 @@ module _ (w : Whole) (locals : Moded) (c : Context) (s : Scope) where
 
       pub numbers : (es : ExpressionRow) → KeptMentions w locals (in_expressions line es) → KeptDemands w locals (demanded.in_numbers line es) → Numbers es
       numbers no_expression m d = tt
-      numbers (and_expression e es) m d =
-          (as_number line e (resolves e (left_of (KeptMention w locals) (in_expression line e) (in_expressions line es) m) (left_of (KeptDemand w locals) (demanded.in_expression line e) (demanded.in_numbers line es) d.1)) d.0,
-          numbers es (right_of (KeptMention w locals) (in_expression line e) (in_expressions line es) m) (right_of (KeptDemand w locals) (demanded.in_expression line e) (demanded.in_numbers line es) d.1))
+      numbers (and_expression e es) m d = (
+        as_number line e (resolves e (left_of (KeptMention w locals) (in_expression line e) (in_expressions line es) m) (left_of (KeptDemand w locals) (demanded.in_expression line e) (demanded.in_numbers line es) d.1)) d.0,
+        numbers es (right_of (KeptMention w locals) (in_expression line e) (in_expressions line es) m) (right_of (KeptDemand w locals) (demanded.in_expression line e) (demanded.in_numbers line es) d.1),
+      )
 
       pub number_terms : (es : TermRow) → KeptMentions w locals (in_terms line es) → KeptDemands w locals (demanded.in_terms line es) → NumberTerms es
       number_terms no_term m d = tt
-      number_terms (and_term sign e es) m d =
-          (as_number line e (resolves e (left_of (KeptMention w locals) (in_expression line e) (in_terms line es) m) (left_of (KeptDemand w locals) (demanded.in_expression line e) (demanded.in_terms line es) d.1)) d.0,
-          number_terms es (right_of (KeptMention w locals) (in_expression line e) (in_terms line es) m) (right_of (KeptDemand w locals) (demanded.in_expression line e) (demanded.in_terms line es) d.1))
+      number_terms (and_term sign e es) m d = (
+        as_number line e (resolves e (left_of (KeptMention w locals) (in_expression line e) (in_terms line es) m) (left_of (KeptDemand w locals) (demanded.in_expression line e) (demanded.in_terms line es) d.1)) d.0,
+        number_terms es (right_of (KeptMention w locals) (in_expression line e) (in_terms line es) m) (right_of (KeptDemand w locals) (demanded.in_expression line e) (demanded.in_terms line es) d.1),
+      )

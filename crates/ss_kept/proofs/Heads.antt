@@ -1,5 +1,5 @@
 -- Heads of loops that keep the rules resolve, and are well typed.
-use Rattle.std.proofs.Common.{◌≡◌, ℕ, Bool, true, false, List, [], ◌∷◌, ◌++◌, Option, Some, None, refl, sym, subst, ap, ◌∙◌}
+use Rattle.std.proofs.Common.{◌≡◌, true, false, List, [], ◌∷◌, ◌++◌, Option, Some, None, refl, subst, ap, ◌∙◌}
 use Rattle.std.specs.List.{AllByRecursion as Every}
 use Rattle.std.specs.Option.{IfSome}
 use Rattle.ss_base.specs.declared.line.Line.{Line}
@@ -10,7 +10,7 @@ use Rattle.ss_base.specs.declared.layout.ClassKind.TheVariants as class_kinds
 use Rattle.ss_tree.specs.declared.expression.Designator.TheVariants.{Name}
 use Rattle.ss_tree.specs.declared.preamble.ClassKind.{ClassKind as ClassWord}
 use Rattle.ss_tree.specs.declared.preamble.ClassKind.TheVariants as class_words
-use Rattle.ss_tree.specs.Tree.{ExpressionTree, NamedTree, PhraseTree, GuardTree, StartTree, from_end, from_member, after_member, HeadTree, over_range, over_members, over_class, guarded}
+use Rattle.ss_tree.specs.Tree.{ExpressionTree, PhraseTree, GuardTree, StartTree, from_end, from_member, after_member, HeadTree, over_range, over_members, over_class, guarded}
 use Rattle.ss_walk.specs.declared.mention.Mention.{Mention}
 use Rattle.ss_walk.specs.declared.mention.Role.TheVariants as roles
 use Rattle.ss_walk.specs.Mentions as mentioned
@@ -26,8 +26,8 @@ use Rattle.ss_scopes.specs.Whole.{Whole}
 use Rattle.ss_uses.specs.Unknown.{has_value, is_variable, is_permanent}
 use Rattle.ss_uses.specs.Modes.{mode_of, mode_in, known_mode, differ}
 use Rattle.ss_program.specs.declared.expression.Variable.{Variable}
-use Rattle.ss_program.specs.Program.{Expression, ToVariable, Start, AtEnd, From, After, Head, Numbers, Members, Each, Phrase, Guard}
-use Rattle.ss_program.specs.WellTyped.{Scope, HasMode, TakesMode, GoodStart, GoodHead, GoodPhrase, GoodCondition, kind_of}
+use Rattle.ss_program.specs.Program.{ToVariable, AtEnd, From, After, Head, Numbers, Members, Each, Phrase, Guard}
+use Rattle.ss_program.specs.WellTyped.{Scope, HasMode, TakesMode, GoodStart, GoodPhrase, GoodCondition}
 use Rattle.ss_resolve.specs.declared.meaning.Meaning.{Meaning}
 use Rattle.ss_resolve.specs.declared.meaning.Meaning.TheVariants as meanings
 use Rattle.ss_resolve.specs.declared.meaning.ClassMeant.{ClassMeant}
@@ -38,8 +38,8 @@ use Rattle.ss_resolve.specs.Conditions.{condition}
 use Rattle.ss_resolve.specs.Heads.{phrase_kind_of, guard_kind_of, phrase, guard, if_variable, loop_variable, start, called_variable, head}
 use Rattle.ss_kept.specs.Rules.{KeptMention, KeptDemand, KeptMentions, KeptDemands}
 use Rattle.ss_kept.specs.Links.{Linked, IsVariable, IsClass, Fits}
-use Rattle.ss_kept.specs.Laws.{ForResolves, HeadResolves}
-use Rattle.ss_kept.proofs.Steps.{left_of, right_of, step, two_steps, known_of, is_integer}
+use Rattle.ss_kept.specs.Laws.{HeadResolves}
+use Rattle.ss_kept.proofs.Steps.{left_of, right_of, step, known_of, is_integer}
 use Rattle.ss_kept.proofs.Places.{set_resolves}
 use Rattle.ss_kept.proofs.Conditions.{GoesWell, each_resolves, number_kept, condition_resolves}
 
@@ -187,11 +187,14 @@ module _ (w : Whole) (locals : Moded) (c : Context) (s : Scope) (linked : Linked
       let y = number_kept w locals c s linked line to m2 d2 in
       let z = step_resolves by m3 d3 in
       let ps = phrases_resolve phrases m4 d4 in
-      let made : Head = Numbers v.0 x.0 y.0 z.0 in
-      (made,
-      four_steps (loop_variable c variable) (expression c from) (expression c to) (if_there (expression c) by) (λ a b e f. Some (Numbers a b e f)) v.0 x.0 y.0 z.0 made v.1 x.1 y.1 z.1 refl,
-      (v.2, x.2, y.2, z.2),
-      ps.0, ps.1, ps.2)
+      let made : Head = Numbers v.0 x.0 y.0 z.0 in (
+        made,
+        four_steps (loop_variable c variable) (expression c from) (expression c to) (if_there (expression c) by) (λ a b e f. Some (Numbers a b e f)) v.0 x.0 y.0 z.0 made v.1 x.1 y.1 z.1 refl,
+        (v.2, x.2, y.2, z.2),
+        ps.0,
+        ps.1,
+        ps.2,
+      )
   head_resolves (over_members variable set from reverse phrases) m d =
       let m3 = mr w locals s (mentioned.in_named line roles.Set set ++ mentioned.in_start line from) (mentioned.in_phrases line phrases) m.1 in
       let mr2 = ml w locals s (mentioned.in_named line roles.Set set ++ mentioned.in_start line from) (mentioned.in_phrases line phrases) m.1 in
@@ -205,11 +208,14 @@ module _ (w : Whole) (locals : Moded) (c : Context) (s : Scope) (linked : Linked
       let p = set_resolves w locals c s linked line set m1 d1 in
       let x = start_resolves from m2 d2 in
       let ps = phrases_resolve phrases m3 d3 in
-      let made : Head = Members v.0 p.0.0 p.0.1 x.0 reverse in
-      (made,
-      three_steps (loop_variable c variable) (set_named c set) (start c from) (λ a b e. Some (Members a b.0 b.1 e reverse)) v.0 p.0 x.0 made v.1 p.1 x.1 refl,
-      (v.2, p.2, x.2),
-      ps.0, ps.1, ps.2)
+      let made : Head = Members v.0 p.0.0 p.0.1 x.0 reverse in (
+        made,
+        three_steps (loop_variable c variable) (set_named c set) (start c from) (λ a b e. Some (Members a b.0 b.1 e reverse)) v.0 p.0 x.0 made v.1 p.1 x.1 refl,
+        (v.2, p.2, x.2),
+        ps.0,
+        ps.1,
+        ps.2,
+      )
   head_resolves (over_class name called phrases) m d =
       let m1 = ml w locals s (mentioned.in_option (λ n. mentioned.plain line roles.LoopVariable n ∷ []) called) (mentioned.in_phrases line phrases) m.1 in
       let m2 = mr w locals s (mentioned.in_option (λ n. mentioned.plain line roles.LoopVariable n ∷ []) called) (mentioned.in_phrases line phrases) m.1 in
@@ -220,11 +226,14 @@ module _ (w : Whole) (locals : Moded) (c : Context) (s : Scope) (linked : Linked
       let found : permanent_class c name ≡ Some class.0 = step (c.class name) (λ k. if_permanent k k.kind) class.0 class.0 class.1 (permanent_is class.0 class.0.kind class.2.kind_meant) in
       let v = called_takes name class_words.Permanent class.0 class.2 called m1 d1 in
       let ps = phrases_resolve phrases m2 d2 in
-      let made : Head = Each v.0 class.0.class in
-      (made,
-      step (permanent_class c name) (λ k. called_variable c k.variable called >>= λ x. Some (Each x k.class)) class.0 made found
-      (step (called_variable c class.0.variable called) (λ x. Some (Each x class.0.class)) v.0 made v.1 refl),
-      (v.2, class.2.kind_there),
-      ps.0, ps.1, ps.2)
+      let made : Head = Each v.0 class.0.class in (
+        made,
+        step (permanent_class c name) (λ k. called_variable c k.variable called >>= λ x. Some (Each x k.class)) class.0 made found
+            (step (called_variable c class.0.variable called) (λ x. Some (Each x class.0.class)) v.0 made v.1 refl),
+        (v.2, class.2.kind_there),
+        ps.0,
+        ps.1,
+        ps.2,
+      )
   head_resolves (guarded guards) m d =
       each_resolves w locals (guard c) (λ g. mentioned.in_condition line g.condition) (λ g. demanded.in_condition line g.condition) (λ x. GoodCondition s x.condition) guard_resolves guards m d

@@ -1,9 +1,8 @@
 -- What is named has its value, of the mode that the rules know.
-use Rattle.std.proofs.Common.{◌≡◌, Bool, true, false, Option, Some, None, refl, subst, sym, ◌∙◌}
+use Rattle.std.proofs.Common.{◌≡◌, true, false, Option, Some, None, refl, subst}
 use Rattle.ss_base.specs.declared.layout.Mode.{Mode}
 use Rattle.ss_base.specs.declared.layout.Mode.TheVariants.{Integer}
 use Rattle.ss_walk.specs.Mentions.{NameBytes}
-use Rattle.ss_scopes.specs.declared.meaning.Holder.{Holder}
 use Rattle.ss_scopes.specs.declared.meaning.Holder.TheVariants.{Program as TheProgram, Entity as EachOf}
 use Rattle.ss_scopes.specs.declared.meaning.Meaning.{Meaning as Known}
 use Rattle.ss_scopes.specs.declared.meaning.Meaning.TheVariants as knowns

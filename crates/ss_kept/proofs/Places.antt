@@ -1,5 +1,5 @@
 -- Targets and sets that keep the rules resolve, and are well typed.
-use Rattle.std.proofs.Common.{◌≡◌, ℕ, Bool, true, false, List, Option, Some, None, refl, sym, subst, ap, ◌∙◌}
+use Rattle.std.proofs.Common.{◌≡◌, ℕ, true, false, Option, Some, None, refl, subst, ap, ◌∙◌}
 use Rattle.std.specs.Prelude.{not}
 use Rattle.ss_base.specs.declared.line.Line.{Line}
 use Rattle.ss_base.specs.declared.layout.Mode.{Mode}
@@ -9,7 +9,7 @@ use Rattle.ss_tree.specs.declared.expression.Designator.TheVariants.{Name, TimeV
 use Rattle.ss_tree.specs.Tree.{ExpressionRow, no_expression, and_expression, NamedTree}
 use Rattle.ss_walk.specs.declared.mention.Role.TheVariants as roles
 use Rattle.ss_walk.specs.declared.mention.Mentioned.TheVariants as things
-use Rattle.ss_walk.specs.Mentions.{NameBytes, place, row_length, in_named, in_expressions}
+use Rattle.ss_walk.specs.Mentions.{NameBytes, place, row_length, in_named}
 use Rattle.ss_demands.specs.Demands as demanded
 use Rattle.ss_scopes.specs.declared.meaning.Holder.{Holder}
 use Rattle.ss_scopes.specs.declared.meaning.Holder.TheVariants.{Program as TheProgram, Entity as EachOf}
@@ -29,7 +29,7 @@ use Rattle.ss_resolve.specs.declared.meaning.Meaning.TheVariants as meanings
 use Rattle.ss_resolve.specs.declared.meaning.SetMeant.{SetMeant}
 use Rattle.ss_resolve.specs.declared.meaning.SetMeant.TheVariants.{OfSystem, OfEntity}
 use Rattle.ss_resolve.specs.Contexts.{Context}
-use Rattle.ss_resolve.specs.Expressions.{entity_of, subscript, place_of, owned_by, target, set_named}
+use Rattle.ss_resolve.specs.Expressions.{entity_of, subscript, place_of, owned_by}
 use Rattle.ss_resolve.specs.Statements.{mode_of}
 use Rattle.ss_kept.specs.Rules.{KeptMention, KeptDemand, KeptMentions, KeptDemands}
 use Rattle.ss_kept.specs.Links.{Linked, IsVariable, IsAttribute, IsCount, IsSetOf, Fits}
@@ -117,12 +117,16 @@ module _ (w : Whole) (locals : Moded) (c : Context) (s : Scope) (linked : Linked
       let stands = linked.value name known.0 known.1 known.2 in
       let e = subscripted name es known.0 known.1 m.1 d n in
       let takes : not (takes_values known.0) ≡ false = subst (λ o. not (if_known takes_values o) ≡ false) known.1 m.2 in
-      let r = known_place w locals s known.0 stands.0 e.0 stands.2 e.2 (of_not (takes_values known.0) takes) in
-      (r.2.0, r.0,
-      two_steps (subscript c es) (c.meaning (Name name)) (λ y u. place_of u y) e.0 stands.0 r.2.0 e.1 stands.1 r.2.2,
-      ap known_mode known.1 ∙ r.1,
-      r.2.3,
-      stands.0, stands.1, r.2.1)
+      let r = known_place w locals s known.0 stands.0 e.0 stands.2 e.2 (of_not (takes_values known.0) takes) in (
+        r.2.0,
+        r.0,
+        two_steps (subscript c es) (c.meaning (Name name)) (λ y u. place_of u y) e.0 stands.0 r.2.0 e.1 stands.1 r.2.2,
+        ap known_mode known.1 ∙ r.1,
+        r.2.3,
+        stands.0,
+        stands.1,
+        r.2.1,
+      )
   target_by TimeV es m d n = absurd cc
   target_by TimeA es m d n = absurd cc
 

@@ -1,5 +1,5 @@
 -- What a name stands for is what the rules on uses know of it, and its numbers are those of something in the program.
-use Rattle.std.specs.Prelude.{◌≡◌, ℕ, Bool, true, List, length, slice_get, Option, Some, None, Contains}
+use Rattle.std.specs.Prelude.{◌≡◌, true, List, length, Some, Contains}
 use Rattle.ss_base.specs.declared.layout.Mode.{Mode}
 use Rattle.ss_base.specs.declared.layout.Mode.TheVariants.{Integer}
 use Rattle.ss_base.specs.declared.layout.ClassKind.{ClassKind}
@@ -19,15 +19,13 @@ use Rattle.ss_scopes.specs.Whole.{Whole}
 use Rattle.ss_uses.specs.Unknown.{has_value}
 use Rattle.ss_uses.specs.Modes.{mode_in}
 use Rattle.ss_program.specs.declared.expression.Variable.{Variable}
-use Rattle.ss_program.specs.declared.statement.Counted.{Counted}
-use Rattle.ss_program.specs.Program.{ToVariable, Routine}
-use Rattle.ss_program.specs.WellTyped.{Scope, mode_at, kind_of, fields_of, field_mode, owner_of, IsOwned, IsSet, IsAlone, IsOfEntities, HasSubject, TakesMode, GoodCount}
+use Rattle.ss_program.specs.Program.{ToVariable}
+use Rattle.ss_program.specs.WellTyped.{Scope, mode_at, kind_of, fields_of, field_mode, owner_of, IsOwned, IsSet, IsAlone, IsOfEntities, HasSubject, TakesMode}
 use Rattle.ss_resolve.specs.declared.meaning.Meaning.{Meaning}
 use Rattle.ss_resolve.specs.declared.meaning.Meaning.TheVariants as meanings
 use Rattle.ss_resolve.specs.declared.meaning.SetMeant.{SetMeant}
 use Rattle.ss_resolve.specs.declared.meaning.SetMeant.TheVariants.{OfSystem, OfEntity}
 use Rattle.ss_resolve.specs.declared.meaning.ClassMeant.{ClassMeant}
-use Rattle.ss_resolve.specs.declared.meaning.RoutineMeant.{RoutineMeant}
 use Rattle.ss_resolve.specs.Contexts.{Context}
 
 module _ (w : Whole) (locals : Moded) (s : Scope) where
