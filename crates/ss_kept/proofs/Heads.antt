@@ -45,7 +45,7 @@ use Rattle.ss_kept.proofs.Conditions.{GoesWell, each_resolves, number_kept, cond
 
 -- ---- steps
 
-three_steps : {A B C D : Type 0} (o : Option A) (p : Option B) (q : Option C) (next : A → B → C → Option D) (a : A) (b : B) (e : C) (x : D) →
+pub three_steps : {A B C D : Type 0} (o : Option A) (p : Option B) (q : Option C) (next : A → B → C → Option D) (a : A) (b : B) (e : C) (x : D) →
     o ≡ Some a → p ≡ Some b → q ≡ Some e → next a b e ≡ Some x → (o >>= λ u. p >>= λ v. q >>= λ t. next u v t) ≡ Some x
 three_steps o p q next a b e x h g k f = rw (h, g, k) f
 

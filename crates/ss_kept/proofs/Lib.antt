@@ -4,3 +4,4 @@ pub mod Expressions
 pub mod Places
 pub mod Conditions
 pub mod Heads
+pub mod Statements
