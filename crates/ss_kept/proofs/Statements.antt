@@ -14,18 +14,18 @@ use Rattle.ss_scopes.specs.Locals.{Moded}
 use Rattle.ss_scopes.specs.Whole.{Whole}
 use Rattle.ss_uses.specs.Modes.{aspect_mode, differ}
 use Rattle.ss_program.specs.declared.expression.Sign.TheVariants.{Plus, Minus}
-use Rattle.ss_program.specs.Program.{Expression, Position, ByDiscipline, AsFirst, AsLast, BeforeMember, AfterMember, Place, Statement, Let, Change, File, Remove, RemoveEnd, Skip}
+use Rattle.ss_program.specs.Program.{Expression, Position, ByDiscipline, AsFirst, AsLast, BeforeMember, AfterMember, Place, Statement, Let, Change, File, Remove, RemoveEnd, Skip, Read, Target}
 use Rattle.ss_program.specs.WellTyped.{Scope, HasMode, TakesMode, GoodPosition, Good}
-use Rattle.ss_resolve.specs.Answers.{◌>>=◌}
+use Rattle.ss_resolve.specs.Answers.{◌>>=◌, each}
 use Rattle.ss_resolve.specs.Contexts.{Context}
 use Rattle.ss_resolve.specs.Expressions.{expression, target, set_named}
-use Rattle.ss_resolve.specs.Statements.{end_of, position, statement}
+use Rattle.ss_resolve.specs.Statements.{end_of, mode_of, position, reader, statement}
 use Rattle.ss_kept.specs.Rules.{KeptMention, KeptDemand, KeptMentions, KeptDemands}
 use Rattle.ss_kept.specs.Links.{Linked}
 use Rattle.ss_kept.proofs.Steps.{step, two_steps, is_integer}
 use Rattle.ss_kept.proofs.Expressions.{resolves}
 use Rattle.ss_kept.proofs.Places.{target_resolves, set_resolves}
-use Rattle.ss_kept.proofs.Conditions.{GoesWell, same_mode, number_kept}
+use Rattle.ss_kept.proofs.Conditions.{GoesWell, each_resolves, same_mode, number_kept}
 use Rattle.ss_kept.proofs.Heads.{ml, mr, dl, dr, three_steps}
 
 module _ (w : Whole) (locals : Moded) (c : Context) (s : Scope) (linked : Linked w locals c s) (line : Line) where
@@ -122,3 +122,35 @@ module _ (w : Whole) (locals : Moded) (c : Context) (s : Scope) (linked : Linked
   position_resolves (after e) m d =
       let x = number_kept w locals c s linked line e m d in
       (AfterMember x.0, step (expression c e) (λ y. Some (AfterMember y)) x.0 (AfterMember x.0) x.1 refl, x.2)
+
+  pub file_resolves : (e : ExpressionTree) (at : PositionTree) (t : NamedTree) → KeptMentions w locals (mentioned.in_itself (file_statement line e at t)) → KeptDemands w locals (demanded.in_itself (file_statement line e at t)) → StatementResolves (file_statement line e at t)
+  unfolding statement
+  file_resolves e at t m d =
+      let n = ml w locals s (mentioned.in_expression line e ++ mentioned.in_position line at) (mentioned.in_named line roles.Set t) m in
+      let k = dl w locals s (demanded.in_number line e ++ demanded.in_position line at) (demanded.in_named line t) d in
+      let x = number_kept w locals c s linked line e
+          (ml w locals s (mentioned.in_expression line e) (mentioned.in_position line at) n)
+          (dl w locals s (demanded.in_number line e) (demanded.in_position line at) k) in
+      let q = position_resolves at
+          (mr w locals s (mentioned.in_expression line e) (mentioned.in_position line at) n)
+          (dr w locals s (demanded.in_number line e) (demanded.in_position line at) k) in
+      let p = set_resolves w locals c s linked line t
+          (mr w locals s (mentioned.in_expression line e ++ mentioned.in_position line at) (mentioned.in_named line roles.Set t) m)
+          (dr w locals s (demanded.in_number line e ++ demanded.in_position line at) (demanded.in_named line t) d) in
+      let made : Statement = File line p.0.0 x.0 q.0 p.0.1 in
+      (made, three_steps (expression c e) (position c at) (set_named c t) (λ u v z. Some (File line z.0 u v z.1)) x.0 q.0 p.0 made x.1 q.1 p.1 refl, (x.2, q.2, p.2))
+
+  reader_resolves : (t : NamedTree) → KeptMentions w locals (mentioned.in_named line roles.Target t) → KeptDemands w locals (demanded.in_named line t) →
+      GoesWell w locals (λ x. TakesMode s x.place x.mode) (reader c t)
+  reader_resolves t m d =
+      let r = target_resolves w locals c s linked line t m d in
+      let made : Target = record { place = r.0; mode = r.1 } in
+      (made, two_steps (target c t) (c.meaning t.designator) (λ u v. mode_of v >>= λ z. Some (record { place = u; mode = z })) r.0 r.5 made r.2 r.6
+      (step (mode_of r.5) (λ z. Some (record { place = r.0; mode = z })) r.1 made r.7 refl), r.4)
+
+  pub read_resolves : (ts : List NamedTree) → KeptMentions w locals (mentioned.in_itself (read_statement line ts)) → KeptDemands w locals (demanded.in_itself (read_statement line ts)) → StatementResolves (read_statement line ts)
+  unfolding statement
+  read_resolves ts m d =
+      let r = each_resolves w locals (reader c) (mentioned.in_named line roles.Target) (demanded.in_named line) (λ x. TakesMode s x.place x.mode) reader_resolves ts m d in
+      let made : Statement = Read line r.0 in
+      (made, step (each (reader c) ts) (λ xs. Some (Read line xs)) r.0 made r.1 refl, r.2)
