@@ -1,26 +1,23 @@
 -- Statements that keep the rules resolve, and are well typed: assignments, sets, printing.
-use Rattle.std.proofs.Common.{◌≡◌, Bool, false, true, List, [], ◌∷◌, ◌++◌, length, Option, Some, None, refl, sym, subst, ap, ◌∙◌}
-use Rattle.std.specs.List.{AllByRecursion as Every}
+use Rattle.std.proofs.Common.{◌≡◌, false, List, ◌++◌, Some, refl, subst}
 use Rattle.ss_base.specs.declared.line.Line.{Line}
-use Rattle.ss_base.specs.declared.layout.Mode.{Mode}
 use Rattle.ss_base.specs.declared.layout.Mode.TheVariants as modes
 use Rattle.ss_tree.specs.Tree.{ExpressionTree, NamedTree, PositionTree, by_discipline, at_first, at_last, before, after, StatementTree, let_statement, add_statement, subtract_statement, read_statement, file_statement, remove_end, remove_statement, skip_statement}
 use Rattle.ss_tree.specs.declared.statement.SetEnd.{SetEnd}
 use Rattle.ss_walk.specs.declared.mention.Role.TheVariants as roles
 use Rattle.ss_walk.specs.Mentions as mentioned
-use Rattle.ss_demands.specs.declared.demand.Demand.{Demand}
 use Rattle.ss_demands.specs.Demands as demanded
 use Rattle.ss_scopes.specs.Locals.{Moded}
 use Rattle.ss_scopes.specs.Whole.{Whole}
 use Rattle.ss_uses.specs.Modes.{aspect_mode, differ}
 use Rattle.ss_program.specs.declared.expression.Sign.TheVariants.{Plus, Minus}
-use Rattle.ss_program.specs.Program.{Expression, Position, ByDiscipline, AsFirst, AsLast, BeforeMember, AfterMember, Place, Statement, Let, Change, File, Remove, RemoveEnd, Skip, Read, Target}
+use Rattle.ss_program.specs.Program.{ByDiscipline, AsFirst, AsLast, BeforeMember, AfterMember, Statement, Let, Change, File, Remove, RemoveEnd, Skip, Read, Target}
 use Rattle.ss_program.specs.WellTyped.{Scope, HasMode, TakesMode, GoodPosition, Good}
 use Rattle.ss_resolve.specs.Answers.{◌>>=◌, each}
 use Rattle.ss_resolve.specs.Contexts.{Context}
 use Rattle.ss_resolve.specs.Expressions.{expression, target, set_named}
 use Rattle.ss_resolve.specs.Statements.{end_of, mode_of, position, reader, statement}
-use Rattle.ss_kept.specs.Rules.{KeptMention, KeptDemand, KeptMentions, KeptDemands}
+use Rattle.ss_kept.specs.Rules.{KeptMentions, KeptDemands}
 use Rattle.ss_kept.specs.Links.{Linked}
 use Rattle.ss_kept.proofs.Steps.{step, two_steps, is_integer}
 use Rattle.ss_kept.proofs.Expressions.{resolves}
@@ -45,27 +42,29 @@ module _ (w : Whole) (locals : Moded) (c : Context) (s : Scope) (linked : Linked
   unfolding statement
   let_resolves t e m d =
       let x = target_resolves w locals c s linked line t
-          (ml w locals s (mentioned.in_named line roles.Target t) (mentioned.in_expression line e) m)
-          (dl w locals s (demanded.in_named line t) (demanded.in_expression line e) d.1) in
+      (ml w locals s (mentioned.in_named line roles.Target t) (mentioned.in_expression line e) m)
+      (dl w locals s (demanded.in_named line t) (demanded.in_expression line e) d.1) in
       let y = resolves w locals c s linked line e
-          (mr w locals s (mentioned.in_named line roles.Target t) (mentioned.in_expression line e) m)
-          (dr w locals s (demanded.in_named line t) (demanded.in_expression line e) d.1) in
+      (mr w locals s (mentioned.in_named line roles.Target t) (mentioned.in_expression line e) m)
+      (dr w locals s (demanded.in_named line t) (demanded.in_expression line e) d.1) in
       let one : differ (Some x.1) (aspect_mode w locals (demanded.mode_of e)) ≡ false =
-          subst (λ o. differ o (aspect_mode w locals (demanded.mode_of e)) ≡ false) x.3 d.0.0 in
+      subst (λ o. differ o (aspect_mode w locals (demanded.mode_of e)) ≡ false) x.3 d.0.0 in
       let both : differ (Some x.1) (Some y.1) ≡ false = subst (λ o. differ (Some x.1) o ≡ false) y.3 one in
-      let made : Statement = Let line x.0 y.0 in
-      (made, two_steps (target c t) (expression c e) (λ u v. Some (Let line u v)) x.0 y.0 made x.2 y.2 refl,
-      (x.1, x.4, subst (HasMode s y.0) (same_mode x.1 y.1 both) y.4))
+      let made : Statement = Let line x.0 y.0 in (
+        made,
+        two_steps (target c t) (expression c e) (λ u v. Some (Let line u v)) x.0 y.0 made x.2 y.2 refl,
+        (x.1, x.4, subst (HasMode s y.0) (same_mode x.1 y.1 both) y.4),
+      )
 
   pub add_resolves : (e : ExpressionTree) (t : NamedTree) → KeptMentions w locals (mentioned.in_itself (add_statement line e t)) → KeptDemands w locals (demanded.in_itself (add_statement line e t)) → StatementResolves (add_statement line e t)
   unfolding statement
   add_resolves e t m d =
       let y = number_kept w locals c s linked line e
-          (ml w locals s (mentioned.in_expression line e) (mentioned.in_named line roles.Target t) m)
-          (dl w locals s (demanded.in_number line e) (demanded.in_number_target line t) d) in
+      (ml w locals s (mentioned.in_expression line e) (mentioned.in_named line roles.Target t) m)
+      (dl w locals s (demanded.in_number line e) (demanded.in_number_target line t) d) in
       let x = number_target t
-          (mr w locals s (mentioned.in_expression line e) (mentioned.in_named line roles.Target t) m)
-          (dr w locals s (demanded.in_number line e) (demanded.in_number_target line t) d) in
+      (mr w locals s (mentioned.in_expression line e) (mentioned.in_named line roles.Target t) m)
+      (dr w locals s (demanded.in_number line e) (demanded.in_number_target line t) d) in
       let made : Statement = Change line Plus x.0 y.0 in
       (made, two_steps (expression c e) (target c t) (λ v u. Some (Change line Plus u v)) y.0 x.0 made y.1 x.1 refl, (x.2, y.2))
 
@@ -73,11 +72,11 @@ module _ (w : Whole) (locals : Moded) (c : Context) (s : Scope) (linked : Linked
   unfolding statement
   subtract_resolves e t m d =
       let y = number_kept w locals c s linked line e
-          (ml w locals s (mentioned.in_expression line e) (mentioned.in_named line roles.Target t) m)
-          (dl w locals s (demanded.in_number line e) (demanded.in_number_target line t) d) in
+      (ml w locals s (mentioned.in_expression line e) (mentioned.in_named line roles.Target t) m)
+      (dl w locals s (demanded.in_number line e) (demanded.in_number_target line t) d) in
       let x = number_target t
-          (mr w locals s (mentioned.in_expression line e) (mentioned.in_named line roles.Target t) m)
-          (dr w locals s (demanded.in_number line e) (demanded.in_number_target line t) d) in
+      (mr w locals s (mentioned.in_expression line e) (mentioned.in_named line roles.Target t) m)
+      (dr w locals s (demanded.in_number line e) (demanded.in_number_target line t) d) in
       let made : Statement = Change line Minus x.0 y.0 in
       (made, two_steps (expression c e) (target c t) (λ v u. Some (Change line Minus u v)) y.0 x.0 made y.1 x.1 refl, (x.2, y.2))
 
@@ -85,11 +84,11 @@ module _ (w : Whole) (locals : Moded) (c : Context) (s : Scope) (linked : Linked
   unfolding statement
   remove_resolves e t m d =
       let x = number_kept w locals c s linked line e
-          (ml w locals s (mentioned.in_expression line e) (mentioned.in_named line roles.Set t) m)
-          (dl w locals s (demanded.in_number line e) (demanded.in_named line t) d) in
+      (ml w locals s (mentioned.in_expression line e) (mentioned.in_named line roles.Set t) m)
+      (dl w locals s (demanded.in_number line e) (demanded.in_named line t) d) in
       let p = set_resolves w locals c s linked line t
-          (mr w locals s (mentioned.in_expression line e) (mentioned.in_named line roles.Set t) m)
-          (dr w locals s (demanded.in_number line e) (demanded.in_named line t) d) in
+      (mr w locals s (mentioned.in_expression line e) (mentioned.in_named line roles.Set t) m)
+      (dr w locals s (demanded.in_number line e) (demanded.in_named line t) d) in
       let made : Statement = Remove line p.0.0 x.0 p.0.1 in
       (made, two_steps (expression c e) (set_named c t) (λ u v. Some (Remove line v.0 u v.1)) x.0 p.0 made x.1 p.1 refl, (x.2, p.2))
 
@@ -97,11 +96,11 @@ module _ (w : Whole) (locals : Moded) (c : Context) (s : Scope) (linked : Linked
   unfolding statement
   remove_end_resolves end t u m d =
       let x = number_target t
-          (ml w locals s (mentioned.in_named line roles.Target t) (mentioned.in_named line roles.Set u) m)
-          (dl w locals s (demanded.in_number_target line t) (demanded.in_named line u) d) in
+      (ml w locals s (mentioned.in_named line roles.Target t) (mentioned.in_named line roles.Set u) m)
+      (dl w locals s (demanded.in_number_target line t) (demanded.in_named line u) d) in
       let p = set_resolves w locals c s linked line u
-          (mr w locals s (mentioned.in_named line roles.Target t) (mentioned.in_named line roles.Set u) m)
-          (dr w locals s (demanded.in_number_target line t) (demanded.in_named line u) d) in
+      (mr w locals s (mentioned.in_named line roles.Target t) (mentioned.in_named line roles.Set u) m)
+      (dr w locals s (demanded.in_number_target line t) (demanded.in_named line u) d) in
       let made : Statement = RemoveEnd line (end_of end) p.0.0 x.0 p.0.1 in
       (made, two_steps (target c t) (set_named c u) (λ a b. Some (RemoveEnd line (end_of end) b.0 a b.1)) x.0 p.0 made x.1 p.1 refl, (x.2, p.2))
 
@@ -129,14 +128,14 @@ module _ (w : Whole) (locals : Moded) (c : Context) (s : Scope) (linked : Linked
       let n = ml w locals s (mentioned.in_expression line e ++ mentioned.in_position line at) (mentioned.in_named line roles.Set t) m in
       let k = dl w locals s (demanded.in_number line e ++ demanded.in_position line at) (demanded.in_named line t) d in
       let x = number_kept w locals c s linked line e
-          (ml w locals s (mentioned.in_expression line e) (mentioned.in_position line at) n)
-          (dl w locals s (demanded.in_number line e) (demanded.in_position line at) k) in
+      (ml w locals s (mentioned.in_expression line e) (mentioned.in_position line at) n)
+      (dl w locals s (demanded.in_number line e) (demanded.in_position line at) k) in
       let q = position_resolves at
-          (mr w locals s (mentioned.in_expression line e) (mentioned.in_position line at) n)
-          (dr w locals s (demanded.in_number line e) (demanded.in_position line at) k) in
+      (mr w locals s (mentioned.in_expression line e) (mentioned.in_position line at) n)
+      (dr w locals s (demanded.in_number line e) (demanded.in_position line at) k) in
       let p = set_resolves w locals c s linked line t
-          (mr w locals s (mentioned.in_expression line e ++ mentioned.in_position line at) (mentioned.in_named line roles.Set t) m)
-          (dr w locals s (demanded.in_number line e ++ demanded.in_position line at) (demanded.in_named line t) d) in
+      (mr w locals s (mentioned.in_expression line e ++ mentioned.in_position line at) (mentioned.in_named line roles.Set t) m)
+      (dr w locals s (demanded.in_number line e ++ demanded.in_position line at) (demanded.in_named line t) d) in
       let made : Statement = File line p.0.0 x.0 q.0 p.0.1 in
       (made, three_steps (expression c e) (position c at) (set_named c t) (λ u v z. Some (File line z.0 u v z.1)) x.0 q.0 p.0 made x.1 q.1 p.1 refl, (x.2, q.2, p.2))
 
@@ -144,9 +143,12 @@ module _ (w : Whole) (locals : Moded) (c : Context) (s : Scope) (linked : Linked
       GoesWell w locals (λ x. TakesMode s x.place x.mode) (reader c t)
   reader_resolves t m d =
       let r = target_resolves w locals c s linked line t m d in
-      let made : Target = record { place = r.0; mode = r.1 } in
-      (made, two_steps (target c t) (c.meaning t.designator) (λ u v. mode_of v >>= λ z. Some (record { place = u; mode = z })) r.0 r.5 made r.2 r.6
-      (step (mode_of r.5) (λ z. Some (record { place = r.0; mode = z })) r.1 made r.7 refl), r.4)
+      let made : Target = record { place = r.0; mode = r.1 } in (
+        made,
+        two_steps (target c t) (c.meaning t.designator) (λ u v. mode_of v >>= λ z. Some (record { place = u; mode = z })) r.0 r.5 made r.2 r.6
+            (step (mode_of r.5) (λ z. Some (record { place = r.0; mode = z })) r.1 made r.7 refl),
+        r.4,
+      )
 
   pub read_resolves : (ts : List NamedTree) → KeptMentions w locals (mentioned.in_itself (read_statement line ts)) → KeptDemands w locals (demanded.in_itself (read_statement line ts)) → StatementResolves (read_statement line ts)
   unfolding statement
