@@ -137,7 +137,7 @@ GoodHead s (Numbers x a b step) = TakesMode s (ToVariable x) Integer × HasMode 
 GoodHead s (Members x set owner start reverse) = TakesMode s (ToVariable x) Integer × OwnerFits s set owner × GoodStart s start
 GoodHead s (Each x class) = TakesMode s (ToVariable x) Integer × (kind_of s.program class ≡ Some Permanent)
 
--- the same of a phrase's
+-- the condition of a phrase is good
 abbrev pub GoodPhrase : Scope → Phrase → Type 0
 GoodPhrase s phrase = GoodCondition s phrase.condition
 
