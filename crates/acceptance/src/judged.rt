@@ -1,12 +1,10 @@
 //! What comes of a text, and whether that is wanted.
 
 use crate::cases::{Counts, Ending};
-use crate::refusals::{of_lexer, of_parser, of_rules, of_tables};
-use ss_engine::{Outcome, Refusal, outcome_line};
+use crate::refusals::{of_lexer, of_parser};
+use ss_engine::{Outcome, Refusal, compile, outcome_line};
 use ss_lex::tokens;
 use ss_parse::parse;
-use ss_rules::{keeps_rules, names_of};
-use ss_tables::Tables;
 use ss_tree::program::Program;
 use std::alloc::{AllocError, Global};
 use std::str;
@@ -73,8 +71,8 @@ pub fn judged_by_tree(alloc: Global, text: &[u8]) -> Came {
 
 /// Judges a text by the lexer, the parser, the tables and the rules.
 pub fn judged_by_rules(alloc: Global, text: &[u8]) -> Came {
-    match broken_rule(alloc, text) {
-        Ok(()) => Came::Kept,
+    match compile(alloc, text) {
+        Ok(_) | Err(Refusal::NotYet) => Came::Kept,
         Err(refusal) => Came::Outcome(Outcome::Refused(refusal)),
     }
 }
@@ -83,20 +81,4 @@ pub fn judged_by_rules(alloc: Global, text: &[u8]) -> Came {
 fn tree(alloc: Global, text: &[u8]) -> Result<Program, Refusal> {
     let tokens = tokens(alloc, text).map_err(of_lexer)?;
     parse(alloc, &tokens).map_err(of_parser)
-}
-
-// Why a text is refused before it is compiled.
-fn broken_rule(alloc: Global, text: &[u8]) -> Result<(), Refusal> {
-    let program = tree(alloc, text)?;
-    let tables = match Tables::of(alloc, &program) {
-        Ok(tables) => tables,
-        Err(error) => return Err(of_tables(error)),
-    };
-    let Ok(names) = names_of(alloc, &program, tables) else {
-        return Err(Refusal::Memory);
-    };
-    match keeps_rules(alloc, &program, &names) {
-        Ok(()) => Ok(()),
-        Err(error) => Err(of_rules(error)),
-    }
 }

@@ -1,4 +1,1 @@
-mod Trees
-mod Rows
-mod Sections
-mod Sizes
+mod Kept

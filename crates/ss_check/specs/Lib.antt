@@ -1,4 +1,1 @@
-pub mod Contexts
-pub mod Seen
-pub mod Resolving
-pub mod Examples
+pub mod Checking

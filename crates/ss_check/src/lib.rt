@@ -1,17 +1,8 @@
-//! The check of a whole program, which replaces each name by what it stands for.
+//! Programs that break no rule, with each name replaced by what it stands for.
 #![tactic(auto)]
 
-mod bodies;
-mod conditions;
-mod entities;
-mod expressions;
-mod heads;
-mod meanings;
-mod nested;
-mod program;
-mod sets;
-mod statements;
-mod words;
+mod checking;
+mod error;
 
-pub use program::check;
-pub use ss_resolved::resolved::Resolved as Checked;
+pub use checking::check;
+pub use error::CheckError;

@@ -1,19 +1,3 @@
-pub mod Steps
-pub mod Parts
-pub mod Expressions
-pub mod Looking
-pub mod Branching
-pub mod Looping
-pub mod Walking
-pub mod Writing
-pub mod Filing
-pub mod Effects
-pub mod Calling
-pub mod Whole
-pub mod Pieces
-pub mod Rows
-pub mod Sizes
-pub mod Safety
-pub mod Guarded
-pub mod Secure
-pub mod Landing
+mod Rows
+mod Sizes
+mod Whole

@@ -1,11 +1,3 @@
-pub mod Store
-pub mod Entities
-pub mod Sets
-pub mod Meaning
-pub mod Machine
-pub mod Running
-pub mod Translation
-pub mod Rows
 pub mod Pieces
-pub mod Laws
+pub mod Emitted
 pub mod Listing

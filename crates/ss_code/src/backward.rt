@@ -2,7 +2,7 @@
 
 ghost use Rattle.std.specs.Prelude.{◌≡◌, [], ◌++◌, length, IfOk, OnOk};
 
-use crate::instruction::Instruction;
+use ss_machine_code::instruction::Instruction;
 use std::alloc::{AllocError, Global};
 use std::marker::Model;
 
@@ -15,7 +15,7 @@ pub(crate) struct Backward {
 
 impl Model for Backward {
     ghost use Rattle.std.specs.Prelude.{◌≡◌, List, length};
-    ghost use Rattle.ss_code.specs.declared.instruction.Instruction.{Instruction as InstructionValue};
+    ghost use Rattle.ss_machine_code.specs.declared.instruction.Instruction.{Instruction as InstructionValue};
     ghost use Rattle.ss_code.specs.Pieces.{laid_code};
 
     ghost Value = { List InstructionValue };

@@ -1,89 +1,95 @@
 //! The code of a program.
 
-ghost use Rattle.std.specs.Prelude.{◌≡◌, ◌<◌, ◌^◌, length, slice_get, IfOk};
+ghost use Rattle.std.specs.Prelude.{◌≡◌, ◌<◌, ◌^◌, length, map, slice_get, IfOk};
 ghost use Rattle.ss_code.specs.Listing.{listed};
-ghost use Rattle.ss_code.specs.Running.{Sound};
+ghost use Rattle.ss_code.specs.Emitted.{IsCode};
 
 use crate::entry::Entry;
-use crate::instruction::Instruction;
+use crate::lines::Lines;
 use crate::listing::listing;
-use ss_base::{Discipline, Layout, Value};
-use ss_picture::Picture;
+use crate::notices::NoticeClass;
+use ss_base::{Discipline, Layout, Mode};
+use ss_events::TieShape;
+use ss_machine_code::instruction::Instruction;
+use ss_program::sections::Statistic;
 use std::alloc::{AllocError, Global};
 use std::marker::Model;
 
-/// The classes and sets of a program, the disciplines of its sets, its instructions, the pictures that they print by, the routines that
-/// they call, and the first values of the global variables and of MAIN's own.
+/// What a program says of its classes and sets, its notices and its statistics.
+#[derive(Drop)]
+pub(crate) struct Sayings {
+    pub(crate) layout: Layout,
+    pub(crate) disciplines: Vec<Discipline>,
+    pub(crate) notices: Vec<NoticeClass>,
+    pub(crate) ties: Vec<Vec<TieShape>>,
+    pub(crate) statistics: Vec<Statistic>,
+}
+
+impl Model for Sayings {
+    ghost use Rattle.std.specs.Prelude.{map};
+    ghost use Rattle.ss_code.specs.Emitted.{Said};
+
+    ghost Value = { Said };
+
+    ghost view = { λ s. record { layout = s.layout; setting = record { disciplines = s.disciplines.items; notices = s.notices.items; statistics = s.statistics.items }; ties = map (λ shapes. shapes.items) s.ties.items } };
+}
+
+/// The instructions of a program, the pictures that they print by, where its routines and those of its events begin, what it
+/// says of classes, sets, notices and statistics, and the modes of the global variables and of MAIN's own.
 ///
-/// A contract sees it as a record of these. No run of it is ever stuck, and each jump back leads
-/// to an instruction that takes a tick.
+/// A contract sees it as a record of these. It is the code of a program.
 #[derive(Drop)]
 pub struct Code {
-    layout: Layout,
-    disciplines: Vec<Discipline>,
     instructions: Vec<Instruction>,
-    pictures: Vec<Picture>,
-    entries: Vec<Entry>,
-    globals: Vec<Value>,
-    locals: Vec<Value>,
+    pictures: Vec<Lines>,
+    routines: Vec<Entry>,
+    events: Vec<Entry>,
+    sayings: Sayings,
+    globals: Vec<Mode>,
+    locals: Vec<Mode>,
 }
 
 impl Model for Code {
-    ghost use Rattle.ss_code.specs.Machine.{Code as CodeValue};
+    ghost use Rattle.ss_machine_code.specs.Machine.{Code as CodeValue};
+    ghost use Rattle.ss_code.specs.Emitted.{IsCode};
 
     ghost Value = { CodeValue };
 
-    ghost use Rattle.ss_code.specs.Running.{Sound};
+    ghost view = { λ c. record { instructions = c.instructions.items; pictures = c.pictures.items; routines = c.routines.items; events = c.events.items; layout = c.sayings.layout; setting = c.sayings.setting; ties = c.sayings.ties; globals = c.globals.items; locals = c.locals.items } };
 
-    ghost view = { λ c. record { layout = c.layout; disciplines = c.disciplines.items; instructions = c.instructions.items; pictures = c.pictures.items; entries = c.entries.items; globals = c.globals.items; locals = c.locals.items } };
-
-    ghost invariant = { λ c. Sound (record { layout = c.layout; disciplines = c.disciplines.items; instructions = c.instructions.items; pictures = c.pictures.items; entries = c.entries.items; globals = c.globals.items; locals = c.locals.items }) };
+    ghost invariant = { λ c. IsCode (record { instructions = c.instructions.items; pictures = c.pictures.items; routines = c.routines.items; events = c.events.items; layout = c.sayings.layout; setting = c.sayings.setting; ties = c.sayings.ties; globals = c.globals.items; locals = c.locals.items }) };
 }
 
 impl Code {
-    /// The code of these parts, which is never stuck.
+    /// The code of a program, of these parts.
     pub(crate) fn new(
-        layout: Layout,
-        disciplines: Vec<Discipline>,
         instructions: Vec<Instruction>,
-        pictures: Vec<Picture>,
-        entries: Vec<Entry>,
-        globals: Vec<Value>,
-        locals: Vec<Value>,
+        pictures: Vec<Lines>,
+        routines: Vec<Entry>,
+        events: Vec<Entry>,
+        sayings: Sayings,
+        globals: Vec<Mode>,
+        locals: Vec<Mode>,
     ) -> Code
-        requires { Sound (record { layout = layout; disciplines = disciplines.items; instructions = instructions.items; pictures = pictures.items; entries = entries.items; globals = globals.items; locals = locals.items }) }
-        ensures { result ≡ record { layout = layout; disciplines = disciplines.items; instructions = instructions.items; pictures = pictures.items; entries = entries.items; globals = globals.items; locals = locals.items } }
+        requires { IsCode (record { instructions = instructions.items; pictures = pictures.items; routines = routines.items; events = events.items; layout = sayings.layout; setting = sayings.setting; ties = sayings.ties; globals = globals.items; locals = locals.items }) }
+        ensures { result ≡ record { instructions = instructions.items; pictures = pictures.items; routines = routines.items; events = events.items; layout = sayings.layout; setting = sayings.setting; ties = sayings.ties; globals = globals.items; locals = locals.items } }
     {
         Code {
-            layout,
-            disciplines,
             instructions,
             pictures,
-            entries,
+            routines,
+            events,
+            sayings,
             globals,
             locals,
         }
     }
 
-    /// The classes and sets.
-    pub fn layout(&self) -> &Layout
-        ensures { result.now ≡ self.now.layout }
-    {
-        &self.layout
-    }
-
-    /// The disciplines of the sets, by their numbers.
-    pub fn disciplines(&self) -> &[Discipline]
-        ensures { result.now ≡ self.now.disciplines }
-    {
-        &self.disciplines
-    }
-
-    /// How many instructions there are. No run of them is ever stuck.
+    /// How many instructions there are. They are those of a program.
     pub fn len(&self) -> usize
         ensures value { result ≡ length self.now.instructions }
         ensures small { length self.now.instructions < 2 ^ 63 }
-        ensures sound { Sound self.now }
+        ensures made { IsCode self.now }
     {
         self.instructions.len()
     }
@@ -95,29 +101,78 @@ impl Code {
         self.instructions.get(place).copied()
     }
 
-    /// The pictures that the instructions print by.
-    pub fn pictures(&self) -> &[Picture]
+    /// The instructions, from the first on.
+    pub fn instructions(&self) -> &[Instruction]
+        ensures { result.now ≡ self.now.instructions }
+    {
+        &self.instructions
+    }
+
+    /// The pictures of each PRINT, by the number that its instruction has.
+    pub fn pictures(&self) -> &[Lines]
         ensures { result.now ≡ self.now.pictures }
     {
         &self.pictures
     }
 
-    /// The routines that the instructions call, by their numbers.
-    pub fn entries(&self) -> &[Entry]
-        ensures { result.now ≡ self.now.entries }
+    /// Where the routines begin, by their numbers.
+    pub fn routines(&self) -> &[Entry]
+        ensures { result.now ≡ self.now.routines }
     {
-        &self.entries
+        &self.routines
     }
 
-    /// The first values of the global variables.
-    pub fn globals(&self) -> &[Value]
+    /// Where the routines of the events begin, by the ranks of their classes.
+    pub fn events(&self) -> &[Entry]
+        ensures { result.now ≡ self.now.events }
+    {
+        &self.events
+    }
+
+    /// The classes and sets.
+    pub fn layout(&self) -> &Layout
+        ensures { result.now ≡ self.now.layout }
+    {
+        &self.sayings.layout
+    }
+
+    /// The disciplines of the sets, by their numbers.
+    pub fn disciplines(&self) -> &[Discipline]
+        ensures { result.now ≡ self.now.setting.disciplines }
+    {
+        &self.sayings.disciplines
+    }
+
+    /// The classes of notices, in the order in which they come at one time.
+    pub fn notices(&self) -> &[NoticeClass]
+        ensures { result.now ≡ self.now.setting.notices }
+    {
+        &self.sayings.notices
+    }
+
+    /// The shapes of the ties of each class of notices, in the same order.
+    pub fn ties(&self) -> &[Vec<TieShape>]
+        ensures { map (λ shapes. shapes.items) result.now ≡ self.now.ties }
+    {
+        &self.sayings.ties
+    }
+
+    /// The statistics, by their numbers.
+    pub fn statistics(&self) -> &[Statistic]
+        ensures { result.now ≡ self.now.setting.statistics }
+    {
+        &self.sayings.statistics
+    }
+
+    /// The modes of the global variables.
+    pub fn globals(&self) -> &[Mode]
         ensures { result.now ≡ self.now.globals }
     {
         &self.globals
     }
 
-    /// The first values of MAIN's own variables.
-    pub fn locals(&self) -> &[Value]
+    /// The modes of MAIN's own variables.
+    pub fn locals(&self) -> &[Mode]
         ensures { result.now ≡ self.now.locals }
     {
         &self.locals

@@ -1,16 +1,17 @@
 //! The instructions of conditions.
 
-ghost use Rattle.std.specs.Prelude.{◌≡◌, ◌++◌, ◌+◌, IfOk, OnOk};
-ghost use Rattle.ss_code.specs.Translation.{test_code, tests_code, some_code, condition_code, negated_code, guard_code, guards_code, phrase_code, phrases_code};
+ghost use Rattle.std.specs.Prelude.{◌≡◌, ◌++◌, ◌+◌, map, Bool, IfOk, OnOk};
+ghost use Rattle.ss_program.specs.Program.{Empty as EmptyTest, Member as MemberTest};
+ghost use Rattle.ss_program.specs.View.{view_expression, view_owner, view_test, view_conjunction, view_condition, view_guard, view_phrase};
+ghost use Rattle.ss_machine_code.specs.Translation.{test_code, tests_code, condition_code, negated_code, guard_code, guards_code, phrase_code, phrases_code};
 
 use crate::backward::Backward;
-use crate::emit::{emit_expression, operand, put};
-use crate::instruction::Instruction;
-use crate::members::emit_member;
+use crate::emit::{emit_expression, emit_member, emit_owner, put, system_owns};
 use ss_base::Line;
-use ss_resolved::resolved::{
-    Condition, Conjunction, Expression, Guard, GuardKind, Phrase, PhraseKind, Test,
-};
+use ss_machine_code::instruction::Instruction;
+use ss_program::condition::{Condition, Conjunction, Test};
+use ss_program::expression::{Expression, SetOwner};
+use ss_program::head::{Guard, GuardKind, Phrase, PhraseKind};
 use std::alloc::{AllocError, Global};
 
 /// A number of instructions and some more. The error comes where no memory can hold so many.
@@ -23,31 +24,31 @@ pub(crate) fn sum(count: usize, more: usize) -> Result<usize, AllocError>
     }
 }
 
-// Whether the set of an owner has no member.
+// Whether a set has no member.
 fn emit_empty(
     code: &mut Vec<Instruction>,
     line: Line,
     skip: usize,
     negated: bool,
     set: u32,
-    owner: &Expression,
+    owner: &SetOwner,
 ) -> Result<(), AllocError>
-    ensures { OnOk result (code.new.items ≡ code.old.items ++ test_code line skip (Test.Empty negated set owner.now)) }
+    ensures { OnOk result (code.new.items ≡ code.old.items ++ test_code line skip (EmptyTest negated set (view_owner owner.now))) }
 {
-    emit_expression(code, line, None, owner)?;
+    emit_owner(code, line, owner)?;
     put(
         code,
         Instruction::TestEmpty {
             negated,
             set,
-            owner: operand(owner),
+            system: system_owns(owner),
             skip,
             line,
         },
     )
 }
 
-// Whether a member is in the set of an owner.
+// Whether an entity is in a set.
 fn emit_is_in(
     code: &mut Vec<Instruction>,
     line: Line,
@@ -55,18 +56,18 @@ fn emit_is_in(
     negated: bool,
     set: u32,
     member: &Expression,
-    owner: &Expression,
+    owner: &SetOwner,
 ) -> Result<(), AllocError>
-    ensures { OnOk result (code.new.items ≡ code.old.items ++ test_code line skip (Test.Member negated set member.now owner.now)) }
+    ensures { OnOk result (code.new.items ≡ code.old.items ++ test_code line skip (MemberTest negated set (view_expression member.now) (view_owner owner.now))) }
 {
     emit_member(code, line, set, member)?;
-    emit_expression(code, line, None, owner)?;
+    emit_owner(code, line, owner)?;
     put(
         code,
         Instruction::TestMember {
             negated,
             set,
-            owner: operand(owner),
+            system: system_owns(owner),
             skip,
             line,
         },
@@ -80,34 +81,34 @@ fn emit_test(
     skip: usize,
     test: &Test,
 ) -> Result<(), AllocError>
-    ensures { OnOk result (code.new.items ≡ code.old.items ++ test_code line skip test.now) }
+    ensures { OnOk result (code.new.items ≡ code.old.items ++ test_code line skip (view_test test.now)) }
 {
     match test {
         Test::Compare {
-            left,
             relation,
+            left,
             right,
         } => {
-            emit_expression(code, line, None, left)?;
-            emit_expression(code, line, None, right)?;
+            emit_expression(code, line, left)?;
+            emit_expression(code, line, right)?;
             put(
                 code,
                 Instruction::Compare {
                     relation: *relation,
-                    left: operand(left),
-                    right: operand(right),
                     skip,
                 },
             )
         }
-        Test::DataEnded { negated } => put(
-            code,
-            Instruction::TestData {
-                negated: *negated,
-                skip,
-                line,
-            },
-        ),
+        Test::DataEnded { negated } => {
+            put(
+                code,
+                Instruction::TestData {
+                    negated: *negated,
+                    skip,
+                    line,
+                },
+            )
+        }
         Test::Empty {
             negated,
             set,
@@ -129,7 +130,7 @@ fn emit_tests(
     skip: usize,
     tests: &[Test],
 ) -> Result<Vec<Instruction>, AllocError>
-    ensures { IfOk result (λ code. code.items ≡ tests_code line skip tests.now) }
+    ensures { IfOk result (λ code. code.items ≡ tests_code line skip (map view_test tests.now)) }
 {
     let mut rest = Backward::new(alloc);
     for i in (0..tests.len()).rev() {
@@ -148,7 +149,7 @@ fn emit_alternatives(
     skip: usize,
     alternatives: &[Conjunction],
 ) -> Result<Vec<Instruction>, AllocError>
-    ensures { IfOk result (λ code. code.items ≡ some_code line skip alternatives.now) }
+    ensures { IfOk result (λ code. code.items ≡ condition_code line skip (map view_conjunction alternatives.now)) }
 {
     let count = alternatives.len();
     if count == 0 {
@@ -174,7 +175,7 @@ pub(crate) fn emit_condition(
     skip: usize,
     condition: &Condition,
 ) -> Result<Vec<Instruction>, AllocError>
-    ensures { IfOk result (λ code. code.items ≡ condition_code line skip condition.now) }
+    ensures { IfOk result (λ code. code.items ≡ condition_code line skip (view_condition condition.now)) }
 {
     emit_alternatives(alloc, line, skip, &condition.alternatives)
 }
@@ -186,7 +187,7 @@ fn emit_negated(
     skip: usize,
     condition: &Condition,
 ) -> Result<Vec<Instruction>, AllocError>
-    ensures { IfOk result (λ code. code.items ≡ negated_code line skip condition.now) }
+    ensures { IfOk result (λ code. code.items ≡ negated_code line skip (view_condition condition.now)) }
 {
     let mut code = emit_condition(alloc, line, 1, condition)?;
     put(&mut code, Instruction::Jump { skip })?;
@@ -200,7 +201,7 @@ fn emit_guard(
     kind: GuardKind,
     condition: &Condition,
 ) -> Result<Vec<Instruction>, AllocError>
-    ensures { IfOk result (λ code. code.items ≡ guard_code line skip kind condition.now) }
+    ensures { IfOk result (λ code. code.items ≡ guard_code line skip kind (view_condition condition.now)) }
 {
     match kind {
         GuardKind::While => emit_condition(alloc, line, skip, condition),
@@ -215,7 +216,7 @@ pub(crate) fn emit_guards(
     skip: usize,
     guards: &[Guard],
 ) -> Result<Vec<Instruction>, AllocError>
-    ensures { IfOk result (λ code. code.items ≡ guards_code line skip guards.now) }
+    ensures { IfOk result (λ code. code.items ≡ guards_code line skip (map view_guard guards.now)) }
 {
     let mut rest = Backward::new(alloc);
     for i in (0..guards.len()).rev() {
@@ -235,7 +236,7 @@ fn emit_phrase(
     kind: PhraseKind,
     condition: &Condition,
 ) -> Result<Vec<Instruction>, AllocError>
-    ensures { IfOk result (λ code. code.items ≡ phrase_code line rest kind condition.now) }
+    ensures { IfOk result (λ code. code.items ≡ phrase_code line rest kind (view_condition condition.now)) }
 {
     let past = sum(rest, 1)?;
     match kind {
@@ -253,7 +254,7 @@ pub(crate) fn emit_phrases(
     phrases: &[Phrase],
     turn: Vec<Instruction>,
 ) -> Result<Vec<Instruction>, AllocError>
-    ensures { IfOk result (λ code. code.items ≡ phrases_code line phrases.now turn.items) }
+    ensures { IfOk result (λ code. code.items ≡ phrases_code line (map view_phrase phrases.now) turn.items) }
 {
     let mut rest = Backward::new(alloc);
     rest.put_before(turn)?;

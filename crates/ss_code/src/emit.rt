@@ -1,381 +1,264 @@
 //! The instructions of expressions.
 
-ghost use Rattle.std.specs.Prelude.{◌≡◌, [], ◌∷◌, ◌++◌, length, OnOk};
-ghost use Rattle.ss_code.specs.Meaning.{operator_of, operator_for};
-ghost use Rattle.ss_code.specs.Translation.{variable_operand, destination_of, operand_of, placed, constant_code, fetch_code, onwards_code, expression_code, values_code};
-ghost use Rattle.ss_code.specs.Rows.{sum_list, product_list};
+ghost use Rattle.std.specs.Prelude.{◌≡◌, [], ◌∷◌, ◌++◌, map, Bool, OnOk};
+ghost use Rattle.ss_program.specs.View.{view_expression, view_owner, view_option};
+ghost use Rattle.ss_machine_code.specs.Translation.{expression_code, values_code, entity_code, member_code, owner_code, any_code, is_system, is_absent, step_code};
+ghost use Rattle.ss_code.specs.Emitted.{operations_code};
 
-use crate::instruction::{Destination, Instruction, Operand, Operator};
 use ss_base::{Line, Value};
-use ss_resolved::resolved::{Expression, Function, Sign, Variable};
+use ss_machine_code::instruction::Instruction;
+use ss_program::expression::{Expression, MemberQuery, Operation, SetOwner, SetQuery};
 use std::alloc::AllocError;
 
-// The number 0 as an operand.
-const ZERO: Operand = Operand::Number { value: 0 };
-
-// One more instruction.
+/// One more instruction.
 pub(crate) fn put(code: &mut Vec<Instruction>, instruction: Instruction) -> Result<(), AllocError>
     ensures { OnOk result (code.new.items ≡ code.old.items ++ instruction ∷ []) }
 {
+    // names the type of values, which the proof of the push needs
+    let _none: Option<Value> = None;
     code.push(instruction)?;
     Ok(())
 }
 
-pub(crate) fn signed(sign: Sign) -> Operator
-    ensures { result ≡ operator_of sign }
-{
-    match sign {
-        Sign::Plus => Operator::Plus,
-        Sign::Minus => Operator::Minus,
-    }
-}
-
-fn operator(function: Function) -> Operator
-    ensures { result ≡ operator_for function }
-{
-    match function {
-        Function::Quotient => Operator::Quotient,
-        Function::Remainder => Operator::Remainder,
-        Function::Least => Operator::Least,
-        Function::Greatest => Operator::Greatest,
-    }
-}
-
-pub(crate) fn from_variable(variable: Variable) -> Operand
-    ensures { result ≡ variable_operand variable }
-{
-    match variable {
-        Variable::Global { number } => Operand::FromGlobal { number },
-        Variable::Local { number } => Operand::FromLocal { number },
-    }
-}
-
-pub(crate) fn to_variable(variable: Variable) -> Destination
-    ensures { result ≡ destination_of variable }
-{
-    match variable {
-        Variable::Global { number } => Destination::ToGlobal { number },
-        Variable::Local { number } => Destination::ToLocal { number },
-    }
-}
-
-// The operand that an expression is.
-pub(crate) fn operand(e: &Expression) -> Operand
-    ensures { result ≡ operand_of e.now }
-{
-    match e {
-        Expression::Constant {
-            value: Value::Whole(z),
-        } => Operand::Number { value: *z },
-        Expression::Constant {
-            value: Value::Text(_),
-        } => Operand::Popped,
-        Expression::Fetch { variable } => from_variable(*variable),
-        Expression::Signed { .. }
-        | Expression::Sum { .. }
-        | Expression::Product { .. }
-        | Expression::Applied { .. }
-        | Expression::Absolute { .. }
-        | Expression::Attribute { .. }
-        | Expression::Made { .. }
-        | Expression::Derived { .. } => Operand::Popped,
-    }
-}
-
-// Where a calculation leaves its result.
-fn place(into: Option<Destination>) -> Destination
-    ensures { result ≡ placed into }
-{
-    match into {
-        None => Destination::Pushed,
-        Some(destination) => destination,
-    }
-}
-
-fn emit_constant(
-    code: &mut Vec<Instruction>,
-    into: Option<Destination>,
-    value: Value,
-) -> Result<(), AllocError>
-    ensures { OnOk result (code.new.items ≡ code.old.items ++ constant_code into value) }
-{
-    match value {
-        Value::Whole(z) => match into {
-            None => Ok(()),
-            Some(into) => put(
-                code,
-                Instruction::Move {
-                    from: Operand::Number { value: z },
-                    into,
-                },
-            ),
-        },
-        Value::Text(text) => put(
-            code,
-            Instruction::Load {
-                text,
-                into: place(into),
-            },
-        ),
-    }
-}
-
-fn emit_fetch(
-    code: &mut Vec<Instruction>,
-    into: Option<Destination>,
-    variable: Variable,
-) -> Result<(), AllocError>
-    ensures { OnOk result (code.new.items ≡ code.old.items ++ fetch_code into variable) }
-{
-    match into {
-        None => Ok(()),
-        Some(into) => put(
-            code,
-            Instruction::Move {
-                from: from_variable(variable),
-                into,
-            },
-        ),
-    }
-}
-
-// On from the top of the stack to a destination.
-fn emit_onwards(code: &mut Vec<Instruction>, into: Option<Destination>) -> Result<(), AllocError>
-    ensures { OnOk result (code.new.items ≡ code.old.items ++ onwards_code into) }
-{
-    match into {
-        None | Some(Destination::Pushed) => Ok(()),
-        Some(Destination::ToGlobal { number }) => put(
-            code,
-            Instruction::Move {
-                from: Operand::Popped,
-                into: Destination::ToGlobal { number },
-            },
-        ),
-        Some(Destination::ToLocal { number }) => put(
-            code,
-            Instruction::Move {
-                from: Operand::Popped,
-                into: Destination::ToLocal { number },
-            },
-        ),
-    }
-}
-
-// An expression, to be an operand or to be at a destination.
+/// An expression: its value goes on top of the stack.
+#[tactic(auto, unfolding(ss_program::specs::View::view_expression), using(ss_program::specs::Views::view_calculate_made, crate::proofs::Rows::calculated_code))]
 #[cycle(expressions)]
 pub(crate) fn emit_expression(
     code: &mut Vec<Instruction>,
     line: Line,
-    into: Option<Destination>,
     e: &Expression,
 ) -> Result<(), AllocError>
-    ensures { OnOk result (code.new.items ≡ code.old.items ++ expression_code line into e.now) }
+    ensures { OnOk result (code.new.items ≡ code.old.items ++ expression_code line (view_expression e.now)) }
 {
     match e {
-        Expression::Constant { value } => emit_constant(code, into, *value),
-        Expression::Fetch { variable } => emit_fetch(code, into, *variable),
-        Expression::Signed { sign, term } => {
-            emit_expression(code, line, None, term)?;
-            let right = operand(term);
+        Expression::Constant { value } => put(code, Instruction::Push { value: *value }),
+        Expression::Fetch { variable } => {
             put(
                 code,
-                Instruction::Calculate {
-                    operator: signed(*sign),
-                    left: ZERO,
-                    right,
-                    into: place(into),
-                    line,
-                },
-            )
-        }
-        Expression::Sum { first, rest } => {
-            emit_expression(code, line, None, first)?;
-            emit_terms(code, line, into, operand(first), rest)
-        }
-        Expression::Product { first, rest } => {
-            emit_expression(code, line, None, first)?;
-            emit_factors(code, line, into, operand(first), rest)
-        }
-        Expression::Applied {
-            function,
-            left,
-            right,
-        } => {
-            emit_expression(code, line, None, left)?;
-            emit_expression(code, line, None, right)?;
-            put(
-                code,
-                Instruction::Calculate {
-                    operator: operator(*function),
-                    left: operand(left),
-                    right: operand(right),
-                    into: place(into),
-                    line,
-                },
-            )
-        }
-        Expression::Absolute { argument } => {
-            emit_expression(code, line, None, argument)?;
-            put(
-                code,
-                Instruction::Calculate {
-                    operator: Operator::Distance,
-                    left: operand(argument),
-                    right: ZERO,
-                    into: place(into),
-                    line,
+                Instruction::Fetch {
+                    variable: *variable,
                 },
             )
         }
         Expression::Attribute { class, field, of } => {
-            emit_expression(code, line, None, of)?;
+            emit_expression(code, line, of)?;
             put(
                 code,
-                Instruction::Get {
+                Instruction::Attribute {
                     class: *class,
                     field: *field,
-                    from: operand(of),
                     line,
                 },
-            )?;
-            emit_onwards(code, into)
+            )
         }
-        Expression::Made { class } => put(
-            code,
-            Instruction::CountMade {
-                class: *class,
-                into: place(into),
-            },
-        ),
-        Expression::Derived { derived, set, of } => {
-            emit_expression(code, line, None, of)?;
+        Expression::OfSystemSet { query, set } => {
             put(
                 code,
-                Instruction::Ask {
-                    derived: *derived,
+                Instruction::OfSet {
+                    query: *query,
                     set: *set,
-                    from: operand(of),
+                    system: true,
                     line,
                 },
-            )?;
-            emit_onwards(code, into)
+            )
+        }
+        Expression::OfSet { query, set, owner } => {
+            emit_expression(code, line, owner)?;
+            put(
+                code,
+                Instruction::OfSet {
+                    query: *query,
+                    set: *set,
+                    system: false,
+                    line,
+                },
+            )
+        }
+        Expression::OfMember { query, set, member } => {
+            emit_expression(code, line, member)?;
+            put(
+                code,
+                Instruction::OfMember {
+                    query: *query,
+                    set: *set,
+                    line,
+                },
+            )
+        }
+        Expression::Clock => put(code, Instruction::Clock),
+        Expression::TimeOf { notice } => {
+            emit_expression(code, line, notice)?;
+            put(code, Instruction::TimeOf { line })
+        }
+        Expression::Figure { fold, statistic } => {
+            put(
+                code,
+                Instruction::Figure {
+                    fold: *fold,
+                    statistic: *statistic,
+                    system: true,
+                    line,
+                },
+            )
+        }
+        Expression::FigureOf {
+            fold,
+            statistic,
+            entity,
+        } => {
+            emit_expression(code, line, entity)?;
+            put(
+                code,
+                Instruction::Figure {
+                    fold: *fold,
+                    statistic: *statistic,
+                    system: false,
+                    line,
+                },
+            )
+        }
+        Expression::Signed { sign, term } => {
+            emit_expression(code, line, term)?;
+            put(code, Instruction::Signed { sign: *sign, line })
+        }
+        Expression::Absolute { argument } => {
+            emit_expression(code, line, argument)?;
+            put(code, Instruction::Absolute { line })
+        }
+        Expression::Calculate { first, further } => {
+            emit_expression(code, line, first)?;
+            emit_operations(code, line, further)
         }
     }
 }
 
-// The terms of a sum behind its first, which is an operand.
+// Operations on what lies on top of the stack.
 #[cycle(expressions)]
-fn emit_terms(
+fn emit_operations(
     code: &mut Vec<Instruction>,
     line: Line,
-    into: Option<Destination>,
-    first: Operand,
-    terms: &[(Sign, Expression)],
+    operations: &[Operation],
 ) -> Result<(), AllocError>
-    ensures { OnOk result (code.new.items ≡ code.old.items ++ sum_list line into first terms.now) }
+    ensures { OnOk result (code.new.items ≡ code.old.items ++ operations_code line operations.now) }
 {
-    let Some(((sign, second), others)) = terms.split_first() else {
-        return put(
-            code,
-            Instruction::Move {
-                from: first,
-                into: place(into),
-            },
-        );
-    };
-    emit_expression(code, line, None, second)?;
-    let mut operator = signed(*sign);
-    let mut left = first;
-    let mut right = operand(second);
-    for (sign, term) in others {
+    for operation in operations {
+        emit_expression(code, line, &operation.operand)?;
         put(
             code,
             Instruction::Calculate {
-                operator,
-                left,
-                right,
-                into: Destination::Pushed,
+                operator: operation.operator,
                 line,
             },
         )?;
-        emit_expression(code, line, None, term)?;
-        operator = signed(*sign);
-        left = Operand::Popped;
-        right = operand(term);
     }
-    put(
-        code,
-        Instruction::Calculate {
-            operator,
-            left,
-            right,
-            into: place(into),
-            line,
-        },
-    )
+    Ok(())
 }
 
-// The factors of a product behind its first, which is an operand.
-#[cycle(expressions)]
-fn emit_factors(
-    code: &mut Vec<Instruction>,
-    line: Line,
-    into: Option<Destination>,
-    first: Operand,
-    factors: &[Expression],
-) -> Result<(), AllocError>
-    ensures { OnOk result (code.new.items ≡ code.old.items ++ product_list line into first factors.now) }
-{
-    let Some((second, others)) = factors.split_first() else {
-        return put(
-            code,
-            Instruction::Move {
-                from: first,
-                into: place(into),
-            },
-        );
-    };
-    emit_expression(code, line, None, second)?;
-    let mut left = first;
-    let mut right = operand(second);
-    for factor in others {
-        put(
-            code,
-            Instruction::Calculate {
-                operator: Operator::Times,
-                left,
-                right,
-                into: Destination::Pushed,
-                line,
-            },
-        )?;
-        emit_expression(code, line, None, factor)?;
-        left = Operand::Popped;
-        right = operand(factor);
-    }
-    put(
-        code,
-        Instruction::Calculate {
-            operator: Operator::Times,
-            left,
-            right,
-            into: place(into),
-            line,
-        },
-    )
-}
-
-// Several values, one above the other on the stack.
+/// Several values, one above the other on the stack.
 pub(crate) fn emit_values(
     code: &mut Vec<Instruction>,
     line: Line,
     es: &[Expression],
 ) -> Result<(), AllocError>
-    ensures { OnOk result (code.new.items ≡ code.old.items ++ values_code line es.now) }
+    ensures { OnOk result (code.new.items ≡ code.old.items ++ values_code line (map view_expression es.now)) }
 {
     for e in es {
-        emit_expression(code, line, Some(Destination::Pushed), e)?;
+        emit_expression(code, line, e)?;
     }
     Ok(())
+}
+
+/// A reference to an entity of a class, which is looked at, on top of the stack.
+pub(crate) fn emit_entity(
+    code: &mut Vec<Instruction>,
+    line: Line,
+    class: u32,
+    e: &Expression,
+) -> Result<(), AllocError>
+    ensures { OnOk result (code.new.items ≡ code.old.items ++ entity_code line class (view_expression e.now)) }
+{
+    emit_expression(code, line, e)?;
+    put(code, Instruction::LookEntity { class, line })
+}
+
+/// A reference to an entity that may be a member, which is looked at, on top of the stack.
+pub(crate) fn emit_member(
+    code: &mut Vec<Instruction>,
+    line: Line,
+    set: u32,
+    e: &Expression,
+) -> Result<(), AllocError>
+    ensures { OnOk result (code.new.items ≡ code.old.items ++ member_code line set (view_expression e.now)) }
+{
+    emit_expression(code, line, e)?;
+    put(code, Instruction::LookMember { set, line })
+}
+
+/// The owner of a set, of which nothing goes on the stack where it is THE SYSTEM.
+pub(crate) fn emit_owner(
+    code: &mut Vec<Instruction>,
+    line: Line,
+    owner: &SetOwner,
+) -> Result<(), AllocError>
+    ensures { OnOk result (code.new.items ≡ code.old.items ++ owner_code line (view_owner owner.now)) }
+{
+    match owner {
+        SetOwner::TheSystem => Ok(()),
+        SetOwner::Entity { entity } => emit_expression(code, line, entity),
+    }
+}
+
+/// Whether the owner of a set is THE SYSTEM.
+pub(crate) fn system_owns(owner: &SetOwner) -> bool
+    ensures { result ≡ is_system (view_owner owner.now) }
+{
+    match owner {
+        SetOwner::TheSystem => true,
+        SetOwner::Entity { .. } => false,
+    }
+}
+
+/// An expression that there may be.
+pub(crate) fn emit_any(
+    code: &mut Vec<Instruction>,
+    line: Line,
+    e: &Option<Expression>,
+) -> Result<(), AllocError>
+    ensures { OnOk result (code.new.items ≡ code.old.items ++ any_code line (view_option view_expression e.now)) }
+{
+    match e {
+        None => Ok(()),
+        Some(e) => emit_expression(code, line, e),
+    }
+}
+
+/// Whether there is no expression.
+pub(crate) fn absent(e: &Option<Expression>) -> bool
+    ensures { result ≡ is_absent (view_option view_expression e.now) }
+{
+    match e {
+        None => true,
+        Some(_) => false,
+    }
+}
+
+/// The step of a FOR: 1 where none is given.
+pub(crate) fn emit_step(
+    code: &mut Vec<Instruction>,
+    line: Line,
+    step: &Option<Expression>,
+) -> Result<(), AllocError>
+    ensures { OnOk result (code.new.items ≡ code.old.items ++ step_code line (view_option view_expression step.now)) }
+{
+    match step {
+        None => {
+            put(
+                code,
+                Instruction::Push {
+                    value: Value::Whole(1),
+                },
+            )
+        }
+        Some(e) => emit_expression(code, line, e),
+    }
 }

@@ -1,31 +1,41 @@
-//! Where a routine begins.
+//! Where routines begin, and what their variables are.
 
 ghost use Rattle.std.specs.Prelude.{◌≡◌};
 
-use ss_base::Value;
+use ss_base::Mode;
 use std::marker::Model;
 
-/// The place of a routine's first instruction, and the first values of its variables.
+/// Where a routine or the routine of an event begins, the modes of the variables that take what it is given, how many
+/// values it yields, and the modes of its other variables.
+///
+/// A contract sees it as a record of these.
 #[derive(Drop)]
 pub struct Entry {
     place: usize,
-    locals: Vec<Value>,
+    given: Vec<Mode>,
+    yielding: usize,
+    others: Vec<Mode>,
 }
 
 impl Model for Entry {
-    ghost use Rattle.ss_code.specs.Machine.{Entry as EntryValue};
+    ghost use Rattle.ss_machine_code.specs.Machine.{Entry as EntryValue};
 
     ghost Value = { EntryValue };
 
-    ghost view = { λ e. record { place = e.place; locals = e.locals.items } };
+    ghost view = { λ e. record { place = e.place; given = e.given.items; yielding = e.yielding; others = e.others.items } };
 }
 
 impl Entry {
     /// A routine that begins at this place.
-    pub(crate) fn new(place: usize, locals: Vec<Value>) -> Entry
-        ensures { result ≡ record { place = place; locals = locals.items } }
+    pub(crate) fn new(place: usize, given: Vec<Mode>, yielding: usize, others: Vec<Mode>) -> Entry
+        ensures { result ≡ record { place = place; given = given.items; yielding = yielding; others = others.items } }
     {
-        Entry { place, locals }
+        Entry {
+            place,
+            given,
+            yielding,
+            others,
+        }
     }
 
     /// The place of its first instruction.
@@ -35,10 +45,24 @@ impl Entry {
         self.place
     }
 
-    /// The first values of its variables.
-    pub fn locals(&self) -> &[Value]
-        ensures { result.now ≡ self.now.locals }
+    /// The modes of the variables that take what it is given.
+    pub fn given(&self) -> &[Mode]
+        ensures { result.now ≡ self.now.given }
     {
-        &self.locals
+        &self.given
+    }
+
+    /// How many values it yields: those of the variables behind the given ones.
+    pub fn yielding(&self) -> usize
+        ensures { result ≡ self.now.yielding }
+    {
+        self.yielding
+    }
+
+    /// The modes of its other variables.
+    pub fn others(&self) -> &[Mode]
+        ensures { result.now ≡ self.now.others }
+    {
+        &self.others
     }
 }

@@ -1,82 +1,155 @@
-//! From the tree of a program to its code.
+//! From a resolved program to its code.
 
-ghost use Rattle.std.specs.Prelude.{◌≡◌, ◌≤◌, ◌<◌, ◌++◌, length, Err, IfOk, OnOk};
-ghost use Rattle.ss_resolved.specs.Nodes.{nodes};
-ghost use Rattle.ss_code.specs.Running.{Behaves};
-ghost use Rattle.ss_code.specs.Translation.{code_of, routines_code, routines_pictures, entries_from};
+ghost use Rattle.std.specs.Prelude.{◌≡◌, ◌≤◌, ◌<◌, ◌++◌, length, map, Err, IfOk, OnOk};
+ghost use Rattle.ss_program.specs.Checking.{program_in};
+ghost use Rattle.ss_program.specs.Nodes.{nodes};
+ghost use Rattle.ss_program.specs.View.{view_routine, view_event, view_program};
+ghost use Rattle.ss_program.specs.WellTyped.{WellTyped};
+ghost use Rattle.ss_machine_code.specs.Running.{Behaves, Lands};
+ghost use Rattle.ss_machine_code.specs.Translation.{code_of, sections_code, sections_pictures, routine_bodies, event_bodies, routine_entry, event_entry, routine_entries, event_entries};
 
 use crate::code::Code;
 use crate::entry::Entry;
 use crate::error::CodeError;
-use crate::instruction::Instruction;
-use crate::statements::{emit_section, first_values};
-use ss_base::copied_disciplines;
-use ss_picture::Picture;
-use ss_resolved::resolved::{Resolved, Section};
+use crate::lines::Lines;
+use crate::sayings::sayings;
+use crate::statements::emit_section;
+use ss_base::Mode;
+use ss_machine_code::instruction::Instruction;
+use ss_machine_code::laws::laws;
+use ss_program::checked::Checked;
+use ss_program::sections::{Event, Program, Routine};
 use std::alloc::{AllocError, Global};
 
 /// The most instructions of a program.
 pub const INSTRUCTION_LIMIT: usize = 1_048_576;
 
+// Modes and further ones behind them.
+fn joined(alloc: Global, first: &[Mode], second: &[Mode]) -> Result<Vec<Mode>, AllocError>
+    ensures { IfOk result (λ modes. modes.items ≡ first.now ++ second.now) }
+{
+    let mut modes = Vec::from_slice(alloc, first)?;
+    modes.extend_from_slice(second)?;
+    Ok(modes)
+}
+
+// A routine that begins at a place.
+fn entry_of_routine(alloc: Global, place: usize, routine: &Routine) -> Result<Entry, AllocError>
+    ensures { IfOk result (λ entry. entry ≡ routine_entry place (view_routine routine.now)) }
+{
+    let given = Vec::from_slice(alloc, &routine.given)?;
+    let others = joined(alloc, &routine.yielding, &routine.others)?;
+    Ok(Entry::new(place, given, routine.yielding.len(), others))
+}
+
+// The routine of an event that begins at a place.
+fn entry_of_event(alloc: Global, place: usize, event: &Event) -> Result<Entry, AllocError>
+    ensures { IfOk result (λ entry. entry ≡ event_entry place (view_event event.now)) }
+{
+    let given = Vec::from_slice(alloc, &event.given)?;
+    let others = Vec::from_slice(alloc, &event.others)?;
+    Ok(Entry::new(place, given, 0, others))
+}
+
 // The routines, and where each of them begins.
 fn emit_routines(
     alloc: Global,
     code: &mut Vec<Instruction>,
-    pictures: &mut Vec<Picture>,
+    pictures: &mut Vec<Lines>,
     entries: &mut Vec<Entry>,
-    routines: &[Section],
+    routines: &[Routine],
 ) -> Result<(), AllocError>
-    ensures code { OnOk result (code.new.items ≡ code.old.items ++ routines_code (length pictures.old.items) routines.now) }
-    ensures pictures { OnOk result (pictures.new.items ≡ pictures.old.items ++ routines_pictures routines.now) }
-    ensures entries { OnOk result (entries.new.items ≡ entries.old.items ++ entries_from (length code.old.items) (length pictures.old.items) routines.now) }
+    ensures code { OnOk result (code.new.items ≡ code.old.items ++ sections_code (length pictures.old.items) (routine_bodies (map view_routine routines.now))) }
+    ensures pictures { OnOk result (pictures.new.items ≡ pictures.old.items ++ sections_pictures (routine_bodies (map view_routine routines.now))) }
+    ensures entries { OnOk result (entries.new.items ≡ entries.old.items ++ routine_entries (length code.old.items) (length pictures.old.items) (map view_routine routines.now)) }
 {
     for routine in routines {
-        let locals = first_values(alloc, &routine.locals)?;
-        let entry = Entry::new(code.len(), locals);
+        let entry = entry_of_routine(alloc, code.len(), routine)?;
         entries.push(entry)?;
         emit_section(alloc, code, pictures, &routine.body)?;
     }
     Ok(())
 }
 
-/// The code of a program, which does for each input and each number of ticks what the program means,
-/// and nothing else. Its layout and its disciplines are the program's, copied.
-///
-/// `CodeTooLong` comes only where the code has more than `INSTRUCTION_LIMIT` instructions, and never
-/// for a program of at most 16,384 nodes; `Memory` where memory was refused.
-pub fn generate(alloc: Global, program: &Resolved) -> Result<Code, CodeError>
-    ensures behaves { IfOk result (λ code. Behaves program.now code) }
-    ensures layout { IfOk result (λ code. code.layout ≡ program.now.layout) }
-    ensures disciplines { IfOk result (λ code. code.disciplines ≡ program.now.disciplines.items) }
-    ensures limit { IfOk result (λ code. length code.instructions ≤ INSTRUCTION_LIMIT) }
-    ensures too_long { result ≡ Err CodeError.CodeTooLong → INSTRUCTION_LIMIT < length (code_of program.now).instructions }
-    ensures small { nodes program.now ≤ 16384 → result ≡ Err CodeError.CodeTooLong → ⊥ }
+// The routines of events, and where each of them begins.
+fn emit_events(
+    alloc: Global,
+    code: &mut Vec<Instruction>,
+    pictures: &mut Vec<Lines>,
+    entries: &mut Vec<Entry>,
+    events: &[Event],
+) -> Result<(), AllocError>
+    ensures code { OnOk result (code.new.items ≡ code.old.items ++ sections_code (length pictures.old.items) (event_bodies (map view_event events.now))) }
+    ensures pictures { OnOk result (pictures.new.items ≡ pictures.old.items ++ sections_pictures (event_bodies (map view_event events.now))) }
+    ensures entries { OnOk result (entries.new.items ≡ entries.old.items ++ event_entries (length code.old.items) (length pictures.old.items) (map view_event events.now)) }
 {
+    for event in events {
+        let entry = entry_of_event(alloc, code.len(), event)?;
+        entries.push(entry)?;
+        emit_section(alloc, code, pictures, &event.body)?;
+    }
+    Ok(())
+}
+
+// The code of a program that is well typed.
+fn made(alloc: Global, program: &Program) -> Result<Code, CodeError>
+    requires typed { ∥ WellTyped (view_program program.now) ∥₁ }
+    ensures code { IfOk result (λ code. code ≡ code_of (view_program program.now)) }
+    ensures behaves { IfOk result (λ code. Behaves (view_program program.now) code) }
+    ensures lands { IfOk result (λ code. Lands code) }
+    ensures limit { IfOk result (λ code. length code.instructions ≤ 1048576) }
+    ensures too_long { result ≡ Err CodeError.CodeTooLong → 1048576 < length (code_of (view_program program.now)).instructions }
+    ensures small { nodes (view_program program.now) ≤ 16384 → result ≡ Err CodeError.CodeTooLong → ⊥ }
+{
+    laws();
     let mut instructions = Vec::new(alloc);
     let mut pictures = Vec::new(alloc);
-    let mut entries = Vec::new(alloc);
-    emit_section(alloc, &mut instructions, &mut pictures, &program.main.body)?;
+    let mut routines = Vec::new(alloc);
+    let mut events = Vec::new(alloc);
+    emit_section(alloc, &mut instructions, &mut pictures, &program.main)?;
     emit_routines(
         alloc,
         &mut instructions,
         &mut pictures,
-        &mut entries,
+        &mut routines,
         &program.routines,
+    )?;
+    emit_events(
+        alloc,
+        &mut instructions,
+        &mut pictures,
+        &mut events,
+        &program.events,
     )?;
     if instructions.len() > INSTRUCTION_LIMIT {
         return Err(CodeError::CodeTooLong);
     }
-    let globals = first_values(alloc, &program.globals)?;
-    let locals = first_values(alloc, &program.main.locals)?;
-    let layout = program.layout.copied(alloc)?;
-    let disciplines = copied_disciplines(alloc, &program.disciplines)?;
+    let said = sayings(alloc, program)?;
+    let globals = Vec::from_slice(alloc, &program.globals)?;
+    let locals = Vec::from_slice(alloc, &program.locals)?;
     Ok(Code::new(
-        layout,
-        disciplines,
         instructions,
         pictures,
-        entries,
+        routines,
+        events,
+        said,
         globals,
         locals,
     ))
+}
+
+/// The code of a program. It does with each input and each number of ticks what the program means, and nothing else, and
+/// each jump back in it leads to an instruction that takes a tick.
+///
+/// `CodeTooLong` comes only where the code has more than `INSTRUCTION_LIMIT` instructions, and never
+/// for a program of at most 16,384 nodes; `Memory` where memory was refused.
+pub fn generate(alloc: Global, checked: &Checked) -> Result<Code, CodeError>
+    ensures code { IfOk result (λ code. code ≡ code_of (view_program (program_in checked.now))) }
+    ensures behaves { IfOk result (λ code. Behaves (view_program (program_in checked.now)) code) }
+    ensures lands { IfOk result (λ code. Lands code) }
+    ensures limit { IfOk result (λ code. length code.instructions ≤ 1048576) }
+    ensures too_long { result ≡ Err CodeError.CodeTooLong → 1048576 < length (code_of (view_program (program_in checked.now))).instructions }
+    ensures small { nodes (view_program (program_in checked.now)) ≤ 16384 → result ≡ Err CodeError.CodeTooLong → ⊥ }
+{
+    made(alloc, checked.program())
 }

@@ -1,20 +1,19 @@
-//! The meaning of a program, its instructions, and that both agree.
+//! From a resolved program to its code.
 #![tactic(auto)]
 
 mod backward;
-mod code;
+pub mod code;
 mod conditions;
 mod emit;
-mod entry;
-mod error;
+pub mod entry;
+pub mod error;
+mod events;
 pub mod generate;
-pub mod instruction;
-pub mod laws;
+pub mod lines;
 mod listing;
-mod members;
+mod loops;
+pub mod notices;
+mod places;
+mod sayings;
+mod sets;
 mod statements;
-mod targets;
-
-pub use code::Code;
-pub use entry::Entry;
-pub use error::CodeError;

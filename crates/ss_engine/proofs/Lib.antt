@@ -1,6 +1,2 @@
 mod Fronts
-mod Inputs
-mod Pieces
-mod Handing
-mod Headline
-mod Sessions
+mod Meanings

@@ -1,5 +1,6 @@
 -- What a text is a program of, and why one is refused.
-use Rattle.std.specs.Prelude.{◌≡◌, ℕ, ◌<◌, List, length, true, false, Some, None}
+use Rattle.std.specs.Prelude.{◌≡◌, ◌≢◌, ℕ, ◌<◌, List, [], length, Some, None}
+use Rattle.ss_base.specs.declared.line.Line.{Line}
 use Rattle.ss_lex.specs.declared.token.Token.{Token}
 use Rattle.ss_lex.specs.declared.error.LexError.TheVariants as lexical
 use Rattle.ss_lex.specs.Tokens.{AreTokens}
@@ -10,18 +11,16 @@ use Rattle.ss_parse.specs.declared.error.ParseError.{ParseError}
 use Rattle.ss_parse.specs.declared.error.ParseError.TheVariants as parsing
 use Rattle.ss_parse.specs.Promise.{Is_refused, Has_line}
 use Rattle.ss_parse.specs.SpelledPrograms.{Spell}
-use Rattle.ss_tables.specs.Served.{served_program}
-use Rattle.ss_tables.specs.Refusals.{refusal}
-use Rattle.ss_tables.specs.declared.error.TableError.{TableError}
-use Rattle.ss_tables.specs.declared.error.TableError.TheVariants as declaring
-use Rattle.ss_rules.specs.declared.error.CheckError.{CheckError}
-use Rattle.ss_rules.specs.declared.error.CheckError.TheVariants as checking
-use Rattle.ss_rules.specs.Checking.{IsKept, IsRefused as IsRefusedByRules}
-use Rattle.ss_check.specs.Resolving.{ResolvesProgram}
-use Rattle.ss_resolved.specs.declared.resolved.Resolved.{Resolved}
-use Rattle.ss_code.specs.Machine.{Code}
-use Rattle.ss_code.specs.Running.{Behaves}
-use Rattle.ss_code.specs.Translation.{code_of}
+use Rattle.ss_declared.specs.declared.rule.Rule.{Rule as DeclarationRule}
+use Rattle.ss_declared.specs.declared.rule.Rule.TheVariants as declaring
+use Rattle.ss_declared.specs.Broken.{refusal as declaration_refusal}
+use Rattle.ss_uses.specs.declared.rule.Rule.{Rule as UseRule}
+use Rattle.ss_uses.specs.declared.rule.Rule.TheVariants as using
+use Rattle.ss_check.specs.Checking.{program_of, refusal_of as use_refusal}
+use Rattle.ss_program.specs.Program.{Program}
+use Rattle.ss_machine_code.specs.Machine.{Code}
+use Rattle.ss_machine_code.specs.Running.{Behaves}
+use Rattle.ss_machine_code.specs.Translation.{code_of}
 use Rattle.ss_engine.specs.declared.refusal.Refusal.{Refusal}
 use Rattle.ss_engine.specs.declared.refusal.Refusal.TheVariants.{TooLong, NotAscii, BadNumber, OpenText, AlphaTooLong, PictureCut, NameTooLong, NotYet, Syntax, TooDeep, Twice, RealMode, UnknownClass, UnknownSet, NoOwner, NoMember, RankKey, TallyTwice, TooMany, TieKey, NoMain, NoEventRoutine, Mode, Arguments, Subscript, NotAssignable, Fields, StartPlace, Unknown, CodeTooLong, Memory}
 
@@ -35,22 +34,25 @@ pub record IsTreeOf (text : List ℕ) (tree : ProgramTree) : Type 0 where
   pub are : AreTokens text tokens
   pub spelled : Spell tokens nesting_limit tree
 
--- a tree of forms that are served, whose declarations break no rule
-pub record IsDeclared (tree : ProgramTree) : Type 0 where
-  pub served : served_program tree ≡ true
-  pub declared : refusal tree ≡ None
+-- the text has this tree, which breaks no rule: neither by what it declares nor by what it does with its names
+pub record IsKeptBy (text : List ℕ) (tree : ProgramTree) : Type 0 where
+  pub read : IsTreeOf text tree
+  pub declared : declaration_refusal tree ≡ None
+  pub kept : use_refusal tree ≡ None
 
 -- the text is well formed, and this is its program: its tree with each name replaced by what it stands for
-pub record IsProgramOf (text : List ℕ) (p : Resolved) : Type 0 where
+pub record IsProgramOf (text : List ℕ) (p : Program) : Type 0 where
   pub tree : ProgramTree
-  pub read : IsTreeOf text tree
-  pub declared : IsDeclared tree
-  pub kept : IsKept tree
-  pub resolved : ResolvesProgram tree p
+  pub keeps : IsKeptBy text tree
+  pub resolved : program_of tree ≡ Some p
+
+-- the text is well formed
+abbrev pub IsWellFormed : List ℕ → Type 0
+IsWellFormed text = (tree : ProgramTree) × IsKeptBy text tree
 
 -- the code does what the text means: for every input and every number of ticks what the text's program means, and nothing else
 pub record Compiles (text : List ℕ) (code : Code) : Type 0 where
-  pub program : Resolved
+  pub program : Program
   pub meant : IsProgramOf text program
   pub behaves : Behaves program code
 
@@ -62,28 +64,29 @@ pub record IsNoProgram (text : List ℕ) (e : ParseError) : Type 0 where
   pub refused : Is_refused tokens e
   pub line : Has_line tokens e
 
--- the text has a tree of which this holds
-pub record HasTree (text : List ℕ) (Holds : ProgramTree → Type 0) : Type 0 where
+-- the text has a tree whose declarations break this rule first, in the line of the first place
+pub record IsMisdeclared (text : List ℕ) (rule : DeclarationRule) (line : Line) : Type 0 where
   pub tree : ProgramTree
   pub read : IsTreeOf text tree
-  pub holds : Holds tree
+  pub broken : declaration_refusal tree ≡ Some (record { rule = rule; line = line })
 
--- a tree with a form that is not served
-abbrev pub IsUnready : ProgramTree → Type 0
-IsUnready tree = served_program tree ≡ false
+-- the text has a tree whose declarations break no rule, and whose statements break this rule first, in the line of the first place
+pub record IsIllFormed (text : List ℕ) (rule : UseRule) (line : Line) : Type 0 where
+  pub tree : ProgramTree
+  pub read : IsTreeOf text tree
+  pub declared : declaration_refusal tree ≡ None
+  pub broken : use_refusal tree ≡ Some (record { rule = rule; line = line })
 
--- a tree whose declarations break this rule first, in the line of the first place
-abbrev pub IsMisdeclared : TableError → ProgramTree → Type 0
-IsMisdeclared error tree = (served_program tree ≡ true) × (refusal tree ≡ Some error)
-
--- a tree whose declarations break no rule, and whose statements break this rule first, in the line of the first place
-abbrev pub IsIllFormed : CheckError → ProgramTree → Type 0
-IsIllFormed error tree = IsDeclared tree × IsRefusedByRules tree error
+-- the text is well formed, but its program has statistics
+pub record IsUnready (text : List ℕ) : Type 0 where
+  pub program : Program
+  pub meant : IsProgramOf text program
+  pub unready : program.statistics ≢ []
 
 -- the text is well formed, but its tree has more than 16,384 nodes, and the code of its program more than 1,048,576
 -- instructions
 pub record IsLarge (text : List ℕ) : Type 0 where
-  pub program : Resolved
+  pub program : Program
   pub meant : IsProgramOf text program
   pub large : 16384 < nodes meant.tree
   pub long : 1048576 < length (code_of program).instructions
@@ -97,27 +100,27 @@ RefusedFor text (OpenText line) = IsRefused text (lexical.OpenText line)
 RefusedFor text (AlphaTooLong line) = IsRefused text (lexical.AlphaTooLong line)
 RefusedFor text (PictureCut line) = IsRefused text (lexical.PictureCut line)
 RefusedFor text (NameTooLong line) = IsRefused text (lexical.NameTooLong line)
-RefusedFor text NotYet = HasTree text IsUnready
+RefusedFor text NotYet = IsUnready text
 RefusedFor text (Syntax line) = IsNoProgram text (parsing.Syntax line)
 RefusedFor text (TooDeep line) = IsNoProgram text (parsing.TooDeep line)
-RefusedFor text (Twice line) = HasTree text (IsMisdeclared (declaring.Twice line))
-RefusedFor text (RealMode line) = HasTree text (IsMisdeclared (declaring.RealMode line))
-RefusedFor text (UnknownClass line) = HasTree text (IsMisdeclared (declaring.UnknownClass line))
-RefusedFor text (UnknownSet line) = HasTree text (IsMisdeclared (declaring.UnknownSet line))
-RefusedFor text (NoOwner line) = HasTree text (IsMisdeclared (declaring.NoOwner line))
-RefusedFor text (NoMember line) = HasTree text (IsMisdeclared (declaring.NoMember line))
-RefusedFor text (RankKey line) = HasTree text (IsMisdeclared (declaring.RankKey line))
-RefusedFor text (TallyTwice line) = HasTree text (IsMisdeclared (declaring.TallyTwice line))
-RefusedFor text (TooMany line) = HasTree text (IsMisdeclared (declaring.TooMany line))
-RefusedFor text (TieKey line) = HasTree text (IsMisdeclared (declaring.TieKey line))
-RefusedFor text (NoMain line) = HasTree text (IsIllFormed (checking.NoMain line))
-RefusedFor text (NoEventRoutine line) = HasTree text (IsIllFormed (checking.NoEventRoutine line))
-RefusedFor text (Mode line) = HasTree text (IsIllFormed (checking.Mode line))
-RefusedFor text (Arguments line) = HasTree text (IsIllFormed (checking.Arguments line))
-RefusedFor text (Subscript line) = HasTree text (IsIllFormed (checking.Subscript line))
-RefusedFor text (NotAssignable line) = HasTree text (IsIllFormed (checking.NotAssignable line))
-RefusedFor text (Fields line) = HasTree text (IsIllFormed (checking.Fields line))
-RefusedFor text (StartPlace line) = HasTree text (IsIllFormed (checking.StartPlace line))
-RefusedFor text (Unknown line) = HasTree text (IsIllFormed (checking.Unknown line))
+RefusedFor text (Twice line) = IsMisdeclared text declaring.Twice line
+RefusedFor text (RealMode line) = IsMisdeclared text declaring.RealMode line
+RefusedFor text (UnknownClass line) = IsMisdeclared text declaring.UnknownClass line
+RefusedFor text (UnknownSet line) = IsMisdeclared text declaring.UnknownSet line
+RefusedFor text (NoOwner line) = IsMisdeclared text declaring.NoOwner line
+RefusedFor text (NoMember line) = IsMisdeclared text declaring.NoMember line
+RefusedFor text (RankKey line) = IsMisdeclared text declaring.RankKey line
+RefusedFor text (TallyTwice line) = IsMisdeclared text declaring.TallyTwice line
+RefusedFor text (TooMany line) = IsMisdeclared text declaring.TooMany line
+RefusedFor text (TieKey line) = IsMisdeclared text declaring.TieKey line
+RefusedFor text (NoMain line) = IsIllFormed text using.NoMain line
+RefusedFor text (NoEventRoutine line) = IsIllFormed text using.NoEventRoutine line
+RefusedFor text (Mode line) = IsIllFormed text using.Mode line
+RefusedFor text (Arguments line) = IsIllFormed text using.Arguments line
+RefusedFor text (Subscript line) = IsIllFormed text using.Subscript line
+RefusedFor text (NotAssignable line) = IsIllFormed text using.NotAssignable line
+RefusedFor text (Fields line) = IsIllFormed text using.Fields line
+RefusedFor text (StartPlace line) = IsIllFormed text using.StartPlace line
+RefusedFor text (Unknown line) = IsIllFormed text using.Unknown line
 RefusedFor text CodeTooLong = IsLarge text
 RefusedFor text Memory = Unit {0}

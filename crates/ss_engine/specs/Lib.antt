@@ -1,5 +1,3 @@
-pub mod Sessions
-pub mod Headline
 pub mod Refusals
 pub mod Outcomes
 pub mod Accepting

@@ -6,8 +6,8 @@ use Rattle.ss_parse.specs.declared.error.ParseError.{ParseError}
 use Rattle.ss_parse.specs.declared.error.ParseError.TheVariants as parsing
 use Rattle.ss_tables.specs.declared.error.TableError.{TableError}
 use Rattle.ss_tables.specs.declared.error.TableError.TheVariants as declaring
-use Rattle.ss_rules.specs.declared.error.CheckError.{CheckError}
-use Rattle.ss_rules.specs.declared.error.CheckError.TheVariants as checking
+use Rattle.ss_check.specs.declared.error.CheckError.{CheckError}
+use Rattle.ss_check.specs.declared.error.CheckError.TheVariants as checking
 use Rattle.ss_code.specs.declared.error.CodeError.{CodeError}
 use Rattle.ss_code.specs.declared.error.CodeError.TheVariants as generating
 use Rattle.ss_engine.specs.declared.refusal.Refusal.{Refusal}

@@ -1,16 +1,16 @@
 -- The headline: what comes of a text, what its reader gave and what its writer took.
 use Rattle.std.specs.Prelude.{ℕ, List}
 use Rattle.std.specs.declared.option.Option.{Option}
-use Rattle.ss_resolved.specs.declared.resolved.Resolved.{Resolved}
+use Rattle.ss_program.specs.Program.{Program}
 use Rattle.ss_machine.specs.declared.stop.Stop.{Stop}
 use Rattle.ss_engine.specs.declared.outcome.Outcome.{Outcome}
 use Rattle.ss_engine.specs.declared.outcome.Outcome.TheVariants.{Refused, Stopped}
 use Rattle.ss_engine.specs.Accepting.{IsProgramOf, RefusedFor}
-use Rattle.ss_engine.specs.Headline.{Simulated}
+use Rattle.ss_sessions.specs.Headline.{Simulated}
 
 -- the text is well formed, and the run of its program that used so many ticks stopped so
 pub record IsSimulated {R W : Type 0} (remaining : R → Option (List ℕ)) (contents : W → Option (List ℕ)) (text : List ℕ) (stop : Stop) (used : ℕ) (reader new_reader : R) (writer new_writer : W) : Type 0 where
-  pub program : Resolved
+  pub program : Program
   pub meant : IsProgramOf text program
   pub simulated : Simulated remaining contents program stop used reader new_reader writer new_writer
 

@@ -1,9 +1,11 @@
+//! What came of a text.
+
 ghost use Rattle.std.specs.Prelude.{◌≡◌, IfOk};
 ghost use Rattle.ss_engine.specs.Outcomes.{stop_status, status_of, told, stop_told, outcome_told};
 
 use crate::refusal::Refusal;
 use itoa::Buffer;
-use ss_machine::Stop;
+use ss_sessions::Stop;
 use std::alloc::{AllocError, Global};
 
 /// What came of a text: why it is refused, or why its run stopped, and the ticks that the run used.

@@ -1,3 +1,5 @@
+//! Why a text is refused.
+
 ghost use Rattle.std.specs.Prelude.{◌≡◌};
 ghost use Rattle.ss_engine.specs.Refusals.{refusal_number, refusal_name, refusal_line};
 

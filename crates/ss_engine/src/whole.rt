@@ -1,15 +1,17 @@
+//! A text, compiled and run.
+
 ghost use Rattle.std.specs.Prelude.{◌≡◌, ◌≤◌, ℕ};
 ghost use Rattle.ss_base.specs.Failures.{HasRisen};
 ghost use Rattle.ss_engine.specs.declared.refusal.Refusal.{Refusal as RefusalSeen};
-ghost use Rattle.ss_engine.specs.Headline.{handed_out};
+ghost use Rattle.ss_sessions.specs.Headline.{handed_out};
 ghost use Rattle.ss_engine.specs.Simulation.{ComesTo};
 ghost use Rattle.ss_machine.specs.declared.stop.Stop.{Stop as StopSeen};
 
 use crate::front::compile;
+use crate::laws::laws;
 use crate::outcome::Outcome;
-use crate::run::run_model;
 use ss_base::{FaultyRead, FaultyWrite};
-use ss_machine::Stop;
+use ss_sessions::{Stop, run_model};
 use std::alloc::Global;
 
 /// A text compiled, and run with the input of this reader and this writer for its report, once for
@@ -36,6 +38,7 @@ pub fn simulate<R: FaultyRead, W: FaultyWrite>(
     ensures output { (used : ℕ) → result.0 ≡ Outcome.Stopped Stop.Output used → HasRisen (W.faults writer) (W.faults result.2) }
     ensures input { (used : ℕ) → result.0 ≡ Outcome.Stopped Stop.Input used → HasRisen (R.faults reader) (R.faults result.1) }
 {
+    laws();
     let model = match compile(alloc, text) {
         Ok(model) => model,
         Err(refusal) => return (Outcome::Refused(refusal), reader, writer),

@@ -59,6 +59,13 @@ impl Key {
         Ok(Key { time, rank, ties })
     }
 
+    /// The same with ties that the key takes over, without memory of its own.
+    pub fn with_ties(time: i64, rank: usize, ties: Vec<Tie>) -> Key
+        ensures { result ≡ record { time = time; rank = rank; ties = ties.items } }
+    {
+        Key { time, rank, ties }
+    }
+
     /// The time, in units.
     pub fn time(&self) -> i64
         ensures { result ≡ self.now.time }

@@ -69,8 +69,6 @@ impl Pending {
     /// Schedules a notice under a key. Refused where the notice is pending (`AlreadyScheduled`), then where there were
     /// `MOST_SCHEDULINGS` schedulings (`Overflow`), then where no memory is left (`Memory`), with the list as it was.
     pub fn schedule(&mut self, key: Key, notice: i64) -> Result<(), Refused>
-        requires fits { FitsClass self.old.list.classes key }
-
         ensures ok { OnOk result (scheduled key notice self.old.list ≡ Ok self.new.list) }
         ensures refused { IfErr result (λ refused. IsRefusal refused (scheduled key notice self.old.list)) }
         ensures unchanged { OnErr result (self.new.list ≡ self.old.list) }

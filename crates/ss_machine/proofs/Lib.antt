@@ -1,17 +1,12 @@
-pub mod Layered
-mod Stacked
-mod Alike
-mod Gathered
-mod Filed
-mod Peopling
+mod Found
 mod Known
-pub mod Inputs
-pub mod Steps
-mod Stepping
+mod Inputs
 mod Unread
+mod Stepping
 mod Worded
-mod Onwards
+mod Steps
 mod Ending
+mod Onwards
 mod Counting
-pub mod Bursting
-mod Hurrying
+mod Good
+mod Reaching

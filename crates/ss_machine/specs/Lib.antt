@@ -1,10 +1,6 @@
-pub mod Frames
-pub mod Peopled
-pub mod Holding
+pub mod Served
 pub mod Sent
 pub mod Runs
+pub mod Unread
 pub mod Measure
 pub mod Held
-pub mod Unread
-pub mod Quick
-pub mod Bursts

@@ -1,48 +1,47 @@
+//! The machine that runs.
+
 ghost use Rattle.std.specs.Prelude.{◌≡◌, ◌+◌, ◌-◌, ◌*◌, ◌^◌, ◌≤◌, min, length, IfOk, Some, None};
 ghost use Rattle.ss_base.specs.Failures.{HasRisen, HasRisenBy};
 ghost use Rattle.ss_input.specs.Blocks.{KnowsEnd};
 ghost use Rattle.ss_input.specs.Inputs.{source_block, source_missed, source_reader};
-ghost use Rattle.ss_machine.specs.Held.{IsFirst, answer_again, kept_after};
+ghost use Rattle.ss_machine.specs.Served.{IsServed};
+ghost use Rattle.ss_machine.specs.Held.{IsFirst, Continues, answer_again, kept_after};
 ghost use Rattle.ss_machine.specs.Runs.{Ran};
 
-use crate::disciplines::Disciplines;
-use crate::entities::Entities;
-use crate::frames::Frames;
-use crate::operands::Operands;
-use crate::quick::{Quick, quickened};
-use crate::running::Running;
-use crate::stack::Stack;
+use crate::beginning::first_working;
+use crate::running::{Counts, run};
 use crate::stop::Stop;
-use crate::variables::Variables;
-use crate::working::Working;
 use ss_base::{FaultyRead, FaultyWrite};
-use ss_code::Code;
+use ss_code::code::Code;
 use ss_input::Source;
+use ss_machine_code::laws::laws;
 use ss_picture::Sink;
+use ss_runner::working::Working;
+use ss_typed::laws::laws as typed_laws;
 use std::alloc::{AllocError, Global};
 use std::marker::Model;
 
 /// A machine that runs the code of a program.
 ///
-/// A contract sees a machine as its code, what it works on, the ticks used and the steps made since
-/// its start, and why its last run stands still.
+/// A contract sees a machine as its code, what it works on, the ticks used and the steps made since its start, and why its
+/// last run stands still.
 #[derive(Drop)]
 pub struct Machine {
-    running: Running,
-    quick: Vec<Quick>,
+    code: Code,
+    working: Working,
+    line: Vec<u8>,
+    counts: Counts,
     stopped: Option<Stop>,
 }
 
 impl Model for Machine {
-    ghost use Rattle.ss_input.specs.Inputs.{source_missed, source_reader};
     ghost use Rattle.ss_machine.specs.Held.{Held, IsReady};
-    ghost use Rattle.ss_machine.specs.Quick.{AllStand};
 
     ghost Value = { Held };
 
-    ghost view = { λ m. record { code = m.running.code; working = m.running.working; used = m.running.used; steps = m.running.steps; stopped = m.stopped } };
+    ghost view = { λ m. record { code = m.code; working = m.working; used = m.counts.used; steps = m.counts.steps; stopped = m.stopped } };
 
-    ghost invariant = { λ m. IsReady (record { code = m.running.code; working = m.running.working; used = m.running.used; steps = m.running.steps; stopped = m.stopped }) × AllStand m.quick.items m.running.code.instructions };
+    ghost invariant = { λ m. IsReady (record { code = m.code; working = m.working; used = m.counts.used; steps = m.counts.steps; stopped = m.stopped }) };
 }
 
 // The answer of a run after one that stood still.
@@ -66,38 +65,20 @@ fn kept(stop: Stop) -> Option<Stop>
 }
 
 impl Machine {
-    /// A machine before the first instruction of this code. The error comes where memory was refused.
+    /// A machine before the first instruction of this code, that of a program without statistics. The error comes where
+    /// memory was refused.
     pub fn new(alloc: Global, code: Code) -> Result<Machine, AllocError>
+        requires { IsServed code }
         ensures { IfOk result (λ machine. IsFirst code machine) }
     {
-        let globals = Variables::of(alloc, code.globals())?;
-        let locals = Stack::of(alloc, code.locals())?;
-        let quick = quickened(alloc, &code)?;
+        laws();
         let _sound = code.len();
-        let layout = code.layout().copied(alloc)?;
-        if !layout.is_sound() {
-            return Err(AllocError);
-        }
-        let entities = Entities::new(alloc, layout)?;
-        let disciplines = Disciplines::of(alloc, code.disciplines())?;
-        let working = Working {
-            place: 0,
-            operands: Operands::new(alloc),
-            frames: Frames::new(alloc),
-            globals,
-            locals,
-            entities,
-            disciplines,
-        };
+        let working = first_working(alloc, &code)?;
         Ok(Machine {
-            running: Running {
-                code,
-                working,
-                line: Vec::new(alloc),
-                used: 0,
-                steps: 0,
-            },
-            quick,
+            code,
+            working,
+            line: Vec::new(alloc),
+            counts: Counts { used: 0, steps: 0 },
             stopped: None,
         })
     }
@@ -105,9 +86,10 @@ impl Machine {
     /// Runs with so many ticks, the input of this source and this way out, until the program ends, or
     /// until a fault, a pause or a failure, and says which.
     ///
-    /// The source must have missed nothing, where the machine has not stopped. READ takes the next word
-    /// of it, and a test whether data is ended looks for one and takes none; how far the source reads
-    /// ahead is its own affair. Each line goes out as it is filled.
+    /// The source must have missed nothing, where the machine has not stopped. READ takes the next word of it, and a test
+    /// whether data is ended looks for one and takes none; how far the source reads ahead is its own affair. Each line goes
+    /// out as it is filled. In the first run any source will do, and behind a pause the one of the run before: then nothing
+    /// is ever missing. With another source each step is still right, but where nothing leads on the answer is `Failed`.
     ///
     /// After `Paused` all ticks were used, up to 2^64 - 1 since the start, and a further run goes on; the
     /// source may be used again. After `Ended` and `Fault` a further run answers the same, after
@@ -131,6 +113,8 @@ impl Machine {
         ensures stopped { self.old.stopped ≡ None → self.new.stopped ≡ kept_after result }
         ensures used { (self.old.used ≤ self.new.used) × (self.new.used ≤ self.old.used + ticks) }
         ensures paused { self.old.stopped ≡ None → result ≡ Stop.Paused → self.new.used ≡ min (self.old.used + ticks) (2 ^ 64 - 1) }
+        ensures continues { self.old.stopped ≡ None → Continues self.old.code self.old.working source.old → result ≡ Stop.Paused → Continues self.new.code self.new.working source.new }
+        ensures never_failed { self.old.stopped ≡ None → Continues self.old.code self.old.working source.old → result ≡ Stop.Failed → ⊥ }
         ensures unmissed { self.old.stopped ≡ None → result ≡ Stop.Paused → source_missed source.new ≡ None }
         ensures steps { self.old.steps ≤ self.new.steps }
         ensures least { self.new.used ≤ self.new.steps }
@@ -141,14 +125,25 @@ impl Machine {
         ensures read_never_falls { HasRisenBy 0 (R.faults (source_reader source.old)) (R.faults (source_reader source.new)) }
         ensures end { KnowsEnd R.remaining (source_block source.old) → KnowsEnd R.remaining (source_block source.new) }
     {
-        match self.stopped {
-            Some(stop) => again(stop),
-            None => {
-                let stop = self.running.run(&self.quick, ticks, source, sink);
-                self.stopped = kept(stop);
-                stop
-            }
+        if let Some(stop) = self.stopped {
+            return again(stop);
         }
+        laws();
+        typed_laws();
+        let _sound = self.code.len();
+        let last = self.counts.used.saturating_add(ticks);
+        let halt = run(
+            &self.code,
+            &mut self.working,
+            &mut self.line,
+            self.counts,
+            last,
+            source,
+            sink,
+        );
+        self.counts = halt.counts;
+        self.stopped = kept(halt.stop);
+        halt.stop
     }
 
     /// Why the last run stopped; None where a further run goes on.
@@ -162,7 +157,7 @@ impl Machine {
     pub fn used(&self) -> u64
         ensures { result ≡ self.now.used }
     {
-        self.running.used
+        self.counts.used
     }
 
     /// The steps made since the start: each instruction that was carried out, the one that ended the
@@ -175,6 +170,6 @@ impl Machine {
         ensures least { self.now.used ≤ result }
         ensures most { result ≤ (3 * self.now.used + 4) * length self.now.code.instructions }
     {
-        self.running.steps
+        self.counts.steps
     }
 }

@@ -1,7 +1,9 @@
-ghost use Rattle.std.specs.Prelude.{◌≡◌, ◌≤◌, ◌++◌, [], ◌∷◌, length, replicate, OnOk, OnErr, IsErrOf};
+//! What the machine writes.
+
+ghost use Rattle.std.specs.Prelude.{◌≡◌, ◌==◌, ◌≤◌, ◌++◌, [], ◌∷◌, length, replicate, OnOk, OnErr, IsErrOf};
 ghost use Rattle.std.specs.Io.KnownBytes.{Appends};
 ghost use Rattle.ss_base.specs.Failures.{HasRisen, HasRisenBy};
-ghost use Rattle.ss_code.specs.Store.{printed, line_end, empty_lines};
+ghost use Rattle.ss_meaning.specs.Values.{lines_with, fields_in, line_end, empty_lines};
 ghost use Rattle.ss_picture.specs.Pictures.{filled, field_count};
 ghost use Rattle.ss_machine.specs.Sent.{TookPart, lines_told};
 
@@ -47,8 +49,8 @@ pub(crate) fn print_lines<W: FaultyWrite>(
     values: &[Value],
     sink: &mut Sink<W>,
 ) -> Result<(), Unprinted>
-    ensures ok { OnOk result (Appends (W.contents sink.old.writer) (W.contents sink.new.writer) (printed pictures.now values.now)) }
-    ensures err { OnErr result (TookPart (W.contents sink.old.writer) (W.contents sink.new.writer) (printed pictures.now values.now)) }
+    ensures ok { OnOk result (Appends (W.contents sink.old.writer) (W.contents sink.new.writer) (lines_with pictures.now values.now)) }
+    ensures err { OnErr result (TookPart (W.contents sink.old.writer) (W.contents sink.new.writer) (lines_with pictures.now values.now)) }
     ensures output { IsErrOf result Unprinted.Output → HasRisen (W.faults sink.old.writer) (W.faults sink.new.writer) }
     ensures never_falls { HasRisenBy 0 (W.faults sink.old.writer) (W.faults sink.new.writer) }
 {
@@ -62,15 +64,46 @@ pub(crate) fn print_lines<W: FaultyWrite>(
     Ok(())
 }
 
-// How many empty lines a SKIP writes, if its count is a good one.
-pub(crate) fn empty_count(count: i64) -> Option<usize>
+/// How many empty lines a SKIP writes.
+#[derive(Clone, Copy)]
+pub enum Lines {
+    /// So many.
+    Good(usize),
+    /// The count is below 0 or too great.
+    Bad,
+    /// What is no number.
+    Unfit,
+}
+
+// How many empty lines a SKIP writes, by the value that is its count.
+pub(crate) fn empty_count(count: Value) -> Lines
     ensures { empty_lines count ≡ lines_told result }
 {
-    if 0 <= count && count <= 1000 {
-        Some(count as usize)
-    } else {
-        None
+    match count {
+        Value::Text(_) => Lines::Unfit,
+        Value::Whole(number) => {
+            if 0 <= number && number <= 1000 {
+                Lines::Good(number as usize)
+            } else {
+                Lines::Bad
+            }
+        }
     }
+}
+
+// Whether pictures have so many fields.
+pub(crate) fn have_fields(pictures: &[Picture], count: usize) -> bool
+    ensures { result ≡ (count == fields_in pictures.now) }
+{
+    let mut left = count;
+    for picture in pictures {
+        let fields = picture.fields().len();
+        if fields > left {
+            return false;
+        }
+        left -= fields;
+    }
+    left == 0
 }
 
 // Sends so many empty lines one by one.

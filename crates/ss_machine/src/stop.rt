@@ -15,6 +15,7 @@ pub enum Stop {
     Output,
     /// The reader failed.
     Input,
-    /// An earlier run stopped for want of memory, or because its reader or writer failed.
+    /// An earlier run stopped for want of memory, or because its reader or writer failed; or what is read does not go on
+    /// from what was read before.
     Failed,
 }

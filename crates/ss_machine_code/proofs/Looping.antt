@@ -1,6 +1,6 @@
 -- The code of loops.
 use Rattle.std.proofs.Common.{◌≡◌, ℕ, zero, suc, ◌+◌, ◌-◌, ◌≤◌, Bool, true, false, not, List, [], ◌∷◌, ◌++◌, length, Option, Some, None, Ok, Err, refl, sym, ap, ◌∙◌, subst, arith, length-append}
-use Rattle.std.specs.Prelude.{slice_get, Result as OkOr, ℤ, pos, int_le, ◌+ℤ◌, if◌then◌else◌}
+use Rattle.std.specs.Prelude.{slice_get, Result as OkOr, ℤ, pos, int_le, int_lt, ◌+ℤ◌, if◌then◌else◌}
 use Rattle.std.specs.Int.{int_min}
 use Rattle.ss_base.specs.declared.line.Line.{Line}
 use Rattle.ss_base.specs.declared.value.Value.{Value}
@@ -17,7 +17,7 @@ use Rattle.ss_meaning.specs.Expressions.{value, value_if_any, holds, all_pass}
 use Rattle.ss_meaning.specs.Parts.{World, WentOn, Part, and_then, choose, looked, look, Again, Over, loop}
 use Rattle.ss_meaning.specs.Loops.{Turn, GoesOn, EndsLoop, IsFound, phrase, phrases, visit, greatest, Range, items_from, items, after_turn, over_items, range_of, range, indices, guarded_turn, guarded}
 use Rattle.ss_machine_code.specs.States.{Frame, To, core_of, past}
-use Rattle.ss_machine_code.specs.Machine.{Code, act, is_due, when_due, with_rest, backwards, later}
+use Rattle.ss_machine_code.specs.Machine.{Code, act, is_due, when_due, with_rest, backwards, later, unless_below}
 use Rattle.ss_machine_code.specs.Running.{Result, Underway}
 use Rattle.ss_machine_code.specs.Translation.{guards_code, loop_code, phrase_code, phrases_code, items_code, step_code, range_code}
 use Rattle.ss_machine_code.proofs.Steps.{HasAt, has_front, has_back, Reaches, here, at, arrive, join}
@@ -139,6 +139,10 @@ module _ (code : Code) (n : ℕ) where
 
   -- ## FOR over numbers, and over the entities of a permanent class
 
+  -- the step of a FOR is at least 1
+  abbrev pub Rises : Range → Type 0
+  Rises r = int_lt r.step (pos 1) ≡ false
+
   -- the greatest number that an item may be
   abbrev pub limit_of : Range → ℤ
   limit_of r = int_min r.limit greatest
@@ -149,7 +153,7 @@ module _ (code : Code) (n : ℕ) where
   abbrev pub hold_range : Range → List Value → List Value
   hold_range r stack = hold_item r.step (limit_of r) r.first stack
 
-  module _ (l : Line) (x : Variable) (turn : List Instruction) (m : Part Turn) (found : ℕ) (r : Lands code n same turn (leads found) done m) (step limit : ℤ) where
+  module _ (l : Line) (x : Variable) (turn : List Instruction) (m : Part Turn) (found : ℕ) (r : Lands code n same turn (leads found) done m) (step limit : ℤ) (rises : int_lt step (pos 1) ≡ false) where
     -- what a FOR keeps on the stack goes
     forget : (p place' : ℕ) (item : ℤ) (stack : List Value) (frames : List Frame) (w : World) → slice_get code.instructions p ≡ Some (i.Forget 3) → p + 1 ≡ place' → Reaches code (at p (hold_item step limit item stack) frames w) (Underway (at place' stack frames w))
     forget p place' item stack frames w has e = leap (i.Forget 3) p (p + 1) place' (hold_item step limit item stack) stack frames w _ has refl refl e here
@@ -170,7 +174,9 @@ module _ (code : Code) (n : ℕ) where
 
       -- what the next instruction comes to
       nexts : (item : ℤ) (b : Bool) → int_le (item +ℤ step) limit ≡ b → (w : World) → act code (i.Next (length turn + 1)) (core_of end (hold_item step limit item stack) frames w.store) ≡ To (core_of (backwards (length turn + 1) b end) (hold_item step limit (later b item step) stack) frames w.store)
-      nexts item b q w = ap (λ b. To (core_of (backwards (length turn + 1) b end) (hold_item step limit (later b item step) stack) frames w.store)) q
+      nexts item b q w =
+          ap (λ t. unless_below t (To (core_of (backwards (length turn + 1) (int_le (item +ℤ step) limit) end) (hold_item step limit (later (int_le (item +ℤ step) limit) item step) stack) frames w.store))) rises ∙
+          ap (λ b. To (core_of (backwards (length turn + 1) b end) (hold_item step limit (later b item step) stack) frames w.store)) q
 
       -- the items from this one on
       abbrev ItemsRun : ℕ → Type 0
@@ -206,15 +212,15 @@ module _ (code : Code) (n : ℕ) where
 
   -- from the range on the stack
   module _ (l : Line) (x : Variable) (turn : List Instruction) (m : Part Turn) (found : ℕ) (r : Lands code n same turn (leads found) done m) where
-    pub ranged_run : (b : Range) (place end : ℕ) (stack : List Value) (frames : List Frame) (w : World) → HasAt code.instructions place (items_code l x turn) → place + 1 + length turn ≡ end → slice_get code.instructions (end + found) ≡ Some (i.Forget 3) → w.ticks ≤ n → Reaches code (at (past (length turn + 2) (int_le b.first (limit_of b)) place) (hold_range b stack) frames w) (arrive (λ b w'. at (behind found b end) stack frames w') frames (over_items (visit l x m) (items (suc n) b) w))
-    ranged_run b place end stack frames w has len hf le = sides (int_le b.first (limit_of b)) refl
+    pub ranged_run : (b : Range) → Rises b → (place end : ℕ) (stack : List Value) (frames : List Frame) (w : World) → HasAt code.instructions place (items_code l x turn) → place + 1 + length turn ≡ end → slice_get code.instructions (end + found) ≡ Some (i.Forget 3) → w.ticks ≤ n → Reaches code (at (past (length turn + 2) (int_le b.first (limit_of b)) place) (hold_range b stack) frames w) (arrive (λ b w'. at (behind found b end) stack frames w') frames (over_items (visit l x m) (items (suc n) b) w))
+    ranged_run b up place end stack frames w has len hf le = sides (int_le b.first (limit_of b)) refl
       where
         sides : (t : Bool) → int_le b.first (limit_of b) ≡ t → Reaches code (at (past (length turn + 2) t place) (hold_range b stack) frames w) (arrive (λ b w'. at (behind found b end) stack frames w') frames (over_items (visit l x m) (items (suc n) b) w))
-        sides true q = items_run l x turn m found r b.step (limit_of b) place end stack frames has len hf (suc n) b.first w q (omega (arith, le)) le
+        sides true q = items_run l x turn m found r b.step (limit_of b) up place end stack frames has len hf (suc n) b.first w q (omega (arith, le)) le
         sides false q =
             let e : end + 1 ≡ place + (length turn + 2) = omega (arith, len) in
-            subst (λ is. Reaches code (at (place + (length turn + 2)) (hold_range b stack) frames w) (arrive (λ b w'. at (behind found b end) stack frames w') frames (over_items (visit l x m) is w))) (sym (no_more l x turn m found r b.step (limit_of b) (suc n) b.first q))
-            (forget l x turn m found r b.step (limit_of b) (place + (length turn + 2)) (end + 2) b.first stack frames w (subst (λ p. slice_get code.instructions p ≡ Some (i.Forget 3)) e (forget_has l x turn m found r b.step (limit_of b) place end stack frames has len hf)) (omega (arith, len)))
+            subst (λ is. Reaches code (at (place + (length turn + 2)) (hold_range b stack) frames w) (arrive (λ b w'. at (behind found b end) stack frames w') frames (over_items (visit l x m) is w))) (sym (no_more l x turn m found r b.step (limit_of b) up (suc n) b.first q))
+            (forget l x turn m found r b.step (limit_of b) up (place + (length turn + 2)) (end + 2) b.first stack frames w (subst (λ p. slice_get code.instructions p ≡ Some (i.Forget 3)) e (forget_has l x turn m found r b.step (limit_of b) up place end stack frames has len hf)) (omega (arith, len)))
 
   -- the numbers of a FOR, and the look at them
   begin_lands : (l : Line) (skip : ℕ) (a b c : Value) → Lands code n (λ s. c ∷ b ∷ a ∷ s) (i.Begin skip l ∷ []) (λ (r : Range). past skip (int_le r.first (limit_of r))) hold_range (look l (λ s. range_of a b (Some c)))

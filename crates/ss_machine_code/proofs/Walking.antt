@@ -1,20 +1,22 @@
 -- The code of a FOR over the members of a set; and of every FOR and FIND.
 use Rattle.std.proofs.Common.{◌≡◌, ℕ, suc, ◌+◌, ◌-◌, ◌≤◌, Bool, true, false, not, List, [], ◌∷◌, ◌++◌, length, Option, Some, Ok, Err, refl, subst, arith, length-append}
-use Rattle.std.specs.Prelude.{slice_get, Result as OkOr, ℤ, int_le}
+use Rattle.std.specs.Prelude.{slice_get, Result as OkOr, ℤ, pos, int_le, int_lt}
 use Rattle.ss_base.specs.declared.line.Line.{Line}
 use Rattle.ss_base.specs.declared.value.Value.{Value}
 use Rattle.ss_base.specs.declared.value.Value.TheVariants.{Whole}
+use Rattle.ss_base.specs.declared.fault.FaultKind.TheVariants.{LoopStep}
 use Rattle.ss_program.specs.declared.expression.Variable.{Variable}
 use Rattle.ss_program.specs.Program.{Expression, SetOwner, TheSystem, Entity, Head, Numbers, Members, Each, Start, AtEnd, From, After, Phrase}
 use Rattle.ss_machine_code.specs.declared.instruction.Instruction.{Instruction}
 use Rattle.ss_machine_code.specs.declared.instruction.Instruction.TheVariants as i
-use Rattle.ss_meaning.specs.Values.{Trouble, Fails, Misfit, if_ok, turned as made_into}
+use Rattle.ss_meaning.specs.Values.{Trouble, Fails, Misfit, if_ok, turned as made_into, where_fit, unless_fault, number_of}
 use Rattle.ss_meaning.specs.Store.{Store}
+use Rattle.ss_meaning.specs.Entities.{class_at, is_permanent, made_count}
 use Rattle.ss_meaning.specs.Places.{InVariable, written}
 use Rattle.ss_meaning.specs.Sets.{known_owner, is_none, begun, begun_at, coming, goes_on}
-use Rattle.ss_meaning.specs.Expressions.{value, member_value, owner_value, owner_looked_at}
+use Rattle.ss_meaning.specs.Expressions.{value, value_if_any, member_value, owner_value, owner_looked_at}
 use Rattle.ss_meaning.specs.Parts.{World, WentOn, Part, and_then, then_nothing, choose, looked, look, Again, Over, loop}
-use Rattle.ss_meaning.specs.Loops.{Turn, GoesOn, EndsLoop, IsFound, phrases, visit, Range, items, over_items, range, indices, Outset, from_member, outset, next_member, member_turn, over_members, over}
+use Rattle.ss_meaning.specs.Loops.{Turn, GoesOn, EndsLoop, IsFound, phrases, visit, Range, items, over_items, step_number, range_of, range, indices, Outset, from_member, outset, next_member, member_turn, over_members, over}
 use Rattle.ss_machine_code.specs.States.{Frame, To, did, core_of, past, onward}
 use Rattle.ss_machine_code.specs.Machine.{Code, backwards}
 use Rattle.ss_machine_code.specs.Running.{Underway}
@@ -25,7 +27,7 @@ use Rattle.ss_machine_code.proofs.Branching.{jumps}
 use Rattle.ss_machine_code.proofs.Loops.{turned, Turns, loop_run}
 use Rattle.ss_machine_code.proofs.Expressions.{Owned, owner_on, owned_system, owned_entity, member_runs, turned_lands}
 use Rattle.ss_machine_code.proofs.Conditions.{owner_look}
-use Rattle.ss_machine_code.proofs.Looping.{leads, behind, leap, phrases_land, hold_range, limit_of, ranged_run, range_lands, class_lands}
+use Rattle.ss_machine_code.proofs.Looping.{leads, behind, leap, phrases_land, Rises, hold_range, limit_of, ranged_run, range_lands, class_lands}
 
 -- a fact of what a look finds
 abbrev IfFound : {A : Type 0} → (A → Type 0) → OkOr A Trouble → Type 0
@@ -69,6 +71,26 @@ outset_found (After e) reverse set owner s =
     found_then (Owned (is_system owner)) (OfOwner owner) (owner_looked_at set owner s) _ (looked_found set owner s) (λ o h. found_any (OfOwner owner) (member_value set e s) _ (λ y. found_made (OfOwner owner) (begun_at reverse true set y o s) _ (λ x. h)))
 
 module _ (code : Code) (n : ℕ) where
+  -- the step of a FOR
+  rises_unless : (b : Range) (t : Bool) → int_lt b.step (pos 1) ≡ t → IfFound (Rises code n) (unless_fault t LoopStep (Ok b))
+  rises_unless b true q = tt
+  rises_unless b false q = q
+
+  range_of_found : (x y : Value) (z : Option Value) → IfFound (Rises code n) (range_of x y z)
+  range_of_found x y z =
+      found_any (Rises code n) (number_of x) _ (λ a. found_any (Rises code n) (number_of y) _ (λ b. found_any (Rises code n) (step_number z) _ (λ c. rises_unless (record { first = a; limit = b; step = c }) (int_lt c (pos 1)) refl)))
+
+  range_found : (a b : Expression) (c : Option Expression) (s : Store) → IfFound (Rises code n) (range a b c s)
+  range_found a b c s =
+      found_any (Rises code n) (value a s) _ (λ x. found_any (Rises code n) (value b s) _ (λ y. found_any (Rises code n) (value_if_any c s) _ (λ z. range_of_found x y z)))
+
+  rises_where : (t : Bool) (b : Range) → Rises code n b → IfFound (Rises code n) (where_fit t (Ok b))
+  rises_where true b q = q
+  rises_where false b q = tt
+
+  indices_found : (class : ℕ) (s : Store) → IfFound (Rises code n) (indices class s)
+  indices_found class s = rises_where (is_permanent (class_at class s)) (record { first = pos 1; limit = pos (made_count class s); step = pos 1 }) refl
+
   -- a member on top of the owner
   abbrev pub hold_member : Option Value → ℤ → List Value → List Value
   hold_member o v stack = Whole v ∷ owner_on o stack
@@ -177,17 +199,19 @@ module _ (code : Code) (n : ℕ) where
         let rest = items_code l x turn in
         let p = place + length front in
         let size : p + 1 + length turn ≡ end = omega (arith, len, length-append front rest, length-append turn (i.Next (length turn + 1) ∷ (i.Forget 3 ∷ []))) in
-        join (at place stack frames w) (λ (b : Range) w'. at (past (length turn + 2) (int_le b.first (limit_of code n b)) p) (hold_range code n b stack) frames w') (λ b w'. at (behind found b end) stack frames w') frames (look l (range a b c) w) (λ r. over_items (visit l x m) (items (suc n) r))
+        join_such (Rises code n) (at place stack frames w) (λ (b : Range) w'. at (past (length turn + 2) (int_le b.first (limit_of code n b)) p) (hold_range code n b stack) frames w') (λ b w'. at (behind found b end) stack frames w') frames (look l (range a b c) w) (λ r. over_items (visit l x m) (items (suc n) r))
+        (found_went (Rises code n) l (range a b c w.store) w (range_found a b c w.store))
         ((range_lands code n l (length turn + 2) a b c).by place stack frames w (has_front code.instructions place front rest has) le)
-        (λ b w' fewer. ranged_run code n l x turn m found r b p end stack frames w' (has_back code.instructions place front rest has) size hf (omega (arith, fewer, le)))
+        (λ b up w' fewer. ranged_run code n l x turn m found r b up p end stack frames w' (has_back code.instructions place front rest has) size hf (omega (arith, fewer, le)))
     over_run (Each x class) place end stack frames w has len hf le =
         let front = i.BeginClass class (length turn + 2) l ∷ [] in
         let rest = items_code l x turn in
         let p = place + length front in
         let size : p + 1 + length turn ≡ end = omega (arith, len, length-append front rest, length-append turn (i.Next (length turn + 1) ∷ (i.Forget 3 ∷ []))) in
-        join (at place stack frames w) (λ (b : Range) w'. at (past (length turn + 2) (int_le b.first (limit_of code n b)) p) (hold_range code n b stack) frames w') (λ b w'. at (behind found b end) stack frames w') frames (look l (indices class) w) (λ r. over_items (visit l x m) (items (suc n) r))
+        join_such (Rises code n) (at place stack frames w) (λ (b : Range) w'. at (past (length turn + 2) (int_le b.first (limit_of code n b)) p) (hold_range code n b stack) frames w') (λ b w'. at (behind found b end) stack frames w') frames (look l (indices class) w) (λ r. over_items (visit l x m) (items (suc n) r))
+        (found_went (Rises code n) l (indices class w.store) w (indices_found class w.store))
         ((class_lands code n l (length turn + 2) class).by place stack frames w (has_front code.instructions place front rest has) le)
-        (λ b w' fewer. ranged_run code n l x turn m found r b p end stack frames w' (has_back code.instructions place front rest has) size hf (omega (arith, fewer, le)))
+        (λ b up w' fewer. ranged_run code n l x turn m found r b up p end stack frames w' (has_back code.instructions place front rest has) size hf (omega (arith, fewer, le)))
     over_run (Members x set owner start reverse) place end stack frames w has len hf le =
         let front = outset_code l (length turn + 2) set owner start reverse in
         let rest = members_code l x set (is_system owner) reverse turn in

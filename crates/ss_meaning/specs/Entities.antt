@@ -14,7 +14,7 @@ use Rattle.ss_program.specs.declared.expression.Variable.TheVariants.{Global}
 use Rattle.ss_program.specs.declared.statement.Counted.{Counted}
 use Rattle.ss_meaning.specs.Values.{Trouble, if_ok, turned, due, sure, where_fit, unless_fault, number_of}
 use Rattle.ss_meaning.specs.Store.{Store, with_heap, fetched}
-use Rattle.ss_meaning.specs.Histories.{started, all_started}
+use Rattle.ss_meaning.specs.Histories.{started, all_started, ended}
 
 -- ## References
 
@@ -81,10 +81,14 @@ made_all c s =
 
 -- ## Destroying
 
--- the store without an entity: one that is in a set or owns members may not go
+-- the store without an entity, whose histories end
+abbrev pub with_none : (class : ℕ) → (entity : ℤ) → Store → State → Store
+with_none class x s h = ended class x (with_heap s h)
+
+-- the same where it may go: one that is in a set or owns members may not
 abbrev pub gone : (class : ℕ) → Value → Store → Result Store Trouble
 gone class x s =
-    if_ok (number_of x) (λ n. where_fit (is_single (class_at class s)) (turned (with_heap s) (due (destroyed s.scene.heap class n))))
+    if_ok (number_of x) (λ n. where_fit (is_single (class_at class s)) (turned (with_none class n s) (due (destroyed s.scene.heap class n))))
 
 -- the same by DESTROY: nor may a notice that is pending
 abbrev pub without : (class : ℕ) → Value → Store → Result Store Trouble

@@ -1,5 +1,5 @@
 -- The histories that statistics are taken of: how they start, what they note, and what is read of them.
-use Rattle.std.specs.Prelude.{ℕ, zero, suc, ◌+◌, ◌==◌, Bool, true, false, ◌&&◌, List, [], ◌∷◌, ◌++◌, ℤ, pos, Option, Some, None, Result, Ok, Err, slice_get, if◌then◌else◌}
+use Rattle.std.specs.Prelude.{ℕ, zero, suc, ◌==◌, Bool, true, false, ◌&&◌, List, [], ◌∷◌, map, ℤ, pos, int_le, Option, Some, None, Result, Ok, Err, slice_get, if◌then◌else◌}
 use Rattle.std.specs.Ordering.{int_eq}
 use Rattle.ss_base.specs.declared.fault.FaultKind.TheVariants.{Overflow}
 use Rattle.ss_base.specs.declared.value.Value.{Value}
@@ -16,8 +16,8 @@ use Rattle.ss_program.specs.declared.sections.Subject.TheVariants.{OfVariable, O
 use Rattle.ss_program.specs.declared.sections.Weighting.{Weighting}
 use Rattle.ss_program.specs.declared.sections.Weighting.TheVariants as weightings
 use Rattle.ss_program.specs.declared.sections.Statistic.{Statistic}
-use Rattle.ss_meaning.specs.Values.{Trouble, Misfit, if_ok, turned, due, unless_fault, number_of}
-use Rattle.ss_meaning.specs.Store.{Kept, Store, with_histories}
+use Rattle.ss_meaning.specs.Values.{Trouble, Misfit, if_ok, turned, due, sure, unless_fault, number_of}
+use Rattle.ss_meaning.specs.Store.{Column, Store, with_histories}
 
 abbrev pub same_subject : Subject → Subject → Bool
 same_subject (OfVariable k) (OfVariable j) = k == j
@@ -49,54 +49,87 @@ abbrev pub at_start : Weighting → (now : ℤ) → History
 at_start weightings.Tally now = Tally []
 at_start weightings.Accumulate now = Accumulate (record { moment = now; value = pos 0 }) []
 
--- the histories that start as an entity of a class comes into being, or those of the system, 0; the statistics are numbered from k on
-abbrev pub starting : Layout → Owner → (entity now : ℤ) → (k : ℕ) → List Statistic → List Kept
-starting l whose x now k [] = []
-starting l whose x now k (s ∷ ss) =
-    (if same_owner (home l s.subject) whose then record { statistic = k; entity = x; history = at_start s.weighting now } ∷ [] else [])
-    ++ starting l whose x now (k + 1) ss
+-- there is none at first
+abbrev pub no_history : Column
+no_history x = None
 
--- the store once they started
+abbrev pub no_histories : List Statistic → List Column
+no_histories ss = map (λ s. no_history) ss
+
+-- the histories of a statistic once one started for each entity that is here
+abbrev pub begun_in : (here : ℤ → Bool) → History → Column → Column
+begun_in here h c x = if here x then Some h else c x
+
+-- the same of each statistic whose subject is theirs
+abbrev pub starting : Layout → Owner → (here : ℤ → Bool) → (now : ℤ) → List Statistic → List Column → List Column
+starting l whose here now [] cs = cs
+starting l whose here now (s ∷ ss) [] = []
+starting l whose here now (s ∷ ss) (c ∷ cs) =
+    (if same_owner (home l s.subject) whose then begun_in here (at_start s.weighting now) c else c) ∷ starting l whose here now ss cs
+
+abbrev pub started_here : Owner → (here : ℤ → Bool) → Store → Store
+started_here whose here s =
+    with_histories s (starting s.scene.heap.layout whose here s.scene.time s.scene.setting.statistics s.scene.histories)
+
+-- the store once they started as an entity of a class came into being, or those of the system, 0
 abbrev pub started : Owner → (entity : ℤ) → Store → Store
-started whose x s =
-    with_histories s (s.scene.histories ++ starting s.scene.heap.layout whose x s.scene.time 0 s.scene.setting.statistics)
+started whose x s = started_here whose (int_eq x) s
 
 -- the same of the entities 1 to n of a class
 abbrev pub all_started : ℕ → (n : ℕ) → Store → Store
-all_started class zero s = s
-all_started class (suc k) s = started (Class class) (pos (suc k)) (all_started class k s)
+all_started class n s = started_here (Class class) (λ x. int_le (pos 1) x && int_le x (pos n)) s
+
+-- ## How a history ends
+
+abbrev pub ended_in : (entity : ℤ) → Column → Column
+ended_in x c y = if int_eq x y then None else c y
+
+-- the histories without those of an entity of a class
+abbrev pub ending : Layout → (class : ℕ) → (entity : ℤ) → List Statistic → List Column → List Column
+ending l class x [] cs = cs
+ending l class x (s ∷ ss) [] = []
+ending l class x (s ∷ ss) (c ∷ cs) = (if same_owner (home l s.subject) (Class class) then ended_in x c else c) ∷ ending l class x ss cs
+
+-- the store once they ended, as the entity went
+abbrev pub ended : (class : ℕ) → (entity : ℤ) → Store → Store
+ended class x s = with_histories s (ending s.scene.heap.layout class x s.scene.setting.statistics s.scene.histories)
 
 -- ## What a history notes
 
-abbrev pub is_about : Subject → Option Statistic → Bool
-is_about subject None = false
-is_about subject (Some s) = same_subject s.subject subject
+-- the histories of a statistic with another one of an entity
+abbrev pub with_history : (entity : ℤ) → History → Column → Column
+with_history x h c y = if int_eq x y then Some h else c y
 
--- whether a history is one of a subject of this entity
-abbrev pub is_of : List Statistic → Subject → ℤ → Kept → Bool
-is_of ss subject x k = is_about subject (slice_get ss k.statistic) && int_eq k.entity x
+-- the histories of a statistic with one value more in that of an entity, where it has one; where that is full there is the fault OVERFLOW
+abbrev pub noting_in : (entity now : ℤ) → Value → Option History → Column → Result Column Trouble
+noting_in x now v None c = Ok c
+noting_in x now v (Some h) c =
+    if_ok (number_of v) (λ z. unless_fault (is_full h) Overflow (Ok (with_history x (with_value h now z) c)))
 
--- a history with one value more; where it is full there is the fault OVERFLOW
-abbrev pub noting : (now : ℤ) → Value → Kept → Result Kept Trouble
-noting now v k =
-    if_ok (number_of v) (λ z. unless_fault (is_full k.history) Overflow (Ok (record k { history = with_value k.history now z })))
+abbrev pub noting : (entity now : ℤ) → Value → Column → Result Column Trouble
+noting x now v c = noting_in x now v (c x) c
 
-abbrev pub all_noting : List Statistic → Subject → (entity now : ℤ) → Value → List Kept → Result (List Kept) Trouble
-all_noting ss subject x now v [] = Ok []
-all_noting ss subject x now v (k ∷ ks) =
-    if_ok (if is_of ss subject x k then noting now v k else Ok k) (λ j. turned (λ js. j ∷ js) (all_noting ss subject x now v ks))
+-- the same of each statistic of a subject
+abbrev pub all_noting : Subject → (entity now : ℤ) → Value → List Statistic → List Column → Result (List Column) Trouble
+all_noting subject x now v [] cs = Ok cs
+all_noting subject x now v (s ∷ ss) [] = Ok []
+all_noting subject x now v (s ∷ ss) (c ∷ cs) =
+    if_ok (if same_subject s.subject subject then noting x now v c else Ok c) (λ d. turned (λ ds. d ∷ ds) (all_noting subject x now v ss cs))
 
 -- the store once a value of a subject was noted in each history of it
 abbrev pub noted : Subject → (entity : ℤ) → Value → Store → Result Store Trouble
 noted subject x v s =
-    turned (with_histories s) (all_noting s.scene.setting.statistics subject x s.scene.time v s.scene.histories)
+    turned (with_histories s) (all_noting subject x s.scene.time v s.scene.setting.statistics s.scene.histories)
 
 -- ## What is read of a history, and starting it afresh
 
 -- the history of a statistic of an entity
-abbrev pub kept_for : (statistic : ℕ) → (entity : ℤ) → List Kept → Result History Trouble
-kept_for j x [] = Err Misfit
-kept_for j x (k ∷ ks) = if (k.statistic == j) && int_eq k.entity x then Ok k.history else kept_for j x ks
+abbrev pub history_in : Option Column → (entity : ℤ) → Result History Trouble
+history_in None x = Err Misfit
+history_in (Some c) x = sure (c x)
+
+abbrev pub history_of : (statistic : ℕ) → (entity : ℤ) → List Column → Result History Trouble
+history_of j x cs = history_in (slice_get cs j) x
 
 -- what is asked of a history, now
 abbrev pub folded : Fold → (now : ℤ) → History → Result Value Trouble
@@ -106,11 +139,10 @@ folded Maximum now h = Ok (Whole (maximum_of h))
 folded Minimum now h = Ok (Whole (minimum_of h))
 
 abbrev pub figure_kept : Fold → (statistic : ℕ) → (entity : ℤ) → Store → Result Value Trouble
-figure_kept fold j x s = if_ok (kept_for j x s.scene.histories) (folded fold s.scene.time)
+figure_kept fold j x s = if_ok (history_of j x s.scene.histories) (folded fold s.scene.time)
 
 -- the histories of which that of a statistic of an entity starts afresh, with the present value
-abbrev pub renewed : (statistic : ℕ) → (entity now present : ℤ) → List Kept → Result (List Kept) Trouble
+abbrev pub renewed : (statistic : ℕ) → (entity now present : ℤ) → List Column → Result (List Column) Trouble
 renewed j x now z [] = Err Misfit
-renewed j x now z (k ∷ ks) =
-    if (k.statistic == j) && int_eq k.entity x then Ok (record k { history = restarted k.history now z } ∷ ks)
-    else turned (λ js. k ∷ js) (renewed j x now z ks)
+renewed zero x now z (c ∷ cs) = turned (λ h. with_history x (restarted h now z) c ∷ cs) (sure (c x))
+renewed (suc j) x now z (c ∷ cs) = turned (λ ds. c ∷ ds) (renewed j x now z cs)

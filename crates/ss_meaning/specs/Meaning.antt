@@ -18,7 +18,7 @@ use Rattle.ss_events.specs.declared.key.TieShape.{TieShape}
 use Rattle.ss_events.specs.PendingList.{none_pending}
 use Rattle.ss_program.specs.Program.{Routine, Event, Program}
 use Rattle.ss_meaning.specs.Store.{Notices, Setting, Scene, Store, firsts, opened, yielded}
-use Rattle.ss_meaning.specs.Histories.{started}
+use Rattle.ss_meaning.specs.Histories.{no_histories, started}
 use Rattle.ss_meaning.specs.Events.{Beginning, Coming, next_event, begun}
 use Rattle.ss_meaning.specs.Parts.{World, Exit, Returned, Stopped, Faulted, OutOfTicks, Wrong, Outcome, WentOn, Left, Part, and_then, then_nothing, looked, needed, take_tick}
 use Rattle.ss_meaning.specs.Statements.{Calls, effects}
@@ -128,7 +128,7 @@ first_scene p input = record {
   heap = first_state p.layout;
   time = pos 0;
   pending = none_pending (map (tie_shapes p.layout) p.events);
-  histories = [];
+  histories = no_histories p.statistics;
   input = input;
 }
 

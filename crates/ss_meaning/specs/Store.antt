@@ -29,19 +29,17 @@ pub record Setting : Type 0 where
   pub notices : List Notices
   pub statistics : List Statistic
 
--- the history of a statistic: of an entity, or of 0 where the system has it
-pub record Kept : Type 0 where
-  pub statistic : ℕ
-  pub entity : ℤ
-  pub history : History
+-- the histories of a statistic: that of each entity that has one, and of 0 where the system has it
+abbrev pub Column : Type 0
+Column = (entity : ℤ) → Option History
 
--- the entities, the time, the notices that are pending, the histories, and the input that is not yet read
+-- the entities, the time, the notices that are pending, the histories of each statistic, and the input that is not yet read
 pub record Scene : Type 0 where
   pub setting : Setting
   pub heap : State
   pub time : ℤ
   pub pending : PendingList
-  pub histories : List Kept
+  pub histories : List Column
   pub input : List ℕ
 
 -- the values of the global variables and of the local ones, and everything else
@@ -57,7 +55,7 @@ with_heap s h = record s { scene = record s.scene { heap = h } }
 abbrev pub with_pending : Store → PendingList → Store
 with_pending s p = record s { scene = record s.scene { pending = p } }
 
-abbrev pub with_histories : Store → List Kept → Store
+abbrev pub with_histories : Store → List Column → Store
 with_histories s hs = record s { scene = record s.scene { histories = hs } }
 
 -- ## Variables

@@ -3,6 +3,8 @@
 //! Every sequence is a `Vec`. Contracts see a program as the plain data of `specs/Program.antt`.
 #![tactic(auto)]
 
+pub mod checked;
+pub mod checking;
 pub mod condition;
 pub mod expression;
 pub mod head;

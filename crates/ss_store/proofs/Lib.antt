@@ -2,3 +2,11 @@ pub mod Counting
 pub mod Changing
 pub mod Asking
 pub mod Creating
+pub mod Refiled
+pub mod Belonging
+pub mod Late
+pub mod Recounting
+pub mod Fitting
+pub mod Joined
+pub mod Stepping
+pub mod Taking

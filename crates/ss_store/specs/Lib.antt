@@ -1,1 +1,4 @@
 pub mod Seen
+pub mod Filed
+pub mod Scheduled
+pub mod Events

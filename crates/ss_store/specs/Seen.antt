@@ -1,7 +1,7 @@
 -- What is seen of a scene, and what is said of an operation on it.
 use Rattle.std.specs.Prelude.{◌≡◌, ℕ, slice_get, List, [], map, length, ℤ, pos, Option, Some, None, Result, Ok, Err}
 use Rattle.std.specs.Option.{option_map}
-use Rattle.ss_base.specs.declared.fault.FaultKind.TheVariants.{Scheduled}
+use Rattle.ss_base.specs.declared.fault.FaultKind.TheVariants.{Scheduled, CreatedTwice}
 use Rattle.ss_base.specs.declared.fault.Refused.{Refused}
 use Rattle.ss_base.specs.declared.fault.Refused.TheVariants as refusals
 use Rattle.ss_base.specs.declared.layout.ClassKind.{ClassKind}
@@ -11,12 +11,12 @@ use Rattle.ss_base.specs.Plain.{PlainClass, PlainLayout}
 use Rattle.ss_base.specs.declared.layout.Discipline.{Discipline}
 use Rattle.ss_base.specs.declared.value.Value.{Value}
 use Rattle.ss_base.specs.declared.value.Value.TheVariants.{Whole}
-use Rattle.ss_records.specs.State.{State, Record, modes_of, assigned, created_all, destroyed}
+use Rattle.ss_records.specs.State.{State, Record, modes_of, is_made, assigned, created_all, destroyed}
 use Rattle.ss_events.specs.PendingList.{PendingList, is_pending, cancelled}
 use Rattle.ss_meaning.specs.Values.{Trouble as Meant, Fails, Misfit as IsMisfit, if_ok, turned, due, where_fit, unless_fault}
 use Rattle.ss_meaning.specs.Store.{Notices, Store, with_heap, with_pending}
 use Rattle.ss_meaning.specs.Histories.{noted}
-use Rattle.ss_meaning.specs.Entities.{class_at, field_at, is_single, is_permanent, with_all}
+use Rattle.ss_meaning.specs.Entities.{class_at, field_at, is_single, is_permanent, made_count, with_all}
 use Rattle.ss_meaning.specs.Places.{is_of_mode}
 use Rattle.ss_meaning.specs.Sets.{is_one}
 use Rattle.ss_records.specs.Sets.{next_in, previous_in, owner_of_member}
@@ -146,3 +146,11 @@ told_of_member Membership h set n = turned (λ o. Whole (is_one o)) (due (owner_
 -- what CREATE EVERY does once the number of entities is known
 abbrev pub created_all_known : (class : ℕ) → (number : ℤ) → Store → Result Store Meant
 created_all_known class n s = where_fit (is_permanent (class_at class s)) (turned (with_all class s) (due (created_all s.scene.heap class n)))
+
+-- N. of a permanent class may be assigned until its entities are made
+abbrev pub count_open : (class : ℕ) → Store → Result (Unit {0}) Meant
+count_open class s = where_fit (is_permanent (class_at class s)) (unless_fault (is_made s.scene.heap class) CreatedTwice (Ok tt))
+
+-- how many entities a permanent class has
+abbrev pub number_made : (class : ℕ) → Store → Result ℤ Meant
+number_made class s = where_fit (is_permanent (class_at class s)) (Ok (pos (made_count class s)))

@@ -7,7 +7,7 @@ ghost use Rattle.ss_meaning.specs.Events.{with_time};
 ghost use Rattle.ss_meaning.specs.Store.{Store as StoreSeen};
 ghost use Rattle.ss_meaning.specs.Values.{where_fit, due};
 ghost use Rattle.ss_meaning.specs.Places.{is_of_mode, assigned_attribute};
-ghost use Rattle.ss_store.specs.Seen.{Looks, Changes, Makes, Grows, settled, created_all_known, told, class_in, kind_at, mode_at, assigned_field, gone_unless_pending, numbered, with_seen};
+ghost use Rattle.ss_store.specs.Seen.{Looks, Changes, Makes, Grows, settled, count_open, number_made, created_all_known, told, class_in, kind_at, mode_at, assigned_field, gone_unless_pending, numbered, with_seen};
 
 use crate::known::Known;
 use crate::scene::Scene;
@@ -16,7 +16,7 @@ use ss_base::{ClassKind, FaultKind, Mode, Refused, Value};
 
 impl Scene {
     // The kind of a class, where the layout has it.
-    fn kind(&self, class: u32) -> Option<ClassKind>
+    pub(crate) fn kind(&self, class: u32) -> Option<ClassKind>
         ensures { result ≡ kind_at self.now.heap.layout class }
     {
         match self.population.layout().classes.get(class as usize) {
@@ -26,11 +26,11 @@ impl Scene {
     }
 
     // The mode of a field, where the layout has it.
-    fn mode(&self, class: u32, field: u32) -> Option<Mode>
+    fn mode(&self, class: u32, field: usize) -> Option<Mode>
         ensures { result ≡ mode_at self.now.heap.layout class field }
     {
         let class = self.population.layout().classes.get(class as usize)?;
-        class.fields.get(field as usize).copied()
+        class.fields.get(field).copied()
     }
 
     // The entity of a class that a value refers to.
@@ -58,27 +58,31 @@ impl Scene {
     }
 
     // The value of an attribute of an entity by its number, where the layout has the field.
-    fn field_value(&self, class: u32, field: u32, known: Known) -> Result<Value, Trouble>
+    fn field_value(&self, class: u32, field: usize, known: Known) -> Result<Value, Trouble>
         ensures { (s : StoreSeen) → where_fit (is_some (field_at class field (with_seen s self.now))) (due (value_in self.now.heap class field known.number)) ≡ told result }
     {
         if self.mode(class, field).is_none() {
             return Err(Trouble::Misfit);
         }
-        match self
-            .population
-            .value(class as usize, field as usize, known.number)
-        {
+        match self.population.value(class as usize, field, known.number) {
             Ok(value) => Ok(value),
             Err(kind) => Err(Trouble::Fault(kind)),
         }
+    }
+
+    // The value of an attribute by its number in the class.
+    pub(crate) fn value_of(&self, class: u32, field: usize, x: Value) -> Result<Value, Trouble>
+        ensures { Looks (attribute class field x) self.now result }
+    {
+        let known = self.find(class, x)?;
+        self.field_value(class, field, known)
     }
 
     /// The value of an attribute. Faults: 1 to 5.
     pub fn attribute(&self, class: u32, field: u32, x: Value) -> Result<Value, Trouble>
         ensures { Looks (attribute class field x) self.now result }
     {
-        let known = self.find(class, x)?;
-        self.field_value(class, field, known)
+        self.value_of(class, field as usize, x)
     }
 
     /// TIME.A of a notice. Faults: 1 to 4.
@@ -100,7 +104,7 @@ impl Scene {
     }
 
     // Whether a value has the mode of a field that the layout has.
-    fn fits(&self, class: u32, field: u32, value: &Value) -> bool
+    fn fits(&self, class: u32, field: usize, value: &Value) -> bool
         ensures { result ≡ is_of_mode value.now (mode_at self.now.heap.layout class field) }
     {
         match self.mode(class, field) {
@@ -114,7 +118,7 @@ impl Scene {
     fn set_field(
         &mut self,
         class: u32,
-        field: u32,
+        field: usize,
         known: Known,
         value: Value,
     ) -> Result<(), Trouble>
@@ -125,11 +129,25 @@ impl Scene {
         }
         match self
             .population
-            .set_value(class as usize, field as usize, known.number, value)
+            .set_value(class as usize, field, known.number, value)
         {
             Ok(()) => Ok(()),
             Err(kind) => Err(Trouble::Fault(kind)),
         }
+    }
+
+    // Assigns a value to an attribute by its number in the class.
+    pub(crate) fn set_value_of(
+        &mut self,
+        class: u32,
+        field: usize,
+        x: Value,
+        value: Value,
+    ) -> Result<(), Trouble>
+        ensures { Changes (assigned_attribute class field x value) self.old self.new result }
+    {
+        let known = self.find(class, x)?;
+        self.set_field(class, field, known, value)
     }
 
     /// Assigns a value to an attribute. Faults: 1 to 5.
@@ -142,8 +160,7 @@ impl Scene {
     ) -> Result<(), Trouble>
         ensures { Changes (assigned_attribute class field x value) self.old self.new result }
     {
-        let known = self.find(class, x)?;
-        self.set_field(class, field, known, value)
+        self.set_value_of(class, field as usize, x, value)
     }
 
     // Whether the entities of a class come and go one by one.
@@ -229,6 +246,29 @@ impl Scene {
         }
     }
 
+    /// Whether N. of a permanent class may be assigned a value. Faults: 18 where its entities are made.
+    pub fn count_open(&self, class: u32) -> Result<(), Trouble>
+        ensures { Looks (count_open class) self.now result }
+    {
+        if !self.is_permanent(class) {
+            return Err(Trouble::Misfit);
+        }
+        if self.population.is_made(class as usize) {
+            return Err(Trouble::Fault(FaultKind::CreatedTwice));
+        }
+        Ok(())
+    }
+
+    /// How many entities a class has, which has to be permanent: 0 until they are made.
+    pub fn number_made(&self, class: u32) -> Result<i64, Trouble>
+        ensures { Looks (number_made class) self.now result }
+    {
+        if !self.is_permanent(class) {
+            return Err(Trouble::Misfit);
+        }
+        Ok(self.made_count(class))
+    }
+
     /// All entities of a permanent class, so many. Faults: 18 where they are made, then 22 for a bad count.
     pub fn create_all(&mut self, class: u32, count: i64) -> Result<(), Unmade>
         ensures { Grows (created_all_known class count) self.old self.new result }
@@ -241,7 +281,7 @@ impl Scene {
 }
 
 // What a call that needs memory comes to.
-fn settled(answer: Result<(), Refused>) -> Result<(), Unmade>
+pub(crate) fn settled(answer: Result<(), Refused>) -> Result<(), Unmade>
     ensures { result ≡ settled answer }
 {
     match answer {

@@ -13,6 +13,13 @@ pub(crate) struct Known {
     pub(crate) number: i64,
 }
 
+/// The owner of a set, 0 for the system, and an entity that may be a member of it.
+#[derive(Clone, Copy)]
+pub(crate) struct Membership {
+    pub(crate) owner: Known,
+    pub(crate) member: Known,
+}
+
 /// The number that a value is.
 pub(crate) fn known_number(value: Value) -> Result<Known, Trouble>
     ensures { told (numbered result) ≡ number_meant value }

@@ -2,7 +2,8 @@
 
 ghost use Rattle.std.specs.Prelude.{◌≡◌};
 
-use ss_base::{Line, RankKeys};
+use crate::coming::Event;
+use ss_base::{Line, RankKey, RankKeys};
 use std::marker::Model;
 
 /// What a program says of a class of notices: the attributes that break ties, the line of its event routine, how many
@@ -41,6 +42,34 @@ impl NoticeClass {
             line,
             given,
             saved,
+        }
+    }
+
+    /// The number of the class.
+    pub(crate) fn class(&self) -> u32
+        ensures { result ≡ self.now.class }
+    {
+        self.class
+    }
+
+    /// The attributes that break ties.
+    pub(crate) fn ties(&self) -> &[RankKey]
+        ensures { result.now ≡ self.now.ties }
+    {
+        self.ties.as_slice()
+    }
+
+    /// The event of a notice of the class, which has this rank.
+    pub(crate) fn event(&self, rank: usize, notice: i64) -> Event
+        ensures { result ≡ record { rank = rank; class = self.now.class; line = self.now.line; given = self.now.given; saved = self.now.saved; notice = notice } }
+    {
+        Event {
+            rank,
+            class: self.class,
+            line: self.line,
+            given: self.given,
+            saved: self.saved,
+            notice,
         }
     }
 }

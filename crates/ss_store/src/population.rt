@@ -6,6 +6,8 @@ ghost use Rattle.ss_records.specs.Kept.{IsPermanent};
 ghost use Rattle.ss_records.specs.State.{first_state, is_made, records_in, known_in, value_in, time_in, assigned, timed, created, created_all, destroyed, kind_of, modes_of, RefusedFor};
 ghost use Rattle.ss_records.specs.Sets.{first_in, last_in, count_in, next_in, previous_in, owner_of_member};
 
+mod filing;
+
 use ss_base::{FaultKind, Layout, Refused, Value};
 use ss_records::Heap;
 use std::alloc::{AllocError, Global};

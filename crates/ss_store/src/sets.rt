@@ -15,7 +15,7 @@ use ss_program::expression::{MemberQuery, SetQuery};
 
 impl Scene {
     // Whether the layout has a set.
-    fn has_set(&self, set: u32) -> bool
+    pub(crate) fn has_set(&self, set: u32) -> bool
         ensures value { result ≡ is_some (set_in self.now.heap.layout set) }
         ensures within { IsTrue result → set < length self.now.heap.layout.sets }
     {
@@ -23,7 +23,7 @@ impl Scene {
     }
 
     // The owner of a set, 0 for the system, by who owns the sets of its name.
-    fn owner(&self, set: u32, owner: Option<Value>) -> Result<Known, Trouble>
+    pub(crate) fn owner(&self, set: u32, owner: Option<Value>) -> Result<Known, Trouble>
         ensures { Looks (owner_number set owner) self.now (numbered result) }
     {
         match self.population.layout().sets.get(set as usize) {
@@ -143,7 +143,7 @@ impl Scene {
 }
 
 // Whether a number is no member.
-fn is_none(number: i64) -> bool
+pub(crate) fn is_none(number: i64) -> bool
     ensures { result ≡ is_none number }
 {
     number == 0

@@ -2,7 +2,7 @@
 
 ghost use Rattle.std.specs.Prelude.{◌≡◌};
 ghost use Rattle.ss_store.specs.Seen.{told};
-ghost use Rattle.ss_meaning.specs.Values.{number_of as number_meant};
+ghost use Rattle.ss_meaning.specs.Values.{number_of as number_meant, due};
 
 use ss_base::{FaultKind, Refused, Value};
 
@@ -33,5 +33,15 @@ pub(crate) fn number_of(value: Value) -> Result<i64, Trouble>
     match value {
         Value::Whole(number) => Ok(number),
         Value::Text(_) => Err(Trouble::Misfit),
+    }
+}
+
+/// What a call that may come to a fault comes to.
+pub(crate) fn or_trouble(answer: Result<(), FaultKind>) -> Result<(), Trouble>
+    ensures { told result ≡ due answer }
+{
+    match answer {
+        Ok(()) => Ok(()),
+        Err(kind) => Err(Trouble::Fault(kind)),
     }
 }

@@ -1,54 +1,37 @@
--- The tables of a program.
-use Rattle.std.specs.Prelude.{◌≡◌, ℕ, nat_lt, List, length, Option, None, if◌then◌else◌}
-use Rattle.std.specs.List.{position}
-use Rattle.std.specs.Map.{lookup, keys_of}
-use Rattle.ss_base.specs.declared.layout.Discipline.{Discipline}
-use Rattle.ss_tree.specs.declared.preamble.Mode.{Mode}
+-- The tables of a program, and why a program has none.
+use Rattle.std.specs.Prelude.{◌≡◌, Option, Some, None}
+use Rattle.ss_base.specs.declared.line.Line.{Line}
 use Rattle.ss_tree.specs.Tree.{ProgramTree}
-use Rattle.ss_tables.specs.declared.kind.Kind.{Kind}
-use Rattle.ss_tables.specs.declared.spelling.TheConstants.{SPELLING_LIMIT}
-use Rattle.ss_tables.specs.Declarations.{NameBytes, same_name, kind_of, globals, routines}
-use Rattle.ss_tables.specs.declared.saying.Saying.{Saying}
-use Rattle.ss_tables.specs.Disciplines.{disciplines}
-use Rattle.ss_tables.specs.Layouts.{NamedSet, class_attributes, class_names, named_sets}
-use Rattle.ss_tables.specs.Modes.{usual_mode}
-use Rattle.ss_tables.specs.Sayings.{sayings}
+use Rattle.ss_declared.specs.declared.rule.Broken.{Broken}
+use Rattle.ss_declared.specs.declared.rule.Rule.{Rule}
+use Rattle.ss_declared.specs.declared.rule.Rule.TheVariants as rules
+use Rattle.ss_declared.specs.Broken.{refusal}
+use Rattle.ss_names.specs.Table.{Table, table}
+use Rattle.ss_tables.specs.declared.error.TableError.{TableError}
+use Rattle.ss_tables.specs.declared.error.TableError.TheVariants as errors
 
--- tables, as a clause sees them: each global name with what it stands for, the global variables and the routines in
--- the order of their numbers, the mode that NORMALLY gives, what the program says, and how each set is ordered
-pub record TablesSeen : Type 0 where
-  pub names : List (NameBytes × Kind)
-  pub globals : List NameBytes
-  pub routines : List NameBytes
-  pub usual : Option Mode
-  pub says : List Saying
-  pub disciplines : List Discipline
+-- the table of a program that breaks no rule on what it declares
+pub record AreTablesOf (p : ProgramTree) (t : Table) : Type 0 where
+  pub kept : refusal p ≡ None
+  pub told : t ≡ table p
 
--- what a name stands for by some entries
-abbrev pub kind_among : List (NameBytes × Kind) → NameBytes → Option Kind
-kind_among entries name = lookup (same_name name) entries
+-- the table of some program that breaks no rule on what it declares
+abbrev pub AreTables : Table → Type 0
+AreTables t = (p : ProgramTree) × AreTablesOf p t
 
--- the place of a name among some entries; no name is longer than the most characters
-abbrev pub found_among : List (NameBytes × Kind) → NameBytes → Option ℕ
-found_among entries name = if nat_lt SPELLING_LIMIT (length name) then None else position (same_name name) (keys_of entries)
+abbrev pub broken_at : Rule → Line → Option Broken
+broken_at rule line = Some (record { rule = rule; line = line })
 
--- the tables of a program
-pub record AreTablesOf (p : ProgramTree) (t : TablesSeen) : Type 0 where
-  pub kinds : (name : NameBytes) → kind_among t.names name ≡ kind_of p name
-  pub globals_are : t.globals ≡ globals p
-  pub routines_are : t.routines ≡ routines p
-  pub usual_is : t.usual ≡ usual_mode p.preamble
-  pub says_is : t.says ≡ sayings p
-  pub disciplines_are : t.disciplines ≡ disciplines p
-
--- what has a number: the classes, the attributes of each, and the sets with their layouts
-pub record NumbersSeen : Type 0 where
-  pub classes : List NameBytes
-  pub attributes : List (List NameBytes)
-  pub sets : List NamedSet
-
--- the numbers of a program that says this
-pub record AreNumbersOf (says : List Saying) (n : NumbersSeen) : Type 0 where
-  pub classes_are : n.classes ≡ class_names says
-  pub attributes_are : n.attributes ≡ class_attributes says
-  pub sets_are : n.sets ≡ named_sets says
+-- the error tells the first rule that is broken, and its line, unless memory was refused
+abbrev pub Tells : TableError → Option Broken → Type 0
+Tells errors.Memory found = Unit {0}
+Tells (errors.Twice line) found = found ≡ broken_at rules.Twice line
+Tells (errors.RealMode line) found = found ≡ broken_at rules.RealMode line
+Tells (errors.UnknownClass line) found = found ≡ broken_at rules.UnknownClass line
+Tells (errors.UnknownSet line) found = found ≡ broken_at rules.UnknownSet line
+Tells (errors.NoOwner line) found = found ≡ broken_at rules.NoOwner line
+Tells (errors.NoMember line) found = found ≡ broken_at rules.NoMember line
+Tells (errors.RankKey line) found = found ≡ broken_at rules.RankKey line
+Tells (errors.TallyTwice line) found = found ≡ broken_at rules.TallyTwice line
+Tells (errors.TooMany line) found = found ≡ broken_at rules.TooMany line
+Tells (errors.TieKey line) found = found ≡ broken_at rules.TieKey line

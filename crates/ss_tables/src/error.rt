@@ -1,13 +1,15 @@
 //! Why a program has no tables.
 
-ghost use Rattle.std.specs.Prelude.{◌≡◌};
+ghost use Rattle.std.specs.Prelude.{◌≡◌, Some};
 ghost use Rattle.ss_tables.specs.declared.error.TableError.TheVariants.{Memory};
+ghost use Rattle.ss_tables.specs.Tables.{Tells};
 
 use ss_base::Line;
+use ss_declared::{Broken, Rule};
 use std::alloc::AllocError;
 use thiserror::Error;
 
-/// Why a program is refused for what it declares, with the line of the first place.
+/// Why a program is refused for what it declares, with the line of the first place where it breaks the rule.
 #[derive(Clone, Copy, Debug, PartialEq, Eq, Error)]
 pub enum TableError {
     /// Something is declared or said twice, or a local name hides what may not be hidden.
@@ -40,6 +42,7 @@ pub enum TableError {
     /// A key for ties is no attribute of the class.
     #[error("line {}: a tie key that is no attribute", .0.0)]
     TieKey(Line),
+    /// Memory was refused.
     #[error("out of memory")]
     Memory,
 }
@@ -49,5 +52,23 @@ impl From<AllocError> for TableError {
 
     fn from(_error: AllocError) -> TableError {
         TableError::Memory
+    }
+}
+
+// The error of a program that breaks this rule first.
+pub(crate) fn error_of(broken: Broken) -> TableError
+    ensures { Tells result (Some broken) }
+{
+    match broken.rule {
+        Rule::Twice => TableError::Twice(broken.line),
+        Rule::RealMode => TableError::RealMode(broken.line),
+        Rule::UnknownClass => TableError::UnknownClass(broken.line),
+        Rule::UnknownSet => TableError::UnknownSet(broken.line),
+        Rule::NoOwner => TableError::NoOwner(broken.line),
+        Rule::NoMember => TableError::NoMember(broken.line),
+        Rule::RankKey => TableError::RankKey(broken.line),
+        Rule::TallyTwice => TableError::TallyTwice(broken.line),
+        Rule::TooMany => TableError::TooMany(broken.line),
+        Rule::TieKey => TableError::TieKey(broken.line),
     }
 }

@@ -29,15 +29,15 @@ use Rattle.ss_program.specs.Program.{Program}
 use Rattle.ss_program.specs.WellTyped.{WellTyped, mode_at, field_mode, kind_of as kind_said, comes_alone, GoodSubject, GoodCount}
 use Rattle.ss_meaning.specs.Values.{if_ok, turned, due, sure, where_fit, unless_fault, number_of, same_mode}
 use Rattle.ss_meaning.specs.Store.{Store, with_heap, fetched, put_at, put}
-use Rattle.ss_meaning.specs.Histories.{noted}
-use Rattle.ss_meaning.specs.Entities.{class_at, field_at, entity, attribute, time_of, comes_singly, is_single, is_permanent, with_new, made_one, with_all, made_all, gone, without}
+use Rattle.ss_meaning.specs.Histories.{noted, ending}
+use Rattle.ss_meaning.specs.Entities.{class_at, field_at, entity, attribute, time_of, comes_singly, is_single, is_permanent, with_new, made_one, with_all, made_all, with_none, gone, without}
 use Rattle.ss_meaning.specs.Places.{Spot, InVariable, InAttribute, InCount, held, is_of_mode, assigned_variable, assigned_attribute, assigned_count, written}
-use Rattle.ss_typed.specs.Fitting.{Hold, Lives, IsNotice, Fits}
+use Rattle.ss_typed.specs.Fitting.{Hold, Lives, IsNotice, HistoriesFit, Fits}
 use Rattle.ss_typed.proofs.Fine.{Fine, Sane, There, fine_then, fine_turned, due_fine, any_due, sure_fine, fit_fine, unless_fine}
 use Rattle.ss_typed.proofs.Lists.{every_get}
 use Rattle.ss_typed.proofs.Heaps.{Changed, Created, Filled, Gone, IsEntityAs, entity_known, entity_lives, value_sane, assigned_sane, created_sane, created_all_sane, destroyed_sane}
 use Rattle.ss_typed.proofs.Kept.{Noteworthy, number_fine, fit_gone}
-use Rattle.ss_typed.proofs.Stores.{same_is, held_there, put_at_fine, heap_fits, noted_fine, created_fits, filled_fits}
+use Rattle.ss_typed.proofs.Stores.{same_is, held_there, put_at_fine, heap_fits, statistics_are, noted_fine, created_fits, filled_fits}
 
 -- ## What a program says
 
@@ -152,8 +152,8 @@ module _ (p : Program) (typed : WellTyped p) (ms : List Mode) where
       let no_way : true ≡ false = sym g ∙ ap comes_singly same in
       absurd cc
 
-  gone_fits : (s : Store) (x : ℤ) (t : State) → Fits p ms s → Gone s.scene.heap x t → Every (λ (e : Entry). x ≡ e.notice → ⊥) s.scene.pending.entries → Fits p ms (with_heap s t)
-  gone_fits s x t f gone apart = record {
+  gone_fits : (s : Store) (c : ℕ) (x : ℤ) (t : State) → Fits p ms s → Gone s.scene.heap x t → (kind_of s.scene.heap.layout c ≡ Permanent → ⊥) → Every (λ (e : Entry). x ≡ e.notice → ⊥) s.scene.pending.entries → Fits p ms (with_none c x s t)
+  gone_fits s c x t f gone single apart = record {
     sound = record {
       globals = f.sound.globals;
       scene = record {
@@ -161,7 +161,9 @@ module _ (p : Program) (typed : WellTyped p) (ms : List Mode) where
         layout = gone.layout ∙ f.sound.scene.layout;
         heap = gone.fits;
         pending = live s.scene.pending.entries f.sound.scene.pending apart;
-        histories = fit_gone p.statistics s.scene.heap t x s.scene.histories gone f.sound.scene.histories;
+        histories =
+            subst (λ ss. HistoriesFit p.statistics t (ending t.layout c x ss s.scene.histories)) (sym (statistics_are p ms s f))
+            (fit_gone p.statistics s.scene.heap t c x s.scene.histories gone (λ q. single (ap (λ l. kind_of l c) (sym gone.layout) ∙ q)) f.sound.scene.histories);
       };
     };
     locals = f.locals;
@@ -175,9 +177,9 @@ module _ (p : Program) (typed : WellTyped p) (ms : List Mode) where
   pub gone_fine : (c : ℕ) (n : ℤ) (s : Store) → comes_alone (kind_said p c) ≡ true → Every (λ (e : Entry). n ≡ e.notice → ⊥) s.scene.pending.entries → Fits p ms s → Fine (Fits p ms) (gone c (Whole n) s)
   gone_fine c n s q apart f =
       let cl = single_said p c q in
-      fit_fine (Fits p ms) (is_single (class_at c s)) (turned (with_heap s) (due (destroyed s.scene.heap c n))) (ap is_single (class_here s c cl.0 f cl.1) ∙ cl.2)
-      (fine_turned (Fits p ms) (with_heap s) (due (destroyed s.scene.heap c n)) (due_fine (Gone s.scene.heap n) (destroyed s.scene.heap c n) (destroyed_sane s.scene.heap c n f.sound.scene.heap (single_kind s c cl.0 f cl.1 cl.2))) (λ t g.
-      gone_fits s n t f g apart))
+      fit_fine (Fits p ms) (is_single (class_at c s)) (turned (with_none c n s) (due (destroyed s.scene.heap c n))) (ap is_single (class_here s c cl.0 f cl.1) ∙ cl.2)
+      (fine_turned (Fits p ms) (with_none c n s) (due (destroyed s.scene.heap c n)) (due_fine (Gone s.scene.heap n) (destroyed s.scene.heap c n) (destroyed_sane s.scene.heap c n f.sound.scene.heap (single_kind s c cl.0 f cl.1 cl.2))) (λ t g.
+      gone_fits s c n t f g (single_kind s c cl.0 f cl.1 cl.2) apart))
 
   apart_from : (n : ℤ) (es : List Entry) → is_pending n es ≡ false → Every (λ (e : Entry). n ≡ e.notice → ⊥) es
   apart_from n [] q = tt

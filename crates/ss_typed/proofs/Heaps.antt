@@ -405,6 +405,7 @@ pub record Gone (h : State) (x : ℤ) (t : State) : Type 0 where
   pub made : (k : ℕ) → made t k ≡ made h k
   pub before : (y : ℤ) (c : ℕ) → living t y ≡ Some c → living h y ≡ Some c
   pub kept : (y : ℤ) (c : ℕ) → (x ≡ y → ⊥) → living h y ≡ Some c → living t y ≡ Some c
+  pub absent : (c : ℕ) → living t x ≡ Some c → ⊥
 
 cut_before : (rs : List (Option Record)) (i j c : ℕ) → class_in (slice_get (slice_set rs i None) j) ≡ Some c → class_in (slice_get rs j) ≡ Some c
 cut_before [] i j c q = q
@@ -413,6 +414,11 @@ cut_before (r ∷ rs) zero (suc j) c q = q
 cut_before (r ∷ rs) (suc i) zero c q = q
 cut_before (r ∷ rs) (suc i) (suc j) c q = cut_before rs i j c q
 
+cut_absent : (rs : List (Option Record)) (i c : ℕ) → class_in (slice_get (slice_set rs i None) i) ≡ Some c → ⊥
+cut_absent [] i c q = absurd cc
+cut_absent (r ∷ rs) zero c q = absurd cc
+cut_absent (r ∷ rs) (suc i) c q = cut_absent rs i c q
+
 cut_is : (h : State) (i : ℕ) → HeapFits h → Gone h (pos (suc i)) (record h { records = slice_set h.records i None })
 cut_is h i f = record {
   fits = (every_set (RecordFits h.layout) h.records i None f.0 tt, f.1);
@@ -420,6 +426,7 @@ cut_is h i f = record {
   made = λ k. refl;
   before = before;
   kept = kept;
+  absent = cut_absent h.records i;
 }
   where
     before : (y : ℤ) (c : ℕ) → living (record h { records = slice_set h.records i None }) y ≡ Some c → living h y ≡ Some c

@@ -19,43 +19,44 @@ use Rattle.ss_stats.specs.History.{History, is_full, with_value, restarted}
 use Rattle.ss_program.specs.declared.sections.Subject.{Subject}
 use Rattle.ss_program.specs.declared.sections.Subject.TheVariants.{OfVariable, OfAttribute, OfCount}
 use Rattle.ss_program.specs.declared.sections.Statistic.{Statistic}
-use Rattle.ss_meaning.specs.Values.{turned, unless_fault, number_of}
-use Rattle.ss_meaning.specs.Store.{Kept}
-use Rattle.ss_meaning.specs.Histories.{same_subject, same_owner, home, at_start, starting, is_about, is_of, noting, all_noting, kept_for, renewed}
-use Rattle.ss_typed.specs.Fitting.{made, IsIndex, living, LivesAs, Lives, BearsBy, Bears, IsKept, HistoriesFit}
+use Rattle.ss_meaning.specs.Values.{sure, turned, unless_fault, number_of}
+use Rattle.ss_meaning.specs.Store.{Column}
+use Rattle.ss_meaning.specs.Histories.{same_subject, same_owner, home, at_start, begun_in, starting, ended_in, ending, with_history, noting_in, noting, all_noting, history_in, history_of, renewed}
+use Rattle.ss_typed.specs.Fitting.{made, IsIndex, living, LivesAs, Lives, BearsBy, Bears, Has, IsKept, HistoriesFit}
 use Rattle.ss_typed.proofs.Fine.{Fine, Any, fine_then, fine_turned, unless_fine}
 use Rattle.ss_typed.proofs.Heaps.{Same, Gone}
 
 -- ## Histories that are there stay
 
-abbrev pub KeepsAll : List Kept → List Kept → Type 0
-KeepsAll ks js = (j : ℕ) (x : ℤ) → IsKept j x ks → IsKept j x js
+-- what has a history in the one has one in the other
+abbrev pub KeepsColumn : Column → Column → Type 0
+KeepsColumn c d = (x : ℤ) → Has c x → Has d x
 
--- whether a history is that of a statistic of an entity
-abbrev is_that : ℕ → ℤ → Kept → Bool
-is_that j x k = (k.statistic == j) && int_eq k.entity x
+abbrev pub KeepsAll : List Column → List Column → Type 0
+KeepsAll cs ds = (j : ℕ) (c : Column) → slice_get cs j ≡ Some c → (d : Column) × (slice_get ds j ≡ Some d) × KeepsColumn c d
 
-kept_cons : (k i : Kept) (ks js : List Kept) → i.statistic ≡ k.statistic → i.entity ≡ k.entity → KeepsAll ks js → KeepsAll (k ∷ ks) (i ∷ js)
-kept_cons k i ks js p q h j x g = subst (λ b. (y : History) × ((if b then Ok i.history else kept_for j x js) ≡ Ok y)) same (by (is_that j x k) g (h j x))
+pub keeps_same : (cs : List Column) → KeepsAll cs cs
+keeps_same cs j c q = (c, q, λ x g. g)
+
+keeps_cons : (c d : Column) (cs ds : List Column) → KeepsColumn c d → KeepsAll cs ds → KeepsAll (c ∷ cs) (d ∷ ds)
+keeps_cons c d cs ds keep all zero e q = (d, refl, subst (λ b. KeepsColumn b d) same keep)
   where
-    same : is_that j x k ≡ is_that j x i
-    same = ap (λ n. (n == j) && int_eq k.entity x) (sym p) ∙ ap (λ z. (i.statistic == j) && int_eq z x) (sym q)
+    same : c ≡ e
+    same = cc
+keeps_cons c d cs ds keep all (suc j) e q = all j e q
 
-    by : (b : Bool) → ((y : History) × ((if b then Ok k.history else kept_for j x ks) ≡ Ok y)) → (IsKept j x ks → IsKept j x js) → (y : History) × ((if b then Ok i.history else kept_for j x js) ≡ Ok y)
-    by true a later = (i.history, refl)
-    by false a later = later a
-
-pub kept_before : (ks more : List Kept) → KeepsAll ks (ks ++ more)
-kept_before [] more j x g = absurd cc
-kept_before (k ∷ ks) more j x g = kept_cons k k ks (ks ++ more) refl refl (kept_before ks more) j x g
-
-pub kept_behind : (more ks : List Kept) → KeepsAll ks (more ++ ks)
-kept_behind [] ks j x g = g
-kept_behind (k ∷ more) ks j x g = by (is_that j x k) (kept_behind more ks j x g)
+pub kept_on : (j : ℕ) (cs ds : List Column) (these : ℤ → Type 0) → KeepsAll cs ds → IsKept j cs these → IsKept j ds these
+kept_on j cs ds these keep k = (d.0, d.1, λ x g. d.2 x (k.2 x g))
   where
-    by : (b : Bool) → IsKept j x (more ++ ks) → (y : History) × ((if b then Ok k.history else kept_for j x (more ++ ks)) ≡ Ok y)
-    by true later = (k.history, refl)
-    by false later = later
+    d : (d : Column) × (slice_get ds j ≡ Some d) × KeepsColumn k.0 d
+    d = keep j k.0 k.1
+
+history_keeps : (x : ℤ) (h : History) (c : Column) → KeepsColumn c (with_history x h c)
+history_keeps x h c y g = by (int_eq x y) g
+  where
+    by : (b : Bool) → Has c y → (k : History) × ((if b then Some h else c y) ≡ Some k)
+    by true a = (h, refl)
+    by false a = a
 
 -- ## Values that are noted
 
@@ -82,40 +83,46 @@ pub number_fine : (v : Value) → mode_of v ≡ Integer → Fine Any (number_of 
 number_fine (Whole z) q = tt
 number_fine (Text t) q = absurd cc
 
-about_is : (ss : List Statistic) (subject : Subject) (v : Value) → Noteworthy ss subject v → (j : ℕ) → is_about subject (slice_get ss j) ≡ true → mode_of v ≡ Integer
-about_is ss subject v h j q = by (slice_get ss j) refl q
+noting_fine : (x now : ℤ) (v : Value) (c : Column) → mode_of v ≡ Integer → Fine (KeepsColumn c) (noting x now v c)
+noting_fine x now v c q = by (c x)
   where
-    by : (o : Option Statistic) → slice_get ss j ≡ o → is_about subject o ≡ true → mode_of v ≡ Integer
-    by None p r = absurd cc
-    by (Some t) p r = h j t p (same_subject_is t.subject subject r)
+    by : (o : Option History) → Fine (KeepsColumn c) (noting_in x now v o c)
+    by None = λ y g. g
+    by (Some h) =
+        fine_then (KeepsColumn c) (number_of v) (λ z. unless_fault (is_full h) Overflow (Ok (with_history x (with_value h now z) c))) (number_fine v q) (λ z u.
+        unless_fine (KeepsColumn c) (is_full h) Overflow (Ok (with_history x (with_value h now z) c)) (λ p. history_keeps x (with_value h now z) c))
 
-both_true : (a b : Bool) → (a && b) ≡ true → a ≡ true
-both_true true b q = refl
-both_true false b q = absurd cc
-
-noting_fine : (now : ℤ) (v : Value) (k : Kept) → mode_of v ≡ Integer → Fine (λ (i : Kept). (i.statistic ≡ k.statistic) × (i.entity ≡ k.entity)) (noting now v k)
-noting_fine now v k q =
-    fine_then (λ (i : Kept). (i.statistic ≡ k.statistic) × (i.entity ≡ k.entity)) (number_of v) (λ z. unless_fault (is_full k.history) Overflow (Ok (record k { history = with_value k.history now z }))) (number_fine v q) (λ z u.
-    unless_fine (λ (i : Kept). (i.statistic ≡ k.statistic) × (i.entity ≡ k.entity)) (is_full k.history) Overflow (Ok (record k { history = with_value k.history now z })) (λ p. (refl, refl)))
-
-pub all_noting_fine : (ss : List Statistic) (subject : Subject) (x now : ℤ) (v : Value) (ks : List Kept) → Noteworthy ss subject v → Fine (KeepsAll ks) (all_noting ss subject x now v ks)
-all_noting_fine ss subject x now v [] h = λ j y g. g
-all_noting_fine ss subject x now v (k ∷ ks) h =
-    fine_then (KeepsAll (k ∷ ks)) (if is_of ss subject x k then noting now v k else Ok k) (λ i. turned (λ is. i ∷ is) (all_noting ss subject x now v ks)) (by (is_of ss subject x k) refl) (λ i g.
-    fine_turned (KeepsAll (k ∷ ks)) (λ is. i ∷ is) (all_noting ss subject x now v ks) (all_noting_fine ss subject x now v ks h) (λ is later. kept_cons k i ks is g.0 g.1 later))
+pub all_noting_fine : (subject : Subject) (x now : ℤ) (v : Value) (ss : List Statistic) (cs : List Column) → Noteworthy ss subject v → Fine (KeepsAll cs) (all_noting subject x now v ss cs)
+all_noting_fine subject x now v [] cs h = keeps_same cs
+all_noting_fine subject x now v (s ∷ ss) [] h = keeps_same []
+all_noting_fine subject x now v (s ∷ ss) (c ∷ cs) h =
+    fine_then (KeepsAll (c ∷ cs)) (if same_subject s.subject subject then noting x now v c else Ok c) (λ d. turned (λ ds. d ∷ ds) (all_noting subject x now v ss cs)) (by (same_subject s.subject subject) refl) (λ d g.
+    fine_turned (KeepsAll (c ∷ cs)) (λ ds. d ∷ ds) (all_noting subject x now v ss cs) (all_noting_fine subject x now v ss cs (λ j t q. h (suc j) t q)) (λ ds later. keeps_cons c d cs ds g later))
   where
-    by : (b : Bool) → is_of ss subject x k ≡ b → Fine (λ (i : Kept). (i.statistic ≡ k.statistic) × (i.entity ≡ k.entity)) (if b then noting now v k else Ok k)
-    by true q = noting_fine now v k (about_is ss subject v h k.statistic (both_true (is_about subject (slice_get ss k.statistic)) (int_eq k.entity x) q))
-    by false q = (refl, refl)
+    by : (b : Bool) → same_subject s.subject subject ≡ b → Fine (KeepsColumn c) (if b then noting x now v c else Ok c)
+    by true q = noting_fine x now v c (h zero s refl (same_subject_is s.subject subject q))
+    by false q = λ y g. g
 
-pub renewed_fine : (j : ℕ) (x now z : ℤ) (ks : List Kept) → IsKept j x ks → Fine (KeepsAll ks) (renewed j x now z ks)
-renewed_fine j x now z [] g = absurd cc
-renewed_fine j x now z (k ∷ ks) g = by (is_that j x k) g (renewed_fine j x now z ks)
+pub history_fine : (j : ℕ) (x : ℤ) (cs : List Column) (these : ℤ → Type 0) → IsKept j cs these → these x → Fine Any (history_of j x cs)
+history_fine j x cs these k g =
+    subst (λ o. Fine Any (history_in o x)) (sym k.1) (subst (λ o. Fine Any (sure o)) (sym (k.2 x g).1) tt)
+
+pub renewed_fine : (j : ℕ) (x now z : ℤ) (cs : List Column) (these : ℤ → Type 0) → IsKept j cs these → these x → Fine (KeepsAll cs) (renewed j x now z cs)
+renewed_fine j x now z [] these k g = absurd (by k.1)
   where
-    by : (b : Bool) → ((y : History) × ((if b then Ok k.history else kept_for j x ks) ≡ Ok y)) → (IsKept j x ks → Fine (KeepsAll ks) (renewed j x now z ks))
-        → Fine (KeepsAll (k ∷ ks)) (if b then Ok (record k { history = restarted k.history now z } ∷ ks) else turned (λ js. k ∷ js) (renewed j x now z ks))
-    by true a later = kept_cons k (record k { history = restarted k.history now z }) ks ks refl refl (λ i y p. p)
-    by false a later = fine_turned (KeepsAll (k ∷ ks)) (λ js. k ∷ js) (renewed j x now z ks) (later a) (λ js p. kept_cons k k ks js refl refl p)
+    by : slice_get [] j ≡ Some k.0 → ⊥
+    by q = absurd cc
+renewed_fine zero x now z (c ∷ cs) these k g =
+    fine_turned (KeepsAll (c ∷ cs)) (λ h. with_history x (restarted h now z) c ∷ cs) (sure (c x)) (there k.1) (λ h u.
+    keeps_cons c (with_history x (restarted h now z) c) cs cs (history_keeps x (restarted h now z) c) (keeps_same cs))
+  where
+    there : Some c ≡ Some k.0 → Fine Any (sure (c x))
+    there q = subst (λ (b : Column). Fine Any (sure (b x))) (sym same) (subst (λ o. Fine Any (sure o)) (sym (k.2 x g).1) tt)
+      where
+        same : c ≡ k.0
+        same = cc
+renewed_fine (suc j) x now z (c ∷ cs) these k g =
+    fine_turned (KeepsAll (c ∷ cs)) (λ ds. c ∷ ds) (renewed j x now z cs) (renewed_fine j x now z cs these k g) (λ ds p. keeps_cons c c cs ds (λ y a. a) p)
 
 -- ## Histories that start
 
@@ -123,28 +130,72 @@ same_owner_refl : (o : Owner) → same_owner o o ≡ true
 same_owner_refl System = refl
 same_owner_refl (Class c) = eq-eqb c c refl
 
-pub starting_kept : (l : Layout) (whose : Owner) (x now : ℤ) (k : ℕ) (ss : List Statistic) (i : ℕ) (t : Statistic) → slice_get ss i ≡ Some t → home l t.subject ≡ whose → IsKept (k + i) x (starting l whose x now k ss)
-starting_kept l whose x now k [] i t q h = absurd cc
-starting_kept l whose x now k (s ∷ ss) zero t q h =
-    subst (λ b. IsKept (k + zero) x ((if b then record { statistic = k; entity = x; history = at_start s.weighting now } ∷ [] else []) ++ starting l whose x now (k + 1) ss)) (sym fits) here
+same_owner_is : (a b : Owner) → same_owner a b ≡ true → a ≡ b
+same_owner_is System System q = refl
+same_owner_is System (Class d) q = absurd cc
+same_owner_is (Class c) System q = absurd cc
+same_owner_is (Class c) (Class d) q = ap Class (eqb-true c d q)
+
+begun_has : (here : ℤ → Bool) (h : History) (c : Column) (b : Bool) → KeepsColumn c (if b then begun_in here h c else c)
+begun_has here h c true x g = by (here x) g
+  where
+    by : (b : Bool) → Has c x → (k : History) × ((if b then Some h else c x) ≡ Some k)
+    by true a = (h, refl)
+    by false a = a
+begun_has here h c false x g = g
+
+-- the histories of a statistic, with those that start
+pub starting_kept : (l : Layout) (whose : Owner) (here : ℤ → Bool) (now : ℤ) (ss : List Statistic) (cs : List Column) (j : ℕ) (t : Statistic) (c : Column)
+    → slice_get ss j ≡ Some t → slice_get cs j ≡ Some c
+    → (d : Column) × (slice_get (starting l whose here now ss cs) j ≡ Some d) × KeepsColumn c d × ((x : ℤ) → home l t.subject ≡ whose → here x ≡ true → Has d x)
+starting_kept l whose here now [] cs j t c q r = absurd cc
+starting_kept l whose here now (s ∷ ss) [] j t c q r = absurd cc
+starting_kept l whose here now (s ∷ ss) (e ∷ cs) zero t c q r =
+    (if same_owner (home l s.subject) whose then begun_in here (at_start s.weighting now) e else e, refl, subst (λ b. KeepsColumn b (if same_owner (home l s.subject) whose then begun_in here (at_start s.weighting now) e else e)) same (begun_has here (at_start s.weighting now) e (same_owner (home l s.subject) whose)), new)
   where
     there : s ≡ t
     there = cc
 
-    fits : same_owner (home l s.subject) whose ≡ true
-    fits = ap (λ (y : Statistic). same_owner (home l y.subject) whose) there ∙ ap (λ o. same_owner o whose) h ∙ same_owner_refl whose
+    same : e ≡ c
+    same = cc
 
-    index : (k == k + zero) ≡ true
-    index = eq-eqb k (k + zero) (omega arith)
+    new : (x : ℤ) → home l t.subject ≡ whose → here x ≡ true → Has (if same_owner (home l s.subject) whose then begun_in here (at_start s.weighting now) e else e) x
+    new x h p =
+        subst (λ b. Has (if b then begun_in here (at_start s.weighting now) e else e) x) (sym fits)
+        (at_start s.weighting now, ap (λ b. if b then Some (at_start s.weighting now) else e x) p)
+      where
+        fits : same_owner (home l s.subject) whose ≡ true
+        fits = ap (λ (y : Statistic). same_owner (home l y.subject) whose) there ∙ ap (λ o. same_owner o whose) h ∙ same_owner_refl whose
+starting_kept l whose here now (s ∷ ss) (e ∷ cs) (suc j) t c q r = starting_kept l whose here now ss cs j t c q r
 
-    here : IsKept (k + zero) x (record { statistic = k; entity = x; history = at_start s.weighting now } ∷ starting l whose x now (k + 1) ss)
-    here = subst (λ b. (y : History) × ((if b then Ok (at_start s.weighting now) else kept_for (k + zero) x (starting l whose x now (k + 1) ss)) ≡ Ok y)) (sym (ap (λ b. b && int_eq x x) index ∙ (Decides-int_eq x x).1 refl)) (at_start s.weighting now, refl)
-starting_kept l whose x now k (s ∷ ss) (suc i) t q h =
-    kept_behind (if same_owner (home l s.subject) whose then record { statistic = k; entity = x; history = at_start s.weighting now } ∷ [] else []) (starting l whose x now (k + 1) ss) (k + suc i) x
-    (subst (λ n. IsKept n x (starting l whose x now (k + 1) ss)) one (starting_kept l whose x now (k + 1) ss i t q h))
+-- ## Histories that end
+
+-- the histories of a statistic, without that of an entity that went
+ending_kept : (l : Layout) (class : ℕ) (x : ℤ) (ss : List Statistic) (cs : List Column) (j : ℕ) (t : Statistic) (c : Column)
+    → slice_get ss j ≡ Some t → slice_get cs j ≡ Some c
+    → (d : Column) × (slice_get (ending l class x ss cs) j ≡ Some d) × ((y : ℤ) → (home l t.subject ≡ Class class → x ≡ y → ⊥) → Has c y → Has d y)
+ending_kept l class x [] cs j t c q r = absurd cc
+ending_kept l class x (s ∷ ss) [] j t c q r = absurd cc
+ending_kept l class x (s ∷ ss) (e ∷ cs) zero t c q r =
+    (if same_owner (home l s.subject) (Class class) then ended_in x e else e, refl, λ y apart g. by (same_owner (home l s.subject) (Class class)) refl y apart (subst (λ (b : Column). Has b y) (sym same) g))
   where
-    one : k + 1 + i ≡ k + suc i
-    one = omega arith
+    there : s ≡ t
+    there = cc
+
+    same : e ≡ c
+    same = cc
+
+    by : (b : Bool) → same_owner (home l s.subject) (Class class) ≡ b → (y : ℤ) → (home l t.subject ≡ Class class → x ≡ y → ⊥) → Has e y → Has (if b then ended_in x e else e) y
+    by true p y apart g = other (int_eq x y) refl
+      where
+        own : home l t.subject ≡ Class class
+        own = ap (λ (u : Statistic). home l u.subject) (sym there) ∙ same_owner_is (home l s.subject) (Class class) p
+
+        other : (b : Bool) → int_eq x y ≡ b → (k : History) × ((if b then None else e y) ≡ Some k)
+        other true f = absurd (apart own ((Decides-int_eq x y).0 f))
+        other false f = g
+    by false p y apart g = g
+ending_kept l class x (s ∷ ss) (e ∷ cs) (suc j) t c q r = ending_kept l class x ss cs j t c q r
 
 -- ## Entities that live in two heaps
 
@@ -165,11 +216,30 @@ pub borne : (h t : State) (subject : Subject) (x : ℤ) → t.layout ≡ h.layou
 borne h t subject x l f g = borne_by (home h.layout subject) h t x f (subst (λ m. BearsBy (home m subject) t x) l g)
 
 -- histories that fit go on to fit
-pub fit_on : (ss : List Statistic) (h t : State) (ks js : List Kept) → t.layout ≡ h.layout → ((c : ℕ) (x : ℤ) → Lives t c x → Lives h c x) → KeepsAll ks js → HistoriesFit ss h ks → HistoriesFit ss t js
-fit_on ss h t ks js l f keep fit j s q x g = keep j x (fit j s q x (borne h t s.subject x l (λ c. f c x) g))
+pub fit_on : (ss : List Statistic) (h t : State) (cs ds : List Column) → t.layout ≡ h.layout → ((c : ℕ) (x : ℤ) → Lives t c x → Lives h c x) → KeepsAll cs ds → HistoriesFit ss h cs → HistoriesFit ss t ds
+fit_on ss h t cs ds l f keep fit j s q = (k.0, k.1, λ x g. k.2 x (borne h t s.subject x l (λ c. f c x) g))
+  where
+    k : IsKept j ds (Bears h s.subject)
+    k = kept_on j cs ds (Bears h s.subject) keep (fit j s q)
 
-pub fit_same : (ss : List Statistic) (h t : State) (ks js : List Kept) → Same h t → KeepsAll ks js → HistoriesFit ss h ks → HistoriesFit ss t js
-fit_same ss h t ks js same keep fit = fit_on ss h t ks js same.layout (λ c x. lived h t c x same.layout (λ g. sym (same.living x) ∙ g) (same.made c)) keep fit
+pub fit_same : (ss : List Statistic) (h t : State) (cs ds : List Column) → Same h t → KeepsAll cs ds → HistoriesFit ss h cs → HistoriesFit ss t ds
+fit_same ss h t cs ds same keep fit = fit_on ss h t cs ds same.layout (λ c x. lived h t c x same.layout (λ g. sym (same.living x) ∙ g) (same.made c)) keep fit
 
-pub fit_gone : (ss : List Statistic) (h t : State) (x : ℤ) (ks : List Kept) → Gone h x t → HistoriesFit ss h ks → HistoriesFit ss t ks
-fit_gone ss h t x ks gone fit = fit_on ss h t ks ks gone.layout (λ c y. lived h t c y gone.layout (gone.before y c) (gone.made c)) (λ i y g. g) fit
+single_lives : (k : ClassKind) (t : State) (class : ℕ) (y : ℤ) → (k ≡ Permanent → ⊥) → LivesAs k t class y → living t y ≡ Some class
+single_lives Permanent t class y other g = absurd (other refl)
+single_lives Temporary t class y other g = g
+single_lives Notice t class y other g = g
+
+pub fit_gone : (ss : List Statistic) (h t : State) (class : ℕ) (x : ℤ) (cs : List Column) → Gone h x t → (kind_of t.layout class ≡ Permanent → ⊥) → HistoriesFit ss h cs → HistoriesFit ss t (ending t.layout class x ss cs)
+fit_gone ss h t class x cs gone single fit j s q =
+    (e.0, e.1, λ y g. e.2 y (apart y g) (k.2 y (borne h t s.subject y gone.layout (λ c. lived h t c y gone.layout (gone.before y c) (gone.made c)) g)))
+  where
+    k : IsKept j cs (Bears h s.subject)
+    k = fit j s q
+
+    e : (d : Column) × (slice_get (ending t.layout class x ss cs) j ≡ Some d) × ((y : ℤ) → (home t.layout s.subject ≡ Class class → x ≡ y → ⊥) → Has k.0 y → Has d y)
+    e = ending_kept t.layout class x ss cs j s k.0 q k.1
+
+    apart : (y : ℤ) → Bears t s.subject y → home t.layout s.subject ≡ Class class → x ≡ y → ⊥
+    apart y g own same =
+        gone.absent class (ap (living t) same ∙ single_lives (kind_of t.layout class) t class y single (subst (λ o. BearsBy o t y) own g))

@@ -35,17 +35,17 @@ use Rattle.ss_program.specs.Program.{Program}
 use Rattle.ss_program.specs.WellTyped.{WellTyped, IsSet, IsOwned, owner_of, GoodDiscipline, GoodKeys, GoodSubject, IsAlone, IsOfEntities}
 use Rattle.ss_stats.specs.History.{History, sum_of}
 use Rattle.ss_meaning.specs.Values.{Trouble, Misfit, Fails, if_ok, turned, due, sure, where_fit, unless_fault, number_of}
-use Rattle.ss_meaning.specs.Store.{Kept, Store, with_heap, with_histories, fetched}
-use Rattle.ss_meaning.specs.Histories.{noted, kept_for, folded, figure_kept, renewed}
+use Rattle.ss_meaning.specs.Store.{Store, with_heap, with_histories, fetched}
+use Rattle.ss_meaning.specs.Histories.{noted, history_of, folded, figure_kept, renewed}
 use Rattle.ss_meaning.specs.Entities.{entity}
 use Rattle.ss_meaning.specs.Sets.{set_at, member, owner_as, owner_by, owner_number, known_owner, told_of_set, of_set, is_one, of_member, is_none, is_empty, is_in, recounted, is_field, is_fit, Filing, ByRule, Foremost, Hindmost, Ahead, Behind, filed_by, filed_in, removed_from, end_removed, removed_at, outset, beside, begun, coming, from_or_after, begun_at, or_gone, goes_on}
 use Rattle.ss_meaning.specs.Statistics.{subject_of, bearer, present, figure, reset}
-use Rattle.ss_typed.specs.Fitting.{HeapFits, Lives, BearsBy, Bears, IsKept, Fits}
+use Rattle.ss_typed.specs.Fitting.{HeapFits, Lives, BearsBy, Bears, Fits}
 use Rattle.ss_typed.proofs.Fine.{Fine, Sane, There, Any, fine_then, fine_turned, fine_weaker, due_fine, any_due, sure_fine, fit_fine, unless_fine, sane_then}
 use Rattle.ss_typed.proofs.Lists.{every_get}
 use Rattle.ss_typed.proofs.Heaps.{Changed, entity_known, entity_lives, get_within}
 use Rattle.ss_typed.proofs.Filings.{first_sane, last_sane, before_sane, after_sane, removed_sane, filed_sane, first_removed_sane, last_removed_sane}
-use Rattle.ss_typed.proofs.Kept.{number_fine, renewed_fine}
+use Rattle.ss_typed.proofs.Kept.{number_fine, history_fine, renewed_fine}
 use Rattle.ss_typed.proofs.Stores.{heap_fits, kept_fit, statistics_are, noted_fine, held_there}
 use Rattle.ss_typed.proofs.Entities.{HasField, field_said, entity_fine, attribute_fine}
 
@@ -282,9 +282,6 @@ module _ (p : Program) (typed : WellTyped p) (ms : List Mode) where
   subject_fine j t s q f =
       fine_turned (λ u. u ≡ t.subject) (λ (u : Statistic). u.subject) (sure (slice_get s.scene.setting.statistics j)) (sure_fine (λ u. u ≡ t) (slice_get s.scene.setting.statistics j) (subst (λ o. There (λ u. u ≡ t) o) (sym (ap (λ ss. slice_get ss j) (statistics_are p ms s f) ∙ q)) refl)) (λ u e. ap (λ (v : Statistic). v.subject) e)
 
-  kept_fine : (j : ℕ) (n : ℤ) (ks : List Kept) → IsKept j n ks → Fine Any (kept_for j n ks)
-  kept_fine j n ks g = subst (λ r. Fine Any r) (sym g.1) tt
-
   folded_fine : (fold : Fold) (now : ℤ) (h : History) → Fine (λ v. mode_of v ≡ Integer) (folded fold now h)
   folded_fine Number now h = refl
   folded_fine Sum now h = fine_turned (λ v. mode_of v ≡ Integer) Whole (due (sum_of h now)) (any_due (sum_of h now)) (λ z u. refl)
@@ -296,7 +293,7 @@ module _ (p : Program) (typed : WellTyped p) (ms : List Mode) where
       fine_then (λ v. mode_of v ≡ Integer) (subject_of j s) (λ t. if_ok (bearer t o s) (λ n. figure_kept fold j n s)) (subject_fine j a.statistic s a.there f) (λ t e.
       subst (λ u. Fine (λ v. mode_of v ≡ Integer) (if_ok (bearer u o s) (λ n. figure_kept fold j n s))) (sym e)
       (fine_then (λ v. mode_of v ≡ Integer) (bearer a.statistic.subject o s) (λ n. figure_kept fold j n s) (bearer_fine a.statistic.subject o s (good_subject j a.statistic a.there) a.fits f) (λ n b.
-      fine_then (λ v. mode_of v ≡ Integer) (kept_for j n s.scene.histories) (folded fold s.scene.time) (kept_fine j n s.scene.histories (f.sound.scene.histories j a.statistic a.there n b)) (λ h u. folded_fine fold s.scene.time h))))
+      fine_then (λ v. mode_of v ≡ Integer) (history_of j n s.scene.histories) (folded fold s.scene.time) (history_fine j n s.scene.histories (Bears s.scene.heap a.statistic.subject) (f.sound.scene.histories j a.statistic a.there) b) (λ h u. folded_fine fold s.scene.time h))))
 
   pub reset_fine : (j : ℕ) (o : Option Value) (s : Store) → AskedStatistic j o → Fits p ms s → Fine (Fits p ms) (reset j o s)
   reset_fine j o s a f =
@@ -305,4 +302,4 @@ module _ (p : Program) (typed : WellTyped p) (ms : List Mode) where
       (fine_then (Fits p ms) (bearer a.statistic.subject o s) (λ n. if_ok (present a.statistic.subject o s) (λ v. if_ok (number_of v) (λ z. turned (with_histories s) (renewed j n s.scene.time z s.scene.histories)))) (bearer_fine a.statistic.subject o s (good_subject j a.statistic a.there) a.fits f) (λ n b.
       fine_then (Fits p ms) (present a.statistic.subject o s) (λ v. if_ok (number_of v) (λ z. turned (with_histories s) (renewed j n s.scene.time z s.scene.histories))) (present_fine a.statistic.subject o s (good_subject j a.statistic a.there) a.fits f) (λ v g.
       fine_then (Fits p ms) (number_of v) (λ z. turned (with_histories s) (renewed j n s.scene.time z s.scene.histories)) (number_fine v g) (λ z u.
-      fine_turned (Fits p ms) (with_histories s) (renewed j n s.scene.time z s.scene.histories) (renewed_fine j n s.scene.time z s.scene.histories (f.sound.scene.histories j a.statistic a.there n b)) (λ ks k. kept_fit p ms s ks f k))))))
+      fine_turned (Fits p ms) (with_histories s) (renewed j n s.scene.time z s.scene.histories) (renewed_fine j n s.scene.time z s.scene.histories (Bears s.scene.heap a.statistic.subject) (f.sound.scene.histories j a.statistic a.there) b) (λ ks k. kept_fit p ms s ks f k))))))

@@ -1,7 +1,10 @@
 -- Stores that fit a program: their variables, and what becomes of the scene.
 use Rattle.std.proofs.Common.{arith, inl, inr, ◌⊎◌, ◌≡◌, ℕ, zero, suc, ◌+◌, ◌<◌, Bool, true, false, List, [], ◌∷◌, ◌++◌, Some, Ok, Err, ℤ, pos, negsuc, refl, sym, ap, ◌∙◌, subst}
-use Rattle.std.proofs.lemmas.Bool.{eqb-true, eqb-false}
-use Rattle.std.specs.Prelude.{slice_get, ◌==◌, if◌then◌else◌}
+use Rattle.std.proofs.lemmas.Bool.{eqb-true, eqb-false, le-leb}
+use Rattle.std.proofs.lemmas.Bool.Decides.{Decides-int_eq}
+use Rattle.std.proofs.Math.Dec.{leb}
+use Rattle.std.specs.Ordering.{int_eq}
+use Rattle.std.specs.Prelude.{slice_get, ◌==◌, ◌&&◌, int_le, if◌then◌else◌}
 use Rattle.ss_base.specs.declared.layout.ClassKind.{ClassKind}
 use Rattle.ss_base.specs.declared.layout.ClassKind.TheVariants.{Permanent, Temporary, Notice}
 use Rattle.ss_base.specs.declared.layout.Mode.{Mode}
@@ -15,13 +18,13 @@ use Rattle.ss_program.specs.declared.sections.Subject.{Subject}
 use Rattle.ss_program.specs.declared.sections.Statistic.{Statistic}
 use Rattle.ss_program.specs.Program.{Program}
 use Rattle.ss_meaning.specs.Values.{Misfit, same_mode}
-use Rattle.ss_meaning.specs.Store.{Kept, Store, with_heap, with_histories, put_at}
+use Rattle.ss_meaning.specs.Store.{Column, Store, with_heap, with_histories, put_at}
 use Rattle.ss_meaning.specs.Histories.{home, starting, started, all_started, all_noting, noted}
-use Rattle.ss_typed.specs.Fitting.{Hold, HeapFits, made, IsIndex, LivesAs, IsNotice, BearsBy, IsKept, HistoriesFit, Fits}
+use Rattle.ss_typed.specs.Fitting.{Hold, HeapFits, made, IsIndex, LivesAs, IsNotice, BearsBy, Bears, Has, IsKept, HistoriesFit, Fits}
 use Rattle.ss_typed.proofs.Fine.{Fine, There, fine_turned}
 use Rattle.ss_typed.proofs.Lists.{every_weaker}
 use Rattle.ss_typed.proofs.Heaps.{Same, Created, Filled}
-use Rattle.ss_typed.proofs.Kept.{KeepsAll, kept_before, kept_behind, Noteworthy, all_noting_fine, starting_kept, fit_same}
+use Rattle.ss_typed.proofs.Kept.{KeepsColumn, KeepsAll, keeps_same, kept_on, Noteworthy, all_noting_fine, starting_kept, fit_same}
 
 -- ## Modes
 
@@ -62,13 +65,13 @@ heap_fits p ms s h f g = record {
       layout = g.1.layout ∙ f.sound.scene.layout;
       heap = g.0;
       pending = every_weaker (λ e. IsNotice s.scene.heap e.notice) (λ e. IsNotice h e.notice) s.scene.pending.entries f.sound.scene.pending (λ e n. notice_same s.scene.heap h e.notice g.1 n);
-      histories = fit_same p.statistics s.scene.heap h s.scene.histories s.scene.histories g.1 (λ j x q. q) f.sound.scene.histories;
+      histories = fit_same p.statistics s.scene.heap h s.scene.histories s.scene.histories g.1 (keeps_same s.scene.histories) f.sound.scene.histories;
     };
   };
   locals = f.locals;
 }
 
-pub histories_fit : (p : Program) (ms : List Mode) (s : Store) (ks : List Kept) → Fits p ms s → HistoriesFit p.statistics s.scene.heap ks → Fits p ms (with_histories s ks)
+pub histories_fit : (p : Program) (ms : List Mode) (s : Store) (ks : List Column) → Fits p ms s → HistoriesFit p.statistics s.scene.heap ks → Fits p ms (with_histories s ks)
 histories_fit p ms s ks f g = record {
   sound = record {
     globals = f.sound.globals;
@@ -77,16 +80,16 @@ histories_fit p ms s ks f g = record {
   locals = f.locals;
 }
 
-pub kept_fit : (p : Program) (ms : List Mode) (s : Store) (ks : List Kept) → Fits p ms s → KeepsAll s.scene.histories ks → Fits p ms (with_histories s ks)
-kept_fit p ms s ks f g = histories_fit p ms s ks f (λ j t q x b. g j x (f.sound.scene.histories j t q x b))
+pub kept_fit : (p : Program) (ms : List Mode) (s : Store) (ks : List Column) → Fits p ms s → KeepsAll s.scene.histories ks → Fits p ms (with_histories s ks)
+kept_fit p ms s ks f g = histories_fit p ms s ks f (λ j t q. kept_on j s.scene.histories ks (Bears s.scene.heap t.subject) g (f.sound.scene.histories j t q))
 
 pub statistics_are : (p : Program) (ms : List Mode) (s : Store) → Fits p ms s → s.scene.setting.statistics ≡ p.statistics
 statistics_are p ms s f = ap (λ t. t.statistics) f.sound.scene.setting
 
 pub noted_fine : (p : Program) (ms : List Mode) (subject : Subject) (x : ℤ) (v : Value) (s : Store) → Noteworthy p.statistics subject v → Fits p ms s → Fine (Fits p ms) (noted subject x v s)
 noted_fine p ms subject x v s h f =
-    fine_turned (Fits p ms) (with_histories s) (all_noting s.scene.setting.statistics subject x s.scene.time v s.scene.histories)
-    (all_noting_fine s.scene.setting.statistics subject x s.scene.time v s.scene.histories (subst (λ ss. Noteworthy ss subject v) (sym (statistics_are p ms s f)) h))
+    fine_turned (Fits p ms) (with_histories s) (all_noting subject x s.scene.time v s.scene.setting.statistics s.scene.histories)
+    (all_noting_fine subject x s.scene.time v s.scene.setting.statistics s.scene.histories (subst (λ ss. Noteworthy ss subject v) (sym (statistics_are p ms s f)) h))
     (λ ks g. kept_fit p ms s ks f g)
 
 -- ## Entities that come into being
@@ -104,19 +107,18 @@ bears_new (Class c) h class b x new g = by (lives_new (kind_of h.layout c) h cla
     by (inl q) = inl q
     by (inr q) = inr (q.0, ap Class (sym q.1))
 
-fit_created : (ss : List Statistic) (h : State) (class : ℕ) (b : ℤ × State) (now : ℤ) (ks : List Kept) → Created h class b → HistoriesFit ss h ks → HistoriesFit ss b.1 (ks ++ starting b.1.layout (Class class) b.0 now 0 ss)
-fit_created ss h class b now ks new fit j t q x g =
-    by (bears_new (home b.1.layout t.subject) h class b x new g)
+fit_created : (ss : List Statistic) (h : State) (class : ℕ) (b : ℤ × State) (now : ℤ) (cs : List Column) → Created h class b → HistoriesFit ss h cs → HistoriesFit ss b.1 (starting b.1.layout (Class class) (int_eq b.0) now ss cs)
+fit_created ss h class b now cs new fit j t q = (d.0, d.1, λ x g. by x (bears_new (home b.1.layout t.subject) h class b x new g))
   where
-    by : BearsBy (home b.1.layout t.subject) h x ⊎ ((x ≡ b.0) × (home b.1.layout t.subject ≡ Class class)) → IsKept j x (ks ++ starting b.1.layout (Class class) b.0 now 0 ss)
-    by (inl r) = kept_before ks (starting b.1.layout (Class class) b.0 now 0 ss) j x (fit j t q x (subst (λ l. BearsBy (home l t.subject) h x) new.layout r))
-    by (inr r) =
-        kept_behind ks (starting b.1.layout (Class class) b.0 now 0 ss) j x
-        (subst (λ y. IsKept j y (starting b.1.layout (Class class) b.0 now 0 ss)) (sym r.0)
-        (subst (λ i. IsKept i b.0 (starting b.1.layout (Class class) b.0 now 0 ss)) one (starting_kept b.1.layout (Class class) b.0 now 0 ss j t q r.1)))
-      where
-        one : 0 + j ≡ j
-        one = omega arith
+    k : IsKept j cs (Bears h t.subject)
+    k = fit j t q
+
+    d : (d : Column) × (slice_get (starting b.1.layout (Class class) (int_eq b.0) now ss cs) j ≡ Some d) × KeepsColumn k.0 d × ((x : ℤ) → home b.1.layout t.subject ≡ Class class → int_eq b.0 x ≡ true → Has d x)
+    d = starting_kept b.1.layout (Class class) (int_eq b.0) now ss cs j t k.0 q k.1
+
+    by : (x : ℤ) → BearsBy (home b.1.layout t.subject) h x ⊎ ((x ≡ b.0) × (home b.1.layout t.subject ≡ Class class)) → Has d.0 x
+    by x (inl r) = d.2 x (k.2 x (subst (λ l. BearsBy (home l t.subject) h x) new.layout r))
+    by x (inr r) = d.3 x r.1 ((Decides-int_eq b.0 x).1 (sym r.0))
 
 -- a store with a new entity fits
 pub created_fits : (p : Program) (ms : List Mode) (s : Store) (class : ℕ) (b : ℤ × State) → Fits p ms s → Created s.scene.heap class b → Fits p ms (started (Class class) b.0 (with_heap s b.1))
@@ -129,7 +131,7 @@ created_fits p ms s class b f new = record {
       heap = new.fits;
       pending = every_weaker (λ e. IsNotice s.scene.heap e.notice) (λ e. IsNotice b.1 e.notice) s.scene.pending.entries f.sound.scene.pending (λ e n. (n.0, new.kept e.notice n.0 n.1, ap (λ l. kind_of l n.0) new.layout ∙ n.2));
       histories =
-          subst (λ ss. HistoriesFit p.statistics b.1 (s.scene.histories ++ starting b.1.layout (Class class) b.0 s.scene.time 0 ss)) (sym (statistics_are p ms s f))
+          subst (λ ss. HistoriesFit p.statistics b.1 (starting b.1.layout (Class class) (int_eq b.0) s.scene.time ss s.scene.histories)) (sym (statistics_are p ms s f))
           (fit_created p.statistics s.scene.heap class b s.scene.time s.scene.histories new f.sound.scene.histories);
     };
   };
@@ -138,45 +140,14 @@ created_fits p ms s class b f new = record {
 
 -- ## All entities of a permanent class
 
--- nothing but histories is new
-pub all_started_is : (class n : ℕ) (s : Store) → all_started class n s ≡ with_histories s (all_started class n s).scene.histories
-all_started_is class zero s = refl
-all_started_is class (suc k) s = ap (λ y. with_histories y (all_started class (suc k) s).scene.histories) (all_started_is class k s)
+-- which entities there are of so many
+abbrev is_within : ℕ → ℤ → Bool
+is_within n x = int_le (pos 1) x && int_le x (pos n)
 
-all_started_keeps : (class n : ℕ) (s : Store) → KeepsAll s.scene.histories (all_started class n s).scene.histories
-all_started_keeps class zero s j x q = q
-all_started_keeps class (suc k) s j x q =
-    kept_before (all_started class k s).scene.histories (starting (all_started class k s).scene.heap.layout (Class class) (pos (suc k)) (all_started class k s).scene.time 0 (all_started class k s).scene.setting.statistics) j x (all_started_keeps class k s j x q)
-
-all_started_has : (class n : ℕ) (s : Store) (j : ℕ) (t : Statistic) (x : ℤ) → slice_get s.scene.setting.statistics j ≡ Some t → home s.scene.heap.layout t.subject ≡ Class class → IsIndex n x → IsKept j x (all_started class n s).scene.histories
-all_started_has class n s j t (pos zero) q h g = absurd g
-all_started_has class zero s j t (pos (suc i)) q h g = absurd (omega (arith, g))
-all_started_has class (suc k) s j t (pos (suc i)) q h g = by (i == k) refl (all_started_has class k s j t (pos (suc i)) q h)
-  where
-    more : List Kept
-    more = starting (all_started class k s).scene.heap.layout (Class class) (pos (suc k)) (all_started class k s).scene.time 0 (all_started class k s).scene.setting.statistics
-
-    same_setting : (all_started class k s).scene.setting.statistics ≡ s.scene.setting.statistics
-    same_setting = ap (λ y. y.scene.setting.statistics) (all_started_is class k s)
-
-    same_layout : (all_started class k s).scene.heap.layout ≡ s.scene.heap.layout
-    same_layout = ap (λ y. y.scene.heap.layout) (all_started_is class k s)
-
-    one : 0 + j ≡ j
-    one = omega arith
-
-    last : IsKept j (pos (suc k)) more
-    last = subst (λ n. IsKept n (pos (suc k)) more) one
-        (starting_kept (all_started class k s).scene.heap.layout (Class class) (pos (suc k)) (all_started class k s).scene.time 0 (all_started class k s).scene.setting.statistics j t
-        (ap (λ ss. slice_get ss j) same_setting ∙ q) (ap (λ l. home l t.subject) same_layout ∙ h))
-
-    by : (b : Bool) → (i == k) ≡ b → (i < k → IsKept j (pos (suc i)) (all_started class k s).scene.histories) → IsKept j (pos (suc i)) ((all_started class k s).scene.histories ++ more)
-    by true e earlier = kept_behind (all_started class k s).scene.histories more j (pos (suc i)) (subst (λ n. IsKept j (pos (suc n)) more) (sym (eqb-true i k e)) last)
-    by false e earlier =
-        let other : i ≡ k → ⊥ = eqb-false i k e in
-        let less : i < k = omega (arith, g, other) in
-        kept_before (all_started class k s).scene.histories more j (pos (suc i)) (earlier less)
-all_started_has class n s j t (negsuc k) q h g = absurd g
+within : (n : ℕ) (x : ℤ) → IsIndex n x → is_within n x ≡ true
+within n (pos zero) g = absurd g
+within n (pos (suc i)) g = ap (λ b. b && leb (suc i) n) (le-leb 1 (suc i) (omega arith)) ∙ le-leb (suc i) n g
+within n (negsuc k) g = absurd g
 
 lives_filled : (k : ClassKind) (h t : State) (class c : ℕ) (x : ℤ) → Filled h class t → LivesAs k t c x → LivesAs k h c x ⊎ ((class ≡ c) × IsIndex (made t class) x)
 lives_filled Permanent h t class c x new g = by (class == c) refl
@@ -197,17 +168,23 @@ bears_filled (Class c) h t class x new g = by (lives_filled (kind_of h.layout c)
 
 -- a store with all entities of a class fits
 pub filled_fits : (p : Program) (ms : List Mode) (s : Store) (class : ℕ) (t : State) → Fits p ms s → Filled s.scene.heap class t → Fits p ms (all_started class (made t class) (with_heap s t))
-filled_fits p ms s class t f new = subst (λ y. Fits p ms y) (sym (all_started_is class (made t class) (with_heap s t))) all
+filled_fits p ms s class t f new = all
   where
-    ks : List Kept
+    ks : List Column
     ks = (all_started class (made t class) (with_heap s t)).scene.histories
 
     fit : HistoriesFit p.statistics t ks
-    fit j u q x g = by (bears_filled (home t.layout u.subject) s.scene.heap t class x new g)
+    fit j u q = (d.0, d.1, λ x g. by x (bears_filled (home t.layout u.subject) s.scene.heap t class x new g))
       where
-        by : BearsBy (home t.layout u.subject) s.scene.heap x ⊎ ((home t.layout u.subject ≡ Class class) × IsIndex (made t class) x) → IsKept j x ks
-        by (inl r) = all_started_keeps class (made t class) (with_heap s t) j x (f.sound.scene.histories j u q x (subst (λ l. BearsBy (home l u.subject) s.scene.heap x) new.layout r))
-        by (inr r) = all_started_has class (made t class) (with_heap s t) j u x (ap (λ ss. slice_get ss j) (statistics_are p ms s f) ∙ q) r.0 r.1
+        k : IsKept j s.scene.histories (Bears s.scene.heap u.subject)
+        k = f.sound.scene.histories j u q
+
+        d : (d : Column) × (slice_get ks j ≡ Some d) × KeepsColumn k.0 d × ((x : ℤ) → home t.layout u.subject ≡ Class class → is_within (made t class) x ≡ true → Has d x)
+        d = starting_kept t.layout (Class class) (is_within (made t class)) s.scene.time s.scene.setting.statistics s.scene.histories j u k.0 (ap (λ ss. slice_get ss j) (statistics_are p ms s f) ∙ q) k.1
+
+        by : (x : ℤ) → BearsBy (home t.layout u.subject) s.scene.heap x ⊎ ((home t.layout u.subject ≡ Class class) × IsIndex (made t class) x) → Has d.0 x
+        by x (inl r) = d.2 x (k.2 x (subst (λ l. BearsBy (home l u.subject) s.scene.heap x) new.layout r))
+        by x (inr r) = d.3 x r.0 (within (made t class) x r.1)
 
     all : Fits p ms (with_histories (with_heap s t) ks)
     all = record {

@@ -1,6 +1,8 @@
 -- A well-typed program does not go wrong.
 use Rattle.std.proofs.Common.{arith, ◌≡◌, ℕ, zero, suc, ◌+◌, Bool, true, false, List, [], ◌∷◌, ◌++◌, length, Option, Some, None, ℤ, pos, negsuc, refl, sym, ap, ◌∙◌, subst}
 use Rattle.std.proofs.lemmas.Bool.{eq-eqb}
+use Rattle.std.proofs.lemmas.Bool.Decides.{Decides-int_eq}
+use Rattle.std.specs.Ordering.{int_eq}
 use Rattle.std.specs.Prelude.{slice_get, map, ◌==◌, ◌≢◌, if◌then◌else◌}
 use Rattle.ss_base.specs.declared.layout.ClassKind.{ClassKind}
 use Rattle.ss_base.specs.declared.layout.ClassKind.TheVariants.{Permanent, Temporary, Notice}
@@ -17,17 +19,17 @@ use Rattle.ss_program.specs.declared.sections.Statistic.{Statistic}
 use Rattle.ss_program.specs.Program.{Routine, Event, Program, Block}
 use Rattle.ss_program.specs.WellTyped.{WellTyped, GoodRoutine, GoodEvent, GoodBlock}
 use Rattle.ss_meaning.specs.Values.{same_mode}
-use Rattle.ss_meaning.specs.Store.{Store, behind, firsts, taken, appended, opened, front, yielded}
-use Rattle.ss_meaning.specs.Histories.{home, starting}
+use Rattle.ss_meaning.specs.Store.{Column, Store, behind, firsts, taken, appended, opened, front, yielded}
+use Rattle.ss_meaning.specs.Histories.{home, no_history, no_histories, starting}
 use Rattle.ss_meaning.specs.Events.{Beginning, Coming, next_event, begun, is_awaited}
 use Rattle.ss_meaning.specs.Parts.{World, Returned, Stopped, Faulted, OutOfTicks, Wrong, Outcome, WentOn, Left, Part, and_then, needed, take_tick}
 use Rattle.ss_meaning.specs.Statements.{Calls, effects}
 use Rattle.ss_meaning.specs.Meaning.{with_locals, go_back, come_back, enclosed, routine_called, event_routine, begin, event_taken, calls, WentWrong, run_of, first_store, first_world, meaning}
-use Rattle.ss_typed.specs.Fitting.{Hold, made, LivesAs, BearsBy, IsKept, Sound, Fits}
+use Rattle.ss_typed.specs.Fitting.{Hold, made, LivesAs, BearsBy, Has, Sound, Fits}
 use Rattle.ss_typed.specs.Laws.{FitsAfter}
 use Rattle.ss_typed.proofs.Fine.{There, Any}
 use Rattle.ss_typed.proofs.Lists.{every_get}
-use Rattle.ss_typed.proofs.Kept.{starting_kept}
+use Rattle.ss_typed.proofs.Kept.{KeepsColumn, starting_kept}
 use Rattle.ss_typed.proofs.Stores.{same_is}
 use Rattle.ss_typed.proofs.Events.{ComingAs, next_event_there, BegunAs, begun_fine}
 use Rattle.ss_typed.proofs.Parts.{Kept as Stays, Safe, safe_then, safe_looked, safe_tick}
@@ -202,6 +204,11 @@ none_lives l Notice c (pos zero) h = absurd cc
 none_lives l Notice c (pos (suc i)) h = absurd cc
 none_lives l Notice c (negsuc k) h = absurd cc
 
+none_there : (ss : List Statistic) (j : ℕ) (t : Statistic) → slice_get ss j ≡ Some t → slice_get (no_histories ss) j ≡ Some no_history
+none_there [] j t q = absurd cc
+none_there (s ∷ ss) zero t q = refl
+none_there (s ∷ ss) (suc j) t q = none_there ss j t q
+
 pub first_fits : (p : Program) (input : List ℕ) → Fits p p.locals (first_store p input)
 first_fits p input = record {
   sound = record {
@@ -211,17 +218,18 @@ first_fits p input = record {
       layout = refl;
       heap = (tt, λ k rs q. absurd (none_made p.layout.classes k rs q));
       pending = tt;
-      histories = λ j t q x b. by j t q x (home p.layout t.subject) refl b;
+      histories = λ j t q. ((kept j t q).0, (kept j t q).1, λ x b. by j t q x (home p.layout t.subject) refl b);
     };
   };
   locals = firsts_modes p.locals;
 }
   where
-    by : (j : ℕ) (t : Statistic) → slice_get p.statistics j ≡ Some t → (x : ℤ) (o : Owner) → home p.layout t.subject ≡ o → BearsBy o (first_state p.layout) x → IsKept j x (starting p.layout System (pos 0) (pos 0) 0 p.statistics)
-    by j t q x System h b =
-        let one : 0 + j ≡ j = omega arith in
-        subst (λ y. IsKept j y (starting p.layout System (pos 0) (pos 0) 0 p.statistics)) (sym b)
-        (subst (λ i. IsKept i (pos 0) (starting p.layout System (pos 0) (pos 0) 0 p.statistics)) one (starting_kept p.layout System (pos 0) (pos 0) 0 p.statistics j t q h))
+    kept : (j : ℕ) (t : Statistic) → slice_get p.statistics j ≡ Some t
+        → (d : Column) × (slice_get (starting p.layout System (int_eq (pos 0)) (pos 0) p.statistics (no_histories p.statistics)) j ≡ Some d) × KeepsColumn no_history d × ((x : ℤ) → home p.layout t.subject ≡ System → int_eq (pos 0) x ≡ true → Has d x)
+    kept j t q = starting_kept p.layout System (int_eq (pos 0)) (pos 0) p.statistics (no_histories p.statistics) j t no_history q (none_there p.statistics j t q)
+
+    by : (j : ℕ) (t : Statistic) (q : slice_get p.statistics j ≡ Some t) (x : ℤ) (o : Owner) → home p.layout t.subject ≡ o → BearsBy o (first_state p.layout) x → Has (kept j t q).0 x
+    by j t q x System h b = (kept j t q).3 x h ((Decides-int_eq (pos 0) x).1 (sym b))
     by j t q x (Class c) h b = absurd (none_lives p.layout (kind_of p.layout c) c x b)
 
 -- ## The whole

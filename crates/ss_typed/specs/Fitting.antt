@@ -14,8 +14,8 @@ use Rattle.ss_stats.specs.History.{History}
 use Rattle.ss_program.specs.declared.sections.Subject.{Subject}
 use Rattle.ss_program.specs.declared.sections.Statistic.{Statistic}
 use Rattle.ss_program.specs.Program.{Program}
-use Rattle.ss_meaning.specs.Store.{Kept, Scene, Store}
-use Rattle.ss_meaning.specs.Histories.{home, kept_for}
+use Rattle.ss_meaning.specs.Store.{Column, Scene, Store}
+use Rattle.ss_meaning.specs.Histories.{home}
 use Rattle.ss_meaning.specs.Meaning.{setting_of}
 
 -- the values hold these modes, and are as many
@@ -77,12 +77,16 @@ BearsBy (Class class) h x = Lives h class x
 abbrev pub Bears : State → Subject → ℤ → Type 0
 Bears h subject x = BearsBy (home h.layout subject) h x
 
--- there is a history of a statistic of an entity
-abbrev pub IsKept : (statistic : ℕ) → ℤ → List Kept → Type 0
-IsKept j x ks = (history : History) × (kept_for j x ks ≡ Ok history)
+-- a statistic has a history of an entity
+abbrev pub Has : Column → ℤ → Type 0
+Has c x = (history : History) × (c x ≡ Some history)
 
-abbrev pub HistoriesFit : List Statistic → State → List Kept → Type 0
-HistoriesFit ss h ks = (j : ℕ) (t : Statistic) → slice_get ss j ≡ Some t → (x : ℤ) → Bears h t.subject x → IsKept j x ks
+-- the histories of a statistic are there, with one for each of these entities
+abbrev pub IsKept : (statistic : ℕ) → List Column → (ℤ → Type 0) → Type 0
+IsKept j cs these = (c : Column) × (slice_get cs j ≡ Some c) × ((x : ℤ) → these x → Has c x)
+
+abbrev pub HistoriesFit : List Statistic → State → List Column → Type 0
+HistoriesFit ss h cs = (j : ℕ) (t : Statistic) → slice_get ss j ≡ Some t → IsKept j cs (Bears h t.subject)
 
 -- ## Stores
 

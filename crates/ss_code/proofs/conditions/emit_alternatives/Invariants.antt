@@ -1,6 +1,7 @@
-use Rattle.std.proofs.Common.{◌≡◌, drop}
-use Rattle.ss_code.specs.Translation.{some_code}
+use Rattle.std.proofs.Common.{◌≡◌, drop, map}
+use Rattle.ss_program.specs.View.{view_conjunction}
+use Rattle.ss_machine_code.specs.Translation.{condition_code}
 use Rattle.ss_code.proofs.conditions.emit_alternatives.Given as goal
 
 abbrev pub invariant-loop-i : goal.invariant-loop-i
-invariant-loop-i l = l.rest ≡ some_code l.line l.skip (drop l.i l.alternatives)
+invariant-loop-i l = l.rest ≡ condition_code l.line l.skip (map view_conjunction (drop l.i l.alternatives))

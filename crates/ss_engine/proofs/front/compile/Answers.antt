@@ -1,55 +1,66 @@
-use Rattle.std.proofs.Common.{rules, ◌≡◌, ap, sym, ◌∙◌, Err, subst, true, false}
-use Rattle.ss_tree.specs.View.{view_program}
-use Rattle.ss_tables.specs.Served.{served_program}
-use Rattle.ss_engine.specs.Accepting.{IsTreeOf, IsDeclared, IsProgramOf, Compiles, RefusedFor}
-use Rattle.ss_engine.proofs.Fronts.{parser_refused, tables_refused, checker_refused, generator_refused}
+use Rattle.std.proofs.Common.{◌≡◌, ◌≢◌, true, false, ap, sym, ◌∙◌, Err, subst, List, []}
+use Rattle.ss_tree.specs.View.{view_program as tree_seen}
+use Rattle.ss_program.specs.declared.sections.Program.{Program as ProgramValue}
+use Rattle.ss_program.specs.declared.sections.Statistic.{Statistic}
+use Rattle.ss_program.specs.View.{view_program}
+use Rattle.ss_machine_code.specs.Machine.{Code}
+use Rattle.ss_engine.specs.Accepting.{IsTreeOf, IsKeptBy, IsProgramOf, Compiles, RefusedFor}
+use Rattle.ss_engine.proofs.Fronts.{tables_refused, checker_refused, generator_refused}
 use Rattle.ss_engine.proofs.front.compile.Goals as goal
-
-pub returns-in-Err-parse-clause-refused : goal.returns-in-Err-parse-clause-refused
-returns-in-Err-parse-clause-refused c =
-    subst (RefusedFor c.args.text.now) (sym c.syntactic.ensures)
-    (parser_refused c.args.text.now c.in-Ok.tokens.list c.in-Ok.ensures.found c.in-Err-parse.error c.in-Err-parse.ensures.refused c.in-Err-parse.ensures.line)
-
-pub returns-then-not-served-clause-refused : goal.returns-then-not-served-clause-refused
-returns-then-not-served-clause-refused c =
-    let tree = view_program c.in-Ok-parse.program in
-    let read : IsTreeOf c.args.text.now tree = record { tokens = c.in-Ok.tokens.list; are = c.in-Ok.ensures.found; spelled = c.in-Ok-parse.ensures.found } in
-    let unready : served_program tree ≡ false = search rules in
-    record { tree = tree; read = read; holds = unready }
 
 pub returns-in-Err-of-clause-refused : goal.returns-in-Err-of-clause-refused
 returns-in-Err-of-clause-refused c =
-    let tree = view_program c.in-Ok-parse.program in
+    let tree = tree_seen c.in-Ok-parse.program in
     let read : IsTreeOf c.args.text.now tree = record { tokens = c.in-Ok.tokens.list; are = c.in-Ok.ensures.found; spelled = c.in-Ok-parse.ensures.found } in
-    let served : served_program tree ≡ true = search rules in
-    subst (RefusedFor c.args.text.now) (sym c.declared.ensures) (tables_refused c.args.text.now tree read served c.in-Err-of.error c.in-Err-of.ensures.refused)
+    subst (RefusedFor c.args.text.now) (sym c.declared.ensures) (tables_refused c.args.text.now tree read c.in-Err-of.error c.in-Err-of.ensures.refused)
+
+pub check-requires-clause-formed : goal.check-requires-clause-formed
+check-requires-clause-formed c =
+    c.spelled_trees_are_formed.ensures c.in-Ok.tokens.list 64 (tree_seen c.in-Ok-parse.program) c.in-Ok-parse.ensures.found
 
 pub returns-in-Err-check-clause-refused : goal.returns-in-Err-check-clause-refused
 returns-in-Err-check-clause-refused c =
-    let tree = view_program c.in-Ok-parse.program in
+    let tree = tree_seen c.in-Ok-parse.program in
     let read : IsTreeOf c.args.text.now tree = record { tokens = c.in-Ok.tokens.list; are = c.in-Ok.ensures.found; spelled = c.in-Ok-parse.ensures.found } in
-    let served : served_program tree ≡ true = search rules in
-    let declared : IsDeclared tree = record { served = served; declared = c.in-Ok-of.ensures.kept } in
-    subst (RefusedFor c.args.text.now) (sym c.checked.ensures) (checker_refused c.args.text.now tree read declared c.in-Err-check.error c.in-Err-check.ensures.refused)
+    subst (RefusedFor c.args.text.now) (sym c.checked.ensures) (checker_refused c.args.text.now tree read c.in-Ok-of.ensures.made.kept c.in-Err-check.error c.in-Err-check.ensures.refused)
+
+pub returns-then-not-is_served-clause-refused : goal.returns-then-not-is_served-clause-refused
+returns-then-not-is_served-clause-refused c =
+    let tree = tree_seen c.in-Ok-parse.program in
+    let p = view_program c.in-Ok-check.resolved.program in
+    let read : IsTreeOf c.args.text.now tree = record { tokens = c.in-Ok.tokens.list; are = c.in-Ok.ensures.found; spelled = c.in-Ok-parse.ensures.found } in
+    let becomes = c.in-Ok-check.ensures.checked in
+    let keeps : IsKeptBy c.args.text.now tree = record { read = read; declared = c.in-Ok-of.ensures.made.kept; kept = becomes.kept } in
+    let meant : IsProgramOf c.args.text.now p = record { tree = tree; keeps = keeps; resolved = becomes.resolved } in
+    let same : c.deref.result.now ≡ c.in-Ok-check.resolved.program.statistics.items = c.deref.ensures.value ∙ ap (λ (x : ProgramValue). x.statistics.items) c.program.ensures.same in
+    let unserved : c.is_served.result ≡ false = cc in
+    record { program = p; meant = meant; unready = subst (λ (l : List Statistic). l ≢ []) same (c.is_served.ensures.unready unserved) }
+
+pub new-requires : goal.new-requires
+new-requires c =
+    let same : c.deref.result.now ≡ c.in-Ok-check.resolved.program.statistics.items = c.deref.ensures.value ∙ ap (λ (x : ProgramValue). x.statistics.items) c.program.ensures.same in
+    let served : c.is_served.result ≡ true = cc in
+    ap (λ (code : Code). code.setting.statistics) c.in-Ok-generate.ensures.code ∙ sym same ∙ c.is_served.ensures.served served
 
 pub returns-in-Ok-generate-clause-accepted : goal.returns-in-Ok-generate-clause-accepted
 returns-in-Ok-generate-clause-accepted c =
-    let tree = view_program c.in-Ok-parse.program in
+    let tree = tree_seen c.in-Ok-parse.program in
+    let p = view_program c.in-Ok-check.resolved.program in
     let read : IsTreeOf c.args.text.now tree = record { tokens = c.in-Ok.tokens.list; are = c.in-Ok.ensures.found; spelled = c.in-Ok-parse.ensures.found } in
-    let served : served_program tree ≡ true = search rules in
-    let declared : IsDeclared tree = record { served = served; declared = c.in-Ok-of.ensures.kept } in
-    let meant : IsProgramOf c.args.text.now c.in-Ok-check.resolved = record { tree = tree; read = read; declared = declared; kept = c.in-Ok-check.ensures.kept; resolved = c.in-Ok-check.ensures.resolved } in
-    subst (Compiles c.args.text.now) (sym c.new.ensures)
-    (record { program = c.in-Ok-check.resolved; meant = meant; behaves = c.in-Ok-generate.ensures.behaves })
+    let becomes = c.in-Ok-check.ensures.checked in
+    let keeps : IsKeptBy c.args.text.now tree = record { read = read; declared = c.in-Ok-of.ensures.made.kept; kept = becomes.kept } in
+    let meant : IsProgramOf c.args.text.now p = record { tree = tree; keeps = keeps; resolved = becomes.resolved } in
+    subst (Compiles c.args.text.now) (sym c.new.ensures) (record { program = p; meant = meant; behaves = c.in-Ok-generate.ensures.behaves })
 
 pub returns-clause-refused : goal.returns-clause-refused
 returns-clause-refused c =
-    let tree = view_program c.in-Ok-parse.program in
+    let tree = tree_seen c.in-Ok-parse.program in
+    let p = view_program c.in-Ok-check.resolved.program in
     let read : IsTreeOf c.args.text.now tree = record { tokens = c.in-Ok.tokens.list; are = c.in-Ok.ensures.found; spelled = c.in-Ok-parse.ensures.found } in
-    let served : served_program tree ≡ true = search rules in
-    let declared : IsDeclared tree = record { served = served; declared = c.in-Ok-of.ensures.kept } in
-    let meant : IsProgramOf c.args.text.now c.in-Ok-check.resolved = record { tree = tree; read = read; declared = declared; kept = c.in-Ok-check.ensures.kept; resolved = c.in-Ok-check.ensures.resolved } in
+    let becomes = c.in-Ok-check.ensures.checked in
+    let keeps : IsKeptBy c.args.text.now tree = record { read = read; declared = c.in-Ok-of.ensures.made.kept; kept = becomes.kept } in
+    let meant : IsProgramOf c.args.text.now p = record { tree = tree; keeps = keeps; resolved = becomes.resolved } in
     subst (RefusedFor c.args.text.now) (sym c.generated.ensures)
-    (generator_refused c.args.text.now c.in-Ok-check.resolved meant c.in-Ok-check.ensures.nodes c.in-Err-generate.error
+    (generator_refused c.args.text.now p meant c.in-Ok-check.ensures.nodes c.in-Err-generate.error
     (λ small e. c.generate.ensures.small small (c.in-Err-generate.is ∙ ap Err e))
     (λ e. c.generate.ensures.too_long (c.in-Err-generate.is ∙ ap Err e)))

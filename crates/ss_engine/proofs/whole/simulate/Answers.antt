@@ -6,5 +6,5 @@ returns-clause-headline g c =
     record {
       program = compiled.program;
       meant = compiled.meant;
-      simulated = c.run_model-stop.ensures.simulated compiled.program compiled.behaves;
+      simulated = c.run_model-stop.ensures.simulated compiled.program (c.laws.ensures.typed c.args.text.now compiled.program compiled.meant) compiled.behaves;
     }

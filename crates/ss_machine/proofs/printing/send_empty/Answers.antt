@@ -1,6 +1,6 @@
 use Rattle.std.proofs.Common.{◌≡◌, ℕ, zero, suc, ◌+◌, ◌-◌, [], ◌∷◌, ◌++◌, replicate, refl, ap, arith}
 use Rattle.std.proofs.lemmas.Result.{err_from_is_err_and}
-use Rattle.ss_code.specs.Store.{line_end}
+use Rattle.ss_meaning.specs.Values.{line_end}
 use Rattle.ss_machine.proofs.Known.{first_of, part_behind}
 use Rattle.ss_machine.proofs.printing.send_empty.Goals as goal
 

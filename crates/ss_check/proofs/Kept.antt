@@ -1,0 +1,59 @@
+-- What a program that breaks no rule comes to, by what was found.
+use Rattle.std.proofs.Common.{◌≡◌, ◌≤◌, List, Option, Some, None, Result, Ok, Err, sym, ap, subst, ◌∙◌}
+use Rattle.std.specs.Prelude.{IfErr, IsErrAnd}
+use Rattle.std.proofs.lemmas.Result.{err_from_is_err_and}
+use Rattle.ss_tree.specs.Nodes.{nodes as tree_nodes}
+use Rattle.ss_tree.specs.Tree.{ProgramTree}
+use Rattle.ss_scopes.specs.Whole.{Whole}
+use Rattle.ss_uses.specs.declared.rule.Broken.{Broken}
+use Rattle.ss_uses.specs.Refusal.{refusal}
+use Rattle.ss_declared.specs.Broken.{refusal as declared_refusal}
+use Rattle.ss_names.specs.Table.{Table, table}
+use Rattle.ss_globals.specs.WholeOf.{whole_of}
+use Rattle.ss_program.specs.declared.sections.Program.{Program as ProgramValue}
+use Rattle.ss_program.specs.Nodes.{nodes}
+use Rattle.ss_program.specs.Program.{Program}
+use Rattle.ss_program.specs.View.{view_option, view_program}
+use Rattle.ss_program.specs.WellTyped.{WellTyped}
+use Rattle.ss_whole.specs.Resolved.{resolved}
+use Rattle.ss_links.specs.Laws.{KeptProgramsResolve}
+use Rattle.ss_sizes.specs.Laws.{ProgramsStaySmall}
+use Rattle.ss_check.specs.declared.error.CheckError.{CheckError}
+use Rattle.ss_check.specs.Checking.{FormedProgram, Tells, program_of}
+
+-- what was found by a table and by what it says of names is what the tree says
+found_so : (t : Table) (w : Whole) (p : ProgramTree) (found : Option Program) → t ≡ table p → w ≡ whole_of p → found ≡ resolved t w p.sections → found ≡ program_of p
+found_so t w p found e f h = h ∙ ap (λ z. resolved z w p.sections) e ∙ ap (λ z. resolved (table p) z p.sections) f
+
+typed_as : (p : ProgramTree) (found : Option Program) (r : Program) → found ≡ program_of p → found ≡ Some r → ((x : Program) × (program_of p ≡ Some x) × WellTyped x) → WellTyped r
+typed_as p found r h g known =
+    let same : Some known.0 ≡ Some r = sym known.1 ∙ sym h ∙ g in
+    let one : known.0 ≡ r = cc in
+    subst WellTyped one known.2
+
+pub typed : KeptProgramsResolve → (t : Table) (w : Whole) (p : ProgramTree) (found : Option ProgramValue) (r : ProgramValue) →
+    FormedProgram p → declared_refusal p ≡ None → refusal w p ≡ None → t ≡ table p → w ≡ whole_of p → view_option view_program found ≡ resolved t w p.sections → found ≡ Some r → WellTyped (view_program r)
+typed law t w p found r formed declared kept e f h g =
+    typed_as p (view_option view_program found) (view_program r) (found_so t w p (view_option view_program found) e f h) (ap (view_option view_program) g)
+    (law p declared (subst (λ z. refusal z p ≡ None) f kept) formed)
+
+missing_not : (p : ProgramTree) (found : Option Program) → found ≡ program_of p → found ≡ None → ((x : Program) × (program_of p ≡ Some x) × WellTyped x) → ⊥
+missing_not p found h g known = let same : None ≡ Some known.0 = sym g ∙ h ∙ known.1 in cc
+
+pub not_missing : KeptProgramsResolve → (t : Table) (w : Whole) (p : ProgramTree) (found : Option ProgramValue) →
+    FormedProgram p → declared_refusal p ≡ None → refusal w p ≡ None → t ≡ table p → w ≡ whole_of p → view_option view_program found ≡ resolved t w p.sections → found ≡ None → ⊥
+not_missing law t w p found formed declared kept e f h g =
+    missing_not p (view_option view_program found) (found_so t w p (view_option view_program found) e f h) (ap (view_option view_program) g)
+    (law p declared (subst (λ z. refusal z p ≡ None) f kept) formed)
+
+-- the exit of a `?`
+pub refused_so : {X : Type 0} (r : Result X CheckError) (e : CheckError) (found wanted : Option Broken) → IsErrAnd r (λ f. f ≡ e) → Tells e found → found ≡ wanted → IfErr r (λ f. Tells f wanted)
+refused_so r e found wanted h k s =
+    let p = err_from_is_err_and r h in
+    subst (λ z. IfErr z (λ f. Tells f wanted)) (sym p.1) (subst (λ z. Tells z wanted) (sym p.2) (subst (λ z. Tells e z) s k))
+
+pub small : ProgramsStaySmall → (t : Table) (w : Whole) (p : ProgramTree) (found : Option ProgramValue) (r made : ProgramValue) →
+    t ≡ table p → view_option view_program found ≡ resolved t w p.sections → found ≡ Some r → made ≡ r → nodes (view_program made) ≤ tree_nodes p
+small law t w p found r made e h g same =
+    let so : resolved (table p) w p.sections ≡ Some (view_program r) = ap (λ z. resolved z w p.sections) (sym e) ∙ sym h ∙ ap (view_option view_program) g in
+    subst (λ z. nodes (view_program z) ≤ tree_nodes p) (sym same) (law p w (view_program r) so)

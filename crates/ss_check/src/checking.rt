@@ -1,0 +1,75 @@
+//! The check of a program.
+
+ghost use Rattle.std.specs.Prelude.{◌≡◌, ◌≤◌, None, OnOk, IfOk, IfErr};
+ghost use Rattle.ss_tree.specs.Nodes.{nodes as tree_nodes};
+ghost use Rattle.ss_tree.specs.View.{view_program};
+ghost use Rattle.ss_declared.specs.Broken.{refusal as declared_refusal};
+ghost use Rattle.ss_names.specs.Table.{table};
+ghost use Rattle.ss_globals.specs.WholeOf.{whole_in, whole_of};
+ghost use Rattle.ss_uses.specs.Refusal.{refusal};
+ghost use Rattle.ss_program.specs.Checking.{program_in};
+ghost use Rattle.ss_program.specs.Nodes.{nodes};
+ghost use Rattle.ss_program.specs.View.{view_program as program_seen};
+ghost use Rattle.ss_tables.specs.Tables.{AreTablesOf};
+ghost use Rattle.ss_check.specs.Checking.{Becomes, FormedProgram, Tells, refusal_of};
+
+use crate::error::{CheckError, error_of};
+use ss_globals::ProgramGlobals;
+use ss_links::laws::kept_programs_resolve;
+use ss_program::checked::Checked;
+use ss_sizes::laws::laws as laws_of_nodes;
+use ss_tables::Tables;
+use ss_tree::program::Program;
+use ss_uses::refusal;
+use ss_whole::resolve;
+use std::alloc::Global;
+
+// Refuses a program that breaks a rule on what it does with its names.
+fn keep_rules(alloc: Global, program: &Program, globals: &ProgramGlobals) -> Result<(), CheckError>
+    ensures kept { OnOk result (refusal (whole_in globals.now.names globals.now.signatures.items) (view_program program.now) ≡ None) }
+    ensures refused { IfErr result (λ e. Tells e (refusal (whole_in globals.now.names globals.now.signatures.items) (view_program program.now))) }
+{
+    match refusal(alloc, program, globals)? {
+        Some(broken) => Err(error_of(broken)),
+        None => Ok(()),
+    }
+}
+
+// The same, by what its names stand for.
+fn judged(alloc: Global, program: &Program, globals: &ProgramGlobals) -> Result<Checked, CheckError>
+    requires names { globals.now.names ≡ table (view_program program.now) }
+    requires whole { whole_in globals.now.names globals.now.signatures.items ≡ whole_of (view_program program.now) }
+    requires declared { declared_refusal (view_program program.now) ≡ None }
+    requires formed { FormedProgram (view_program program.now) }
+    ensures checked { IfOk result (λ c. Becomes (view_program program.now) (program_in c)) }
+    ensures nodes { IfOk result (λ c. nodes (program_seen (program_in c)) ≤ tree_nodes (view_program program.now)) }
+    ensures refused { IfErr result (λ e. Tells e (refusal_of (view_program program.now))) }
+{
+    kept_programs_resolve();
+    laws_of_nodes();
+    keep_rules(alloc, program, globals)?;
+    match resolve(alloc, program, &globals.names, globals)? {
+        Some(resolved) => Ok(Checked::new(resolved)),
+        None => unreachable!(),
+    }
+}
+
+/// The program with each name replaced by what it stands for, where it breaks no rule on what it does with
+/// its names and values, the refusals 71 to 79. The tables are those of the program, and each FIND of it stands behind
+/// a FOR, as the grammar has it.
+///
+/// What comes is well typed, and has no more nodes than the tree.
+///
+/// # Errors
+/// The first rule that the program breaks, in the order 71, 72, 78, 79, 75, 76, 74, 73, 77, with the line of
+/// the first place where it does, 0 for `NoMain`; `Memory` where memory is refused.
+pub fn check(alloc: Global, program: Program, tables: Tables) -> Result<Checked, CheckError>
+    requires tables { AreTablesOf (view_program program) tables }
+    requires formed { FormedProgram (view_program program) }
+    ensures checked { IfOk result (λ c. Becomes (view_program program) (program_in c)) }
+    ensures nodes { IfOk result (λ c. nodes (program_seen (program_in c)) ≤ tree_nodes (view_program program)) }
+    ensures refused { IfErr result (λ e. Tells e (refusal_of (view_program program))) }
+{
+    let globals = ProgramGlobals::of(alloc, &program, tables.into_names())?;
+    judged(alloc, &program, &globals)
+}

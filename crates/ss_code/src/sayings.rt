@@ -1,0 +1,108 @@
+//! What a program says of its classes and sets, its notices and its statistics, copied for its code.
+
+ghost use Rattle.std.specs.Prelude.{◌≡◌, slice_get, map, IfOk};
+ghost use Rattle.ss_records.specs.State.{modes_of};
+ghost use Rattle.ss_meaning.specs.Meaning.{mode_or_number, tie_shape, tie_shapes, said_of};
+ghost use Rattle.ss_program.specs.View.{view_event, view_program};
+ghost use Rattle.ss_code.specs.Emitted.{said_by};
+
+use crate::code::Sayings;
+use crate::notices::NoticeClass;
+use ss_base::{Layout, Mode, RankKey, copied_disciplines};
+use ss_events::TieShape;
+use ss_program::sections::{Event, Program};
+use std::alloc::{AllocError, Global};
+
+// The mode of a field; that of numbers for a field that is none.
+fn mode_of_field(layout: &Layout, class: u32, field: usize) -> Mode
+    ensures { result ≡ mode_or_number (slice_get (modes_of layout.now class) field) }
+{
+    match layout.classes.get(class as usize) {
+        None => Mode::Integer,
+        Some(found) => match found.fields.get(field) {
+            None => Mode::Integer,
+            Some(mode) => *mode,
+        },
+    }
+}
+
+// What a tie of a class is.
+fn shape(layout: &Layout, class: u32, key: &RankKey) -> TieShape
+    ensures { result ≡ tie_shape layout.now class key.now }
+{
+    TieShape {
+        mode: mode_of_field(layout, class, key.field),
+        high: key.high,
+    }
+}
+
+// What the ties of a class of notices are.
+fn shapes(alloc: Global, layout: &Layout, event: &Event) -> Result<Vec<TieShape>, AllocError>
+    ensures { IfOk result (λ made. made.items ≡ tie_shapes layout.now (view_event event.now)) }
+{
+    let mut made = Vec::new(alloc);
+    for key in event.ties.as_slice() {
+        made.push(shape(layout, event.class, key))?;
+    }
+    Ok(made)
+}
+
+// What the ties of all classes of notices are.
+fn all_shapes(
+    alloc: Global,
+    layout: &Layout,
+    events: &[Event],
+) -> Result<Vec<Vec<TieShape>>, AllocError>
+    ensures { IfOk result (λ made. map (λ shapes. shapes.items) made.items ≡ map (tie_shapes layout.now) (map view_event events.now)) }
+{
+    let mut made = Vec::new(alloc);
+    for event in events {
+        let own = shapes(alloc, layout, event)?;
+        made.push(own)?;
+    }
+    Ok(made)
+}
+
+// What is said of a class of notices.
+fn notice_class(alloc: Global, event: &Event) -> Result<NoticeClass, AllocError>
+    ensures { IfOk result (λ made. made ≡ said_of (view_event event.now)) }
+{
+    let ties = event.ties.copied(alloc)?;
+    Ok(NoticeClass::new(
+        event.class,
+        ties,
+        event.line,
+        event.given.len(),
+        event.saved,
+    ))
+}
+
+// What is said of all classes of notices.
+fn notice_classes(alloc: Global, events: &[Event]) -> Result<Vec<NoticeClass>, AllocError>
+    ensures { IfOk result (λ made. made.items ≡ map said_of (map view_event events.now)) }
+{
+    let mut made = Vec::new(alloc);
+    for event in events {
+        let class = notice_class(alloc, event)?;
+        made.push(class)?;
+    }
+    Ok(made)
+}
+
+/// What a program says, in memory of its own. The error comes where memory was refused.
+pub(crate) fn sayings(alloc: Global, program: &Program) -> Result<Sayings, AllocError>
+    ensures { IfOk result (λ said. said ≡ said_by (view_program program.now)) }
+{
+    let layout = program.layout.copied(alloc)?;
+    let disciplines = copied_disciplines(alloc, &program.disciplines)?;
+    let notices = notice_classes(alloc, &program.events)?;
+    let ties = all_shapes(alloc, &program.layout, &program.events)?;
+    let statistics = Vec::from_slice(alloc, &program.statistics)?;
+    Ok(Sayings {
+        layout,
+        disciplines,
+        notices,
+        ties,
+        statistics,
+    })
+}

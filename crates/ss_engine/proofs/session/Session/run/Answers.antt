@@ -1,8 +1,0 @@
-use Rattle.std.proofs.Common.{◌≡◌, ap, sym, subst, ◌∙◌, None, Some}
-use Rattle.ss_engine.proofs.Sessions.{session_same}
-use Rattle.ss_engine.proofs.session.Session.run.Goals as goal
-
-pub returns-clause-again : goal.returns-clause-again
-returns-clause-again g c before s =
-    let e = c.run.ensures.again before s in
-    (e.0, session_same (record { machine = c.run.new.self; source = c.run.new.source; sink = c.run.new.sink }) c.args.self.now e.1 e.2 e.3)

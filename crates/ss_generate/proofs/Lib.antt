@@ -1,3 +1,0 @@
-mod Rows
-mod Sizes
-mod Whole

@@ -1,0 +1,35 @@
+-- Statistics that keep their histories as they were.
+use Rattle.std.proofs.Common.{◌≡◌, zero, suc, ℤ, List, [], ◌∷◌, map, get_or, All, sym, ap, subst, refl, arith}
+use Rattle.ss_program.specs.declared.sections.Statistic.{Statistic}
+use Rattle.ss_histories.specs.Records.{Recorded, Rows, column_of, IsUntil, rows_of, none_in}
+use Rattle.ss_histories.specs.Each.{Shown, shown, bare, KeptUntil}
+use Rattle.ss_histories.proofs.Columns.{head_of, tail_of, not_none, joined, none_is}
+
+pub until_bare : (latest : ℤ) (ks ns : List Recorded) → map bare ns ≡ map bare ks → All (KeptUntil latest) ks → All (KeptUntil latest) ns
+until_bare latest ks [] e u k d h = absurd (omega (arith, h))
+until_bare latest [] (n ∷ ns) e u k d h = absurd (not_none _ _ e)
+until_bare latest (k ∷ ks) (n ∷ ns) e u zero d h =
+    subst (λ (z : Statistic × Rows). IsUntil latest (column_of z.1)) (sym (ap (head_of (bare n)) e)) (u zero d (omega arith))
+until_bare latest (k ∷ ks) (n ∷ ns) e u (suc j) d h = until_bare latest ks ns (ap tail_of e) (λ m f l. u (suc m) f (omega (arith, l))) j d (omega (arith, h))
+
+pub all_later : (P Q : Recorded → Type 0) (ks : List Recorded) → ((k : Recorded) → P k → Q k) → All P ks → All Q ks
+all_later P Q ks f a j d h = f (get_or ks j d) (a j d h)
+
+abbrev pub pair_of : Statistic × Rows → Shown
+pair_of z = (z.0, column_of z.1)
+
+pub shown_bare : (ks ns : List Recorded) → map bare ns ≡ map bare ks → map shown ns ≡ map shown ks
+shown_bare [] [] e = refl
+shown_bare [] (n ∷ ns) e = absurd (not_none _ _ e)
+shown_bare (k ∷ ks) [] e = absurd (not_none _ _ (sym e))
+shown_bare (k ∷ ks) (n ∷ ns) e =
+    joined _ _ _ _ (ap pair_of (ap (head_of (bare n)) e)) (shown_bare ks ns (ap tail_of e))
+
+empty_until : (latest : ℤ) (rows : Rows) → rows ≡ [] → IsUntil latest (column_of rows)
+empty_until latest rows e = subst (λ (r : Rows). IsUntil latest (column_of r)) (sym e) (λ x h p. absurd (none_is h p))
+
+pub fresh_until : (latest : ℤ) (ss : List Statistic) (ks : List Recorded) → rows_of ks ≡ map none_in ss → All (KeptUntil latest) ks
+fresh_until latest ss [] e k d h = absurd (omega (arith, h))
+fresh_until latest [] (n ∷ ns) e k d h = absurd (not_none _ _ e)
+fresh_until latest (s ∷ ss) (n ∷ ns) e zero d h = empty_until latest n.rows (ap (head_of n.rows) e)
+fresh_until latest (s ∷ ss) (n ∷ ns) e (suc k) d h = fresh_until latest ss ns (ap tail_of e) k d (omega (arith, h))

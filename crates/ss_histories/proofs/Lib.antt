@@ -1,0 +1,7 @@
+pub mod Values
+pub mod Tables
+pub mod Places
+pub mod Columns
+pub mod Fullness
+pub mod Noted
+pub mod Bare

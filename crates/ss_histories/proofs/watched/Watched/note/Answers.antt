@@ -1,0 +1,11 @@
+use Rattle.std.proofs.Common.{Bool, sym, ap, ◌∙◌, cond}
+use Rattle.ss_stats.specs.History.{with_value}
+use Rattle.ss_histories.specs.Records.{noted_value}
+use Rattle.ss_histories.proofs.Fullness.{refused_is_full}
+use Rattle.ss_histories.proofs.watched.Watched.note.Goals as goal
+
+pub returns-else-is_ok : goal.returns-else-is_ok
+returns-else-is_ok c =
+    let h = c.self.inside.told.history in
+    let full = refused_is_full h c.note.result (c.note.ensures.outcome h c.self.invariant) (sym c.if-is_ok.ensures.value) in
+    sym (ap (λ (b : Bool). cond b h (with_value h c.args.now c.args.value)) full) ∙ ap (noted_value c.args.now c.args.value) c.self.view_is

@@ -1,0 +1,37 @@
+-- Where the statistics of a subject stand.
+use Rattle.std.specs.Prelude.{ℕ, suc, Bool, List, [], ◌∷◌, map, Option, Some, None, slice_get, if◌then◌else◌}
+use Rattle.ss_program.specs.declared.sections.Subject.{Subject}
+use Rattle.ss_program.specs.declared.sections.Subject.TheVariants.{OfVariable, OfAttribute, OfCount}
+use Rattle.ss_program.specs.declared.sections.Statistic.{Statistic}
+use Rattle.ss_meaning.specs.Histories.{same_subject}
+
+-- a row of a table, which is empty beyond its end
+abbrev pub row_in : Option (List ℕ) → List ℕ
+row_in None = []
+row_in (Some row) = row
+
+abbrev pub row_at : List (List ℕ) → ℕ → List ℕ
+row_at rows k = row_in (slice_get rows k)
+
+-- where the items that pass a test stand in a list
+abbrev pub places : {X : Type 0} → (X → Bool) → List X → List ℕ
+places test [] = []
+places test (x ∷ xs) = if test x then 0 ∷ map suc (places test xs) else map suc (places test xs)
+
+-- whether a statistic is about a subject
+abbrev pub is_about : Subject → Statistic → Bool
+is_about subject s = same_subject s.subject subject
+
+-- a table among tables, which is empty beyond their end
+abbrev pub table_in : Option (List (List ℕ)) → List (List ℕ)
+table_in None = []
+table_in (Some table) = table
+
+abbrev pub cell_at : List (List (List ℕ)) → ℕ → ℕ → List ℕ
+cell_at tables j k = row_at (table_in (slice_get tables j)) k
+
+-- what tables of variables, of attributes and of sets have of a subject
+abbrev pub found : Subject → (variables : List (List ℕ)) → (attributes : List (List (List ℕ))) → (sets : List (List ℕ)) → List ℕ
+found (OfVariable k) variables attributes sets = row_at variables k
+found (OfAttribute class field) variables attributes sets = cell_at attributes class field
+found (OfCount set) variables attributes sets = row_at sets set

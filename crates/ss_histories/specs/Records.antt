@@ -1,0 +1,103 @@
+-- What is kept of the histories of all statistics.
+use Rattle.std.specs.Prelude.{◌≡◌, ℕ, Bool, true, false, List, [], map, ℤ, pos, ◌≤ℤ◌, Option, Some, None, Result, Ok, Err, if◌then◌else◌}
+use Rattle.std.specs.Ordering.{int_eq}
+use Rattle.std.specs.Map.{lookup}
+use Rattle.ss_base.specs.declared.fault.FaultKind.{FaultKind}
+use Rattle.ss_base.specs.declared.value.Value.{Value}
+use Rattle.ss_base.specs.declared.value.Value.TheVariants.{Whole}
+use Rattle.ss_program.specs.declared.expression.Fold.{Fold}
+use Rattle.ss_program.specs.declared.expression.Fold.TheVariants.{Number, Sum, Maximum, Minimum}
+use Rattle.ss_program.specs.declared.sections.Statistic.{Statistic}
+use Rattle.ss_stats.specs.History.{History, last_moment, number_of, sum_of, maximum_of, minimum_of, is_full, with_value, restarted}
+use Rattle.ss_meaning.specs.Values.{Trouble, Misfit, turned, due}
+use Rattle.ss_meaning.specs.Store.{Column}
+use Rattle.ss_meaning.specs.Histories.{with_history}
+
+-- what is asked of a history, as a number
+abbrev pub figure_of : Fold → (now : ℤ) → History → Result ℤ FaultKind
+figure_of Number now h = Ok (number_of h now)
+figure_of Sum now h = sum_of h now
+figure_of Maximum now h = Ok (maximum_of h)
+figure_of Minimum now h = Ok (minimum_of h)
+
+-- the histories of a statistic by their entities
+abbrev pub Rows : Type 0
+Rows = List (ℤ × History)
+
+-- the history of each entity
+abbrev pub column_of : Rows → Column
+column_of rows x = lookup (int_eq x) rows
+
+abbrev pub columns_of : List Rows → List Column
+columns_of rows = map column_of rows
+
+-- no history of a statistic has a moment after this one
+abbrev pub IsUntil : (latest : ℤ) → Column → Type 0
+IsUntil latest c = (x : ℤ) (h : History) → c x ≡ Some h → last_moment h ≤ℤ latest
+
+-- a statistic with its histories, and how many more there is room for
+pub record Recorded : Type 0 where
+  pub statistic : Statistic
+  pub rows : Rows
+  pub room : ℕ
+
+-- whether there is a history that takes no further value
+abbrev pub full_in : Option History → Bool
+full_in None = false
+full_in (Some h) = is_full h
+
+-- a history with one value more, unless it is full
+abbrev pub noted_value : (now value : ℤ) → History → History
+noted_value now z h = if is_full h then h else with_value h now z
+
+-- histories of which that of an entity has one value more, where there is one that isn't full
+abbrev pub noted_to : (entity now value : ℤ) → Option History → Column → Column
+noted_to x now z None c = c
+noted_to x now z (Some h) c = with_history x (noted_value now z h) c
+
+abbrev pub noted_column : (entity now value : ℤ) → Column → Column
+noted_column x now z c = noted_to x now z (c x) c
+
+-- histories of which that of an entity starts afresh, where there is one
+abbrev pub renewed_to : (entity now present : ℤ) → Option History → Column → Column
+renewed_to x now z None c = c
+renewed_to x now z (Some h) c = with_history x (restarted h now z) c
+
+abbrev pub renewed_column : (entity now present : ℤ) → Column → Column
+renewed_column x now z c = renewed_to x now z (c x) c
+
+-- ## All statistics
+
+-- the statistics, their histories by entity, and a moment that no history goes beyond
+pub record Records : Type 0 where
+  pub statistics : List Statistic
+  pub rows : List Rows
+  pub latest : ℤ
+
+-- none started yet
+abbrev pub none_in : Statistic → Rows
+none_in s = []
+
+abbrev pub none_yet : List Statistic → Records
+none_yet ss = record { statistics = ss; rows = map none_in ss; latest = pos 0 }
+
+-- what is asked of a statistic
+abbrev pub figured : Option (Result ℤ FaultKind) → Result Value Trouble
+figured None = Err Misfit
+figured (Some answer) = turned Whole (due answer)
+
+-- what starting afresh comes to: histories, where there is one to start
+abbrev pub renewed_where : Bool → List Column → Result (List Column) Trouble
+renewed_where true cs = Ok cs
+renewed_where false cs = Err Misfit
+
+-- what noting a text comes to: nothing changes where no history is there to note it
+abbrev pub unread : (noted : Bool) → List Column → Result (List Column) Trouble
+unread true cs = Err Misfit
+unread false cs = Ok cs
+
+abbrev pub statistics_of : List Recorded → List Statistic
+statistics_of ks = map (λ k. k.statistic) ks
+
+abbrev pub rows_of : List Recorded → List Rows
+rows_of ks = map (λ k. k.rows) ks

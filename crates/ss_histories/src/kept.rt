@@ -1,0 +1,132 @@
+//! The histories of one statistic.
+
+ghost use Rattle.std.specs.Prelude.{◌≡◌, is_some, ◌+◌, ◌<◌, ◌≤◌, [], pos, ◌≤ℤ◌, OnOk};
+ghost use Rattle.std.specs.Ordering.{int_eq};
+ghost use Rattle.std.specs.Option.{option_map};
+ghost use Rattle.ss_meaning.specs.Histories.{at_start, begun_in, ended_in};
+ghost use Rattle.ss_histories.specs.Records.{column_of, IsUntil, figure_of, full_in, noted_column, renewed_column};
+
+use crate::watched::Watched;
+use indexmap::IndexMap;
+use ss_base::FaultKind;
+use ss_program::expression::Fold;
+use ss_program::sections::Statistic;
+use std::alloc::{AllocError, Global};
+use std::marker::Model;
+
+/// A statistic, and its history of each entity that has one.
+#[derive(Drop)]
+pub(crate) struct Kept {
+    statistic: Statistic,
+    watched: IndexMap<i64, Watched>,
+}
+
+impl Model for Kept {
+    ghost use Rattle.indexmap.specs.IndexMap.{spare};
+    ghost use Rattle.ss_histories.specs.Records.{Recorded};
+
+    ghost Value = { Recorded };
+
+    ghost view = { λ k. record { statistic = k.statistic; rows = k.watched.entries; room = spare k.watched } };
+}
+
+impl Kept {
+    /// No history.
+    pub(crate) fn new(alloc: Global, statistic: Statistic) -> Kept
+        ensures statistic { result.statistic ≡ statistic }
+        ensures rows { result.rows ≡ [] }
+    {
+        Kept {
+            statistic,
+            watched: IndexMap::new(alloc),
+        }
+    }
+
+    pub(crate) fn statistic(&self) -> Statistic
+        ensures { result ≡ self.now.statistic }
+    {
+        self.statistic
+    }
+
+    /// Makes room for so many histories more. The error comes where memory was refused.
+    pub(crate) fn reserve(&mut self, count: usize) -> Result<(), AllocError>
+        ensures statistic { self.new.statistic ≡ self.old.statistic }
+        ensures rows { self.new.rows ≡ self.old.rows }
+        ensures room { OnOk result (count ≤ self.new.room) }
+    {
+        self.watched.reserve(count)
+    }
+
+    /// Starts the history of an entity.
+    pub(crate) fn begin(&mut self, entity: i64, now: i64)
+        requires now { pos 0 ≤ℤ now }
+        requires room { 0 < self.old.room }
+        ensures statistic { self.new.statistic ≡ self.old.statistic }
+        ensures column { column_of self.new.rows ≡ begun_in (int_eq entity) (at_start self.old.statistic.weighting now) (column_of self.old.rows) }
+        ensures room { self.old.room ≤ self.new.room + 1 }
+    {
+        let started = Watched::start(self.statistic.weighting, now);
+        let _ = self.watched.insert(entity, started);
+    }
+
+    /// Gives back what is kept of an entity.
+    pub(crate) fn end(&mut self, entity: i64)
+        ensures statistic { self.new.statistic ≡ self.old.statistic }
+        ensures column { column_of self.new.rows ≡ ended_in entity (column_of self.old.rows) }
+    {
+        self.watched.swap_remove(&entity);
+    }
+
+    /// Whether an entity has a history.
+    pub(crate) fn has(&self, entity: i64) -> bool
+        ensures { result ≡ is_some (column_of self.now.rows entity) }
+    {
+        self.watched.get(&entity).is_some()
+    }
+
+    /// Whether the history of an entity takes no further value.
+    pub(crate) fn is_full(&self, entity: i64, now: i64) -> bool
+        requires { IsUntil now (column_of self.now.rows) }
+        ensures { result ≡ full_in (column_of self.now.rows entity) }
+    {
+        match self.watched.get(&entity) {
+            Some(watched) => watched.is_full(now),
+            None => false,
+        }
+    }
+
+    /// Notes a value in the history of an entity, if it has one that isn't full.
+    pub(crate) fn note(&mut self, entity: i64, now: i64, value: i64)
+        requires { IsUntil now (column_of self.old.rows) }
+        ensures statistic { self.new.statistic ≡ self.old.statistic }
+        ensures column { column_of self.new.rows ≡ noted_column entity now value (column_of self.old.rows) }
+    {
+        match self.watched.get_mut(&entity) {
+            Some(watched) => watched.note(now, value),
+            None => {}
+        }
+    }
+
+    /// What is asked of the history of an entity, if it has one. Faults: 14.
+    pub(crate) fn figure(&self, fold: Fold, entity: i64, now: i64) -> Option<Result<i64, FaultKind>>
+        requires { IsUntil now (column_of self.now.rows) }
+        ensures { result ≡ option_map (figure_of fold now) (column_of self.now.rows entity) }
+    {
+        match self.watched.get(&entity) {
+            Some(watched) => Some(watched.figure(fold, now)),
+            None => None,
+        }
+    }
+
+    /// Starts the history of an entity afresh, if it has one, with the present value.
+    pub(crate) fn renew(&mut self, entity: i64, now: i64, present: i64)
+        requires { IsUntil now (column_of self.old.rows) }
+        ensures statistic { self.new.statistic ≡ self.old.statistic }
+        ensures column { column_of self.new.rows ≡ renewed_column entity now present (column_of self.old.rows) }
+    {
+        match self.watched.get_mut(&entity) {
+            Some(watched) => watched.renew(now, present),
+            None => {}
+        }
+    }
+}

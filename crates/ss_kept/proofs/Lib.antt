@@ -1,0 +1,17 @@
+pub mod Steps
+pub mod Named
+pub mod Expressions
+pub mod Places
+pub mod Conditions
+pub mod Heads
+pub mod Statements
+pub mod Handed
+pub mod Printing
+pub mod Calls
+pub mod Classes
+pub mod Schedules
+pub mod Resets
+pub mod Bodies
+pub mod Sections
+pub mod Entries
+pub mod Parameters

@@ -1,0 +1,54 @@
+-- What names stand for is what the rules know of them.
+use Rattle.std.specs.Prelude.{◌≡◌, List, Some}
+use Rattle.std.specs.List.{AllByRecursion as Every}
+use Rattle.ss_base.specs.Plain.{PlainLayout}
+use Rattle.ss_tree.specs.Tree.{SectionTree, ProgramTree}
+use Rattle.ss_names.specs.Table.{table}
+use Rattle.ss_scopes.specs.Locals.{Moded}
+use Rattle.ss_scopes.specs.Signatures.{Signed}
+use Rattle.ss_lists.specs.Declared as declarations
+use Rattle.ss_lists.specs.Uses as uses
+use Rattle.ss_globals.specs.WholeOf.{whole_in, whole_of}
+use Rattle.ss_program.specs.Program.{Program}
+use Rattle.ss_program.specs.WellTyped.{Scope, WellTyped}
+use Rattle.ss_whole.specs.Layouts.{layout}
+use Rattle.ss_whole.specs.Meanings.{context_in}
+use Rattle.ss_whole.specs.Resolved.{local_modes, resolved}
+use Rattle.ss_kept.specs.Links.{Linked}
+use Rattle.ss_kept.specs.Forms.{Formed}
+use Rattle.ss_kept_tables.specs.Locals.{KeepsLocals}
+use Rattle.ss_links.specs.Declared.{IsKept}
+use Rattle.ss_links.specs.Programs.{KeepsAllRules}
+use Rattle.ss_links.specs.Tables.{AreSigned, AreWellTyped, HasTables, LaysOut}
+
+-- the table of a program that keeps the rules on declarations lays it out
+abbrev pub TablesAreThere : Type 0
+TablesAreThere = (tree : ProgramTree) → IsKept (table tree) → LaysOut (table tree)
+
+-- and what it lays out is well typed
+abbrev pub TablesAreWellTyped : Type 0
+TablesAreWellTyped = (tree : ProgramTree) (p : Program) → IsKept (table tree) → HasTables (table tree) p → AreWellTyped (table tree) p
+
+-- a program that breaks no rule on declarations has a layout
+abbrev pub LayoutsAreThere : Type 0
+LayoutsAreThere = (tree : ProgramTree) → declarations.KeepsDeclarations tree → (laid : PlainLayout) × (layout (table tree) ≡ Some laid)
+
+-- what names stand for in a section with these local variables is what the rules on uses know of them
+abbrev pub ContextsAreLinked : Type 0
+ContextsAreLinked =
+    (tree : ProgramTree) (signatures : List Signed) (locals : Moded) (s : Scope) →
+    IsKept (table tree) → KeepsLocals (whole_in (table tree) signatures) locals → HasTables (table tree) s.program →
+    AreSigned (table tree) signatures s.program → local_modes locals ≡ Some s.locals →
+    Linked (whole_in (table tree) signatures) locals (context_in (table tree) locals) s
+
+-- a program that keeps the rules has a resolved form, which is well typed
+abbrev pub ProgramsResolve : Type 0
+ProgramsResolve =
+    (tree : ProgramTree) → IsKept (table tree) → KeepsAllRules (whole_of tree) tree →
+    (p : Program) × (resolved (table tree) (whole_of tree) tree.sections ≡ Some p) × WellTyped p
+
+-- so has a program that breaks no rule, where each FIND stands behind a FOR, as the grammar has it
+abbrev pub KeptProgramsResolve : Type 0
+KeptProgramsResolve =
+    (tree : ProgramTree) → declarations.KeepsDeclarations tree → uses.KeepsUses (whole_of tree) tree → Every (λ (s : SectionTree). Every Formed s.body) tree.sections →
+    (p : Program) × (resolved (table tree) (whole_of tree) tree.sections ≡ Some p) × WellTyped p

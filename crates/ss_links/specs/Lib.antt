@@ -1,0 +1,5 @@
+pub mod Declared
+pub mod Tables
+pub mod Programs
+pub mod Laws
+pub mod Examples

@@ -1,0 +1,13 @@
+pub mod Lists
+pub mod Uses
+pub mod Parts
+pub mod Sayings
+pub mod Declared
+pub mod Once
+pub mod Standings
+pub mod Modes
+pub mod Limits
+pub mod Classes
+pub mod Mains
+pub mod Parameters
+pub mod Declarations

@@ -1,0 +1,5 @@
+pub mod Lists
+pub mod Rules
+pub mod Uses
+pub mod Parts
+pub mod Declared

@@ -1,0 +1,32 @@
+use Rattle.std.proofs.Common.{◌-◌, sym, subst, inr}
+use Rattle.ss_machine.specs.Held.{Held, Continues}
+use Rattle.ss_machine.specs.Runs.{Ran}
+use Rattle.ss_machine.proofs.Reaching.{continues_read, read_on, never_failed}
+use Rattle.ss_machine.proofs.machine.Machine.run.Goals as goal
+
+pub returns-clause-continues : goal.returns-clause-continues
+returns-clause-continues g c = λ none h q.
+    let rem = g.R.FaultyRead.remaining in
+    let m = c.self.inside in
+    let new = c.run-halt.new in
+    let before = g.W.FaultyWrite.contents c.args.sink.now.writer in
+    let after = g.W.FaultyWrite.contents new.sink.writer in
+    let taken = c.run-halt.result.counts.used - m.counts.used in
+    let made = c.run-halt.result.counts.steps - m.counts.steps in
+    let ran = subst (λ s. Ran rem s m.code m.working new.working c.args.source.now new.source before after taken made) q c.run-halt.ensures.ran in
+    let goes : Continues m.code m.working c.args.source.now = subst (λ (v : Held). Continues v.code v.working c.args.source.now) (sym c.self.view_is) h in
+    inr (read_on m.code rem c.laws.ensures.steps_go_on m.working new.working c.args.source.now new.source before after taken made (continues_read m.code m.working c.args.source.now goes) ran.0)
+
+pub returns-clause-never_failed : goal.returns-clause-never_failed
+returns-clause-never_failed g c = λ none h q.
+    let rem = g.R.FaultyRead.remaining in
+    let m = c.self.inside in
+    let new = c.run-halt.new in
+    let before = g.W.FaultyWrite.contents c.args.sink.now.writer in
+    let after = g.W.FaultyWrite.contents new.sink.writer in
+    let taken = c.run-halt.result.counts.used - m.counts.used in
+    let made = c.run-halt.result.counts.steps - m.counts.steps in
+    let ran = subst (λ s. Ran rem s m.code m.working new.working c.args.source.now new.source before after taken made) q c.run-halt.ensures.ran in
+    let goes : Continues m.code m.working c.args.source.now = subst (λ (v : Held). Continues v.code v.working c.args.source.now) (sym c.self.view_is) h in
+    never_failed m.code rem c.laws.ensures.steps_go_on m.working new.working c.args.source.now new.source before after taken made (continues_read m.code m.working c.args.source.now goes)
+    c.laws.ensures.never_stuck c.laws.ensures.code_behaves c.laws-2.ensures.never_wrong c.len-sound.ensures.made c.len-sound.ensures.small ran

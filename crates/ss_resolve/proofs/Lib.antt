@@ -1,0 +1,4 @@
+mod Each
+mod Nested
+mod Steps
+mod Trees

@@ -1,0 +1,97 @@
+//! Loops around resolved statements.
+
+ghost use Rattle.std.specs.Prelude.{◌≡◌};
+ghost use Rattle.ss_tree.specs.View.{view_head};
+ghost use Rattle.ss_program.specs.View.{view_body, view_statement as view_resolved};
+ghost use Rattle.ss_resolve.specs.Answers.{Gives};
+ghost use Rattle.ss_resolve.specs.Statements.{find, find_by, for_over, loop};
+
+use crate::error::ResolveError;
+use crate::heads::{phrases_of, resolve_guards, resolve_head, resolve_phrases};
+use crate::scope::Scope;
+use ss_base::Line;
+use ss_program::statement::Statement as Resolved;
+use ss_tree::head::Head;
+use ss_tree::statement::FindOutcome;
+use std::alloc::Global;
+
+// A FOR with its body.
+fn resolve_for<S: Scope>(
+    alloc: Global,
+    scope: &S,
+    line: Line,
+    head: &Head,
+    body: Vec<Resolved>,
+) -> Result<Resolved, ResolveError>
+    ensures { Gives view_resolved result (for_over line (S.context scope.now) (view_head head.now) (view_body body.items)) }
+{
+    let over = resolve_head(alloc, scope, head)?;
+    let phrases = resolve_phrases(alloc, scope, phrases_of(head))?;
+    Ok(Resolved::For {
+        line,
+        head: over,
+        phrases,
+        body,
+    })
+}
+
+/// A loop with its body.
+pub(crate) fn resolve_loop<S: Scope>(
+    alloc: Global,
+    scope: &S,
+    line: Line,
+    head: &Head,
+    body: Vec<Resolved>,
+) -> Result<Resolved, ResolveError>
+    ensures { Gives view_resolved result (loop line (S.context scope.now) (view_head head.now) (view_body body.items)) }
+{
+    match head {
+        Head::Guards { guards } => {
+            let guards = resolve_guards(alloc, scope, guards)?;
+            Ok(Resolved::Loop { line, guards, body })
+        }
+        Head::Range { .. } => resolve_for(alloc, scope, line, head, body),
+        Head::Members { .. } => resolve_for(alloc, scope, line, head, body),
+        Head::Class { .. } => resolve_for(alloc, scope, line, head, body),
+    }
+}
+
+/// FIND THE FIRST CASE, with what follows where one was found and where none was.
+pub(crate) fn resolve_find<S: Scope>(
+    alloc: Global,
+    scope: &S,
+    line: Line,
+    head: &Head,
+    found: Vec<Resolved>,
+    none: Vec<Resolved>,
+) -> Result<Resolved, ResolveError>
+    ensures { Gives view_resolved result (find line (S.context scope.now) (view_head head.now) (view_body found.items) (view_body none.items)) }
+{
+    let over = resolve_head(alloc, scope, head)?;
+    let phrases = resolve_phrases(alloc, scope, phrases_of(head))?;
+    Ok(Resolved::Find {
+        line,
+        head: over,
+        phrases,
+        found,
+        none,
+    })
+}
+
+/// The same, with what stands behind it for this outcome first.
+pub(crate) fn resolve_find_by<S: Scope>(
+    alloc: Global,
+    scope: &S,
+    line: Line,
+    head: &Head,
+    outcome: FindOutcome,
+    first: Vec<Resolved>,
+    second: Vec<Resolved>,
+) -> Result<Resolved, ResolveError>
+    ensures { Gives view_resolved result (find_by outcome line (S.context scope.now) (view_head head.now) (view_body first.items) (view_body second.items)) }
+{
+    match outcome {
+        FindOutcome::Found => resolve_find(alloc, scope, line, head, first, second),
+        FindOutcome::None => resolve_find(alloc, scope, line, head, second, first),
+    }
+}

@@ -1,0 +1,91 @@
+//! What names mean in a section.
+
+use ss_base::{ClassKind, Mode};
+use ss_program::expression::{Fold, MemberQuery, SetQuery, Variable};
+use ss_program::statement::Counted;
+
+/// What is named as a value or a target. Where an entity is meant, `implied` is the variable that has it
+/// where no subscript is written.
+#[derive(Clone, Copy, PartialEq, Eq, Debug)]
+pub enum Meaning {
+    /// A variable, and its mode, if anything gives it one.
+    Variable {
+        variable: Variable,
+        mode: Option<Mode>,
+    },
+    /// N. of a permanent class.
+    Count {
+        count: Counted,
+    },
+    /// An attribute of a class, and its mode, if anything gives it one.
+    Attribute {
+        class: u32,
+        field: u32,
+        mode: Option<Mode>,
+        implied: Variable,
+    },
+    /// F., L. or N. of a set of THE SYSTEM.
+    OfSystemSet {
+        query: SetQuery,
+        set: u32,
+    },
+    /// F., L. or N. of a set that the entities of a class own.
+    OfSet {
+        query: SetQuery,
+        set: u32,
+        implied: Variable,
+    },
+    /// P., S. or M. of a set.
+    OfMember {
+        query: MemberQuery,
+        set: u32,
+        implied: Variable,
+    },
+    /// A statistic of a global variable, or of N. of a set of THE SYSTEM.
+    Figure {
+        fold: Fold,
+        statistic: u32,
+    },
+    /// A statistic of an attribute, or of N. of a set that the entities of a class own.
+    FigureOf {
+        fold: Fold,
+        statistic: u32,
+        implied: Variable,
+    },
+    /// TIME.V
+    Clock,
+    /// TIME.A
+    NoticeTime,
+}
+
+/// The set that is named.
+#[derive(Clone, Copy, PartialEq, Eq, Debug)]
+pub enum SetMeant {
+    /// A set of THE SYSTEM.
+    OfSystem { set: u32 },
+    /// A set that the entities of a class own. The variable has the owner where no subscript is written.
+    OfEntity { set: u32, implied: Variable },
+}
+
+/// The class that is named.
+#[derive(Clone, Copy, PartialEq, Eq, Debug)]
+pub struct ClassMeant {
+    pub class: u32,
+    pub kind: ClassKind,
+    /// How many attributes it has.
+    pub attributes: usize,
+    /// What its name stands for as a variable.
+    pub variable: Variable,
+    /// The global variable N. of a permanent class.
+    pub count: Option<u32>,
+}
+
+/// The routine that is called.
+#[derive(Clone, Copy, PartialEq, Eq, Debug)]
+pub struct RoutineMeant {
+    pub routine: u32,
+    /// How many values it is given.
+    pub given: usize,
+    /// How many values it yields.
+    pub yielding: usize,
+}

@@ -1,0 +1,5 @@
+pub mod Frames
+pub mod Ranged
+pub mod Holding
+pub mod Effects
+pub mod Beginning

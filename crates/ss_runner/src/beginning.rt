@@ -1,0 +1,67 @@
+//! How an event begins.
+
+ghost use Rattle.std.specs.Prelude.{◌≡◌, ◌+◌, ◌<◌, ◌^◌, ℕ, List, IfOk};
+ghost use Rattle.ss_base.specs.declared.layout.RankKey.{RankKey as KeySeen};
+ghost use Rattle.ss_meaning.specs.Events.{begun};
+ghost use Rattle.ss_machine_code.specs.Machine.{act};
+ghost use Rattle.ss_store.specs.Events.{coming_meant};
+ghost use Rattle.ss_runner.specs.Effects.{Rests};
+ghost use Rattle.ss_runner.specs.Beginning.{BeganAs, Saves};
+ghost use Rattle.ss_runner.specs.Holding.{store_of, core_of, Told};
+
+use crate::calling::entry_at;
+use crate::working::{Outcome, Working};
+use ss_base::Value;
+use ss_code::code::Code;
+use ss_machine_code::instruction::Instruction;
+use ss_program::expression::Variable;
+use ss_store::coming::{Event, Fate};
+use ss_store::trouble::{Trouble, Unmade};
+use std::alloc::AllocError;
+
+impl Working {
+    // Saves the notice of an event, or it is gone already.
+    fn save(&mut self, event: Event, fate: Fate) -> Result<(), Trouble>
+        ensures rests { Rests self.old self.new }
+        ensures given { self.new.given ≡ self.old.given }
+        ensures store { (input : List ℕ) → Saves event fate result (store_of self.old input) (store_of self.new input) }
+    {
+        match fate {
+            Fate::Gone => Ok(()),
+            Fate::Saved(number) => {
+                self.write_variable(Variable::Global { number }, Value::Whole(event.notice))
+            }
+        }
+    }
+
+    // An event that was taken out begins: the values for its routine are at hand, and its notice is saved or gone.
+    fn begin_event(&mut self, event: Event) -> Result<Result<(), Trouble>, AllocError>
+        ensures rests { IfOk result (λ answer. Rests self.old self.new) }
+        ensures store { IfOk result (λ answer. (ties : List KeySeen) (input : List ℕ) → BeganAs answer event.rank self.new.given.items (begun (coming_meant event ties (store_of self.old input))) (store_of self.new input)) }
+    {
+        match self.scene.begin_event(event, &mut self.given) {
+            Err(Unmade::Memory) => Err(AllocError),
+            Err(Unmade::Fault(kind)) => Ok(Err(Trouble::Fault(kind))),
+            Err(Unmade::Misfit) => Ok(Err(Trouble::Misfit)),
+            Ok(fate) => Ok(self.save(event, fate)),
+        }
+    }
+
+    /// Takes out the notice that comes next, and begins its event.
+    pub fn take_event(&mut self, code: &Code) -> Result<Outcome, AllocError>
+        requires { self.old.place + 1 < 2 ^ 64 }
+        ensures { IfOk result (λ outcome. (input : List ℕ) → Told outcome (act code.now Instruction.TakeEvent (core_of self.old input)) (core_of self.new input)) }
+    {
+        let Some(event) = self.scene.next_event() else {
+            return Ok(Outcome::Missing);
+        };
+        match self.begin_event(event)? {
+            Err(Trouble::Fault(kind)) => Ok(Outcome::Faults(kind, event.line)),
+            Err(Trouble::Misfit) => Ok(Outcome::Missing),
+            Ok(()) => match entry_at(code.events(), event.rank) {
+                None => Ok(Outcome::Missing),
+                Some(entry) => self.enter_event(entry, event.rank),
+            },
+        }
+    }
+}

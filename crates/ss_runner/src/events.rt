@@ -1,0 +1,130 @@
+//! Scheduling, and whether an event comes.
+
+ghost use Rattle.std.specs.Prelude.{◌≡◌, ◌+◌, ◌<◌, ◌^◌, ℕ, List, IfOk};
+ghost use Rattle.ss_base.specs.declared.value.Value.TheVariants.{Whole};
+ghost use Rattle.ss_meaning.specs.Values.{turned};
+ghost use Rattle.ss_meaning.specs.Store.{Store as StoreSeen};
+ghost use Rattle.ss_machine_code.specs.Machine.{Code as CodeSeen, act, due_at};
+ghost use Rattle.ss_store.specs.Seen.{told, with_seen};
+ghost use Rattle.ss_runner.specs.Holding.{core_of, Told};
+
+use crate::effects::{made, made_value};
+use crate::working::{Outcome, Working};
+use ss_base::{Line, Value};
+use ss_machine_code::instruction::Instruction;
+use ss_store::scene::Scene;
+use ss_store::trouble::Trouble;
+use std::alloc::AllocError;
+
+impl Working {
+    /// Puts the time that a value says or, if later, that is so many units from now, in its place.
+    #[inline(always)]
+    pub fn when(&mut self, later: bool, line: Line) -> Result<Outcome, AllocError>
+        requires { self.old.place + 1 < 2 ^ 64 }
+        ensures { IfOk result (λ outcome. (code : CodeSeen) (input : List ℕ) → Told outcome (act code (Instruction.When later line) (core_of self.old input)) (core_of self.new input)) }
+    {
+        let Some(value) = self.operands.pop() else {
+            return Ok(Outcome::Missing);
+        };
+        let answer = due_at(&self.scene, later, value);
+        self.answer(answer, line)
+    }
+
+    /// Makes a new notice with the time on top and so many values below it, and puts its number on top of the time.
+    pub fn make_notice(
+        &mut self,
+        class: u32,
+        given: usize,
+        line: Line,
+    ) -> Result<Outcome, AllocError>
+        requires { self.old.place + 1 < 2 ^ 64 }
+        ensures { IfOk result (λ outcome. (code : CodeSeen) (input : List ℕ) → Told outcome (act code (Instruction.MakeNotice class given line) (core_of self.old input)) (core_of self.new input)) }
+    {
+        let Some(time) = self.operands.pop_number() else {
+            return Ok(Outcome::Missing);
+        };
+        let Some(values) = self.operands.last(given) else {
+            return Ok(Outcome::Missing);
+        };
+        let notice = self.scene.make_notice(class, values, time.value);
+        self.operands.forget(given);
+        self.operands.push(Value::Whole(time.value))?;
+        let answer = made_value(notice)?;
+        self.gather(answer, line)
+    }
+
+    /// Files the notice on top among those that are pending, for the time below it.
+    pub fn file_notice(&mut self, class: u32, line: Line) -> Result<Outcome, AllocError>
+        requires { self.old.place + 1 < 2 ^ 64 }
+        ensures { IfOk result (λ outcome. (code : CodeSeen) (input : List ℕ) → Told outcome (act code (Instruction.FileNotice class line) (core_of self.old input)) (core_of self.new input)) }
+    {
+        let Some(x) = self.operands.pop() else {
+            return Ok(Outcome::Missing);
+        };
+        let Some(time) = self.operands.pop_number() else {
+            return Ok(Outcome::Missing);
+        };
+        let filed = self.scene.file_notice(self.alloc, class, x, time.value);
+        let answer = made(filed)?;
+        Ok(self.settle(answer, line))
+    }
+
+    /// Gives a notice that there is the time on top and so many values below it, and files it. It lies below these.
+    pub fn reschedule(
+        &mut self,
+        class: u32,
+        given: usize,
+        line: Line,
+    ) -> Result<Outcome, AllocError>
+        requires { self.old.place + 1 < 2 ^ 64 }
+        ensures { IfOk result (λ outcome. (code : CodeSeen) (input : List ℕ) → Told outcome (act code (Instruction.Reschedule class given line) (core_of self.old input)) (core_of self.new input)) }
+    {
+        let Some(time) = self.operands.pop_number() else {
+            return Ok(Outcome::Missing);
+        };
+        let Some(x) = self.operands.under(given) else {
+            return Ok(Outcome::Missing);
+        };
+        let Some(values) = self.operands.last(given) else {
+            return Ok(Outcome::Missing);
+        };
+        let filed = self
+            .scene
+            .reschedule(self.alloc, class, x, values, time.value);
+        self.operands.forget(given);
+        let _ = self.operands.pop();
+        let answer = made(filed)?;
+        Ok(self.settle(answer, line))
+    }
+
+    /// Goes on where a notice is pending, and jumps otherwise.
+    #[inline(always)]
+    pub fn await_event(&mut self, skip: usize) -> Outcome
+        requires { self.old.place + 1 < 2 ^ 64 }
+        ensures { (code : CodeSeen) (input : List ℕ) → Told result (act code (Instruction.Await skip) (core_of self.old input)) (core_of self.new input) }
+    {
+        let holds = self.scene.is_awaited();
+        self.choose(holds, skip)
+    }
+
+    /// Jumps back where a notice is pending, and goes on otherwise.
+    #[inline(always)]
+    pub fn next_event(&mut self, back: usize) -> Outcome
+        requires { self.old.place + 1 < 2 ^ 64 }
+        ensures { (code : CodeSeen) (input : List ℕ) → Told result (act code (Instruction.NextEvent back) (core_of self.old input)) (core_of self.new input) }
+    {
+        let again = self.scene.is_awaited();
+        self.turn_back(again, back)
+    }
+}
+
+// The time for which a notice is scheduled.
+#[inline(always)]
+fn due_at(scene: &Scene, later: bool, value: Value) -> Result<Value, Trouble>
+    ensures { (s : StoreSeen) → turned Whole (due_at later value (with_seen s scene.now)) ≡ told result }
+{
+    match scene.time_at(later, value) {
+        Ok(time) => Ok(Value::Whole(time)),
+        Err(trouble) => Err(trouble),
+    }
+}

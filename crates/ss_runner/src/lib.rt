@@ -1,0 +1,22 @@
+//! The machine that runs the code of a program: what it holds, and what each instruction does to that.
+#![tactic(auto)]
+
+pub mod beginning;
+pub mod calling;
+pub mod effects;
+pub mod entities;
+pub mod events;
+pub mod frame;
+pub mod frames;
+pub mod leaving;
+pub mod looping;
+pub mod members;
+pub mod numbers;
+pub mod operands;
+pub mod perform;
+pub mod references;
+pub mod spots;
+pub mod stack;
+pub mod taking;
+pub mod variables;
+pub mod working;

@@ -1,0 +1,5 @@
+mod Inputs
+mod Pieces
+mod Handing
+mod Headline
+mod Sessions

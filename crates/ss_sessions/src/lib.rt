@@ -1,0 +1,11 @@
+//! Sessions: the code of a program under way, with the reader of its input and the writer of its report.
+#![tactic(auto)]
+
+mod model;
+mod run;
+mod session;
+
+pub use model::Model;
+pub use run::run_model;
+pub use session::Session;
+pub use ss_machine::Stop;

@@ -1,0 +1,7 @@
+mod Within
+mod Expressions
+mod Parts
+mod Statements
+mod Sums
+mod Sections
+mod Programs

@@ -1,0 +1,22 @@
+use Rattle.std.proofs.Common.{rules, ◌≡◌, ℤ, Err, ap, sym, subst, ◌∙◌, to_z, of_z, w64}
+use Rattle.ss_base.specs.declared.value.Value.{Value}
+use Rattle.ss_meaning.specs.Values.{turned, if_ok}
+use Rattle.ss_meaning.specs.Events.{made_notice, prepared}
+use Rattle.ss_meaning.specs.Store.{Store}
+use Rattle.ss_store.specs.declared.trouble.Unmade.{Unmade}
+use Rattle.ss_store.specs.Seen.{with_seen, told}
+use Rattle.ss_store.specs.Scheduled.{Forms}
+use Rattle.ss_store.proofs.Stepping.{forms_not}
+use Rattle.ss_store.proofs.scene.Scene.make_notice.Goals as goal
+
+pub returns-in-Err-prepare : goal.returns-in-Err-prepare
+returns-in-Err-prepare c =
+    let class = c.args.class in let given = c.args.given.now in let time = c.args.time in
+    let same : to_z w64 (of_z w64 time) ≡ time = search rules in
+    let x = c.in-Ok.x in
+    let mid = c.create.new.self in
+    let t = c.in-Err-prepare.trouble in
+    subst (λ (u : Unmade). Forms (made_notice class given time) c.args.self.now c.prepare.new.self (Err u)) (sym c.lacking.ensures)
+    (forms_not (made_notice class given time) c.args.self.now c.prepare.new.self t
+    (λ s. ap (λ r. if_ok {B = Value × Store} r (λ b. turned (λ (r : Store). (b.0, r)) (prepared class b.0 given time b.1))) (c.in-Ok.ensures s)
+    ∙ ap (turned (λ (r : Store). (x, r))) (subst (λ (t' : ℤ). prepared class x given t' (with_seen s mid) ≡ told {A = Store} (Err t)) same (c.in-Err-prepare.ensures s))))

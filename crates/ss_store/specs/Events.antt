@@ -1,0 +1,110 @@
+-- How an event begins.
+use Rattle.std.specs.Prelude.{◌≡◌, ℕ, ◌+◌, Bool, true, false, ◌&&◌, List, [], ◌∷◌, ℤ, Option, Some, None, Result, Ok, Err, slice_get, if◌then◌else◌}
+use Rattle.ss_base.specs.declared.value.Value.{Value}
+use Rattle.ss_base.specs.declared.value.Value.TheVariants.{Whole}
+use Rattle.ss_base.specs.declared.fault.FaultKind.{FaultKind}
+use Rattle.ss_base.specs.declared.layout.ClassKind.{ClassKind}
+use Rattle.ss_base.specs.declared.layout.ClassKind.TheVariants.{Permanent, Temporary, Notice}
+use Rattle.ss_base.specs.declared.layout.RankKey.{RankKey}
+use Rattle.ss_records.specs.State.{State, known_in, notice}
+use Rattle.ss_events.specs.PendingList.{after_next}
+use Rattle.ss_program.specs.declared.expression.Variable.TheVariants.{Global}
+use Rattle.ss_meaning.specs.Values.{turned}
+use Rattle.ss_meaning.specs.Store.{Notices, Store}
+use Rattle.ss_meaning.specs.Places.{assigned_variable}
+use Rattle.ss_meaning.specs.Events.{Ranked, Coming, Beginning, ranked_as, next_event, begun, saved_or_gone}
+use Rattle.ss_store.specs.declared.coming.Event.{Event}
+use Rattle.ss_store.specs.declared.coming.Fate.{Fate}
+use Rattle.ss_store.specs.declared.coming.Fate.TheVariants.{Saved, Gone}
+use Rattle.ss_store.specs.declared.trouble.Trouble.TheVariants.{Fault, Misfit}
+use Rattle.ss_store.specs.declared.trouble.Unmade.{Unmade}
+use Rattle.ss_store.specs.declared.trouble.Unmade.TheVariants as unmade
+use Rattle.ss_store.specs.Seen.{Seen, with_seen, kind_at, told}
+
+-- ## What comes next
+
+-- what the program says of the class of an event
+abbrev pub ranked_meant : Event → List RankKey → Ranked
+ranked_meant c ties = record {
+  rank = c.rank;
+  said = record { class = c.class; ties = ties; line = c.line; given = c.given; saved = c.saved };
+}
+
+-- an event, as the meaning tells it
+abbrev pub coming_meant : Event → List RankKey → Store → Coming
+coming_meant c ties s = record { ranked = ranked_meant c ties; notice = Whole c.notice; store = s }
+
+-- the attributes that break the ties of a class
+abbrev pub ties_in : Option Notices → List RankKey
+ties_in None = []
+ties_in (Some said) = said.ties
+
+abbrev pub ties_at : List Notices → (rank : ℕ) → List RankKey
+ties_at es rank = ties_in (slice_get es rank)
+
+-- an event comes, and what is seen afterwards is as it begins; or none comes, and nothing changes
+abbrev pub Comes : (old new : Seen) → Option Event → Type 0
+Comes old new None = ((s : Store) → next_event (with_seen s old) ≡ None) × (new ≡ old)
+Comes old new (Some c) = (s : Store) → next_event (with_seen s old) ≡ Some (coming_meant c (ties_at new.notices c.rank) (with_seen s new))
+
+-- what is seen once the notice that comes next was taken out, at its time
+abbrev pub passed : (time : ℤ) → Seen → Seen
+passed t e = record e { time = t; pending = after_next e.pending }
+
+-- ## The class of a notice
+
+abbrev pub is_notice_kind : Option ClassKind → Bool
+is_notice_kind None = false
+is_notice_kind (Some Permanent) = false
+is_notice_kind (Some Temporary) = false
+is_notice_kind (Some Notice) = true
+
+abbrev pub is_there : Result (Unit {0}) FaultKind → Bool
+is_there (Ok u) = true
+is_there (Err kind) = false
+
+-- whether a number is a notice of a class
+abbrev pub is_of : State → (number : ℤ) → (class : ℕ) → Bool
+is_of h n class = is_notice_kind (kind_at h.layout class) && is_there (known_in h class n)
+
+-- the first of some classes of notices of which a number is one
+abbrev pub first_of : State → (number : ℤ) → (rank : ℕ) → List Notices → Option Ranked
+first_of h n rank [] = None
+first_of h n rank (e ∷ es) = if is_of h n e.class then Some (record { rank = rank; said = e }) else first_of h n (rank + 1) es
+
+-- the event of a number that is a notice of one of some classes
+abbrev pub First : State → List Notices → (number : ℤ) → Option Event → Type 0
+First h es n None = first_of h n 0 es ≡ None
+First h es n (Some c) = (first_of h n 0 es ≡ Some (ranked_meant c (ties_at es c.rank))) × (c.notice ≡ n)
+
+-- the same of a number of which the meaning knows the class
+abbrev pub Told : Seen → (number : ℤ) → Option Event → Type 0
+Told e n None = (s : Store) → ranked_as (notice e.heap n) (with_seen s e) ≡ None
+Told e n (Some c) = ((s : Store) → ranked_as (notice e.heap n) (with_seen s e) ≡ Some (ranked_meant c (ties_at e.notices c.rank))) × (c.notice ≡ n)
+
+-- ## Beginning
+
+abbrev pub beginning : (rank : ℕ) → List Value → Store → Beginning
+beginning rank vs s = record { rank = rank; given = vs; store = s }
+
+-- what becomes of the notice
+abbrev pub Lets : Event → (old new : Seen) → Result Fate Unmade → Type 0
+Lets c old new (Ok (Saved k)) =
+    ((s : Store) → saved_or_gone c.saved c.class (Whole c.notice) (with_seen s old) ≡ assigned_variable (Global k) (Whole c.notice) (with_seen s old))
+    × (new ≡ old)
+Lets c old new (Ok Gone) = (s : Store) → saved_or_gone c.saved c.class (Whole c.notice) (with_seen s old) ≡ Ok (with_seen s new)
+Lets c old new (Err (unmade.Fault kind)) =
+    ((s : Store) → saved_or_gone c.saved c.class (Whole c.notice) (with_seen s old) ≡ told {A = Store} (Err (Fault kind))) × (new ≡ old)
+Lets c old new (Err unmade.Misfit) = ((s : Store) → saved_or_gone c.saved c.class (Whole c.notice) (with_seen s old) ≡ told {A = Store} (Err Misfit)) × (new ≡ old)
+Lets c old new (Err unmade.Memory) = new ≡ old
+
+-- an event begins with values; its notice is gone, or it is still to be assigned to a global variable
+abbrev pub Begins : Event → List RankKey → List Value → (old new : Seen) → Result Fate Unmade → Type 0
+Begins c ties vs old new (Ok (Saved k)) =
+    ((s : Store) → begun (coming_meant c ties (with_seen s old)) ≡ turned (beginning c.rank vs) (assigned_variable (Global k) (Whole c.notice) (with_seen s old)))
+    × (new ≡ old)
+Begins c ties vs old new (Ok Gone) = (s : Store) → begun (coming_meant c ties (with_seen s old)) ≡ Ok (beginning c.rank vs (with_seen s new))
+Begins c ties vs old new (Err (unmade.Fault kind)) =
+    ((s : Store) → begun (coming_meant c ties (with_seen s old)) ≡ told {A = Beginning} (Err (Fault kind))) × (new ≡ old)
+Begins c ties vs old new (Err unmade.Misfit) = ((s : Store) → begun (coming_meant c ties (with_seen s old)) ≡ told {A = Beginning} (Err Misfit)) × (new ≡ old)
+Begins c ties vs old new (Err unmade.Memory) = new ≡ old

@@ -1,0 +1,149 @@
+//! Events: whether one comes, which comes next, and how it begins.
+
+ghost use Rattle.std.specs.Prelude.{◌≡◌, List};
+ghost use Rattle.ss_base.specs.declared.layout.RankKey.{RankKey as KeySeen};
+ghost use Rattle.ss_base.specs.declared.value.Value.TheVariants.{Whole};
+ghost use Rattle.ss_meaning.specs.Events.{is_awaited, attributes};
+ghost use Rattle.ss_meaning.specs.Store.{Store as StoreSeen};
+ghost use Rattle.ss_store.specs.Seen.{with_seen};
+ghost use Rattle.ss_store.specs.Scheduled.{Finds, put_there};
+ghost use Rattle.ss_store.specs.Events.{Comes, Begins, Lets, First, Told, is_of};
+
+use crate::known::Known;
+use crate::notices::NoticeClass;
+use crate::scene::Scene;
+use crate::scheduling::lacking;
+use crate::trouble::Unmade;
+use ss_base::{ClassKind, Line, Value};
+
+/// An event that comes next: its notice by its number, the rank of its class, and what the program says of that: the
+/// line of its routine, how many attributes that takes, and the global variable that a notice is saved in, if it is
+/// saved.
+#[derive(Clone, Copy, Debug)]
+pub struct Event {
+    pub rank: usize,
+    pub class: u32,
+    pub line: Line,
+    pub given: usize,
+    pub saved: Option<u32>,
+    pub notice: i64,
+}
+
+/// What becomes of the notice of an event that begins.
+#[derive(Clone, Copy, Debug)]
+pub enum Fate {
+    /// It is there, and is still to be assigned to this global variable.
+    Saved(u32),
+    /// It is destroyed.
+    Gone,
+}
+
+impl Scene {
+    /// Whether a notice is pending.
+    pub fn is_awaited(&mut self) -> bool
+        ensures value { (s : StoreSeen) → is_awaited (with_seen s self.old) ≡ result }
+        ensures same { self.new ≡ self.old }
+    {
+        self.pending.least().is_some()
+    }
+
+    // Whether a number is a notice of a class.
+    fn is_of(&self, class: u32, known: Known) -> bool
+        ensures { result ≡ is_of self.now.heap known.number class }
+    {
+        match self.kind(class) {
+            Some(ClassKind::Notice) => self.population.known(class as usize, known.number).is_ok(),
+            _ => false,
+        }
+    }
+
+    // The event of a notice, by its number, where its class is one of these.
+    fn event_among(&self, notices: &[NoticeClass], known: Known) -> Option<Event>
+        ensures { First self.now.heap notices.now known.number result }
+    {
+        for rank in 0..notices.len() {
+            let said = &notices[rank];
+            if self.is_of(said.class(), known) {
+                return Some(said.event(rank, known.number));
+            }
+        }
+        None
+    }
+
+    // The event of a notice, by its number.
+    fn event(&self, known: Known) -> Option<Event>
+        ensures { Told self.now known.number result }
+    {
+        self.event_among(&self.notices, known)
+    }
+
+    /// Takes out the event that comes next, and TIME.V is then its time. There is none, and nothing changes, where no
+    /// notice is pending or the number that comes next is not a notice of these classes.
+    pub fn next_event(&mut self) -> Option<Event>
+        ensures { Comes self.old self.new result }
+    {
+        match self.pending.least() {
+            None => None,
+            Some((time, number)) => match self.event(Known { number }) {
+                None => None,
+                Some(event) => {
+                    let _ = self.pending.take();
+                    self.time = time;
+                    Some(event)
+                }
+            },
+        }
+    }
+
+    // The values of the first attributes of a notice, by its number.
+    fn read(
+        &self,
+        class: u32,
+        count: usize,
+        known: Known,
+        values: &mut Vec<Value>,
+    ) -> Result<(), Unmade>
+        ensures { Finds (attributes class 0 count (Whole known.number)) self.now (put_there values.new.items result) }
+    {
+        values.clear();
+        for field in 0..count {
+            match self.value_of(class, field, Value::Whole(known.number)) {
+                Err(trouble) => return Err(lacking(trouble)),
+                Ok(value) => {
+                    if values.push(value).is_err() {
+                        return Err(Unmade::Memory);
+                    }
+                }
+            }
+        }
+        Ok(())
+    }
+
+    // What becomes of the notice of an event.
+    fn let_go(&mut self, event: Event) -> Result<Fate, Unmade>
+        ensures { Lets event self.old self.new result }
+    {
+        match event.saved {
+            Some(variable) => Ok(Fate::Saved(variable)),
+            None => match self.remove_entity(event.class, Value::Whole(event.notice)) {
+                Ok(()) => Ok(Fate::Gone),
+                Err(trouble) => Err(lacking(trouble)),
+            },
+        }
+    }
+
+    /// An event that was taken out begins: its routine takes the values, which are those of the first attributes of the
+    /// notice, in place of what was there. The notice is destroyed unless it is to be saved. Faults: 9 and 10. Nothing
+    /// changes after a fault, or where memory for the values is wanting.
+    pub fn begin_event(&mut self, event: Event, values: &mut Vec<Value>) -> Result<Fate, Unmade>
+        ensures { (ties : List KeySeen) → Begins event ties values.new.items self.old self.new result }
+    {
+        let known = Known {
+            number: event.notice,
+        };
+        match self.read(event.class, event.given, known, values) {
+            Err(unmade) => Err(unmade),
+            Ok(()) => self.let_go(event),
+        }
+    }
+}

@@ -1,0 +1,148 @@
+//! Filing members in sets.
+
+ghost use Rattle.std.specs.Prelude.{◌≡◌, ◌<◌, length};
+ghost use Rattle.ss_meaning.specs.Sets.{ByRule, Ahead, Behind, filed_by, filed_in};
+ghost use Rattle.ss_store.specs.Seen.{Changes};
+ghost use Rattle.ss_store.specs.Filed.{Resettles, filing_meant, with_owner, filed_known};
+
+use crate::known::{Known, Membership, known_number};
+use crate::scene::Scene;
+use crate::trouble::{Trouble, or_trouble};
+use ss_base::Value;
+
+/// Where a member is filed.
+#[derive(Clone, Copy, Debug)]
+pub enum Filing {
+    /// Where the discipline of the set says.
+    ByDiscipline,
+    First,
+    Last,
+    /// Directly before a member.
+    Before(Value),
+    /// Directly after a member.
+    After(Value),
+}
+
+impl Scene {
+    // Files a member by the discipline of the set, by the numbers of the member and of the owner.
+    fn file_by_discipline(&mut self, set: u32, both: Membership) -> Result<(), Trouble>
+        requires set { set < length self.old.heap.layout.sets }
+        ensures { Resettles (filed_by ByRule set both.owner.number both.member.number) self.old self.new result }
+    {
+        match self.disciplines.get(set as usize) {
+            None => Err(Trouble::Misfit),
+            Some(discipline) => {
+                self.population.file_if_fit(
+                    discipline,
+                    set as usize,
+                    both.owner.number,
+                    both.member.number,
+                )
+            }
+        }
+    }
+
+    // Files a member directly before another one.
+    fn file_before(&mut self, set: u32, both: Membership, y: Value) -> Result<(), Trouble>
+        requires set { set < length self.old.heap.layout.sets }
+        ensures { Resettles (filed_by (Ahead y) set both.owner.number both.member.number) self.old self.new result }
+    {
+        match self.find_member(set, y) {
+            Ok(beside) => or_trouble(
+                self.population.file_before(
+                    set as usize,
+                    both.owner.number,
+                    both.member.number,
+                    beside.number,
+                ),
+            ),
+            Err(trouble) => Err(trouble),
+        }
+    }
+
+    // Files a member directly after another one.
+    fn file_after(&mut self, set: u32, both: Membership, y: Value) -> Result<(), Trouble>
+        requires set { set < length self.old.heap.layout.sets }
+        ensures { Resettles (filed_by (Behind y) set both.owner.number both.member.number) self.old self.new result }
+    {
+        match self.find_member(set, y) {
+            Ok(beside) => or_trouble(
+                self.population.file_after(
+                    set as usize,
+                    both.owner.number,
+                    both.member.number,
+                    beside.number,
+                ),
+            ),
+            Err(trouble) => Err(trouble),
+        }
+    }
+
+    // Files a member, by the numbers of the member and of the owner.
+    fn place(&mut self, filing: Filing, set: u32, both: Membership) -> Result<(), Trouble>
+        requires set { set < length self.old.heap.layout.sets }
+        ensures { Resettles (filed_by (filing_meant filing) set both.owner.number both.member.number) self.old self.new result }
+    {
+        match filing {
+            Filing::ByDiscipline => self.file_by_discipline(set, both),
+            Filing::First => or_trouble(
+                self.population
+                    .file_first(set as usize, both.owner.number, both.member.number),
+            ),
+            Filing::Last => or_trouble(
+                self.population
+                    .file_last(set as usize, both.owner.number, both.member.number),
+            ),
+            Filing::Before(y) => self.file_before(set, both, y),
+            Filing::After(y) => self.file_after(set, both, y),
+        }
+    }
+
+    // The same as a change of the whole scene, in which no history notes N. of the set.
+    fn file_known(&mut self, filing: Filing, set: u32, both: Membership) -> Result<(), Trouble>
+        requires set { set < length self.old.heap.layout.sets }
+        ensures { Changes (filed_known (filing_meant filing) set both.owner.number both.member.number) self.old self.new result }
+    {
+        self.place(filing, set, both)
+    }
+
+    // The same by the number of the member and what refers to the owner.
+    fn file_member(
+        &mut self,
+        filing: Filing,
+        set: u32,
+        member: Known,
+        owner: Option<Value>,
+    ) -> Result<(), Trouble>
+        ensures { Changes (with_owner set owner (λ o. filed_known (filing_meant filing) set o member.number)) self.old self.new result }
+    {
+        if !self.has_set(set) {
+            return Err(Trouble::Misfit);
+        }
+        match self.owner(set, owner) {
+            Ok(owner) => self.file_known(filing, set, Membership { owner, member }),
+            Err(trouble) => Err(trouble),
+        }
+    }
+
+    /// Files an entity in the set of an owner, as FILE says. Faults: those of the entity (1 to 5), those of the member
+    /// beside which it is filed, those of the owner, then 6 where the entity is in some set of this name, then 7 where
+    /// the member beside which it is filed is not in this one.
+    pub fn file(
+        &mut self,
+        filing: Filing,
+        set: u32,
+        owner: Option<Value>,
+        x: Value,
+    ) -> Result<(), Trouble>
+        ensures { Changes (filed_in (filing_meant filing) set x owner) self.old self.new result }
+    {
+        match known_number(x) {
+            Err(trouble) => Err(trouble),
+            Ok(member) => match self.file_member(filing, set, member, owner) {
+                Ok(()) => Ok(()),
+                Err(trouble) => Err(self.earliest(set, member, trouble)),
+            },
+        }
+    }
+}

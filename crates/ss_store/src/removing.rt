@@ -1,0 +1,97 @@
+//! Removing members from sets.
+
+ghost use Rattle.std.specs.Prelude.{◌≡◌, ◌<◌, length};
+ghost use Rattle.ss_meaning.specs.Sets.{removed_from, removed_at};
+ghost use Rattle.ss_store.specs.Seen.{Changes, Gains};
+ghost use Rattle.ss_store.specs.Filed.{Resettles, Gives, with_owner, out_of, removed_known, end_out, end_removed_known};
+
+use crate::known::{Known, Membership, known_number};
+use crate::scene::Scene;
+use crate::trouble::{Trouble, or_trouble};
+use ss_base::Value;
+use ss_program::statement::End;
+
+impl Scene {
+    // Takes a member out of the set of an owner, by their numbers.
+    fn take_out(&mut self, set: u32, both: Membership) -> Result<(), Trouble>
+        requires set { set < length self.old.heap.layout.sets }
+        ensures { Resettles (out_of set both.owner.number both.member.number) self.old self.new result }
+    {
+        or_trouble(
+            self.population
+                .remove(set as usize, both.owner.number, both.member.number),
+        )
+    }
+
+    // The same as a change of the whole scene, in which no history notes N. of the set.
+    fn remove_known(&mut self, set: u32, both: Membership) -> Result<(), Trouble>
+        requires set { set < length self.old.heap.layout.sets }
+        ensures { Changes (removed_known set both.owner.number both.member.number) self.old self.new result }
+    {
+        self.take_out(set, both)
+    }
+
+    // The same by the number of the member and what refers to the owner.
+    fn remove_member(
+        &mut self,
+        set: u32,
+        member: Known,
+        owner: Option<Value>,
+    ) -> Result<(), Trouble>
+        ensures { Changes (with_owner set owner (λ o. removed_known set o member.number)) self.old self.new result }
+    {
+        if !self.has_set(set) {
+            return Err(Trouble::Misfit);
+        }
+        match self.owner(set, owner) {
+            Ok(owner) => self.remove_known(set, Membership { owner, member }),
+            Err(trouble) => Err(trouble),
+        }
+    }
+
+    /// Takes an entity out of the set of an owner, as REMOVE says. Faults: those of the entity (1 to 5), those of the
+    /// owner, then 7 where the entity is not in this set.
+    pub fn remove(&mut self, set: u32, owner: Option<Value>, x: Value) -> Result<(), Trouble>
+        ensures { Changes (removed_from set x owner) self.old self.new result }
+    {
+        match known_number(x) {
+            Err(trouble) => Err(trouble),
+            Ok(member) => match self.remove_member(set, member, owner) {
+                Ok(()) => Ok(()),
+                Err(trouble) => Err(self.earliest(set, member, trouble)),
+            },
+        }
+    }
+
+    // Takes the member at an end out of the set of an owner, by the owner's number.
+    fn take_end(&mut self, end: End, set: u32, known: Known) -> Result<Value, Trouble>
+        requires set { set < length self.old.heap.layout.sets }
+        ensures { Gives (end_out end set known.number) self.old self.new result }
+    {
+        match self.population.remove_end(end, set as usize, known.number) {
+            Ok(number) => Ok(Value::Whole(number)),
+            Err(kind) => Err(Trouble::Fault(kind)),
+        }
+    }
+
+    // The same as a change of the whole scene, where the layout has the set; no history notes N. of the set.
+    fn remove_end_known(&mut self, end: End, set: u32, known: Known) -> Result<Value, Trouble>
+        ensures { Gains (end_removed_known end set known.number) self.old self.new result }
+    {
+        if !self.has_set(set) {
+            return Err(Trouble::Misfit);
+        }
+        self.take_end(end, set, known)
+    }
+
+    /// Takes the member at an end out of the set of an owner, and answers it, as REMOVE FIRST and REMOVE LAST say.
+    /// Faults: 1 to 5, then 8 where there is none.
+    pub fn remove_end(&mut self, end: End, set: u32, owner: Option<Value>) -> Result<Value, Trouble>
+        ensures { Gains (removed_at end set owner) self.old self.new result }
+    {
+        match self.owner(set, owner) {
+            Ok(known) => self.remove_end_known(end, set, known),
+            Err(trouble) => Err(trouble),
+        }
+    }
+}

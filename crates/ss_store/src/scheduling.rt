@@ -1,0 +1,269 @@
+//! Scheduling: the time of an event, making notices, and filing them among those that are pending.
+
+ghost use Rattle.std.specs.Prelude.{◌≡◌, Some};
+ghost use Rattle.ss_meaning.specs.Events.{time_at, not_past, endowed, prepared, made_notice, ranked_from, ties_of, filed_notice, rescheduled};
+ghost use Rattle.ss_store.specs.Seen.{Looks, Grows};
+ghost use Rattle.ss_store.specs.Scheduled.{Leads, Forms, Goes, Finds, put_there, lacking, moment_of, time_after, ranked_at, key_ranked, key_meant, scheduled_known, scheduled_anew};
+
+use crate::entities::settled;
+use crate::known::Known;
+use crate::notices::NoticeClass;
+use crate::scene::Scene;
+use crate::trouble::{Trouble, Unmade, number_of};
+use ss_base::{FaultKind, RankKey, Value, plus};
+use ss_events::{Key, Tie};
+use std::alloc::Global;
+
+impl Scene {
+    // A time that is not before TIME.V.
+    fn not_past(&self, time: i64) -> Result<i64, Trouble>
+        ensures { Looks (not_past time) self.now result }
+    {
+        if time < self.time {
+            return Err(Trouble::Fault(FaultKind::PastTime));
+        }
+        Ok(time)
+    }
+
+    // The time so many units from now.
+    fn time_after(&self, units: i64) -> Result<i64, Trouble>
+        ensures { Looks (time_after units) self.now result }
+    {
+        match plus(self.time, units) {
+            Ok(time) => self.not_past(time),
+            Err(kind) => Err(Trouble::Fault(kind)),
+        }
+    }
+
+    /// The time for which a notice is scheduled, in units: a value, or so many units from now. Faults: 14 where the
+    /// sum is too great, then 13 where the time is before TIME.V.
+    pub fn time_at(&self, later: bool, value: Value) -> Result<i64, Trouble>
+        ensures { Looks (time_at (moment_of later value)) self.now result }
+    {
+        match number_of(value) {
+            Err(trouble) => Err(trouble),
+            Ok(number) => {
+                if later {
+                    self.time_after(number)
+                } else {
+                    self.not_past(number)
+                }
+            }
+        }
+    }
+
+    // Assigns values to the attributes of a notice, from the first on.
+    fn endow(&mut self, class: u32, x: &Value, given: &[Value]) -> Result<(), Trouble>
+        ensures { Leads (endowed class 0 x.now given.now) self.old self.new result }
+    {
+        for field in 0..given.len() {
+            self.set_value_of(class, field, *x, given[field])?;
+        }
+        Ok(())
+    }
+
+    // Assigns values to the first attributes of a notice, and sets its TIME.A.
+    fn prepare(&mut self, class: u32, x: &Value, given: &[Value], time: i64) -> Result<(), Trouble>
+        ensures { Leads (prepared class x.now given.now time) self.old self.new result }
+    {
+        match self.endow(class, x, given) {
+            Ok(()) => self.set_time(*x, time),
+            Err(trouble) => Err(trouble),
+        }
+    }
+
+    /// A new notice of a class, with values for its first attributes and its TIME.A. Faults: 14 after the last number.
+    /// Want of memory changes nothing; where the values do not fit, the notice is made.
+    pub fn make_notice(&mut self, class: u32, given: &[Value], time: i64) -> Result<Value, Unmade>
+        ensures { Forms (made_notice class given.now time) self.old self.new result }
+    {
+        match self.create(class) {
+            Err(unmade) => Err(unmade),
+            Ok(x) => match self.prepare(class, &x, given, time) {
+                Ok(()) => Ok(x),
+                Err(trouble) => Err(lacking(trouble)),
+            },
+        }
+    }
+
+    // The values that attributes have now, as ties.
+    fn freeze(
+        &self,
+        class: u32,
+        x: &Value,
+        keys: &[RankKey],
+        ties: &mut Vec<Tie>,
+    ) -> Result<(), Unmade>
+        ensures { Finds (λ s. ties_of class x.now s keys.now) self.now (put_there ties.new.items result) }
+    {
+        ties.clear();
+        for key in keys {
+            match self.value_of(class, key.field, *x) {
+                Err(trouble) => return Err(lacking(trouble)),
+                Ok(value) => {
+                    if ties
+                        .push(Tie {
+                            value,
+                            high: key.high,
+                        })
+                        .is_err()
+                    {
+                        return Err(Unmade::Memory);
+                    }
+                }
+            }
+        }
+        Ok(())
+    }
+
+    // The key of a notice whose class has this rank.
+    fn key_at(
+        &self,
+        alloc: Global,
+        rank: usize,
+        class: u32,
+        x: &Value,
+        time: i64,
+    ) -> Result<Key, Unmade>
+        ensures { Finds (key_ranked (ranked_at self.now.notices (Some rank)) class x.now time) self.now result }
+    {
+        match self.notices.get(rank) {
+            None => Err(Unmade::Misfit),
+            Some(said) => {
+                let mut ties = Vec::new(alloc);
+                match self.freeze(class, x, said.ties(), &mut ties) {
+                    Err(unmade) => Err(unmade),
+                    Ok(()) => Ok(Key::with_ties(time, rank, ties)),
+                }
+            }
+        }
+    }
+
+    // The key of a notice.
+    fn key(&self, alloc: Global, class: u32, x: &Value, time: i64) -> Result<Key, Unmade>
+        ensures { Finds (key_meant class x.now time) self.now result }
+    {
+        match rank_of(&self.notices, class) {
+            None => Err(Unmade::Misfit),
+            Some(rank) => self.key_at(alloc, rank, class, x, time),
+        }
+    }
+
+    // A notice is filed under a key, by its number.
+    fn schedule_known(&mut self, key: Key, known: Known) -> Result<(), Unmade>
+        ensures { Grows (scheduled_known key known.number) self.old self.new result }
+    {
+        settled(self.pending.schedule(key, known.number))
+    }
+
+    // A notice is filed among those that are pending.
+    fn file_pending(
+        &mut self,
+        alloc: Global,
+        class: u32,
+        x: &Value,
+        time: i64,
+    ) -> Result<(), Unmade>
+        ensures { Grows (filed_notice class x.now time) self.old self.new result }
+    {
+        match self.find(class, *x) {
+            Err(trouble) => Err(lacking(trouble)),
+            Ok(known) => match self.key(alloc, class, x, time) {
+                Err(unmade) => Err(unmade),
+                Ok(key) => self.schedule_known(key, known),
+            },
+        }
+    }
+
+    /// A notice is filed among those that are pending: for this time, by the rank of its class and the values that
+    /// the attributes which break ties have now. Faults: 1 to 4, then 11, then 14 after the last scheduling. Want of
+    /// memory changes nothing.
+    pub fn file_notice(
+        &mut self,
+        alloc: Global,
+        class: u32,
+        x: Value,
+        time: i64,
+    ) -> Result<(), Unmade>
+        ensures { Grows (filed_notice class x time) self.old self.new result }
+    {
+        self.file_pending(alloc, class, &x, time)
+    }
+
+    // A notice that is not pending gets values and its TIME.A, and is filed.
+    fn schedule_anew(
+        &mut self,
+        alloc: Global,
+        class: u32,
+        x: &Value,
+        given: &[Value],
+        time: i64,
+    ) -> Result<(), Unmade>
+        ensures { Goes (scheduled_anew class x.now given.now time) (prepared class x.now given.now time) self.old self.new result }
+    {
+        match self.prepare(class, x, given, time) {
+            Err(trouble) => Err(lacking(trouble)),
+            Ok(()) => self.file_pending(alloc, class, x, time),
+        }
+    }
+
+    // The same of a notice unless it is pending.
+    fn schedule_again(
+        &mut self,
+        alloc: Global,
+        class: u32,
+        x: &Value,
+        given: &[Value],
+        time: i64,
+    ) -> Result<(), Unmade>
+        ensures { Goes (rescheduled class x.now given.now time) (prepared class x.now given.now time) self.old self.new result }
+    {
+        match self.find(class, *x) {
+            Err(trouble) => Err(lacking(trouble)),
+            Ok(known) => {
+                if self.pending.is_scheduled(known.number) {
+                    return Err(Unmade::Fault(FaultKind::AlreadyScheduled));
+                }
+                self.schedule_anew(alloc, class, x, given, time)
+            }
+        }
+    }
+
+    /// A notice that there is gets values for its first attributes and its TIME.A, and is filed, as SCHEDULE THE says.
+    /// Faults: 1 to 4, then 11, then 14 after the last scheduling. Where memory is wanting, it has its values and its
+    /// TIME.A, and is not filed.
+    pub fn reschedule(
+        &mut self,
+        alloc: Global,
+        class: u32,
+        x: Value,
+        given: &[Value],
+        time: i64,
+    ) -> Result<(), Unmade>
+        ensures { Goes (rescheduled class x given.now time) (prepared class x given.now time) self.old self.new result }
+    {
+        self.schedule_again(alloc, class, &x, given, time)
+    }
+}
+
+// The place of a class among those of notices.
+fn rank_of(notices: &[NoticeClass], class: u32) -> Option<usize>
+    ensures { ranked_from 0 notices.now class ≡ ranked_at notices.now result }
+{
+    for rank in 0..notices.len() {
+        if notices[rank].class() == class {
+            return Some(rank);
+        }
+    }
+    None
+}
+
+// A trouble where memory might have been wanting.
+pub(crate) fn lacking(trouble: Trouble) -> Unmade
+    ensures { result ≡ lacking trouble }
+{
+    match trouble {
+        Trouble::Fault(kind) => Unmade::Fault(kind),
+        Trouble::Misfit => Unmade::Misfit,
+    }
+}

@@ -1,8 +1,0 @@
-use Rattle.std.proofs.Common.{◌≡◌, ◌++◌, map, take}
-use Rattle.std.specs.List.{flat_map}
-use Rattle.ss_tree.specs.View.{view_test}
-use Rattle.ss_tables.specs.Mentions.{in_test}
-use Rattle.ss_tables.proofs.mentions.note_conjunction.Given as goal
-
-abbrev pub invariant-loop-test : goal.invariant-loop-test
-invariant-loop-test l = l.into.items ≡ l.initial.into.items ++ flat_map in_test (map view_test (take l.test-index l.tests))

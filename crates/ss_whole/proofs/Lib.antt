@@ -1,0 +1,3 @@
+mod Each
+mod Found
+mod Numbers

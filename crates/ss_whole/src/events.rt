@@ -1,0 +1,123 @@
+//! Event routines.
+
+ghost use Rattle.std.specs.Prelude.{◌≡◌, length, map, IfOk};
+ghost use Rattle.ss_tree.specs.View.{view_section};
+ghost use Rattle.ss_program.specs.View.{view_event};
+ghost use Rattle.ss_resolve.specs.Answers.{Gives, each, upto};
+ghost use Rattle.ss_whole.specs.Resolved.{class_event, class_variable, event_of, resolved_event, saved};
+ghost use Rattle.ss_whole.specs.View.{view_parts};
+
+use crate::ranking::resolve_ties;
+use crate::sections::{Parts, parts_at, split};
+use crate::words::narrow;
+use ss_base::{RankKey, RankKeys};
+use ss_lex::Name;
+use ss_names::{Event as EventSection, Meaning, Names};
+use ss_program::sections::Event;
+use ss_resolve::ResolveError;
+use ss_scopes::Globals;
+use ss_tree::program::Section;
+use std::alloc::{AllocError, Global};
+
+// The global variable that gets the number of the notice, if it is saved.
+fn saved(names: &Names, class: Name, saving: bool) -> Result<Option<u32>, ResolveError>
+    ensures { Gives (λ x. x) result (saved names.now class saving) }
+{
+    if !saving {
+        return Ok(None);
+    }
+    match names.meaning(&class) {
+        Some(Meaning::Class { variable, .. }) => {
+            let variable = narrow(variable)?;
+            Ok(Some(variable))
+        }
+        _ => Err(ResolveError::Unresolved),
+    }
+}
+
+// The event routine of a class that is given so many values.
+fn event_of(
+    alloc: Global,
+    class: usize,
+    ties: Vec<RankKey>,
+    given: usize,
+    saved: Option<u32>,
+    parts: Parts,
+) -> Result<Event, AllocError>
+    ensures { IfOk result (λ e. view_event e ≡ event_of class ties.items given saved (view_parts parts)) }
+{
+    let class = narrow(class)?;
+    let (given, others) = split(&parts.modes, given);
+    let given = Vec::from_slice(alloc, given)?;
+    let others = Vec::from_slice(alloc, others)?;
+    Ok(Event {
+        class,
+        ties: RankKeys::new(ties),
+        line: parts.line,
+        given,
+        others,
+        saved,
+        body: parts.body,
+    })
+}
+
+// A notice class with its EVENT section.
+fn class_event<G: Globals>(
+    alloc: Global,
+    names: &Names,
+    globals: &G,
+    sections: &[Section],
+    class: usize,
+    name: Name,
+    known: EventSection,
+) -> Result<Event, ResolveError>
+    ensures { Gives view_event result (class_event names.now (G.whole globals.now) (map view_section sections.now) class name known) }
+{
+    if names.fields(class).len() < known.given {
+        return Err(ResolveError::Unresolved);
+    }
+    let ties = resolve_ties(alloc, names, class, name)?;
+    let saved = saved(names, name, known.saving)?;
+    let parts = parts_at(alloc, names, globals, sections, known.section)?;
+    let event = event_of(alloc, class, ties, known.given, saved, parts)?;
+    Ok(event)
+}
+
+// The notice class of a place in the order of rank.
+fn resolve_event<G: Globals>(
+    alloc: Global,
+    names: &Names,
+    globals: &G,
+    sections: &[Section],
+    rank: usize,
+) -> Result<Event, ResolveError>
+    ensures { Gives view_event result (resolved_event names.now (G.whole globals.now) (map view_section sections.now) rank) }
+{
+    let Some(class) = names.ranked(rank) else {
+        return Err(ResolveError::Unresolved);
+    };
+    let Some(name) = names.class_name(class) else {
+        return Err(ResolveError::Unresolved);
+    };
+    let Some(known) = names.event(&name) else {
+        return Err(ResolveError::Unresolved);
+    };
+    class_event(alloc, names, globals, sections, class, name, known)
+}
+
+/// The notice classes with their event routines, in the order of rank.
+pub(crate) fn resolve_events<G: Globals>(
+    alloc: Global,
+    names: &Names,
+    globals: &G,
+    sections: &[Section],
+) -> Result<Vec<Event>, ResolveError>
+    ensures { Gives (λ v. map view_event v.items) result (each (resolved_event names.now (G.whole globals.now) (map view_section sections.now)) (upto (length names.now.ranks))) }
+{
+    let mut resolved = Vec::new(alloc);
+    for number in 0..names.ranks() {
+        let one = resolve_event(alloc, names, globals, sections, number)?;
+        resolved.push(one)?;
+    }
+    Ok(resolved)
+}

@@ -1,0 +1,128 @@
+//! Whole programs.
+
+ghost use Rattle.std.specs.Prelude.{◌≡◌, map, IfOk};
+ghost use Rattle.std.specs.List.{find, list_all};
+ghost use Rattle.std.specs.Option.{option_copied};
+ghost use Rattle.ss_tree.specs.View.{view_section};
+ghost use Rattle.ss_program.specs.View.{view_option, view_program};
+ghost use Rattle.ss_resolve.specs.Answers.{Gives};
+ghost use Rattle.ss_whole.specs.Resolved.{is_known, is_main, main_parts, parts_of, resolved};
+ghost use Rattle.ss_whole.specs.View.{view_parts};
+
+use crate::events::resolve_events;
+use crate::laid::lay_out;
+use crate::routines::resolve_routines;
+use crate::sections::{Parts, parts_of};
+use ss_names::Names;
+use ss_program::sections::Program as Resolved;
+use ss_resolve::ResolveError;
+use ss_scopes::Globals;
+use ss_tree::program::{Program, Section, SectionKind};
+use std::alloc::{AllocError, Global};
+
+// Whether a section, if it is an EVENT section, is one of a notice class.
+fn is_known(names: &Names, section: &Section) -> bool
+    ensures { result ≡ is_known names.now (view_section section.now) }
+{
+    match &section.kind {
+        SectionKind::Event { name, .. } => names.rank(name).is_some(),
+        SectionKind::Main => true,
+        SectionKind::Routine { .. } => true,
+    }
+}
+
+// Whether that holds of all sections.
+fn all_known(names: &Names, sections: &[Section]) -> bool
+    ensures { result ≡ list_all (is_known names.now) (map view_section sections.now) }
+{
+    let mut all = true;
+    for section in sections {
+        all = all && is_known(names, section);
+    }
+    all
+}
+
+// Whether a section is MAIN.
+fn is_main(section: &Section) -> bool
+    ensures { result ≡ is_main (view_section section.now) }
+{
+    match &section.kind {
+        SectionKind::Main => true,
+        SectionKind::Routine { .. } => false,
+        SectionKind::Event { .. } => false,
+    }
+}
+
+// MAIN, the first where there are several.
+fn main_section(sections: &[Section]) -> Option<&Section>
+    ensures { option_copied result ≡ find (λ s. is_main (view_section s)) sections.now }
+{
+    sections.iter().find(|section| is_main(section))
+}
+
+// What MAIN comes to.
+#[tactic(auto, using(crate::proofs::Found::found_viewed))]
+fn main_parts<G: Globals>(
+    alloc: Global,
+    names: &Names,
+    globals: &G,
+    sections: &[Section],
+) -> Result<Parts, ResolveError>
+    ensures { Gives view_parts result (main_parts names.now (G.whole globals.now) (map view_section sections.now)) }
+{
+    match main_section(sections) {
+        Some(section) => parts_of(alloc, names, globals, section),
+        None => Err(ResolveError::Unresolved),
+    }
+}
+
+// The program, by its sections.
+#[tactic(auto, unfolding(crate::specs::Resolved::resolved))]
+fn resolved<G: Globals>(
+    alloc: Global,
+    names: &Names,
+    globals: &G,
+    sections: &[Section],
+) -> Result<Resolved, ResolveError>
+    ensures { Gives view_program result (resolved names.now (G.whole globals.now) (map view_section sections.now)) }
+{
+    let laid = lay_out(alloc, names)?;
+    if !all_known(names, sections) {
+        return Err(ResolveError::Unresolved);
+    }
+    let routines = resolve_routines(alloc, names, globals, sections)?;
+    let events = resolve_events(alloc, names, globals, sections)?;
+    let parts = main_parts(alloc, names, globals, sections)?;
+    Ok(Resolved {
+        layout: laid.layout,
+        disciplines: laid.disciplines,
+        globals: laid.globals,
+        counts: laid.counts,
+        statistics: laid.statistics,
+        routines,
+        events,
+        locals: parts.modes,
+        main: parts.body,
+    })
+}
+
+/// The program with each name replaced by what it stands for, by the table of its names and what the whole
+/// program says of them. None where a name isn't of the kind that its place needs, a subscript is missing or
+/// too many, or a count of arguments doesn't fit.
+///
+/// # Errors
+/// `AllocError` where memory is refused, or where a number doesn't fit into 32 bits, which takes as many names.
+pub fn resolve<G: Globals>(
+    alloc: Global,
+    program: &Program,
+    names: &Names,
+    globals: &G,
+) -> Result<Option<Resolved>, AllocError>
+    ensures { IfOk result (λ p. view_option view_program p ≡ resolved names.now (G.whole globals.now) (map view_section program.now.sections.items)) }
+{
+    match resolved(alloc, names, globals, &program.sections) {
+        Ok(resolved) => Ok(Some(resolved)),
+        Err(ResolveError::Unresolved) => Ok(None),
+        Err(ResolveError::Memory) => Err(AllocError),
+    }
+}
