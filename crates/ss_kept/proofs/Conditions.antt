@@ -18,7 +18,7 @@ use Rattle.ss_program.specs.WellTyped.{Scope, HasMode, GoodTest}
 use Rattle.ss_resolve.specs.Answers.{each}
 use Rattle.ss_resolve.specs.Contexts.{Context}
 use Rattle.ss_resolve.specs.Expressions.{expression, set_named}
-use Rattle.ss_resolve.specs.Conditions.{relation_of, test, conjunction}
+use Rattle.ss_resolve.specs.Conditions.{relation_of, one_test, conjunction}
 use Rattle.ss_lists.specs.Rules.{KeptMention, KeptDemand, KeptMentions, KeptDemands}
 use Rattle.ss_kept.specs.Links.{Linked}
 use Rattle.ss_kept.specs.Laws.{ConditionResolves}
@@ -54,8 +54,8 @@ module _ (w : Whole) (locals : Moded) (c : Context) (s : Scope) (linked : Linked
   pub number_kept : (e : ExpressionTree) → KeptMentions w locals (mentioned.in_expression line e) → KeptDemands w locals (demanded.in_number line e) → Number w locals c s e
   number_kept e m d = as_number w locals c s line e (resolves w locals c s linked line e m d.1) d.0
 
-  test_resolves : (t : TestTree) → KeptMentions w locals (mentioned.in_test line t) → KeptDemands w locals (demanded.in_test line t) → GoesWell w locals (GoodTest s) (test c t)
-  unfolding test
+  test_resolves : (t : TestTree) → KeptMentions w locals (mentioned.in_test line t) → KeptDemands w locals (demanded.in_test line t) → GoesWell w locals (GoodTest s) (one_test c t)
+  unfolding one_test
   test_resolves (compare left relation right) m d =
       let x = resolves w locals c s linked line left
       (left_of (KeptMention w locals) (mentioned.in_expression line left) (mentioned.in_expression line right) m)
@@ -89,4 +89,4 @@ module _ (w : Whole) (locals : Moded) (c : Context) (s : Scope) (linked : Linked
   pub condition_resolves : (t : ConditionTree) → KeptMentions w locals (mentioned.in_condition line t) → KeptDemands w locals (demanded.in_condition line t) → ConditionResolves c s t
   condition_resolves t m d =
       each_resolves w locals (conjunction c) (flat_map (mentioned.in_test line)) (flat_map (demanded.in_test line)) (Every (GoodTest s))
-      (λ ts n k. each_resolves w locals (test c) (mentioned.in_test line) (demanded.in_test line) (GoodTest s) test_resolves ts n k) t m d
+      (λ ts n k. each_resolves w locals (one_test c) (mentioned.in_test line) (demanded.in_test line) (GoodTest s) test_resolves ts n k) t m d

@@ -18,23 +18,23 @@ relation_of words.Greater = Greater
 relation_of words.LessOrEqual = LessOrEqual
 relation_of words.GreaterOrEqual = GreaterOrEqual
 
-unfoldable pub test : Context → TestTree → Option Test
-test c (compare left relation right) = do
+unfoldable pub one_test : Context → TestTree → Option Test
+one_test c (compare left relation right) = do
   x ← expression c left
   y ← expression c right
   Some (Compare (relation_of relation) x y)
-test c (empty set negated) = do
+one_test c (empty set negated) = do
   s ← set_named c set
   Some (Empty negated s.0 s.1)
-test c (member e set negated) = do
+one_test c (member e set negated) = do
   x ← expression c e
   s ← set_named c set
   Some (Member negated s.0 x s.1)
-test c (data_ended negated) = Some (DataEnded negated)
+one_test c (data_ended negated) = Some (DataEnded negated)
 
 -- tests joined by AND
 abbrev pub conjunction : Context → List TestTree → Option (List Test)
-conjunction c tests = each (test c) tests
+conjunction c tests = each (one_test c) tests
 
 -- conjunctions joined by OR
 abbrev pub condition : Context → ConditionTree → Option Condition

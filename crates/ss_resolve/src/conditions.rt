@@ -4,7 +4,7 @@ ghost use Rattle.std.specs.Prelude.{◌≡◌, map};
 ghost use Rattle.ss_tree.specs.View.{view_condition, view_conjunction, view_test};
 ghost use Rattle.ss_program.specs.View.{view_condition as condition_seen, view_conjunction as conjunction_seen, view_test as test_seen};
 ghost use Rattle.ss_resolve.specs.Answers.{Gives, each};
-ghost use Rattle.ss_resolve.specs.Conditions.{condition, conjunction, test};
+ghost use Rattle.ss_resolve.specs.Conditions.{condition, conjunction, one_test};
 
 use crate::error::ResolveError;
 use crate::expressions::resolve_expression;
@@ -18,13 +18,13 @@ use ss_tree::condition::{Condition, Conjunction, Test};
 use std::alloc::Global;
 
 // A test.
-#[tactic(auto, unfolding(crate::specs::Conditions::test))]
+#[tactic(auto, unfolding(crate::specs::Conditions::one_test))]
 fn resolve_test<S: Scope>(
     alloc: Global,
     scope: &S,
     tree: &Test,
 ) -> Result<ResolvedTest, ResolveError>
-    ensures { Gives test_seen result (test (S.context scope.now) (view_test tree.now)) }
+    ensures { Gives test_seen result (one_test (S.context scope.now) (view_test tree.now)) }
 {
     match tree {
         Test::Compare {

@@ -13,7 +13,7 @@ use Rattle.ss_resolve.specs.declared.meaning.Meaning.TheVariants as meanings
 use Rattle.ss_resolve.specs.Answers.{each, if_there}
 use Rattle.ss_resolve.specs.Contexts.{Context, permanent_class}
 use Rattle.ss_resolve.specs.Expressions.{expression, subscript, target, set_named}
-use Rattle.ss_resolve.specs.Conditions.{test, conjunction, condition}
+use Rattle.ss_resolve.specs.Conditions.{one_test, conjunction, condition}
 use Rattle.ss_resolve.specs.Heads.{called_variable, guard, head, loop_variable, phrase, phrases_of, start}
 use Rattle.ss_resolve.specs.Statements.{entity_called, mode_of, new_place, position, reader, restart, told_of, when}
 use Rattle.ss_sizes.proofs.Within.{Within, up, change, after, behind, plain_small, there_small, each_small}
@@ -64,8 +64,8 @@ told_small (meanings.OfSet query set implied) e n h = entity_small implied e n h
 told_small _ e n h = tt
 
 module _ (c : Context) where
-  test_small : (t : TestTree) → Within test_nodes (tree.test_nodes t) (test c t)
-  unfolding test
+  test_small : (t : TestTree) → Within test_nodes (tree.test_nodes t) (one_test c t)
+  unfolding one_test
   test_small (compare left relation right) =
       after expression_nodes test_nodes (tree.expression_nodes left) (1 + tree.expression_nodes left + tree.expression_nodes right) (expression c left) _ (small c left) (λ x lt.
       after expression_nodes test_nodes (tree.expression_nodes right) (1 + tree.expression_nodes left + tree.expression_nodes right) (expression c right) _ (small c right) (λ y lt2. omega (arith, lt, lt2)))
@@ -80,7 +80,7 @@ module _ (c : Context) where
   conjunction_small [] = omega arith
   conjunction_small (t ∷ ts) =
       change (total test_nodes) alternative_nodes (tree.alternative_nodes (t ∷ ts)) (conjunction c (t ∷ ts)) (most_tests (tree.alternative_nodes (t ∷ ts)) (alternative_counts (t ∷ ts)))
-      (each_small tree.test_nodes test_nodes (test c) test_small (t ∷ ts))
+      (each_small tree.test_nodes test_nodes (one_test c) test_small (t ∷ ts))
 
   condition_counts : (cs : ConditionTree) → 1 ≤ tree.condition_nodes cs
   condition_counts [] = omega arith
