@@ -157,8 +157,8 @@ two_classes_of_members = refl
 pub set_defined_twice : refusal (declares (integers ∷ define_sets (line 2) (names1 pool) fifo ∷ class 3 job (belongs_to (names1 pool) ∷ []) ∷ system_pool 4 ∷ define_sets (line 5) (names1 pool) lifo ∷ [])) ≡ at Twice 5
 set_defined_twice = refl
 
--- what is no set has no two DEFINEs as one: it is unknown
-pub no_set_defined_twice : refusal (declares (integers ∷ define_sets (line 2) (names2 pool pool) fifo ∷ [])) ≡ at UnknownSet 2
+-- also one that is no set
+pub no_set_defined_twice : refusal (declares (integers ∷ define_sets (line 2) (names2 pool pool) fifo ∷ [])) ≡ at Twice 2
 no_set_defined_twice = refl
 
 -- a DEFINE gives an attribute its mode, also before the EVERY

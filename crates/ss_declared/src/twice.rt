@@ -94,7 +94,7 @@ fn sets_again(
 {
     let owner = again(alloc, Topic::Owner, sayings, found)?;
     let member = again(alloc, Topic::Member, sayings, owner)?;
-    let defined = again_said(alloc, Topic::Discipline, Topic::Set, sayings, member)?;
+    let defined = again(alloc, Topic::Discipline, sayings, member)?;
     Ok(defined)
 }
 
