@@ -100,9 +100,9 @@ ended class x s = with_histories s (ending s.scene.heap.layout class x s.scene.s
 abbrev pub with_history : (entity : ℤ) → History → Column → Column
 with_history x h c y = if int_eq x y then Some h else c y
 
--- the histories of a statistic with one value more in that of an entity, where it has one; where that is full there is the fault OVERFLOW
+-- the histories of a statistic with one value more in that of an entity; where that is full there is the fault OVERFLOW
 abbrev pub noting_in : (entity now : ℤ) → Value → Option History → Column → Result Column Trouble
-noting_in x now v None c = Ok c
+noting_in x now v None c = Err Misfit
 noting_in x now v (Some h) c =
     if_ok (number_of v) (λ z. unless_fault (is_full h) Overflow (Ok (with_history x (with_value h now z) c)))
 
@@ -112,7 +112,7 @@ noting x now v c = noting_in x now v (c x) c
 -- the same of each statistic of a subject
 abbrev pub all_noting : Subject → (entity now : ℤ) → Value → List Statistic → List Column → Result (List Column) Trouble
 all_noting subject x now v [] cs = Ok cs
-all_noting subject x now v (s ∷ ss) [] = Ok []
+all_noting subject x now v (s ∷ ss) [] = Err Misfit
 all_noting subject x now v (s ∷ ss) (c ∷ cs) =
     if_ok (if same_subject s.subject subject then noting x now v c else Ok c) (λ d. turned (λ ds. d ∷ ds) (all_noting subject x now v ss cs))
 
