@@ -6,7 +6,7 @@ use Rattle.ss_meaning.specs.Meaning.{Ending, Ended, Fault, Paused, WentWrong, Ru
 use Rattle.ss_machine_code.specs.declared.instruction.Instruction.{Instruction}
 use Rattle.ss_machine_code.specs.States.{State, Moved, To, Sends, Rest, Stuck, Done, Breaks}
 use Rattle.ss_machine_code.specs.Machine.{Code, Stepped, Goes, Over, NoStep, act, is_due, with_rest, when_due, step_at, step}
-use Rattle.ss_machine_code.specs.Running.{Result, Underway, Ends, IsStuck, Behaves, ended_at, go_on, result_at, result_of, start, steps}
+use Rattle.ss_machine_code.specs.Running.{Underway, Ends, Behaves, ended_at, go_on, result_at, start, steps}
 use Rattle.ss_machine_code.specs.Laws.{EndingsStay}
 
 -- a step that leaves at most so many ticks

@@ -1,9 +1,8 @@
 use Rattle.std.proofs.Common.{◌≡◌, sym, ap, subst, ◌∙◌, inl}
 use Rattle.ss_base.specs.Failures.{HasRisen}
 use Rattle.ss_machine.specs.Held.{IsAtStart}
-use Rattle.ss_machine.specs.declared.stop.Stop.{Stop}
 use Rattle.ss_machine.specs.declared.stop.Stop.TheVariants.{Memory, Output, Input}
-use Rattle.ss_sessions.specs.Sessions.{session_machine, session_reader, session_source, session_writer}
+use Rattle.ss_sessions.specs.Sessions.{session_machine, session_reader, session_writer}
 use Rattle.ss_sessions.specs.Headline.{Simulated}
 use Rattle.ss_sessions.proofs.Headline.{nothing_simulated}
 use Rattle.ss_sessions.proofs.Running.{stands_stopped}

@@ -1,4 +1,4 @@
-use Rattle.std.proofs.Common.{◌≡◌, ◌+◌, ◌≤◌, List, ℕ, [], take}
+use Rattle.std.proofs.Common.{◌≡◌, ◌+◌, ◌≤◌, [], take}
 use Rattle.std.specs.List.{sum}
 use Rattle.ss_machine_code.specs.Machine.{Code}
 use Rattle.ss_machine.specs.declared.stop.Stop.TheVariants.{Paused, Failed}
