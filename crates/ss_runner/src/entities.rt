@@ -9,7 +9,6 @@ use crate::filing::pop_filing;
 use crate::working::{Outcome, Working};
 use ss_base::{Line, Value};
 use ss_machine_code::instruction::{Filing, Instruction};
-use ss_population::trouble::Trouble;
 use ss_program::statement::{Counted, End};
 use std::alloc::AllocError;
 

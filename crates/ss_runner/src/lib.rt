@@ -13,4 +13,5 @@ pub mod members;
 pub mod perform;
 pub mod references;
 pub mod spots;
+pub mod statistics;
 pub mod working;

@@ -33,7 +33,12 @@ impl Working {
             Instruction::OfMember { query, set, line } => self.of_member(query, set, line),
             Instruction::Clock => self.clock(),
             Instruction::TimeOf { line } => self.time_of(line),
-            Instruction::Figure { .. } => Ok(self.figure()),
+            Instruction::Figure {
+                fold,
+                statistic,
+                system,
+                line,
+            } => self.figure(fold, statistic, system, line),
             Instruction::Compare { relation, skip } => Ok(self.compare(relation, skip)),
             Instruction::TestData { .. } => Ok(Outcome::Missing),
             Instruction::TestEmpty {
@@ -126,7 +131,11 @@ impl Working {
             Instruction::Await { skip } => Ok(self.await_event(skip)),
             Instruction::TakeEvent => self.take_event(code),
             Instruction::NextEvent { back } => Ok(self.next_event(back)),
-            Instruction::Reset { .. } => Ok(self.reset()),
+            Instruction::Reset {
+                statistic,
+                system,
+                line,
+            } => Ok(self.reset(statistic, system, line)),
         }
     }
 }

@@ -1,8 +1,6 @@
 //! What is asked of entities and sets.
 
-ghost use Rattle.std.specs.Prelude.{◌≡◌, ◌+◌, ◌<◌, ◌^◌, ℕ, Bool, List, IfOk};
-ghost use Rattle.ss_base.specs.declared.line.Line.{Line as LineSeen};
-ghost use Rattle.ss_program.specs.declared.expression.Fold.{Fold};
+ghost use Rattle.std.specs.Prelude.{◌≡◌, ◌+◌, ◌<◌, ◌^◌, ℕ, List, IfOk};
 ghost use Rattle.ss_machine_code.specs.Machine.{Code as CodeSeen, act};
 ghost use Rattle.ss_runner.specs.Holding.{core_of, Told};
 
@@ -166,21 +164,5 @@ impl Working {
         };
         let answer = self.scene.known_owner(set, owner);
         self.pass_by(answer, line)
-    }
-
-    /// What a statistic says. No statistic is kept, so none is there.
-    #[inline(always)]
-    pub fn figure(&self) -> Outcome
-        ensures { (code : CodeSeen) (input : List ℕ) (fold : Fold) (statistic : ℕ) (system : Bool) (line : LineSeen) → Told result (act code (Instruction.Figure fold statistic system line) (core_of self.now input)) (core_of self.now input) }
-    {
-        Outcome::Missing
-    }
-
-    /// A statistic starts afresh. No statistic is kept, so none is there.
-    #[inline(always)]
-    pub fn reset(&self) -> Outcome
-        ensures { (code : CodeSeen) (input : List ℕ) (statistic : ℕ) (system : Bool) (line : LineSeen) → Told result (act code (Instruction.Reset statistic system line) (core_of self.now input)) (core_of self.now input) }
-    {
-        Outcome::Missing
     }
 }

@@ -1,8 +1,11 @@
 //! Assignments: to variables, to attributes, and to N. of a class.
 
-ghost use Rattle.std.specs.Prelude.{◌≡◌, ◌+◌, ◌<◌, ◌^◌, ℕ, List, IfOk};
-ghost use Rattle.ss_base.specs.declared.value.Value.TheVariants.{Whole};
+ghost use Rattle.std.specs.Prelude.{◌≡◌, ◌+◌, ◌<◌, ◌^◌, ℕ, List, IfOk, pos};
 ghost use Rattle.ss_meaning.specs.Values.{sure, if_ok, calculated, operator_of};
+ghost use Rattle.ss_program.specs.declared.expression.Variable.TheVariants.{Global, Local};
+ghost use Rattle.ss_program.specs.declared.sections.Subject.TheVariants.{OfVariable};
+ghost use Rattle.ss_meaning.specs.Store.{put};
+ghost use Rattle.ss_meaning.specs.Histories.{noted};
 ghost use Rattle.ss_meaning.specs.Places.{held, written, assigned_variable};
 ghost use Rattle.ss_machine_code.specs.Machine.{Code as CodeSeen, act, changed};
 ghost use Rattle.ss_population.specs.Told.{told};
@@ -20,18 +23,56 @@ use ss_stack::spot::Spot;
 use std::alloc::AllocError;
 
 impl Working {
-    // Assigns a value to a variable, where one of its mode is there.
+    // Assigns a value to a local variable, where one of its mode is there.
+    #[inline(always)]
+    fn write_local(&mut self, number: u32, value: Value) -> Result<(), Trouble>
+        ensures rests { Rests self.old self.new }
+        ensures given { self.new.given ≡ self.old.given }
+        ensures store { (input : List ℕ) → Came result (put (Local number) value (store_of self.old input)) (store_of self.new input) }
+    {
+        if !self.locals.set(number, value) {
+            return Err(Trouble::Misfit);
+        }
+        Ok(())
+    }
+
+    // The same of a global variable, which no history notes yet.
+    #[inline(always)]
+    fn write_global(&mut self, number: u32, value: &Value) -> Result<(), Trouble>
+        ensures rests { Rests self.old self.new }
+        ensures given { self.new.given ≡ self.old.given }
+        ensures store { (input : List ℕ) → Came result (put (Global number) value.now (store_of self.old input)) (store_of self.new input) }
+    {
+        if !self.globals.set(number, *value) {
+            return Err(Trouble::Misfit);
+        }
+        Ok(())
+    }
+
+    // Notes the value of a global variable in each history of it.
+    #[inline(always)]
+    fn note_global(&mut self, number: u32, value: Value) -> Result<(), Trouble>
+        ensures rests { Rests self.old self.new }
+        ensures given { self.new.given ≡ self.old.given }
+        ensures store { (input : List ℕ) → Came result (noted (OfVariable number) (pos 0) value (store_of self.old input)) (store_of self.new input) }
+    {
+        self.scene.note_variable(number, value)
+    }
+
+    // Assigns a value to a variable, where one of its mode is there. Each history of a global one notes it.
     #[inline(always)]
     pub(crate) fn write_variable(&mut self, variable: Variable, value: Value) -> Result<(), Trouble>
         ensures rests { Rests self.old self.new }
         ensures given { self.new.given ≡ self.old.given }
         ensures store { (input : List ℕ) → Came result (assigned_variable variable value (store_of self.old input)) (store_of self.new input) }
     {
-        let there = match variable {
-            Variable::Global { number } => self.globals.set(number, value),
-            Variable::Local { number } => self.locals.set(number, value),
-        };
-        if there { Ok(()) } else { Err(Trouble::Misfit) }
+        match variable {
+            Variable::Local { number } => self.write_local(number, value),
+            Variable::Global { number } => match self.write_global(number, &value) {
+                Err(trouble) => Err(trouble),
+                Ok(()) => self.note_global(number, value),
+            },
+        }
     }
 
     // Assigns a value to a place.

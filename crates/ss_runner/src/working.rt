@@ -1,16 +1,13 @@
 //! What each instruction on numbers, variables, jumps and calls does.
 
-ghost use Rattle.std.specs.Prelude.{◌≡◌, ◌+◌, ◌<◌, ◌^◌, ◌∷◌, IfOk, OnOk, Some, None, length, ℕ, List};
-ghost use Rattle.ss_base.specs.declared.value.Value.{Value as ValueSeen};
-ghost use Rattle.ss_meaning.specs.Store.{fetched, put};
-ghost use Rattle.ss_machine_code.specs.States.{To, onward, did, past, core_of as core_with};
+ghost use Rattle.std.specs.Prelude.{◌≡◌, ◌+◌, ◌<◌, ◌^◌, IfOk, Some, None, ℕ, List};
+ghost use Rattle.ss_meaning.specs.Store.{fetched};
+ghost use Rattle.ss_machine_code.specs.States.{To, past, core_of as core_with};
 ghost use Rattle.ss_machine_code.specs.Machine.{Code as CodeSeen, act};
-ghost use Rattle.ss_population.specs.Told.{told};
 ghost use Rattle.ss_runner.specs.Holding.{store_of, frames_of, core_of, Told};
 
 use ss_base::{FaultKind, Line, Value};
 use ss_machine_code::instruction::Instruction;
-use ss_population::trouble::Trouble;
 use ss_program::condition::Relation;
 use ss_program::expression::{Operator, Sign, Variable};
 use ss_stack::frames::Frames;

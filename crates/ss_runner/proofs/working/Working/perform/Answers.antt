@@ -55,8 +55,9 @@ returns-in-TimeOf c =
     subst (λ i. Told outcome (act c.args.code.now i (core_of c.args.self.now input)) (core_of c.time_of.new.self input)) (sym c.in-TimeOf.is) (t c.args.code.now input)) c.time_of.ensures
 
 pub returns-in-Figure : goal.returns-in-Figure
-returns-in-Figure c = λ own input.
-    subst (λ i. Told c.figure.result (act c.args.code.now i (core_of c.args.self.now input)) (core_of c.args.self.now input)) (sym c.in-Figure.is) (c.figure.ensures c.args.code.now input c.in-Figure.fold c.in-Figure.statistic c.in-Figure.system c.in-Figure.line)
+returns-in-Figure c =
+    IfOk-weaker c.figure.result _ _ (λ outcome t. λ own input.
+    subst (λ i. Told outcome (act c.args.code.now i (core_of c.args.self.now input)) (core_of c.figure.new.self input)) (sym c.in-Figure.is) (t c.args.code.now input)) c.figure.ensures
 
 pub returns-in-Compare : goal.returns-in-Compare
 returns-in-Compare c = λ own input.
@@ -200,7 +201,7 @@ returns-in-Cancel c = λ own input.
 
 pub returns-in-Reset : goal.returns-in-Reset
 returns-in-Reset c = λ own input.
-    subst (λ i. Told c.reset.result (act c.args.code.now i (core_of c.args.self.now input)) (core_of c.args.self.now input)) (sym c.in-Reset.is) (c.reset.ensures c.args.code.now input c.in-Reset.statistic c.in-Reset.system c.in-Reset.line)
+    subst (λ i. Told c.reset.result (act c.args.code.now i (core_of c.args.self.now input)) (core_of c.reset.new.self input)) (sym c.in-Reset.is) (c.reset.ensures c.args.code.now input)
 
 pub returns-in-When : goal.returns-in-When
 returns-in-When c =

@@ -7,7 +7,7 @@ use Rattle.ss_population.specs.Told.{told, meant}
 use Rattle.ss_runner.specs.Effects.{Came}
 use Rattle.ss_stack.specs.Spots.{spot_seen}
 use Rattle.ss_runner.specs.Holding.{store_of}
-use Rattle.ss_runner.proofs.Outcomes.{changed}
+use Rattle.ss_runner.proofs.Outcomes.{noted}
 use Rattle.ss_runner.proofs.Counts.{open_then, open_not}
 use Rattle.ss_runner.proofs.working.Working.write.Goals as goal
 
@@ -18,7 +18,7 @@ returns-in-Attribute-clause-store c = λ input.
     let v = c.args.value in
     let a = c.in-Attribute in
     subst (λ p. Came c.set_attribute.result (written (spot_seen p) v s) (store_of (record old { scene = c.set_attribute.new.self }) input)) (sym a.is)
-    (changed (assigned_attribute a.class a.field a.x v) old.scene c.set_attribute.new.self c.set_attribute.result c.set_attribute.ensures s)
+    (noted (assigned_attribute a.class a.field a.x v) old.scene c.set_attribute.new.self c.set_attribute.result c.set_attribute.ensures s)
 
 pub returns-in-Err-clause-store : goal.returns-in-Err-clause-store
 returns-in-Err-clause-store c = λ input.
