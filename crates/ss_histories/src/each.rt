@@ -1,6 +1,6 @@
 //! What is done with each of some statistics.
 
-ghost use Rattle.std.specs.Prelude.{◌≡◌, ◌<◌, ◌≤ℤ◌, pos, map, fold, length, IfOk, OnOk, IsTrue, MatchResult, Some, None};
+ghost use Rattle.std.specs.Prelude.{◌≡◌, ◌<◌, [], false, ◌≤ℤ◌, pos, map, fold, length, IfOk, OnOk, IsTrue, MatchResult, Some, None};
 ghost use Rattle.std.specs.List.{All};
 ghost use Rattle.std.specs.Ordering.{int_eq};
 ghost use Rattle.ss_meaning.specs.Histories.{same_owner, home};
@@ -61,6 +61,17 @@ pub(crate) fn note_each(kept: &mut [Kept], places: &[usize], entity: i64, now: i
 {
     for place in places {
         kept[*place].note(entity, now, value);
+    }
+}
+
+/// Whether there is a statistic.
+#[inline(always)]
+pub(crate) fn has_any(kept: &[Kept]) -> bool
+    ensures { result ≡ false → statistics_of kept.now ≡ [] }
+{
+    match kept {
+        [] => false,
+        [..] => true,
     }
 }
 

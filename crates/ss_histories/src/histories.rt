@@ -1,6 +1,6 @@
 //! The histories of all statistics.
 
-ghost use Rattle.std.specs.Prelude.{◌≡◌, ◌≤ℤ◌, pos, slice_get, Ok, Err, IfOk, OnOk, MatchResult};
+ghost use Rattle.std.specs.Prelude.{◌≡◌, ◌≤ℤ◌, [], false, pos, slice_get, Ok, Err, IfOk, OnOk, MatchResult};
 ghost use Rattle.std.specs.Bool.{IsFalse};
 ghost use Rattle.std.specs.List.{list_any};
 ghost use Rattle.std.specs.Option.{option_map};
@@ -115,6 +115,14 @@ impl Histories {
             entity,
             self.latest,
         );
+    }
+
+    /// Whether there are statistics.
+    #[inline(always)]
+    pub fn has_statistics(&self) -> bool
+        ensures { result ≡ false → self.now.statistics ≡ [] }
+    {
+        each::has_any(&self.kept)
     }
 
     /// Whether a statistic is kept of a subject.
