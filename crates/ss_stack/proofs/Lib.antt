@@ -6,3 +6,4 @@ mod Puts
 mod Yields
 mod Short
 mod Fits
+mod Lasts

@@ -5,6 +5,7 @@ pub mod bounds;
 pub mod frame;
 pub mod frames;
 pub mod given;
+pub mod in_place;
 pub mod numbers;
 pub mod operands;
 pub mod spot;

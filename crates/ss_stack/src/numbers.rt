@@ -113,7 +113,7 @@ pub fn related(relation: Relation, x: Value, y: Value) -> Option<bool>
     ensures { result ≡ related relation x y }
 {
     match (x, y) {
-        (Value::Whole(_), Value::Whole(_)) => Some(allows(relation, x.cmp(&y))),
+        (Value::Whole(x), Value::Whole(y)) => Some(allows(relation, x.cmp(&y))),
         (Value::Text(_), Value::Text(_)) => Some(allows(relation, x.cmp(&y))),
         (Value::Whole(_), Value::Text(_)) => None,
         (Value::Text(_), Value::Whole(_)) => None,

@@ -102,7 +102,7 @@ impl Operands {
 
     // The topmost two values.
     #[inline(always)]
-    fn top_two(&self) -> Option<TopTwo>
+    pub(crate) fn top_two(&self) -> Option<TopTwo>
         ensures { MatchOption result ((go : ValueSeen → ValueSeen → List ValueSeen → Moved) → with_two self.now.here go ≡ Stuck) (λ two. (rest : List ValueSeen) × (self.now.here ≡ two.top ∷ two.below ∷ rest)) }
     {
         let Some(values) = self.last(2) else {
@@ -134,9 +134,9 @@ pub struct Number {
 
 /// The topmost value, and the one below it.
 #[derive(Clone, Copy)]
-struct TopTwo {
-    top: Value,
-    below: Value,
+pub(crate) struct TopTwo {
+    pub(crate) top: Value,
+    pub(crate) below: Value,
 }
 
 /// The member that a loop has come to, and the owner of its set, if it is not the system.

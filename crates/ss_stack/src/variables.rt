@@ -1,6 +1,7 @@
 //! The global variables.
 
-ghost use Rattle.std.specs.Prelude.{◌≡◌, ◌≤◌, length, take, drop, slice_get, IfOk};
+ghost use Rattle.std.specs.Prelude.{◌≡◌, ◌≤◌, ◌++◌, [], ◌∷◌, false, List, length, take, drop, slice_get, IfOk};
+ghost use Rattle.ss_base.specs.declared.value.Value.{Value as ValueSeen};
 ghost use Rattle.ss_meaning.specs.Values.{same_mode};
 ghost use Rattle.ss_meaning.specs.Store.{put_at, firsts};
 ghost use Rattle.ss_base.specs.Layout.{mode_of};
@@ -48,7 +49,8 @@ impl Variables {
     /// Assigns a value to a variable, and says whether one of its mode is there. If not, nothing changes.
     #[inline(always)]
     pub fn set(&mut self, number: u32, value: Value) -> bool
-        ensures { put_at self.old number value ≡ put_told result self.new }
+        ensures set { put_at self.old number value ≡ put_told result self.new }
+        ensures kept { result ≡ false → self.new ≡ self.old }
     {
         put(&mut self.values, number as usize, value)
     }
@@ -78,7 +80,8 @@ fn value_at(values: &[Value], number: usize) -> Option<Value>
 // Changes one of these values to another of its mode, and says whether it is there.
 #[inline(always)]
 fn put(values: &mut [Value], number: usize, value: Value) -> bool
-    ensures { put_at values.old number value ≡ put_told result values.new }
+    ensures set { put_at values.old number value ≡ put_told result values.new }
+    ensures kept { result ≡ false → values.new ≡ values.old }
 {
     let Some(old) = value_at(values, number) else {
         return false;
@@ -96,7 +99,30 @@ pub(crate) fn put_above(values: &mut [Value], base: usize, number: usize, value:
     requires { base ≤ length values.old }
     ensures below { take base values.new ≡ take base values.old }
     ensures here { put_at (drop base values.old) number value ≡ put_told result (drop base values.new) }
+    ensures kept { result ≡ false → values.new ≡ values.old }
 {
     let (_, here) = values.split_at_mut(base);
     put(here, number, value)
+}
+
+// Puts a value in place of the last of these.
+#[inline(always)]
+fn set_last(values: &mut [Value], value: Value)
+    ensures { (last : ValueSeen) (rest : List ValueSeen) → values.old ≡ rest ++ last ∷ [] → values.new ≡ rest ++ value ∷ [] }
+{
+    let count = values.len();
+    if count > 0 {
+        values[count - 1] = value;
+    }
+}
+
+// The same of the values from a number on.
+#[inline(always)]
+pub(crate) fn set_last_above(values: &mut [Value], base: usize, value: Value)
+    requires { base ≤ length values.old }
+    ensures below { take base values.new ≡ take base values.old }
+    ensures here { (last : ValueSeen) (rest : List ValueSeen) → drop base values.old ≡ rest ++ last ∷ [] → drop base values.new ≡ rest ++ value ∷ [] }
+{
+    let (_, here) = values.split_at_mut(base);
+    set_last(here, value);
 }
