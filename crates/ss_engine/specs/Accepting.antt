@@ -1,5 +1,5 @@
 -- What a text is a program of, and why one is refused.
-use Rattle.std.specs.Prelude.{◌≡◌, ◌≢◌, ℕ, ◌<◌, List, [], length, Some, None}
+use Rattle.std.specs.Prelude.{◌≡◌, ℕ, ◌<◌, List, length, Some, None}
 use Rattle.ss_base.specs.declared.line.Line.{Line}
 use Rattle.ss_lex.specs.declared.token.Token.{Token}
 use Rattle.ss_lex.specs.declared.error.LexError.TheVariants as lexical
@@ -22,7 +22,7 @@ use Rattle.ss_machine_code.specs.Machine.{Code}
 use Rattle.ss_machine_code.specs.Running.{Behaves}
 use Rattle.ss_machine_code.specs.Translation.{code_of}
 use Rattle.ss_engine.specs.declared.refusal.Refusal.{Refusal}
-use Rattle.ss_engine.specs.declared.refusal.Refusal.TheVariants.{TooLong, NotAscii, BadNumber, OpenText, AlphaTooLong, PictureCut, NameTooLong, NotYet, Syntax, TooDeep, Twice, RealMode, UnknownClass, UnknownSet, NoOwner, NoMember, RankKey, TallyTwice, TooMany, TieKey, NoMain, NoEventRoutine, Mode, Arguments, Subscript, NotAssignable, Fields, StartPlace, Unknown, CodeTooLong, Memory}
+use Rattle.ss_engine.specs.declared.refusal.Refusal.TheVariants.{TooLong, NotAscii, BadNumber, OpenText, AlphaTooLong, PictureCut, NameTooLong, Syntax, TooDeep, Twice, RealMode, UnknownClass, UnknownSet, NoOwner, NoMember, RankKey, TallyTwice, TooMany, TieKey, NoMain, NoEventRoutine, Mode, Arguments, Subscript, NotAssignable, Fields, StartPlace, Unknown, CodeTooLong, Memory}
 
 -- how deep parentheses, IFs and loops may stand in one another
 abbrev pub nesting_limit : ℕ
@@ -77,12 +77,6 @@ pub record IsIllFormed (text : List ℕ) (rule : UseRule) (line : Line) : Type 0
   pub declared : declaration_refusal tree ≡ None
   pub broken : use_refusal tree ≡ Some (record { rule = rule; line = line })
 
--- the text is well formed, but its program has statistics
-pub record IsUnready (text : List ℕ) : Type 0 where
-  pub program : Program
-  pub meant : IsProgramOf text program
-  pub unready : program.statistics ≢ []
-
 -- the text is well formed, but its tree has more than 16,384 nodes, and the code of its program more than 1,048,576
 -- instructions
 pub record IsLarge (text : List ℕ) : Type 0 where
@@ -100,7 +94,6 @@ RefusedFor text (OpenText line) = IsRefused text (lexical.OpenText line)
 RefusedFor text (AlphaTooLong line) = IsRefused text (lexical.AlphaTooLong line)
 RefusedFor text (PictureCut line) = IsRefused text (lexical.PictureCut line)
 RefusedFor text (NameTooLong line) = IsRefused text (lexical.NameTooLong line)
-RefusedFor text NotYet = IsUnready text
 RefusedFor text (Syntax line) = IsNoProgram text (parsing.Syntax line)
 RefusedFor text (TooDeep line) = IsNoProgram text (parsing.TooDeep line)
 RefusedFor text (Twice line) = IsMisdeclared text declaring.Twice line

@@ -11,7 +11,7 @@ use Rattle.ss_check.specs.declared.error.CheckError.TheVariants as checking
 use Rattle.ss_code.specs.declared.error.CodeError.{CodeError}
 use Rattle.ss_code.specs.declared.error.CodeError.TheVariants as generating
 use Rattle.ss_engine.specs.declared.refusal.Refusal.{Refusal}
-use Rattle.ss_engine.specs.declared.refusal.Refusal.TheVariants.{TooLong, NotAscii, BadNumber, OpenText, AlphaTooLong, PictureCut, NameTooLong, NotYet, Syntax, TooDeep, Twice, RealMode, UnknownClass, UnknownSet, NoOwner, NoMember, RankKey, TallyTwice, TooMany, TieKey, NoMain, NoEventRoutine, Mode, Arguments, Subscript, NotAssignable, Fields, StartPlace, Unknown, CodeTooLong, Memory}
+use Rattle.ss_engine.specs.declared.refusal.Refusal.TheVariants.{TooLong, NotAscii, BadNumber, OpenText, AlphaTooLong, PictureCut, NameTooLong, Syntax, TooDeep, Twice, RealMode, UnknownClass, UnknownSet, NoOwner, NoMember, RankKey, TallyTwice, TooMany, TieKey, NoMain, NoEventRoutine, Mode, Arguments, Subscript, NotAssignable, Fields, StartPlace, Unknown, CodeTooLong, Memory}
 
 -- the number of a refusal, which is 0 for memory
 abbrev pub refusal_number : Refusal → ℕ
@@ -22,7 +22,6 @@ refusal_number (OpenText line) = 34
 refusal_number (AlphaTooLong line) = 35
 refusal_number (PictureCut line) = 36
 refusal_number (NameTooLong line) = 37
-refusal_number NotYet = 40
 refusal_number (Syntax line) = 41
 refusal_number (TooDeep line) = 42
 refusal_number (Twice line) = 51
@@ -56,7 +55,6 @@ refusal_name (OpenText line) = codes "OpenText"
 refusal_name (AlphaTooLong line) = codes "AlphaTooLong"
 refusal_name (PictureCut line) = codes "PictureCut"
 refusal_name (NameTooLong line) = codes "NameTooLong"
-refusal_name NotYet = codes "NotYet"
 refusal_name (Syntax line) = codes "Syntax"
 refusal_name (TooDeep line) = codes "TooDeep"
 refusal_name (Twice line) = codes "Twice"
@@ -90,7 +88,6 @@ refusal_line (OpenText line) = line.0
 refusal_line (AlphaTooLong line) = line.0
 refusal_line (PictureCut line) = line.0
 refusal_line (NameTooLong line) = line.0
-refusal_line NotYet = 0
 refusal_line (Syntax line) = line.0
 refusal_line (TooDeep line) = line.0
 refusal_line (Twice line) = line.0

@@ -1,6 +1,6 @@
 //! From a text to a model.
 
-ghost use Rattle.std.specs.Prelude.{◌≡◌, ◌≢◌, true, false, [], IfOk, IfErr};
+ghost use Rattle.std.specs.Prelude.{◌≡◌, IfOk, IfErr};
 ghost use Rattle.ss_engine.specs.Accepting.{Compiles, RefusedFor};
 ghost use Rattle.ss_engine.specs.Refusals.{refusal_of_lexer, refusal_of_parser, refusal_of_tables, refusal_of_checker, refusal_of_generator};
 
@@ -11,7 +11,6 @@ use ss_code::generate::generate;
 use ss_formed::laws::spelled_trees_are_formed;
 use ss_lex::{LexError, tokens};
 use ss_parse::{ParseError, parse};
-use ss_program::sections::Statistic;
 use ss_sessions::Model;
 use ss_tables::{TableError, Tables};
 use std::alloc::Global;
@@ -90,26 +89,14 @@ fn generated(error: CodeError) -> Refusal
     }
 }
 
-// Whether a program with these statistics is served: one without any.
-fn is_served(statistics: &[Statistic]) -> bool
-    ensures served { result ≡ true → statistics.now ≡ [] }
-    ensures unready { result ≡ false → statistics.now ≢ [] }
-{
-    match statistics {
-        [] => true,
-        _ => false,
-    }
-}
-
 /// The program of a text, ready to run.
 ///
 /// # Errors
 /// In this order, each by the number of [`Refusal::number`]: for its tokens (31 to 37), for the place
 /// that stands first; `Syntax` or `TooDeep` where the tokens spell no program; for what it declares
 /// (51 to 60) and for what it does with its names (71 to 79), the first rule broken in the line of the
-/// first place; `NotYet` where its program has statistics; `CodeTooLong` where its tree has more than
-/// 16,384 nodes and its code more than 1,048,576 instructions. `Memory` may come before any of them,
-/// and says nothing of the text.
+/// first place; `CodeTooLong` where its tree has more than 16,384 nodes and its code more than
+/// 1,048,576 instructions. `Memory` may come before any of them, and says nothing of the text.
 pub fn compile(alloc: Global, text: &[u8]) -> Result<Model, Refusal>
     ensures accepted { IfOk result (λ model. Compiles text.now model) }
     ensures refused { IfErr result (λ refusal. RefusedFor text.now refusal) }
@@ -131,9 +118,6 @@ pub fn compile(alloc: Global, text: &[u8]) -> Result<Model, Refusal>
         Ok(resolved) => resolved,
         Err(error) => return Err(checked(error)),
     };
-    if !is_served(&resolved.program().statistics) {
-        return Err(Refusal::NotYet);
-    }
     match generate(alloc, &resolved) {
         Ok(code) => Ok(Model::new(code)),
         Err(error) => Err(generated(error)),

@@ -22,8 +22,6 @@ pub enum Refusal {
     PictureCut(Line),
     /// A name with more than 32 characters.
     NameTooLong(Line),
-    /// The text has a form that is not served yet.
-    NotYet,
     /// The tokens spell no program.
     Syntax(Line),
     /// More than 64 parentheses, IFs and loops are open at a place.
@@ -85,7 +83,6 @@ impl Refusal {
             Refusal::AlphaTooLong(_) => 35,
             Refusal::PictureCut(_) => 36,
             Refusal::NameTooLong(_) => 37,
-            Refusal::NotYet => 40,
             Refusal::Syntax(_) => 41,
             Refusal::TooDeep(_) => 42,
             Refusal::Twice(_) => 51,
@@ -124,7 +121,6 @@ impl Refusal {
             Refusal::AlphaTooLong(_) => "AlphaTooLong",
             Refusal::PictureCut(_) => "PictureCut",
             Refusal::NameTooLong(_) => "NameTooLong",
-            Refusal::NotYet => "NotYet",
             Refusal::Syntax(_) => "Syntax",
             Refusal::TooDeep(_) => "TooDeep",
             Refusal::Twice(_) => "Twice",
@@ -163,7 +159,6 @@ impl Refusal {
             Refusal::AlphaTooLong(line) => line.0,
             Refusal::PictureCut(line) => line.0,
             Refusal::NameTooLong(line) => line.0,
-            Refusal::NotYet => 0,
             Refusal::Syntax(line) => line.0,
             Refusal::TooDeep(line) => line.0,
             Refusal::Twice(line) => line.0,

@@ -5,6 +5,7 @@ mod Unread
 mod Stepping
 mod Worded
 mod Steps
+mod First
 mod Ending
 mod Onwards
 mod Counting

@@ -1,4 +1,3 @@
-pub mod Served
 pub mod Sent
 pub mod Runs
 pub mod Unread

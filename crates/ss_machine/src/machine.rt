@@ -4,7 +4,6 @@ ghost use Rattle.std.specs.Prelude.{◌≡◌, ◌+◌, ◌-◌, ◌*◌, ◌^�
 ghost use Rattle.ss_base.specs.Failures.{HasRisen, HasRisenBy};
 ghost use Rattle.ss_input.specs.Blocks.{KnowsEnd};
 ghost use Rattle.ss_input.specs.Inputs.{source_block, source_missed, source_reader};
-ghost use Rattle.ss_machine.specs.Served.{IsServed};
 ghost use Rattle.ss_machine.specs.Held.{IsFirst, Continues, answer_again, kept_after};
 ghost use Rattle.ss_machine.specs.Runs.{Ran};
 
@@ -65,10 +64,9 @@ fn kept(stop: Stop) -> Option<Stop>
 }
 
 impl Machine {
-    /// A machine before the first instruction of this code, that of a program without statistics. The error comes where
-    /// memory was refused.
+    /// A machine before the first instruction of this code: no entity, nothing pending, at the time 0, with the histories of
+    /// THE SYSTEM's statistics begun. The error comes where memory was refused.
     pub fn new(alloc: Global, code: Code) -> Result<Machine, AllocError>
-        requires { IsServed code }
         ensures { IfOk result (λ machine. IsFirst code machine) }
     {
         laws();

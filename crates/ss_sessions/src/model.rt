@@ -2,12 +2,11 @@
 
 ghost use Rattle.std.specs.Prelude.{◌≡◌, IfOk};
 ghost use Rattle.ss_code.specs.Listing.{listed};
-ghost use Rattle.ss_machine.specs.Served.{IsServed};
 
 use ss_code::code::Code;
 use std::alloc::{AllocError, Global};
 
-/// A program that may be run: one without statistics. A contract sees it as its code.
+/// A program that may be run. A contract sees it as its code.
 #[derive(Drop)]
 pub struct Model {
     code: Code,
@@ -15,19 +14,15 @@ pub struct Model {
 
 impl std::marker::Model for Model {
     ghost use Rattle.ss_machine_code.specs.Machine.{Code as CodeValue};
-    ghost use Rattle.ss_machine.specs.Served.{IsServed};
 
     ghost Value = { CodeValue };
 
     ghost view = { λ m. m.code };
-
-    ghost invariant = { λ m. IsServed m.code };
 }
 
 impl Model {
-    /// The model that this code is, which is that of a program without statistics.
+    /// The model that this code is.
     pub fn new(code: Code) -> Model
-        requires { IsServed code }
         ensures { result ≡ code }
     {
         Model { code }
@@ -35,8 +30,7 @@ impl Model {
 
     // The code of the model.
     pub(crate) fn into_code(self) -> Code
-        ensures same { result ≡ self }
-        ensures served { IsServed result }
+        ensures { result ≡ self }
     {
         self.code
     }

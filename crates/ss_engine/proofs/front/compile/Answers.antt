@@ -1,9 +1,6 @@
-use Rattle.std.proofs.Common.{◌≡◌, ◌≢◌, true, false, ap, sym, ◌∙◌, Err, subst, List, []}
+use Rattle.std.proofs.Common.{ap, sym, ◌∙◌, Err, subst}
 use Rattle.ss_tree.specs.View.{view_program as tree_seen}
-use Rattle.ss_program.specs.declared.sections.Program.{Program as ProgramValue}
-use Rattle.ss_program.specs.declared.sections.Statistic.{Statistic}
 use Rattle.ss_program.specs.View.{view_program}
-use Rattle.ss_machine_code.specs.Machine.{Code}
 use Rattle.ss_engine.specs.Accepting.{IsTreeOf, IsKeptBy, IsProgramOf, Compiles, RefusedFor}
 use Rattle.ss_engine.proofs.Fronts.{tables_refused, checker_refused, generator_refused}
 use Rattle.ss_engine.proofs.front.compile.Goals as goal
@@ -23,24 +20,6 @@ returns-in-Err-check-clause-refused c =
     let tree = tree_seen c.in-Ok-parse.program in
     let read : IsTreeOf c.args.text.now tree = record { tokens = c.in-Ok.tokens.list; are = c.in-Ok.ensures.found; spelled = c.in-Ok-parse.ensures.found } in
     subst (RefusedFor c.args.text.now) (sym c.checked.ensures) (checker_refused c.args.text.now tree read c.in-Ok-of.ensures.made.kept c.in-Err-check.error c.in-Err-check.ensures.refused)
-
-pub returns-then-not-is_served-clause-refused : goal.returns-then-not-is_served-clause-refused
-returns-then-not-is_served-clause-refused c =
-    let tree = tree_seen c.in-Ok-parse.program in
-    let p = view_program c.in-Ok-check.resolved.program in
-    let read : IsTreeOf c.args.text.now tree = record { tokens = c.in-Ok.tokens.list; are = c.in-Ok.ensures.found; spelled = c.in-Ok-parse.ensures.found } in
-    let becomes = c.in-Ok-check.ensures.checked in
-    let keeps : IsKeptBy c.args.text.now tree = record { read = read; declared = c.in-Ok-of.ensures.made.kept; kept = becomes.kept } in
-    let meant : IsProgramOf c.args.text.now p = record { tree = tree; keeps = keeps; resolved = becomes.resolved } in
-    let same : c.deref.result.now ≡ c.in-Ok-check.resolved.program.statistics.items = c.deref.ensures.value ∙ ap (λ (x : ProgramValue). x.statistics.items) c.program.ensures.same in
-    let unserved : c.is_served.result ≡ false = cc in
-    record { program = p; meant = meant; unready = subst (λ (l : List Statistic). l ≢ []) same (c.is_served.ensures.unready unserved) }
-
-pub new-requires : goal.new-requires
-new-requires c =
-    let same : c.deref.result.now ≡ c.in-Ok-check.resolved.program.statistics.items = c.deref.ensures.value ∙ ap (λ (x : ProgramValue). x.statistics.items) c.program.ensures.same in
-    let served : c.is_served.result ≡ true = cc in
-    ap (λ (code : Code). code.setting.statistics) c.in-Ok-generate.ensures.code ∙ sym same ∙ c.is_served.ensures.served served
 
 pub returns-in-Ok-generate-clause-accepted : goal.returns-in-Ok-generate-clause-accepted
 returns-in-Ok-generate-clause-accepted c =
