@@ -72,7 +72,7 @@ pub fn judged_by_tree(alloc: Global, text: &[u8]) -> Came {
 /// Judges a text by the lexer, the parser, the tables and the rules.
 pub fn judged_by_rules(alloc: Global, text: &[u8]) -> Came {
     match compile(alloc, text) {
-        Ok(_) | Err(Refusal::NotYet) => Came::Kept,
+        Ok(_) => Came::Kept,
         Err(refusal) => Came::Outcome(Outcome::Refused(refusal)),
     }
 }

@@ -39,9 +39,9 @@ fn statuses_and_lines(rt: HostRuntime) -> Result<(), Fail> {
             b"refused 36 PictureCut at line 2\n",
         ),
         (
-            Outcome::Refused(Refusal::NotYet),
+            Outcome::Refused(Refusal::CodeTooLong),
             1,
-            b"refused 40 NotYet at line 0\n",
+            b"refused 81 CodeTooLong at line 0\n",
         ),
         (
             Outcome::Stopped(fault, 8),
@@ -81,7 +81,6 @@ fn refusals_have_their_numbers_names_and_lines(rt: HostRuntime) {
         (Refusal::AlphaTooLong(Line(4)), 35, "AlphaTooLong", 4),
         (Refusal::PictureCut(Line(5)), 36, "PictureCut", 5),
         (Refusal::NameTooLong(Line(6)), 37, "NameTooLong", 6),
-        (Refusal::NotYet, 40, "NotYet", 0),
         (Refusal::Syntax(Line(2)), 41, "Syntax", 2),
         (Refusal::TooDeep(Line(3)), 42, "TooDeep", 3),
         (Refusal::Twice(Line(1)), 51, "Twice", 1),
