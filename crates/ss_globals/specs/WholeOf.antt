@@ -8,20 +8,20 @@ use Rattle.ss_base.specs.declared.layout.Owner.TheVariants as owners
 use Rattle.ss_tree.specs.declared.preamble.Mode.{Mode}
 use Rattle.ss_tree.specs.Tree.{ProgramTree}
 use Rattle.ss_walk.specs.Mentions.{NameBytes}
-use Rattle.ss_names.specs.declared.meaning.Attribute.{Attribute}
-use Rattle.ss_names.specs.declared.meaning.Class.{Class as ClassSaid}
+use Rattle.ss_entities.specs.declared.entry.Attribute.{Attribute}
+use Rattle.ss_entities.specs.declared.entry.Class.{Class as ClassSaid}
 use Rattle.ss_names.specs.declared.meaning.Derived.{Derived}
 use Rattle.ss_names.specs.declared.meaning.Derived.TheVariants as deriveds
 use Rattle.ss_names.specs.declared.meaning.History.{History}
 use Rattle.ss_names.specs.declared.meaning.Meaning.{Meaning as Numbered}
 use Rattle.ss_names.specs.declared.meaning.Meaning.TheVariants as numbered
-use Rattle.ss_names.specs.declared.meaning.Routine.{Routine as RoutineSaid}
-use Rattle.ss_names.specs.declared.meaning.Set.{Set as SetSaid}
-use Rattle.ss_names.specs.declared.meaning.Statistic.{Statistic as StatisticSaid}
+use Rattle.ss_entities.specs.declared.entry.Routine.{Routine as RoutineSaid}
+use Rattle.ss_entities.specs.declared.entry.Set.{Set as SetSaid}
+use Rattle.ss_entities.specs.declared.entry.Statistic.{Statistic as StatisticSaid}
 use Rattle.ss_names.specs.declared.meaning.Subject.{Subject}
 use Rattle.ss_names.specs.declared.meaning.Subject.TheVariants as subjects
-use Rattle.ss_names.specs.declared.meaning.Variable.{Variable as VariableSaid}
-use Rattle.ss_names.specs.Firsts.{place_in, told_of}
+use Rattle.ss_entities.specs.declared.entry.Variable.{Variable as VariableSaid}
+use Rattle.ss_firsts.specs.Firsts.{place_in, told_of}
 use Rattle.ss_names.specs.Table.{Table, table}
 use Rattle.ss_scopes.specs.declared.meaning.Holder.{Holder}
 use Rattle.ss_scopes.specs.declared.meaning.Holder.TheVariants.{Program, Entity}

@@ -3,7 +3,7 @@
 ghost use Rattle.std.specs.Prelude.{◌≡◌, map, length, option_map, slice_get, IfOk};
 ghost use Rattle.std.specs.Option.{option_copied};
 ghost use Rattle.ss_tree.specs.View.{view_program, view_section};
-ghost use Rattle.ss_names.specs.Firsts.{told_of};
+ghost use Rattle.ss_firsts.specs.Firsts.{told_of};
 ghost use Rattle.ss_names.specs.Table.{table};
 ghost use Rattle.ss_scopes.specs.Signatures.{signature};
 ghost use Rattle.ss_scopes.specs.Whole.{mode_at};

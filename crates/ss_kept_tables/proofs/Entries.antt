@@ -12,7 +12,7 @@ use Rattle.std.proofs.lemmas.Option.{slice_get-map}
 use Rattle.ss_sayings.specs.Sayings.{NameBytes}
 use Rattle.ss_lists.specs.Lists.{Somewhere, Pairwise}
 use Rattle.ss_lists.proofs.Lists.{pick, at_item, same_as_itself, some_equal}
-use Rattle.ss_names.specs.Firsts.{entry_beside, firsts, place_in, same_name, told_of, with_first}
+use Rattle.ss_firsts.specs.Firsts.{entry_beside, firsts, place_in, same_name, told_of, with_first}
 
 -- ---- by places
 

@@ -13,10 +13,10 @@ use Rattle.ss_sayings.specs.Sayings.{NameBytes, sayings}
 use Rattle.ss_declared.specs.declared.topic.Topic.{Topic}
 use Rattle.ss_declared.specs.declared.topic.Topic.TheVariants as topics
 use Rattle.ss_declared.specs.Topics.{is_about}
-use Rattle.ss_names.specs.declared.meaning.Attribute.{Attribute}
-use Rattle.ss_names.specs.declared.meaning.Class.{Class}
-use Rattle.ss_names.specs.Entities.{attribute_behind, attribute_by, attribute_classes, attribute_told, attributes, attributes_behind, class_by, class_told, classes, defined_modes, mode_of, usual_mode}
-use Rattle.ss_names.specs.Firsts.{place_in, same_name, told_of}
+use Rattle.ss_entities.specs.declared.entry.Attribute.{Attribute}
+use Rattle.ss_entities.specs.declared.entry.Class.{Class}
+use Rattle.ss_entities.specs.Entities.{attribute_behind, attribute_by, attribute_classes, attribute_told, attributes, attributes_behind, class_by, class_told, classes, defined_modes, mode_of, usual_mode}
+use Rattle.ss_firsts.specs.Firsts.{place_in, same_name, told_of}
 use Rattle.ss_lists.specs.Declared.{KeepsDeclarations, Says, NamesDeclaredOnce, NamesStand, SaidOnce, ThingsAreThere, ClassesAreThere, RankKeysFit, TieKeysFit, NothingIsReal}
 use Rattle.ss_lists.proofs.Lists.{names_equal, pick, some_equal, somewhere}
 use Rattle.ss_lists.proofs.Sayings.{says_so}

@@ -15,9 +15,9 @@ use Rattle.ss_sayings.specs.Sayings.{NameBytes, sayings}
 use Rattle.ss_declared.specs.declared.topic.Topic.TheVariants as topics
 use Rattle.ss_declared.specs.RealMode.{gives_mode}
 use Rattle.ss_declared.specs.Topics.{thing_of, section_of, is_about}
-use Rattle.ss_names.specs.declared.meaning.Attribute.{Attribute}
-use Rattle.ss_names.specs.Entities.{attributes, defined_by, defined_modes, defined_told, normal_told, usual_mode}
-use Rattle.ss_names.specs.Firsts.{told_of}
+use Rattle.ss_entities.specs.declared.entry.Attribute.{Attribute}
+use Rattle.ss_entities.specs.Entities.{attributes, defined_by, defined_modes, defined_told, normal_told, usual_mode}
+use Rattle.ss_firsts.specs.Firsts.{told_of}
 use Rattle.ss_lists.specs.Lists.{Somewhere}
 use Rattle.ss_lists.specs.Declared.{KeepsDeclarations, Says, AllDefined, IsOnce}
 use Rattle.ss_lists.proofs.Declarations.{modes_are_given}

@@ -17,8 +17,8 @@ use Rattle.ss_sayings.specs.declared.saying.Saying.{Saying}
 use Rattle.ss_sayings.specs.Sayings.{NameBytes, sayings}
 use Rattle.ss_declared.specs.declared.globals.Standing.{Standing}
 use Rattle.ss_declared.specs.declared.globals.Standing.TheVariants as standings
-use Rattle.ss_names.specs.declared.meaning.Attribute.{Attribute}
-use Rattle.ss_names.specs.declared.meaning.Class.{Class}
+use Rattle.ss_entities.specs.declared.entry.Attribute.{Attribute}
+use Rattle.ss_entities.specs.declared.entry.Class.{Class}
 use Rattle.ss_names.specs.declared.meaning.Derived.{Derived}
 use Rattle.ss_names.specs.declared.meaning.Derived.TheVariants as deriveds
 use Rattle.ss_names.specs.declared.meaning.History.{History}
@@ -26,13 +26,14 @@ use Rattle.ss_names.specs.declared.meaning.Meaning.{Meaning}
 use Rattle.ss_names.specs.declared.meaning.Meaning.TheVariants as meanings
 use Rattle.ss_names.specs.declared.meaning.Subject.{Subject}
 use Rattle.ss_names.specs.declared.meaning.Subject.TheVariants as subjects
-use Rattle.ss_names.specs.declared.meaning.Variable.{Variable}
-use Rattle.ss_names.specs.declared.meaning.VariableKind.{VariableKind}
-use Rattle.ss_names.specs.declared.meaning.VariableKind.TheVariants.{Defined, OfClass, CountOf}
-use Rattle.ss_names.specs.Entities.{set_of, set_owners, set_members, orderings}
-use Rattle.ss_names.specs.Firsts.{place_among, place_in, same_name, told_of}
+use Rattle.ss_entities.specs.declared.entry.Variable.{Variable}
+use Rattle.ss_entities.specs.declared.entry.VariableKind.{VariableKind}
+use Rattle.ss_entities.specs.declared.entry.VariableKind.TheVariants.{Defined, OfClass, CountOf}
+use Rattle.ss_entities.specs.Entities.{set_of, set_owners, set_members, orderings}
+use Rattle.ss_firsts.specs.Firsts.{place_among, place_in, same_name, told_of}
 use Rattle.ss_names.specs.Meanings.{class_meaning, numbered}
-use Rattle.ss_names.specs.Statistics.{history_of, subject_of, weighing_by, weighings}
+use Rattle.ss_entities.specs.Statistics.{weighing_by, weighings}
+use Rattle.ss_names.specs.Histories.{history_of, subject_of}
 use Rattle.ss_names.specs.Table.{table}
 use Rattle.ss_scopes.specs.declared.meaning.Meaning.{Meaning as Known}
 use Rattle.ss_scopes.specs.declared.meaning.Meaning.TheVariants as knowns

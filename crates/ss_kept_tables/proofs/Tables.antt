@@ -2,7 +2,7 @@
 use Rattle.ss_tree.specs.Tree.{ProgramTree}
 use Rattle.ss_sayings.specs.Sayings.{sayings}
 use Rattle.ss_names.specs.Table.{table}
-use Rattle.ss_names.specs.Variables.{variables}
+use Rattle.ss_entities.specs.Variables.{variables}
 use Rattle.ss_lists.specs.Declared.{KeepsDeclarations}
 use Rattle.ss_kept_tables.specs.Tables.{KeepsTable}
 use Rattle.ss_kept_tables.proofs.Counts.{count_is_behind}

@@ -8,14 +8,14 @@ use Rattle.ss_sayings.specs.Sayings.{NameBytes, sayings}
 use Rattle.ss_declared.specs.declared.globals.Standing.{Standing}
 use Rattle.ss_declared.specs.declared.globals.Standing.TheVariants as standings
 use Rattle.ss_declared.specs.Declarations.{declarations, standing_of}
-use Rattle.ss_names.specs.declared.meaning.Attribute.{Attribute}
-use Rattle.ss_names.specs.declared.meaning.Class.{Class}
+use Rattle.ss_entities.specs.declared.entry.Attribute.{Attribute}
+use Rattle.ss_entities.specs.declared.entry.Class.{Class}
 use Rattle.ss_names.specs.declared.meaning.Derived.{Derived}
 use Rattle.ss_names.specs.declared.meaning.Derived.TheVariants as deriveds
 use Rattle.ss_names.specs.declared.meaning.Meaning.{Meaning}
 use Rattle.ss_names.specs.declared.meaning.Meaning.TheVariants as meanings
-use Rattle.ss_names.specs.declared.meaning.Variable.{Variable}
-use Rattle.ss_names.specs.Firsts.{place_in, told_of}
+use Rattle.ss_entities.specs.declared.entry.Variable.{Variable}
+use Rattle.ss_firsts.specs.Firsts.{place_in, told_of}
 use Rattle.ss_names.specs.Meanings.{numbered}
 use Rattle.ss_names.specs.Table.{table}
 use Rattle.ss_scopes.specs.declared.meaning.Holder.{Holder}

@@ -3,7 +3,7 @@ use Rattle.std.proofs.Common.{◌≡◌, List, [], ◌∷◌, Option, Some, None
 use Rattle.std.specs.Prelude.{option_map}
 use Rattle.std.specs.List.{AllByRecursion as Every, flat_map, fold}
 use Rattle.ss_sayings.specs.Sayings.{NameBytes}
-use Rattle.ss_names.specs.Firsts.{entry_beside, entry_if, firsts, told_of, with_first}
+use Rattle.ss_firsts.specs.Firsts.{entry_beside, entry_if, firsts, told_of, with_first}
 use Rattle.ss_links.proofs.Names.{place_of_told}
 use Rattle.ss_links.proofs.Steps.{every_append, every_at}
 

@@ -8,13 +8,13 @@ use Rattle.ss_base.specs.declared.layout.Mode.TheVariants.{Integer}
 use Rattle.ss_tree.specs.declared.preamble.Mode.{Mode as ModeWord}
 use Rattle.ss_tree.specs.declared.preamble.Mode.TheVariants as mode_words
 use Rattle.ss_sayings.specs.Sayings.{NameBytes}
-use Rattle.ss_names.specs.declared.meaning.Attribute.{Attribute}
+use Rattle.ss_entities.specs.declared.entry.Attribute.{Attribute}
 use Rattle.ss_names.specs.declared.meaning.Meaning.{Meaning as Global}
 use Rattle.ss_names.specs.declared.meaning.Meaning.TheVariants as globals
-use Rattle.ss_names.specs.declared.meaning.Variable.{Variable as VariableSaid}
-use Rattle.ss_names.specs.declared.meaning.VariableKind.{VariableKind}
-use Rattle.ss_names.specs.declared.meaning.VariableKind.TheVariants as kinds
-use Rattle.ss_names.specs.Firsts.{place_in, same_name, told_of}
+use Rattle.ss_entities.specs.declared.entry.Variable.{Variable as VariableSaid}
+use Rattle.ss_entities.specs.declared.entry.VariableKind.{VariableKind}
+use Rattle.ss_entities.specs.declared.entry.VariableKind.TheVariants as kinds
+use Rattle.ss_firsts.specs.Firsts.{place_in, same_name, told_of}
 use Rattle.ss_names.specs.Table.{Table}
 use Rattle.ss_scopes.specs.declared.meaning.Meaning.TheVariants as knowns
 use Rattle.ss_scopes.specs.Locals.{Moded, number_of}

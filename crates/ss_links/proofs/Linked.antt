@@ -12,18 +12,18 @@ use Rattle.ss_tree.specs.declared.preamble.ClassKind.{ClassKind as ClassWord}
 use Rattle.ss_tree.specs.declared.preamble.ClassKind.TheVariants as class_words
 use Rattle.ss_tree.specs.declared.preamble.Mode.{Mode as ModeWord}
 use Rattle.ss_sayings.specs.Sayings.{NameBytes}
-use Rattle.ss_names.specs.declared.meaning.Class.{Class}
+use Rattle.ss_entities.specs.declared.entry.Class.{Class}
 use Rattle.ss_names.specs.declared.meaning.Derived.TheVariants as derived
 use Rattle.ss_names.specs.declared.meaning.History.{History}
 use Rattle.ss_names.specs.declared.meaning.Meaning.{Meaning as Global}
 use Rattle.ss_names.specs.declared.meaning.Meaning.TheVariants as globals
-use Rattle.ss_names.specs.declared.meaning.Set.{Set}
+use Rattle.ss_entities.specs.declared.entry.Set.{Set}
 use Rattle.ss_names.specs.declared.meaning.Subject.{Subject as SubjectNumber}
 use Rattle.ss_names.specs.declared.meaning.Subject.TheVariants as subjects
-use Rattle.ss_names.specs.declared.meaning.Variable.{Variable as VariableSaid}
-use Rattle.ss_names.specs.declared.meaning.VariableKind.TheVariants as kinds
-use Rattle.ss_names.specs.Firsts.{place_in, same_name, told_of}
-use Rattle.ss_names.specs.Statistics as statistics
+use Rattle.ss_entities.specs.declared.entry.Variable.{Variable as VariableSaid}
+use Rattle.ss_entities.specs.declared.entry.VariableKind.TheVariants as kinds
+use Rattle.ss_firsts.specs.Firsts.{place_in, same_name, told_of}
+use Rattle.ss_entities.specs.Statistics as statistics
 use Rattle.ss_names.specs.Table.{Table}
 use Rattle.ss_scopes.specs.declared.meaning.Holder.{Holder}
 use Rattle.ss_scopes.specs.declared.meaning.Holder.TheVariants.{Program as TheProgram, Entity as EachOf}

@@ -9,7 +9,7 @@ use Rattle.std.proofs.lemmas.Cmp.{nat_list_eq_equiv}
 use Rattle.std.proofs.lemmas.Map.Entries.{lookup_from_place}
 use Rattle.std.proofs.lemmas.Option.{slice_get-map}
 use Rattle.ss_sayings.specs.Sayings.{NameBytes}
-use Rattle.ss_names.specs.Firsts.{entry_beside, firsts, place_in, same_name, told_of, with_first}
+use Rattle.ss_firsts.specs.Firsts.{entry_beside, firsts, place_in, same_name, told_of, with_first}
 use Rattle.ss_resolve.specs.Answers.{◌>>=◌}
 
 -- ---- by places

@@ -9,10 +9,10 @@ use Rattle.ss_tree.specs.declared.preamble.ClassKind.TheVariants as class_words
 use Rattle.ss_tree.specs.declared.preamble.Mode.{Mode as ModeWord}
 use Rattle.ss_tree.specs.Tree as tree
 use Rattle.ss_sayings.specs.Sayings.{NameBytes, sayings}
-use Rattle.ss_names.specs.declared.meaning.Class.{Class}
+use Rattle.ss_entities.specs.declared.entry.Class.{Class}
 use Rattle.ss_names.specs.declared.meaning.Meaning.TheVariants as globals
-use Rattle.ss_names.specs.declared.meaning.Routine.{Routine as RoutineSaid}
-use Rattle.ss_names.specs.Firsts.{same_name, told_of}
+use Rattle.ss_entities.specs.declared.entry.Routine.{Routine as RoutineSaid}
+use Rattle.ss_firsts.specs.Firsts.{same_name, told_of}
 use Rattle.ss_names.specs.Table.{Table, table}
 use Rattle.ss_scopes.specs.declared.meaning.Meaning.TheVariants as knowns
 use Rattle.ss_scopes.specs.Locals.{Moded, mode_of}

@@ -17,7 +17,7 @@ use Rattle.ss_scopes.specs.Locals.{mode_of}
 use Rattle.ss_tree.specs.Tree as tree
 use Rattle.ss_sayings.specs.Sayings.{NameBytes}
 use Rattle.ss_names.specs.declared.meaning.Meaning.TheVariants as globals
-use Rattle.ss_names.specs.Firsts.{told_of}
+use Rattle.ss_firsts.specs.Firsts.{told_of}
 use Rattle.ss_names.specs.Table.{table}
 use Rattle.ss_scopes.specs.Meanings.{value_mode}
 use Rattle.ss_scopes.specs.Signatures.{given_to, signature}

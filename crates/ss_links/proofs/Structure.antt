@@ -20,22 +20,23 @@ use Rattle.ss_sayings.specs.declared.saying.Said.{Said}
 use Rattle.ss_sayings.specs.declared.saying.Said.TheVariants as said
 use Rattle.ss_sayings.specs.declared.saying.Saying.{Saying}
 use Rattle.ss_sayings.specs.Sayings.{NameBytes}
-use Rattle.ss_names.specs.declared.meaning.Attribute.{Attribute}
-use Rattle.ss_names.specs.declared.meaning.Class.{Class}
+use Rattle.ss_entities.specs.declared.entry.Attribute.{Attribute}
+use Rattle.ss_entities.specs.declared.entry.Class.{Class}
 use Rattle.ss_names.specs.declared.meaning.Meaning.{Meaning}
 use Rattle.ss_names.specs.declared.meaning.Meaning.TheVariants as meanings
-use Rattle.ss_names.specs.declared.meaning.Routine.{Routine}
-use Rattle.ss_names.specs.declared.meaning.Set.{Set}
-use Rattle.ss_names.specs.declared.meaning.Statistic.{Statistic}
-use Rattle.ss_names.specs.declared.meaning.Variable.{Variable}
-use Rattle.ss_names.specs.declared.meaning.VariableKind.{VariableKind}
-use Rattle.ss_names.specs.declared.meaning.VariableKind.TheVariants.{Defined, OfClass, CountOf}
-use Rattle.ss_names.specs.Entities.{attribute_behind, attribute_by, attribute_classes, attribute_told, attributes, attributes_behind, classes, defined_modes, fields, fields_among, member_by, member_told, orderings, owner_by, owner_told, set_members, set_names, set_of, set_owners, sets, usual_mode}
-use Rattle.ss_names.specs.Firsts.{entry_if, place_among, place_in, same_name, told_of}
+use Rattle.ss_entities.specs.declared.entry.Routine.{Routine}
+use Rattle.ss_entities.specs.declared.entry.Set.{Set}
+use Rattle.ss_entities.specs.declared.entry.Statistic.{Statistic}
+use Rattle.ss_entities.specs.declared.entry.Variable.{Variable}
+use Rattle.ss_entities.specs.declared.entry.VariableKind.{VariableKind}
+use Rattle.ss_entities.specs.declared.entry.VariableKind.TheVariants.{Defined, OfClass, CountOf}
+use Rattle.ss_entities.specs.Entities.{attribute_behind, attribute_by, attribute_classes, attribute_told, attributes, attributes_behind, classes, defined_modes, fields, fields_among, member_by, member_told, orderings, owner_by, owner_told, set_members, set_names, set_of, set_owners, sets, usual_mode}
+use Rattle.ss_firsts.specs.Firsts.{entry_if, place_among, place_in, same_name, told_of}
 use Rattle.ss_names.specs.Meanings.{class_meaning, class_meanings, class_name_meaning, count_meaning, meaning_by, meaning_told, numbered, set_meanings}
-use Rattle.ss_names.specs.Statistics.{history_of, statistic_by, statistic_of, statistic_told, weighings}
+use Rattle.ss_entities.specs.Statistics.{statistic_by, statistic_of, statistic_told, weighings}
+use Rattle.ss_names.specs.Histories.{history_of}
 use Rattle.ss_names.specs.Table.{Table, declared}
-use Rattle.ss_names.specs.Variables.{class_variables, count_name, variable_by, variable_told, variables}
+use Rattle.ss_entities.specs.Variables.{class_variables, count_name, variable_by, variable_told, variables}
 use Rattle.ss_links.proofs.Entries.{Entries, entry, first_entries, if_some, mapped, told_entry}
 use Rattle.ss_links.proofs.Names.{entry_of_key, firsts_once, key_at, there, told_by_place, told_from_place}
 use Rattle.ss_links.proofs.Steps.{every_append, every_at, every_from}

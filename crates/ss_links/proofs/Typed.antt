@@ -20,17 +20,17 @@ use Rattle.ss_tree.specs.declared.preamble.Mode.TheVariants as mode_words
 use Rattle.ss_sayings.specs.declared.saying.SetRule.{SetRule}
 use Rattle.ss_sayings.specs.declared.saying.SetRule.TheVariants as rules
 use Rattle.ss_sayings.specs.Sayings.{NameBytes}
-use Rattle.ss_names.specs.declared.meaning.Attribute.{Attribute}
-use Rattle.ss_names.specs.declared.meaning.Class.{Class}
+use Rattle.ss_entities.specs.declared.entry.Attribute.{Attribute}
+use Rattle.ss_entities.specs.declared.entry.Class.{Class}
 use Rattle.ss_names.specs.declared.meaning.History.{History}
-use Rattle.ss_names.specs.declared.meaning.Ordering.{Ordering}
-use Rattle.ss_names.specs.declared.meaning.Set.{Set}
+use Rattle.ss_entities.specs.declared.entry.Ordering.{Ordering}
+use Rattle.ss_entities.specs.declared.entry.Set.{Set}
 use Rattle.ss_names.specs.declared.meaning.Subject.{Subject as SubjectNumber}
 use Rattle.ss_names.specs.declared.meaning.Subject.TheVariants as subjects
-use Rattle.ss_names.specs.declared.meaning.Variable.{Variable as VariableSaid}
-use Rattle.ss_names.specs.declared.meaning.VariableKind.{VariableKind}
-use Rattle.ss_names.specs.declared.meaning.VariableKind.TheVariants as kinds
-use Rattle.ss_names.specs.Firsts.{same_name, told_of}
+use Rattle.ss_entities.specs.declared.entry.Variable.{Variable as VariableSaid}
+use Rattle.ss_entities.specs.declared.entry.VariableKind.{VariableKind}
+use Rattle.ss_entities.specs.declared.entry.VariableKind.TheVariants as kinds
+use Rattle.ss_firsts.specs.Firsts.{same_name, told_of}
 use Rattle.ss_names.specs.Table.{Table}
 use Rattle.ss_program.specs.declared.expression.Variable.TheVariants.{Global}
 use Rattle.ss_program.specs.declared.sections.Statistic.{Statistic}

@@ -12,9 +12,9 @@ use Rattle.ss_names.specs.declared.meaning.Derived.{Derived}
 use Rattle.ss_names.specs.declared.meaning.Derived.TheVariants as derived
 use Rattle.ss_names.specs.declared.meaning.Meaning.{Meaning as Global}
 use Rattle.ss_names.specs.declared.meaning.Meaning.TheVariants as globals
-use Rattle.ss_names.specs.declared.meaning.Set.{Set}
-use Rattle.ss_names.specs.declared.meaning.VariableKind.TheVariants as kinds
-use Rattle.ss_names.specs.Firsts.{same_name, told_of}
+use Rattle.ss_entities.specs.declared.entry.Set.{Set}
+use Rattle.ss_entities.specs.declared.entry.VariableKind.TheVariants as kinds
+use Rattle.ss_firsts.specs.Firsts.{same_name, told_of}
 use Rattle.ss_names.specs.Table.{Table}
 use Rattle.ss_scopes.specs.declared.meaning.Holder.{Holder}
 use Rattle.ss_scopes.specs.declared.meaning.Meaning.{Meaning as Known}

@@ -12,11 +12,11 @@ use Rattle.ss_tree.specs.declared.preamble.ClassKind.{ClassKind as ClassWord}
 use Rattle.ss_tree.specs.declared.preamble.ClassKind.TheVariants as class_words
 use Rattle.ss_tree.specs.Tree as tree
 use Rattle.ss_sayings.specs.Sayings.{NameBytes}
-use Rattle.ss_names.specs.declared.meaning.Class.{Class}
-use Rattle.ss_names.specs.declared.meaning.Event.{Event as EventSaid}
+use Rattle.ss_entities.specs.declared.entry.Class.{Class}
+use Rattle.ss_entities.specs.declared.entry.Event.{Event as EventSaid}
 use Rattle.ss_names.specs.declared.meaning.Meaning.TheVariants as globals
-use Rattle.ss_names.specs.declared.meaning.Routine.{Routine as RoutineSaid}
-use Rattle.ss_names.specs.Firsts.{told_of}
+use Rattle.ss_entities.specs.declared.entry.Routine.{Routine as RoutineSaid}
+use Rattle.ss_firsts.specs.Firsts.{told_of}
 use Rattle.ss_names.specs.Table.{table}
 use Rattle.ss_scopes.specs.Signatures.{given_to, yielded_by}
 use Rattle.ss_globals.specs.WholeOf as whole

@@ -8,7 +8,7 @@ use Rattle.ss_base.specs.declared.layout.RankKey.{RankKey}
 use Rattle.ss_base.specs.Layout.{is_sound}
 use Rattle.ss_base.specs.Plain.{PlainLayout}
 use Rattle.ss_sayings.specs.Sayings.{NameBytes}
-use Rattle.ss_names.specs.declared.meaning.Routine.{Routine as RoutineSaid}
+use Rattle.ss_entities.specs.declared.entry.Routine.{Routine as RoutineSaid}
 use Rattle.ss_names.specs.Table.{Table}
 use Rattle.ss_scopes.specs.Meanings.{value_mode}
 use Rattle.ss_scopes.specs.Signatures.{Signed}

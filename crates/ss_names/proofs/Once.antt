@@ -11,7 +11,7 @@ use Rattle.std.proofs.lemmas.List.Folds.{position_or_len_push}
 use Rattle.std.proofs.lemmas.Option.{slice_get-get_or, slice_get_within, unwrap_or-slice_get}
 use Rattle.std.proofs.Math.Seq.{get_or-append_seam}
 use Rattle.ss_sayings.specs.Sayings.{NameBytes, sayings}
-use Rattle.ss_names.specs.Firsts.{entry_beside, same_name, told_of, with_first}
+use Rattle.ss_firsts.specs.Firsts.{entry_beside, same_name, told_of, with_first}
 use Rattle.ss_names.specs.Laws.{NamesStandOnce}
 use Rattle.ss_names.specs.Meanings.{meanings_in, meaning_by, numbered}
 use Rattle.std.specs.List.{flat_map}

@@ -3,24 +3,22 @@
 ghost use Rattle.std.specs.Prelude.{◌≡◌, ◌<◌, [], length, slice_get, get_or, option_map, Some, IfOk};
 ghost use Rattle.std.specs.Map.{keys_of, values_of};
 ghost use Rattle.ss_tree.specs.View.{view_program};
-ghost use Rattle.ss_names.specs.Entities.{sets as sets_said};
-ghost use Rattle.ss_names.specs.Firsts.{place_in, told_of};
+ghost use Rattle.ss_entities.specs.Entities.{sets as sets_said};
+ghost use Rattle.ss_firsts.specs.Firsts.{place_in, told_of};
 ghost use Rattle.ss_names.specs.Meanings.{meanings_in, numbered};
-ghost use Rattle.ss_names.specs.Notices.{notices as notices_said};
-ghost use Rattle.ss_names.specs.Statistics.{histories as histories_said};
+ghost use Rattle.ss_entities.specs.Notices.{notices as notices_said};
+ghost use Rattle.ss_names.specs.Histories.{histories as histories_said};
 ghost use Rattle.ss_names.specs.Table.{declared, table};
 
-use crate::classes::usual_mode;
-use crate::first::{key_at, spelled_at, value_at};
 use crate::histories::histories_of;
-use crate::keys::{RankedBy, TiedBy};
-use crate::meaning::{
-    Attribute, Class, Event, History, Meaning, Routine, Set, Statistic, Variable,
-};
+use crate::meaning::{History, Meaning};
 use crate::meanings::{Meanings, meanings_of};
-use crate::notices::{Notices, notices_of};
 use crate::numbers::{Numbers, numbers_of};
-use crate::sets::sets_in;
+use ss_entities::{
+    Attribute, Class, Event, Notices, RankedBy, Routine, Set, Statistic, TiedBy, Variable,
+    notices_of, sets_in, spelled_at, usual_mode,
+};
+use ss_firsts::{key_at, value_at};
 use ss_lex::Name;
 use ss_sayings::{Saying, sayings_of};
 use ss_tree::preamble::Mode;

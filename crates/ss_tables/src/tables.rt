@@ -4,7 +4,7 @@ ghost use Rattle.std.specs.Prelude.{◌≡◌, ◌<◌, length, slice_get, optio
 ghost use Rattle.std.specs.Map.{keys_of};
 ghost use Rattle.ss_tree.specs.View.{view_program};
 ghost use Rattle.ss_declared.specs.Broken.{refusal};
-ghost use Rattle.ss_names.specs.Firsts.{place_in};
+ghost use Rattle.ss_firsts.specs.Firsts.{place_in};
 ghost use Rattle.ss_whole.specs.Layouts.{layout};
 ghost use Rattle.ss_tables.specs.Tables.{AreTables, AreTablesOf, Tells};
 

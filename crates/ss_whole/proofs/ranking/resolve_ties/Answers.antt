@@ -1,6 +1,6 @@
 use Rattle.std.proofs.Common.{◌≡◌, ◌+◌, ◌∙◌, ap, subst, sym, take, Some}
 use Rattle.std.specs.List.{filter}
-use Rattle.ss_names.specs.Firsts.{same_name}
+use Rattle.ss_firsts.specs.Firsts.{same_name}
 use Rattle.ss_resolve.specs.Answers.{each, Fails}
 use Rattle.ss_whole.specs.Layouts.{tied_by}
 use Rattle.ss_whole.proofs.Each.{failed, no_items, passed_fail, passed_next, passed_over}

@@ -1,0 +1,2 @@
+pub mod Rooms
+mod Fields
