@@ -12,6 +12,7 @@ use Rattle.ss_tree.specs.declared.preamble.Mode.{Mode}
 use Rattle.ss_sayings.specs.Sayings.{NameBytes}
 use Rattle.ss_entities.specs.Entities.{AreAttributes, AttributesSeen, attribute_behind, attributes_behind, fields_among, fields_of}
 use Rattle.ss_firsts.specs.Firsts.{entry_beside, firsts, same_name, told_of, with_first}
+use Rattle.ss_firsts.proofs.Entries.{keys_append}
 
 -- ---- rows
 
@@ -28,10 +29,6 @@ fields_grow owned n =
     let same : 0 + n ≡ n = omega arith in
     ap (fields_of owned) on ∙ ap (map (fields_among owned)) (counting 0 n) ∙ map_push (fields_among owned) (range_with_len 0 n) (0 + n)
     ∙ ap (λ k. fields_of owned n ++ fields_among owned k ∷ []) same
-
-keys_append : {V : Type 0} (xs ys : List (NameBytes × V)) → keys_of (xs ++ ys) ≡ keys_of xs ++ keys_of ys
-keys_append [] ys = refl
-keys_append (x ∷ xs) ys = ap (λ l. x.0 ∷ l) (keys_append xs ys)
 
 -- an attribute of another class, and one of the class
 chosen : (name : NameBytes) (c d : ℕ) (same : Bool) → nat_eq c d ≡ same → keys_of (filter (λ (e : NameBytes × ℕ). nat_eq e.1 d) ((name, c) ∷ [])) ≡ cond same (name ∷ []) []

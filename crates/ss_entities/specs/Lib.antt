@@ -1,4 +1,3 @@
-pub mod Spellings
 pub mod Rows
 pub mod Entities
 pub mod Variables

@@ -10,8 +10,6 @@ mod notices;
 mod ranks;
 mod sections;
 mod sets;
-mod spelled;
-mod spelling;
 mod statistics;
 mod variables;
 
@@ -25,7 +23,5 @@ pub use keys::{RankedBy, TiedBy};
 pub use notices::{Notices, notices_of};
 pub use sections::routines_of;
 pub use sets::{set_names, sets_in};
-pub use spelled::{keep_spelled, spelled_at};
-pub use spelling::{SPELLING_LIMIT, Spelling};
 pub use statistics::{Tellings, tellings_of};
 pub use variables::variables_of;

@@ -8,10 +8,8 @@ ghost use Rattle.ss_entities.specs.declared.entry.VariableKind.TheVariants.{Defi
 ghost use Rattle.ss_tree.specs.declared.preamble.Mode.TheVariants.{Integer};
 
 use crate::entry::{Attribute, Class, Variable, VariableKind};
-use crate::spelled::keep_spelled;
-use crate::spelling::Spelling;
 use indexmap::IndexMap;
-use ss_firsts::is_told;
+use ss_firsts::{Spelling, is_told, keep_spelled};
 use ss_lex::Name;
 use ss_sayings::{Said, Saying};
 use ss_tree::preamble::{ClassKind, Mode};
@@ -44,7 +42,7 @@ fn keep_count(
         kind: VariableKind::CountOf(class),
         mode: Mode::Integer,
     };
-    keep_spelled(entries, Spelling::count_of(name), variable)
+    keep_spelled(entries, Spelling::derived(b'N', name), variable)
 }
 
 // Keeps the variables of a class: that of its name, and N. of it where it is permanent.

@@ -23,7 +23,7 @@ use Rattle.ss_entities.specs.Variables.{class_variables, count_name, variable_by
 use Rattle.ss_lists.specs.Lists.{Somewhere, Pairwise}
 use Rattle.ss_lists.specs.Declared.{Says, IsOfSet, Agree}
 use Rattle.ss_lists.proofs.Lists.{across, at_item, each, each_item, pairs_of_pieces, pairwise, pick, pieces_of_pairs, some_equal}
-use Rattle.ss_kept_tables.proofs.Entries.{entry_of_value, place_from, told_from_place, value_at}
+use Rattle.ss_firsts.proofs.Entries.{entry_of_value, place_from, told_from_place, value_at}
 use Rattle.ss_kept_tables.proofs.Facts.{Facts, SaysIt, class_place}
 use Rattle.ss_kept_tables.proofs.Names.{no_attribute}
 use Rattle.ss_kept_tables.proofs.Told.{FromClass, FromCount, FromDefine, first_or_rest, no_some, not_derived}

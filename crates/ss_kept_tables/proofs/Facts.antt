@@ -23,7 +23,8 @@ use Rattle.ss_lists.proofs.Sayings.{says_so}
 use Rattle.ss_lists.proofs.Classes.{every_is_of_class}
 use Rattle.ss_lists.proofs.Declarations.{where_kept, names_declared_once, names_stand, said_once, nothing_is_real}
 use Rattle.ss_lists.proofs.Declared.{things_there, rank_keys_fit, tie_keys_fit}
-use Rattle.ss_kept_tables.proofs.Entries.{entry_of_key, entry_of_value, firsts_once, place_from, place_of_told, told_by, told_first, told_from_place, told_where}
+use Rattle.ss_firsts.proofs.Entries.{entry_of_key, entry_of_value, firsts_once, place_from, place_of_told, told_first, told_from_place}
+use Rattle.ss_kept_tables.proofs.Entries.{told_by, told_where}
 use Rattle.ss_kept_tables.proofs.Told.{attribute_is_told, class_is_told, if_here, here_told, no_some}
 
 pub record Facts (says : List Saying) : Type 0 where

@@ -34,7 +34,8 @@ use Rattle.ss_entities.specs.Variables.{class_variables, count_name, routine_by,
 use Rattle.ss_lists.specs.Declared.{Says}
 use Rattle.ss_lists.proofs.Lists.{Among, any_there, at_item, found_first, holds_among, in_left, in_one_of, in_right, names_equal, somewhere}
 use Rattle.ss_lists.proofs.Sayings.{by_said, says_so}
-use Rattle.ss_kept_tables.proofs.Entries.{no_place, told_first, told_somewhere}
+use Rattle.ss_firsts.proofs.Entries.{no_place, told_first}
+use Rattle.ss_kept_tables.proofs.Entries.{told_somewhere}
 use Rattle.ss_kept_tables.proofs.Facts.{Facts, SaysIt, attribute_declared, attribute_there, class_place}
 use Rattle.ss_kept_tables.proofs.Known.{among_some, folded_one, in_either, key_there, placed}
 use Rattle.ss_kept_tables.proofs.Told.{class_variable_here, here_told, if_here, no_some}

@@ -24,7 +24,8 @@ use Rattle.ss_lists.proofs.Declarations.{modes_are_given}
 use Rattle.ss_lists.proofs.Lists.{all_of, at_item, pick, somewhere}
 use Rattle.ss_lists.proofs.Sayings.{says_so}
 use Rattle.ss_kept_tables.specs.Tables.{IsValueMode}
-use Rattle.ss_kept_tables.proofs.Entries.{told_by, told_first, told_somewhere}
+use Rattle.ss_firsts.proofs.Entries.{told_first}
+use Rattle.ss_kept_tables.proofs.Entries.{told_by, told_somewhere}
 use Rattle.ss_kept_tables.proofs.Told.{define_is_told, here_told}
 use Rattle.ss_kept_tables.proofs.Facts.{Facts, SaysIt, attribute_at}
 use Rattle.ss_kept_tables.proofs.Variables.{define_not_real}

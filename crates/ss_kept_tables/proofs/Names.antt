@@ -29,7 +29,8 @@ use Rattle.ss_lists.specs.Lists.{Somewhere}
 use Rattle.ss_lists.specs.Declared.{Says, IsOfSet, Agree}
 use Rattle.ss_lists.proofs.Lists.{Among, at_item, in_left, in_right, pairs_of_pieces, pick, some_equal}
 use Rattle.ss_lists.proofs.Sayings.{IsOf, of_attribute, says_so, who_says}
-use Rattle.ss_kept_tables.proofs.Entries.{place_of_told, told_append, told_by, told_first, told_where}
+use Rattle.ss_firsts.proofs.Entries.{place_of_told, told_append, told_first}
+use Rattle.ss_kept_tables.proofs.Entries.{told_by, told_where}
 use Rattle.ss_kept_tables.proofs.Told.{first_or_rest, if_told, no_some}
 use Rattle.ss_kept_tables.proofs.Facts.{Facts, SaysIt, attribute_there}
 

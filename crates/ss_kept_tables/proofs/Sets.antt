@@ -26,7 +26,8 @@ use Rattle.ss_lists.specs.Declared.{Says, IsOwned, HasMembers}
 use Rattle.ss_lists.proofs.Lists.{Among, each_item, joined, names_equal, pick, pieces, some_equal, somewhere}
 use Rattle.ss_lists.proofs.Sayings.{says_so}
 use Rattle.ss_kept_tables.specs.Tables.{IsKeyOf}
-use Rattle.ss_kept_tables.proofs.Entries.{place_of_told, told_by, told_first, told_somewhere, told_where, value_at}
+use Rattle.ss_firsts.proofs.Entries.{place_of_told, told_first, value_at}
+use Rattle.ss_kept_tables.proofs.Entries.{told_by, told_somewhere, told_where}
 use Rattle.ss_kept_tables.proofs.Told.{here_told, if_here, member_is_told, no_some, ordering_is_told}
 use Rattle.ss_kept_tables.proofs.Facts.{Facts, SaysIt, attribute_there, class_at, class_place}
 

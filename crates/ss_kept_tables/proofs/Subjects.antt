@@ -47,7 +47,8 @@ use Rattle.ss_lists.proofs.Lists.{at_item, each, pick, some_equal}
 use Rattle.ss_lists.proofs.Uses.{subjects_fit}
 use Rattle.ss_kept_tables.specs.Tables.{IsValueMode, standing_of}
 use Rattle.ss_kept_tables.specs.Subjects.{IsWhole}
-use Rattle.ss_kept_tables.proofs.Entries.{firsts_once, there, told_by, told_by_place, told_first, told_from_place, value_at}
+use Rattle.ss_firsts.proofs.Entries.{firsts_once, there, told_by_place, told_first, told_from_place, value_at}
+use Rattle.ss_kept_tables.proofs.Entries.{told_by}
 use Rattle.ss_kept_tables.proofs.Facts.{facts}
 use Rattle.ss_kept_tables.proofs.Names.{Fits, names_fit}
 use Rattle.ss_kept_tables.proofs.Statements.{Well, SubjectWell, program_well}

@@ -30,7 +30,8 @@ use Rattle.ss_lists.specs.Declared.{Says}
 use Rattle.ss_lists.proofs.Lists.{at_item, pick, some_equal, somewhere}
 use Rattle.ss_lists.proofs.Sayings.{says_so, saying_of}
 use Rattle.ss_kept_tables.specs.Tables.{IsValueMode, standing_of}
-use Rattle.ss_kept_tables.proofs.Entries.{entry_of_value, firsts_once, place_from, place_of_told, no_place, told_append, told_by, told_first, told_from_place, told_somewhere, value_at}
+use Rattle.ss_firsts.proofs.Entries.{entry_of_value, firsts_once, place_from, place_of_told, no_place, told_append, told_first, told_from_place, value_at}
+use Rattle.ss_kept_tables.proofs.Entries.{told_by, told_somewhere}
 use Rattle.ss_kept_tables.proofs.Told.{FromDefine, FromClass, FromCount, class_variable_here, if_here, if_told, no_some, not_derived, variable_is_told}
 use Rattle.ss_kept_tables.proofs.Facts.{Facts, SaysIt, class_at, class_place}
 use Rattle.ss_kept_tables.proofs.Names.{no_attribute, stands_for}

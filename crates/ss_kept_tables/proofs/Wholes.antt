@@ -25,7 +25,7 @@ use Rattle.ss_scopes.specs.Meanings.{value_mode}
 use Rattle.ss_globals.specs.WholeOf.{attribute_meaning, attribute_of_class, class_meaning as known_class, derived_meaning, meaning_by as known_by, meaning_of, variable_meaning as known_variable, whole_of}
 use Rattle.ss_lists.specs.Declared.{KeepsDeclarations}
 use Rattle.ss_lists.proofs.Lists.{some_equal}
-use Rattle.ss_kept_tables.proofs.Entries.{key_at, told_by_place, value_at}
+use Rattle.ss_firsts.proofs.Entries.{key_at, told_by_place, value_at}
 use Rattle.ss_kept_tables.proofs.Facts.{facts, attribute_declared, attribute_there}
 use Rattle.ss_kept_tables.proofs.Known.{fits_as, placed_class, placed_variable, stands_as}
 use Rattle.ss_kept_tables.proofs.Meant.{name_known}

@@ -7,7 +7,8 @@ use Rattle.ss_tree.specs.Tree.{ProgramTree}
 use Rattle.ss_sayings.specs.Sayings.{NameBytes}
 use Rattle.ss_scopes.specs.declared.meaning.Holder.{Holder}
 use Rattle.ss_scopes.specs.declared.meaning.Meaning.TheVariants as knowns
-use Rattle.ss_scopes.specs.Locals.{Moded, same_name}
+use Rattle.ss_firsts.specs.Firsts.{same_name}
+use Rattle.ss_scopes.specs.Locals.{Moded}
 use Rattle.ss_scopes.specs.Whole.{Whole, locals_of}
 use Rattle.ss_globals.specs.WholeOf.{whole_of}
 use Rattle.ss_lists.specs.Declared.{KeepsDeclarations}

@@ -34,12 +34,12 @@ use Rattle.ss_whole.specs.Resolved.{local_mode, local_modes}
 use Rattle.ss_whole.specs.Words.{mode_given, mode_said}
 use Rattle.ss_kept.specs.Links.{IsImplied}
 use Rattle.ss_kept_tables.specs.Tables.{standing_of}
-use Rattle.ss_links.specs.Declared.{IsKept}
-use Rattle.ss_links.specs.Tables.{HasTables}
-use Rattle.ss_links.proofs.Names.{key_at, no_place, place_of_told, value_at}
-use Rattle.ss_links.proofs.Steps.{got, numbers_at}
-use Rattle.ss_links.proofs.Structure.{IsClassMode, IsTable}
-use Rattle.ss_links.proofs.Typed.{global_known, plain}
+use Rattle.ss_laid.specs.Declared.{IsKept}
+use Rattle.ss_laid.specs.Tables.{HasTables}
+use Rattle.ss_firsts.proofs.Entries.{key_at, no_place, place_of_told, value_at}
+use Rattle.ss_laid.proofs.Steps.{got, numbers_at}
+use Rattle.ss_laid.proofs.Structure.{IsClassMode, IsTable}
+use Rattle.ss_laid.proofs.Typed.{global_known, plain}
 
 -- ---- modes and kinds
 

@@ -52,15 +52,16 @@ use Rattle.ss_whole.specs.Words.{class_kind, mode_given, mode_said}
 use Rattle.ss_kept.specs.Links.{HasCount, IsClass, IsRoutine, IsSetOf, IsSubject, Linked, kind_said}
 use Rattle.ss_kept_tables.specs.Tables.{standing_of}
 use Rattle.ss_kept_tables.specs.Locals.{KeepsLocals}
-use Rattle.ss_links.specs.Declared.{IsKept}
-use Rattle.ss_links.specs.Tables.{AreSigned, HasTables}
+use Rattle.ss_laid.specs.Declared.{IsKept}
+use Rattle.ss_laid.specs.Tables.{HasTables}
+use Rattle.ss_links.specs.Signed.{AreSigned}
 use Rattle.ss_links.proofs.Known.{mode_agrees, class_variable_typed, class_stands, unhidden, w}
-use Rattle.ss_links.proofs.Names.{told_by_place, value_at}
-use Rattle.ss_links.proofs.Steps.{each_length, each_map, goes, holds}
-use Rattle.ss_links.proofs.Structure.{IsTable, same_number}
+use Rattle.ss_firsts.proofs.Entries.{told_by_place, value_at}
+use Rattle.ss_laid.proofs.Steps.{each_length, each_map, goes, holds}
+use Rattle.ss_laid.proofs.Structure.{IsTable, same_number}
 use Rattle.ss_links.proofs.Told.{attribute_of_each, attribute_there, class_there, count_alone, count_of_each, owner_there, set_meant, variable_alone}
 use Rattle.ss_links.proofs.Values.{class_told, meant, routine_told, set_told, told_meaning, value_linked}
-use Rattle.ss_links.proofs.Typed.{class_known, count_there}
+use Rattle.ss_laid.proofs.Typed.{class_known, count_there}
 
 kinds_same : (kind : ClassWord) → class_kind kind ≡ kind_said kind
 kinds_same class_words.Permanent = refl

@@ -22,9 +22,9 @@ use Rattle.ss_names.specs.Table.{table}
 use Rattle.ss_entities.specs.Variables.{declared_by, declared_told, event_by, is_notice_class, is_notice_kind, notice, priority_by, priority_told, ranks_among}
 use Rattle.ss_lists.specs.Lists.{Somewhere}
 use Rattle.ss_lists.specs.Uses.{IsEventOf}
-use Rattle.ss_links.proofs.Entries.{Entries, first_of_entries, flat, told_entry}
-use Rattle.ss_links.proofs.Names.{firsts_once, key_at, place_of_told, told_by_place, told_from_place}
-use Rattle.ss_links.proofs.Steps.{every_append, every_at, somewhere_left, somewhere_right}
+use Rattle.ss_laid.proofs.Entries.{Entries, first_of_entries, flat, told_entry}
+use Rattle.ss_firsts.proofs.Entries.{firsts_once, key_at, place_of_told, told_by_place, told_from_place}
+use Rattle.ss_laid.proofs.Steps.{every_append, every_at, somewhere_left, somewhere_right}
 
 same : (name : NameBytes) → same_name name name ≡ true
 same name = (bytes_decides name name).1 refl

@@ -18,8 +18,8 @@ use Rattle.ss_names.specs.Table.{table}
 use Rattle.ss_entities.specs.Variables.{event_by, routine_by}
 use Rattle.ss_lists.specs.Lists.{Somewhere}
 use Rattle.ss_lists.specs.Uses.{notice_named, notices_in}
-use Rattle.ss_links.proofs.Entries.{Entries, first_of_every, told_entry}
-use Rattle.ss_links.proofs.Steps.{every_append, every_at, every_map, somewhere_left, somewhere_right}
+use Rattle.ss_laid.proofs.Entries.{Entries, first_of_every, told_entry}
+use Rattle.ss_laid.proofs.Steps.{every_append, every_at, every_map, somewhere_left, somewhere_right}
 
 -- the section of a routine, and of an event routine
 abbrev pub IsRoutineSection : List tree.SectionTree → NameBytes → Routine → Type 0

@@ -18,7 +18,8 @@ use Rattle.ss_demands.specs.Demands as demanded
 use Rattle.ss_demands.specs.Demands.{demands}
 use Rattle.ss_scopes.specs.declared.meaning.Meaning.{Meaning}
 use Rattle.ss_scopes.specs.declared.meaning.Meaning.TheVariants as meanings
-use Rattle.ss_scopes.specs.Locals.{same_name, Moded}
+use Rattle.ss_firsts.specs.Firsts.{same_name}
+use Rattle.ss_scopes.specs.Locals.{Moded}
 use Rattle.ss_scopes.specs.Whole.{Whole, locals_of}
 use Rattle.ss_uses.specs.declared.rule.Rule.{Rule}
 use Rattle.ss_uses.specs.declared.rule.Rule.TheVariants as rules

@@ -11,7 +11,7 @@ ghost use Rattle.ss_entities.specs.Variables.{count_name};
 use crate::meaning::{Derived, Meaning};
 use crate::numbers::Numbers;
 use indexmap::IndexMap;
-use ss_entities::{Spelling, keep_spelled, spelled_at};
+use ss_firsts::{Spelling, keep_spelled, spelled_at};
 use ss_lex::Name;
 use ss_sayings::{Said, Saying};
 use ss_tree::preamble::ClassKind;
@@ -42,7 +42,7 @@ impl Model for Meanings {
     ghost use Rattle.std.specs.Map.{keys_of};
     ghost use Rattle.ss_sayings.specs.Sayings.{NameBytes};
     ghost use Rattle.ss_names.specs.declared.meaning.Meaning.{Meaning};
-    ghost use Rattle.ss_entities.specs.Spellings.{are_short};
+    ghost use Rattle.ss_firsts.specs.Spellings.{are_short};
 
     ghost Value = { List (NameBytes × Meaning) };
 
@@ -91,7 +91,10 @@ impl Meanings {
     {
         self.keep_if(Spelling::of_name(name), numbers.class(name))?;
         match kind {
-            ClassKind::Permanent => self.keep_if(Spelling::count_of(name), numbers.count(name)),
+            ClassKind::Permanent => self.keep_if(
+                Spelling::derived(b'N', name),
+                numbers.count(name),
+            ),
             ClassKind::Temporary => Ok(()),
             ClassKind::EventNotice => Ok(()),
         }

@@ -9,9 +9,10 @@ ghost use Rattle.ss_names.specs.Meanings.{class_name_meaning, count_meaning, num
 use crate::meaning::Meaning;
 use indexmap::{IndexMap, IndexSet};
 use ss_entities::{
-    Attributes, Class, Entities, Routine, Spelling, Statistic, Variable, entities_of, routines_of,
-    set_names, tellings_of, variables_of,
+    Attributes, Class, Entities, Routine, Statistic, Variable, entities_of, routines_of, set_names,
+    tellings_of, variables_of,
 };
+use ss_firsts::Spelling;
 use ss_lex::Name;
 use ss_sayings::Saying;
 use ss_tree::preamble::Weighting;
@@ -53,7 +54,7 @@ impl Numbers {
         ensures { result ≡ count_meaning self.now name.now }
     {
         let class = self.classes.get_index_of(name)?;
-        let variable = self.variables.get_index_of(&Spelling::count_of(name))?;
+        let variable = self.variables.get_index_of(&Spelling::derived(b'N', name))?;
         Some(Meaning::Count { class, variable })
     }
 

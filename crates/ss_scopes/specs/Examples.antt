@@ -10,7 +10,8 @@ use Rattle.ss_walk.specs.Mentions.{NameBytes}
 use Rattle.ss_scopes.specs.declared.heading.Heading.TheVariants.{Routine, Event}
 use Rattle.ss_scopes.specs.declared.meaning.Meaning.{Meaning}
 use Rattle.ss_scopes.specs.declared.meaning.Meaning.TheVariants as meanings
-use Rattle.ss_scopes.specs.Locals.{same_name, locals, number_of}
+use Rattle.ss_firsts.specs.Firsts.{same_name}
+use Rattle.ss_scopes.specs.Locals.{locals, number_of}
 use Rattle.ss_scopes.specs.Signatures.{signature}
 use Rattle.ss_scopes.specs.Meanings.{meaning_in}
 

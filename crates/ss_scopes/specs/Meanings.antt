@@ -8,7 +8,8 @@ use Rattle.ss_tree.specs.declared.preamble.Mode.TheVariants as said
 use Rattle.ss_walk.specs.Mentions.{NameBytes}
 use Rattle.ss_scopes.specs.declared.meaning.Meaning.{Meaning}
 use Rattle.ss_scopes.specs.declared.meaning.Meaning.TheVariants.{Local}
-use Rattle.ss_scopes.specs.Locals.{same_name, Moded}
+use Rattle.ss_firsts.specs.Firsts.{same_name}
+use Rattle.ss_scopes.specs.Locals.{Moded}
 
 -- the mode of values of a mode that is said; REAL, and a name without a mode, are refused before
 abbrev pub value_mode : Option Mode → ValueMode

@@ -10,10 +10,11 @@ ghost use Rattle.ss_tables.specs.Tables.{AreTables, AreTablesOf, Tells};
 
 use crate::error::{TableError, error_of};
 use ss_base::Layout;
-use ss_declared::refusal;
-use ss_links::laws::layouts_are_there;
+use ss_declared::refusal_of;
+use ss_laid::laws::layouts_are_there;
 use ss_names::laws::names_stand_once;
 use ss_names::{NameId, Names};
+use ss_sayings::sayings_of;
 use ss_tree::program::Program;
 use ss_whole::layout;
 use std::alloc::{AllocError, Global};
@@ -48,10 +49,11 @@ impl Tables {
         ensures made { IfOk result (λ t. AreTablesOf (view_program program.now) t) }
         ensures refused { IfErr result (λ e. Tells e (refusal (view_program program.now))) }
     {
-        match refusal(alloc, program)? {
+        let sayings = sayings_of(alloc, program)?;
+        match refusal_of(alloc, &sayings, &program.sections)? {
             Some(broken) => Err(error_of(broken)),
             None => Ok(Tables {
-                names: Names::of(alloc, program)?,
+                names: Names::of(alloc, &sayings)?,
             }),
         }
     }

@@ -12,7 +12,8 @@ use Rattle.ss_walk.specs.declared.mention.Mention.{Mention}
 use Rattle.ss_walk.specs.Mentions.{NameBytes}
 use Rattle.ss_scopes.specs.declared.meaning.Meaning.{Meaning}
 use Rattle.ss_scopes.specs.declared.meaning.Meaning.TheVariants.{Local, Variable, Class, Attribute, Set, MemberCount, Routine}
-use Rattle.ss_scopes.specs.Locals.{same_name, Moded}
+use Rattle.ss_firsts.specs.Firsts.{same_name}
+use Rattle.ss_scopes.specs.Locals.{Moded}
 use Rattle.ss_scopes.specs.Whole.{Whole}
 use Rattle.ss_scopes.specs.Meanings.{meaning_in}
 use Rattle.ss_uses.specs.Lines.{line_if}

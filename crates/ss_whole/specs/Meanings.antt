@@ -18,7 +18,8 @@ use Rattle.ss_entities.specs.declared.entry.VariableKind.{VariableKind}
 use Rattle.ss_entities.specs.declared.entry.VariableKind.TheVariants.{CountOf}
 use Rattle.ss_firsts.specs.Firsts.{place_in, told_of}
 use Rattle.ss_names.specs.Table.{Table}
-use Rattle.ss_scopes.specs.Locals.{Moded, number_of, same_name}
+use Rattle.ss_firsts.specs.Firsts.{same_name}
+use Rattle.ss_scopes.specs.Locals.{Moded, number_of}
 use Rattle.ss_program.specs.declared.expression.Fold.{Fold}
 use Rattle.ss_program.specs.declared.expression.MemberQuery.{MemberQuery}
 use Rattle.ss_program.specs.declared.expression.MemberQuery.TheVariants.{Predecessor, Successor, Membership}
