@@ -1,5 +1,7 @@
 use Rattle.std.proofs.Common.{◌≡◌, ◌∙◌, sym, ap, refl}
 use Rattle.ss_tree.specs.View.{view_program}
+use Rattle.ss_sayings.specs.Sayings.{sayings}
+use Rattle.ss_names.specs.Table.{declared}
 use Rattle.ss_tables.proofs.tables.Tables.of.Goals as goal
 
 pub invariant_of-result : goal.invariant_of-result
