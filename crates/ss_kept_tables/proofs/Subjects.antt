@@ -35,8 +35,8 @@ use Rattle.ss_names.specs.Meanings.{class_meaning, numbered}
 use Rattle.ss_entities.specs.Statistics.{weighing_by, weighings}
 use Rattle.ss_names.specs.Histories.{history_of, subject_of}
 use Rattle.ss_names.specs.Table.{table}
-use Rattle.ss_scopes.specs.declared.meaning.Meaning.{Meaning as Known}
-use Rattle.ss_scopes.specs.declared.meaning.Meaning.TheVariants as knowns
+use Rattle.ss_scopes.specs.declared.known.Known.{Known}
+use Rattle.ss_scopes.specs.declared.known.Known.TheVariants as knowns
 use Rattle.ss_scopes.specs.Meanings.{value_mode}
 use Rattle.ss_globals.specs.WholeOf.{attribute_meaning, attribute_of_class, class_meaning as known_class, derived_meaning, set_holder, statistic_holder, meaning_by, meaning_of, variable_meaning, whole_of}
 use Rattle.ss_uses.specs.Modes.{mode_of}

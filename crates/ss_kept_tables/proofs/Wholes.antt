@@ -18,9 +18,9 @@ use Rattle.ss_entities.specs.declared.entry.Variable.{Variable}
 use Rattle.ss_firsts.specs.Firsts.{place_in, told_of}
 use Rattle.ss_names.specs.Meanings.{numbered}
 use Rattle.ss_names.specs.Table.{table}
-use Rattle.ss_scopes.specs.declared.meaning.Holder.{Holder}
-use Rattle.ss_scopes.specs.declared.meaning.Meaning.{Meaning as Known}
-use Rattle.ss_scopes.specs.declared.meaning.Meaning.TheVariants as knowns
+use Rattle.ss_scopes.specs.declared.known.Holder.{Holder}
+use Rattle.ss_scopes.specs.declared.known.Known.{Known}
+use Rattle.ss_scopes.specs.declared.known.Known.TheVariants as knowns
 use Rattle.ss_scopes.specs.Meanings.{value_mode}
 use Rattle.ss_globals.specs.WholeOf.{attribute_meaning, attribute_of_class, class_meaning as known_class, derived_meaning, meaning_by as known_by, meaning_of, variable_meaning as known_variable, whole_of}
 use Rattle.ss_lists.specs.Declared.{KeepsDeclarations}

@@ -16,7 +16,7 @@ use Rattle.ss_entities.specs.declared.entry.VariableKind.{VariableKind}
 use Rattle.ss_entities.specs.declared.entry.VariableKind.TheVariants as kinds
 use Rattle.ss_firsts.specs.Firsts.{place_in, same_name, told_of}
 use Rattle.ss_names.specs.Table.{Table}
-use Rattle.ss_scopes.specs.declared.meaning.Meaning.TheVariants as knowns
+use Rattle.ss_scopes.specs.declared.known.Known.TheVariants as knowns
 use Rattle.ss_scopes.specs.Locals.{Moded, number_of}
 use Rattle.ss_scopes.specs.Meanings.{local_or, meaning_in, value_mode}
 use Rattle.ss_scopes.specs.Signatures.{Signed}

@@ -25,10 +25,10 @@ use Rattle.ss_entities.specs.declared.entry.VariableKind.TheVariants as kinds
 use Rattle.ss_firsts.specs.Firsts.{place_in, same_name, told_of}
 use Rattle.ss_entities.specs.Statistics as statistics
 use Rattle.ss_names.specs.Table.{Table}
-use Rattle.ss_scopes.specs.declared.meaning.Holder.{Holder}
-use Rattle.ss_scopes.specs.declared.meaning.Holder.TheVariants.{Program as TheProgram, Entity as EachOf}
-use Rattle.ss_scopes.specs.declared.meaning.Meaning.{Meaning as Known}
-use Rattle.ss_scopes.specs.declared.meaning.Meaning.TheVariants as knowns
+use Rattle.ss_scopes.specs.declared.known.Holder.{Holder}
+use Rattle.ss_scopes.specs.declared.known.Holder.TheVariants.{Program as TheProgram, Entity as EachOf}
+use Rattle.ss_scopes.specs.declared.known.Known.{Known}
+use Rattle.ss_scopes.specs.declared.known.Known.TheVariants as knowns
 use Rattle.ss_scopes.specs.Locals.{Moded}
 use Rattle.ss_scopes.specs.Meanings.{local_or, meaning_in, value_mode}
 use Rattle.ss_scopes.specs.Signatures.{Signed}

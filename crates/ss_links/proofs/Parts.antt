@@ -14,7 +14,7 @@ use Rattle.ss_names.specs.declared.meaning.Meaning.TheVariants as globals
 use Rattle.ss_entities.specs.declared.entry.Routine.{Routine as RoutineSaid}
 use Rattle.ss_firsts.specs.Firsts.{same_name, told_of}
 use Rattle.ss_names.specs.Table.{Table, table}
-use Rattle.ss_scopes.specs.declared.meaning.Meaning.TheVariants as knowns
+use Rattle.ss_scopes.specs.declared.known.Known.TheVariants as knowns
 use Rattle.ss_scopes.specs.Locals.{Moded, mode_of}
 use Rattle.ss_scopes.specs.Meanings.{value_mode}
 use Rattle.ss_scopes.specs.Signatures.{Signed, given_to, signature, yielded_by}

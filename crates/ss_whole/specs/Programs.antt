@@ -18,7 +18,7 @@ use Rattle.ss_tree.specs.Tree.{ExpressionTree, number, named, no_expression, Sta
 use Rattle.ss_sayings.specs.Sayings.{NameBytes}
 use Rattle.ss_firsts.specs.Firsts.{told_of}
 use Rattle.ss_names.specs.Table.{table}
-use Rattle.ss_scopes.specs.declared.meaning.Meaning.TheVariants as meanings
+use Rattle.ss_scopes.specs.declared.known.Known.TheVariants as meanings
 use Rattle.ss_scopes.specs.Whole.{Whole}
 use Rattle.ss_program.specs.declared.expression.Variable.TheVariants.{Local}
 use Rattle.ss_program.specs.declared.sections.Subject.TheVariants.{OfAttribute, OfCount}

@@ -1,4 +1,4 @@
-//! What names mean.
+//! What the rules on uses know of a name.
 
 use ss_base::Mode;
 use ss_lex::Name;
@@ -13,9 +13,9 @@ pub enum Holder {
     Entity(Name),
 }
 
-/// What a name means.
+/// What is known of a name that means something in a section.
 #[derive(Clone, Copy, PartialEq, Eq, Debug)]
-pub enum Meaning {
+pub enum Known {
     /// A local variable.
     Local(Mode),
     /// A global variable, by a DEFINE.
