@@ -23,7 +23,7 @@ use Rattle.ss_names.specs.declared.meaning.Subject.TheVariants as subjects
 use Rattle.ss_entities.specs.declared.entry.Variable.{Variable as VariableSaid}
 use Rattle.ss_entities.specs.declared.entry.VariableKind.TheVariants as kinds
 use Rattle.ss_firsts.specs.Firsts.{place_in, same_name, told_of}
-use Rattle.ss_entities.specs.Statistics as statistics
+use Rattle.ss_names.specs.Histories as histories
 use Rattle.ss_names.specs.Table.{Table}
 use Rattle.ss_scopes.specs.declared.known.Holder.{Holder}
 use Rattle.ss_scopes.specs.declared.known.Holder.TheVariants.{Program as TheProgram, Entity as EachOf}
@@ -187,7 +187,7 @@ module _ (t : Table) (signatures : List Signed) (is : IsTable t) (k : IsKept t) 
   named (subjects.Attribute n) = globals.Attribute n
   named (subjects.MemberCount n) = globals.Derived derived.MemberCount n
 
-  subject_named : (o : Option Global) (number : SubjectNumber) → statistics.subject_of o ≡ Some number → o ≡ Some (named number)
+  subject_named : (o : Option Global) (number : SubjectNumber) → histories.subject_of o ≡ Some number → o ≡ Some (named number)
   subject_named (Some (globals.Variable n)) number e = ap (λ x. Some (named x)) (same_Some (subjects.Variable n) number e)
   subject_named (Some (globals.Attribute n)) number e = ap (λ x. Some (named x)) (same_Some (subjects.Attribute n) number e)
   subject_named (Some (globals.Derived derived.MemberCount n)) number e = ap (λ x. Some (named x)) (same_Some (subjects.MemberCount n) number e)
@@ -283,7 +283,7 @@ module _ (t : Table) (signatures : List Signed) (is : IsTable t) (k : IsKept t) 
       by (Some i) (Some mode) f g b = absurd cc
       by (Some i) None f g b =
           let weighting = told_by_place t.weighings name i f in
-          let history = statistics.history_of t.names (name, weighting.0) in
+          let history = histories.history_of t.names (name, weighting.0) in
           let there = is.histories i name weighting.0 weighting.2 in
           let number = k.subjects i history there in
           subject_told name i history number.0 (record { place = f; alone = g; there = there }) (subject_named (told_of t.names name) number.0 number.1) number.1
