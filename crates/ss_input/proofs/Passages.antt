@@ -1,10 +1,10 @@
 -- Bytes that are passed one after another.
-use Rattle.std.proofs.Common.{◌≡◌, ℕ, ◌+◌, true, List, [], ◌∷◌, ◌++◌, length, take, drop, slice_set, ◌<◌, Option, Some, None, refl, sym, ap, subst, ◌∙◌, arith}
+use Rattle.std.proofs.Common.{◌≡◌, ℕ, ◌+◌, Bool, true, List, [], ◌∷◌, ◌++◌, length, take, drop, slice_set, ◌<◌, Option, Some, None, refl, sym, ap, subst, ◌∙◌, arith}
 use Rattle.std.proofs.lemmas.List.{append_assoc, append-nil, length-append, take_more_set}
 use Rattle.std.proofs.lemmas.List.Folds.{list_all-append}
 use Rattle.std.specs.Io.KnownBytes.{Consumes, Keeps}
 use Rattle.ss_input.specs.Blocks.{BlockSeen, Looks, Unread, first_of}
-use Rattle.ss_input.specs.Sources.{Gives, Passes, Passed, GapPassed, WordPassed}
+use Rattle.ss_input.specs.Sources.{Gives, Passes, Passed, GapPassed, WordPassed, StandsBefore}
 use Rattle.ss_input.specs.Words.{is_separator, is_word_byte}
 
 some_first : (x : ℕ) (l : List ℕ) → Some x ≡ first_of l → l ≡ x ∷ drop 1 l
@@ -18,6 +18,22 @@ passes_one remaining a b c x l left reader ended = record {
   consumed = subst (λ r. Consumes (remaining a.reader) (remaining r) l.got) (sym reader) l.consumed;
   after_end = λ e. let h = l.after_end e in (h.0, ended ∙ h.1);
   same = sym l.left ∙ some_first x b.left l.byte_is ∙ ap (λ t. x ∷ t) (sym left);
+}
+
+-- a byte that was looked at, and is still to be passed
+pub passes_look : {R : Type 0} (remaining : R → Option (List ℕ)) (a b : BlockSeen R) (byte : Option ℕ) → Looks remaining a b byte → Passes remaining a b []
+passes_look remaining a b byte l = record { got = l.got; consumed = l.consumed; after_end = l.after_end; same = sym l.left }
+
+pub stands_at : {R : Type 0} (remaining : R → Option (List ℕ)) (is_wanted : ℕ → Bool) (a b : BlockSeen R) (x : ℕ) → Looks remaining a b (Some x) → is_wanted x ≡ true → StandsBefore is_wanted b
+stands_at remaining is_wanted a b x l e = record {
+  at_end = λ none. let no : Some x ≡ None = l.byte_is ∙ ap first_of none in absurd cc;
+  before = λ y bs here. let some : Some x ≡ Some y = l.byte_is ∙ ap first_of here in let same : x ≡ y = cc in subst (λ z. is_wanted z ≡ true) same e;
+}
+
+pub stands_at_end : {R : Type 0} (remaining : R → Option (List ℕ)) (is_wanted : ℕ → Bool) (a b : BlockSeen R) → Looks remaining a b None → StandsBefore is_wanted b
+stands_at_end remaining is_wanted a b l = record {
+  at_end = λ none. l.at_end refl;
+  before = λ y bs here. let no : None ≡ Some y = l.byte_is ∙ ap first_of here in absurd cc;
 }
 
 pub consumes_more : (p q r : Option (List ℕ)) (xs ys : List ℕ) → Consumes p q xs → Consumes q r ys → Consumes p r (xs ++ ys)

@@ -61,7 +61,6 @@ pub(crate) fn pass_word_byte<R: FaultyRead>(block: &mut Block<R>) -> Result<Opti
 
 /// Passes all separators at hand, where so many were passed before them, and answers how many there
 /// are then; None where they are too many.
-#[tactic(auto, using(crate::proofs::Passages::gap_begins, crate::proofs::Passages::gap_more, crate::proofs::Passages::gap_stays, crate::proofs::Passages::gives_behind))]
 pub(crate) fn pass_gap<R: FaultyRead>(
     block: &mut Block<R>,
     before: usize,
@@ -88,7 +87,6 @@ pub(crate) fn pass_gap<R: FaultyRead>(
 
 /// Passes the bytes of a word and keeps them, and answers how many there are; None where they are
 /// too many.
-#[tactic(auto, using(crate::proofs::Passages::word_begins, crate::proofs::Passages::word_more, crate::proofs::Passages::word_stays, crate::proofs::Passages::gives_behind))]
 pub(crate) fn pass_word<R: FaultyRead>(
     block: &mut Block<R>,
     word: &mut [u8; WORD_LIMIT],

@@ -96,10 +96,11 @@ impl Machine {
     /// `Memory`, `Output` and `Input` it answers `Failed`; it reads nothing, writes nothing and changes
     /// nothing.
     ///
-    /// `Memory` comes only where memory was refused, `Output` only where the writer's count of failures
-    /// rose in this run, and `Input` only where the reader's did. What was written by then is the
-    /// beginning of the report: at least what is written before the last tick used, and no more than
-    /// what is written before the next.
+    /// `Memory` comes only where memory was refused, `Output` only where the instruction at hand writes and
+    /// the writer's count of failures rose in this run, and `Input` only where the instruction at hand reads
+    /// or tests its input and the reader's count did. What was written by then is the beginning of the
+    /// report: at least what is written before the last tick used, and no more than what is written before
+    /// the next.
     pub fn run<R: FaultyRead, W: FaultyWrite>(
         &mut self,
         ticks: u64,
@@ -112,6 +113,7 @@ impl Machine {
         ensures code { self.new.code ≡ self.old.code }
         ensures stopped { self.old.stopped ≡ None → self.new.stopped ≡ kept_after result }
         ensures used { (self.old.used ≤ self.new.used) × (self.new.used ≤ self.old.used + ticks) }
+        ensures within { self.old.stopped ≡ None → self.new.used ≤ 2 ^ 64 - 1 }
         ensures paused { self.old.stopped ≡ None → result ≡ Stop.Paused → self.new.used ≡ min (self.old.used + ticks) (2 ^ 64 - 1) }
         ensures continues { self.old.stopped ≡ None → Continues self.old.code self.old.working source.old → result ≡ Stop.Paused → Continues self.new.code self.new.working source.new }
         ensures never_failed { self.old.stopped ≡ None → Continues self.old.code self.old.working source.old → result ≡ Stop.Failed → ⊥ }

@@ -6,7 +6,7 @@ use ss_program::expression::{Fold, MemberQuery, Operator, SetQuery, Sign, Variab
 use ss_program::statement::{Counted, End};
 
 /// What is assigned a value. The reference to the entity of an attribute lies on the stack.
-#[derive(Clone, Copy, PartialEq, Eq, Debug)]
+#[derive(Clone, Copy)]
 pub enum Destination {
     Variable { variable: Variable },
     Attribute { class: u32, field: u32 },
@@ -15,7 +15,7 @@ pub enum Destination {
 }
 
 /// Where a member is filed. The one beside which it is filed lies on the stack.
-#[derive(Clone, Copy, PartialEq, Eq, Debug)]
+#[derive(Clone, Copy)]
 pub enum Filing {
     /// Where the discipline of the set says.
     ByDiscipline,
@@ -27,7 +27,7 @@ pub enum Filing {
 
 /// One instruction. A jump counts the instructions that it skips, or that it goes back. The owner of a set lies on
 /// the stack, unless it is the system.
-#[derive(Clone, Copy, PartialEq, Eq, Debug)]
+#[derive(Clone, Copy)]
 pub enum Instruction {
     /// A value goes on top of the stack.
     Push {

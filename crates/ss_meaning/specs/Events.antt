@@ -74,11 +74,11 @@ ties_of class x s [] = Ok []
 ties_of class x s (key ∷ keys) =
     if_ok (attribute class key.field x s) (λ v. turned (λ ts. record { value = v; high = key.high } ∷ ts) (ties_of class x s keys))
 
--- the store once a notice is filed among those that are pending, by its time, the rank of its class, and the values of its attributes
+-- the store once a notice is filed among those that are pending, by its time, which is not past, the rank of its class, and the values of its attributes
 abbrev pub filed_notice : (class : ℕ) → (x : Value) → (time : ℤ) → Store → Result Store Trouble
 filed_notice class x t s =
     if_ok (entity class x s) (λ n. if_ok (sure (ranked class s)) (λ r. if_ok (ties_of class x s r.said.ties) (λ ties.
-    turned (with_pending s) (due (scheduled (record { time = t; rank = r.rank; ties = ties }) n s.scene.pending)))))
+    unless_fault (int_lt t s.scene.time) PastTime (turned (with_pending s) (due (scheduled (record { time = t; rank = r.rank; ties = ties }) n s.scene.pending))))))
 
 -- the store once a notice that there is was scheduled, with values for its first attributes
 abbrev pub rescheduled : (class : ℕ) → (x : Value) → List Value → (time : ℤ) → Store → Result Store Trouble

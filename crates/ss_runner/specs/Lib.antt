@@ -1,5 +1,3 @@
-pub mod Frames
-pub mod Ranged
 pub mod Holding
 pub mod Effects
 pub mod Beginning

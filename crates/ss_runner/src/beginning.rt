@@ -14,9 +14,9 @@ use crate::working::{Outcome, Working};
 use ss_base::Value;
 use ss_code::code::Code;
 use ss_machine_code::instruction::Instruction;
+use ss_population::trouble::{Trouble, Unmade};
 use ss_program::expression::Variable;
 use ss_store::coming::{Event, Fate};
-use ss_store::trouble::{Trouble, Unmade};
 use std::alloc::AllocError;
 
 impl Working {

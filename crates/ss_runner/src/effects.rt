@@ -6,13 +6,13 @@ ghost use Rattle.ss_meaning.specs.Expressions.{unless};
 ghost use Rattle.ss_meaning.specs.Sets.{is_none};
 ghost use Rattle.ss_machine_code.specs.Machine.{backwards};
 ghost use Rattle.ss_machine_code.specs.States.{To, onward, past, core_of as core_with};
-ghost use Rattle.ss_store.specs.declared.trouble.Unmade.TheVariants.{Memory};
+ghost use Rattle.ss_population.specs.declared.trouble.Unmade.TheVariants.{Memory};
 ghost use Rattle.ss_runner.specs.Holding.{frames_of, store_of, core_of, Told};
 ghost use Rattle.ss_runner.specs.Effects.{Follows, Settles, Gathers, unmade_of};
 
 use crate::working::{Outcome, Working};
 use ss_base::{Line, Value};
-use ss_store::trouble::{Trouble, Unmade};
+use ss_population::trouble::{Trouble, Unmade};
 use std::alloc::AllocError;
 
 impl Working {

@@ -5,11 +5,12 @@ ghost use Rattle.ss_machine_code.specs.Machine.{Code as CodeSeen, act};
 ghost use Rattle.ss_runner.specs.Holding.{core_of, Told};
 
 use crate::effects::{made, made_value};
+use crate::filing::pop_filing;
 use crate::working::{Outcome, Working};
 use ss_base::{Line, Value};
 use ss_machine_code::instruction::{Filing, Instruction};
+use ss_population::trouble::Trouble;
 use ss_program::statement::{Counted, End};
-use ss_store::trouble::Trouble;
 use std::alloc::AllocError;
 
 impl Working {
@@ -60,7 +61,7 @@ impl Working {
         let Some(owner) = self.operands.pop_owner(system) else {
             return Outcome::Missing;
         };
-        let Some(filing) = self.operands.pop_filing(filing) else {
+        let Some(filing) = pop_filing(&mut self.operands, filing) else {
             return Outcome::Missing;
         };
         let Some(x) = self.operands.pop() else {

@@ -5,15 +5,16 @@ ghost use Rattle.ss_base.specs.declared.value.Value.TheVariants.{Whole};
 ghost use Rattle.ss_meaning.specs.Values.{turned};
 ghost use Rattle.ss_meaning.specs.Store.{Store as StoreSeen};
 ghost use Rattle.ss_machine_code.specs.Machine.{Code as CodeSeen, act, due_at};
-ghost use Rattle.ss_store.specs.Seen.{told, with_seen};
+ghost use Rattle.ss_population.specs.Told.{told};
+ghost use Rattle.ss_store.specs.Seen.{with_seen};
 ghost use Rattle.ss_runner.specs.Holding.{core_of, Told};
 
 use crate::effects::{made, made_value};
 use crate::working::{Outcome, Working};
 use ss_base::{Line, Value};
 use ss_machine_code::instruction::Instruction;
+use ss_population::trouble::Trouble;
 use ss_store::scene::Scene;
-use ss_store::trouble::Trouble;
 use std::alloc::AllocError;
 
 impl Working {

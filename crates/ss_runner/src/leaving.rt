@@ -1,13 +1,12 @@
 //! How a call ends.
 
-ghost use Rattle.std.specs.Prelude.{◌≡◌, IfOk, MatchOption, Some, None, ℕ, List};
-ghost use Rattle.ss_meaning.specs.Store.{yielded};
+ghost use Rattle.std.specs.Prelude.{◌≡◌, IfOk, ℕ, List};
 ghost use Rattle.ss_machine_code.specs.Machine.{Code as CodeSeen, act};
 ghost use Rattle.ss_runner.specs.Holding.{core_of, Told};
 
 use crate::working::{Outcome, Working};
-use ss_base::Value;
 use ss_machine_code::instruction::Instruction;
+use ss_stack::given::yielded;
 use std::alloc::AllocError;
 
 impl Working {
@@ -27,19 +26,4 @@ impl Working {
         self.place = frame.back;
         Ok(Outcome::Went)
     }
-}
-
-// So many of these values from a number on, if they are there.
-fn yielded(values: &[Value], first: usize, count: usize) -> Option<&[Value]>
-    ensures { MatchOption result (yielded first count values.now ≡ None) (λ them. yielded first count values.now ≡ Some them.now) }
-{
-    if first > values.len() {
-        return None;
-    }
-    let (_, behind) = values.split_at(first);
-    if count > behind.len() {
-        return None;
-    }
-    let (them, _) = behind.split_at(count);
-    Some(them)
 }

@@ -5,26 +5,19 @@ ghost use Rattle.ss_base.specs.declared.value.Value.TheVariants.{Whole};
 ghost use Rattle.ss_meaning.specs.Values.{sure, if_ok, calculated, operator_of};
 ghost use Rattle.ss_meaning.specs.Places.{held, written, assigned_variable};
 ghost use Rattle.ss_machine_code.specs.Machine.{Code as CodeSeen, act, changed};
-ghost use Rattle.ss_store.specs.Seen.{told};
-ghost use Rattle.ss_runner.specs.Effects.{spot_seen, Came, Rests};
+ghost use Rattle.ss_population.specs.Told.{told};
+ghost use Rattle.ss_runner.specs.Effects.{Came, Rests};
+ghost use Rattle.ss_stack.specs.Spots.{spot_seen};
 ghost use Rattle.ss_runner.specs.Holding.{store_of, core_of, Told};
 
-use crate::numbers::{calculated, operator_of};
 use crate::working::{Outcome, Working};
 use ss_base::{Line, Value};
 use ss_machine_code::instruction::{Destination, Instruction};
+use ss_population::trouble::Trouble;
 use ss_program::expression::{Sign, Variable};
-use ss_program::statement::Counted;
-use ss_store::trouble::Trouble;
+use ss_stack::numbers::{calculated, operator_of};
+use ss_stack::spot::Spot;
 use std::alloc::AllocError;
-
-/// What can be assigned a value, with the reference to the entity of an attribute.
-#[derive(Clone, Copy)]
-pub enum Spot {
-    Variable(Variable),
-    Attribute(u32, u32, Value),
-    Count(Counted),
-}
 
 impl Working {
     // Assigns a value to a variable, where one of its mode is there.

@@ -5,20 +5,20 @@ ghost use Rattle.ss_base.specs.declared.value.Value.{Value as ValueSeen};
 ghost use Rattle.ss_meaning.specs.Store.{fetched, put};
 ghost use Rattle.ss_machine_code.specs.States.{To, onward, did, past, core_of as core_with};
 ghost use Rattle.ss_machine_code.specs.Machine.{Code as CodeSeen, act};
-ghost use Rattle.ss_store.specs.Seen.{told};
+ghost use Rattle.ss_population.specs.Told.{told};
 ghost use Rattle.ss_runner.specs.Holding.{store_of, frames_of, core_of, Told};
 
-use crate::frames::Frames;
-use crate::numbers::{absolute, calculated, related, signed};
-use crate::operands::Operands;
-use crate::stack::Stack;
-use crate::variables::Variables;
 use ss_base::{FaultKind, Line, Value};
 use ss_machine_code::instruction::Instruction;
+use ss_population::trouble::Trouble;
 use ss_program::condition::Relation;
 use ss_program::expression::{Operator, Sign, Variable};
+use ss_stack::frames::Frames;
+use ss_stack::numbers::{absolute, calculated, related, signed};
+use ss_stack::operands::Operands;
+use ss_stack::stack::Stack;
+use ss_stack::variables::Variables;
 use ss_store::scene::Scene;
-use ss_store::trouble::Trouble;
 use std::alloc::{AllocError, Global};
 
 /// What the machine works on, but for its code: the place of the next instruction, the operands, the calls that are open, what

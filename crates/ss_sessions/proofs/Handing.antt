@@ -1,7 +1,8 @@
 -- Ticks that are handed out piece by piece.
-use Rattle.std.proofs.Common.{◌≡◌, ℕ, suc, ◌+◌, ◌-◌, ◌^◌, ◌≤◌, ◌<◌, List, ◌∷◌, length, take, min, get_or, refl, sym, ap, subst, ◌∙◌, arith}
+use Rattle.std.proofs.Common.{◌≡◌, ℕ, suc, ◌+◌, ◌-◌, ◌^◌, ◌≤◌, ◌<◌, List, [], ◌∷◌, ◌++◌, length, take, min, get_or, refl, sym, ap, subst, ◌∙◌, arith}
 use Rattle.std.specs.List.{sum}
-use Rattle.std.proofs.lemmas.List.Sums.{sum_by_more}
+use Rattle.std.proofs.lemmas.List.Sums.{sum_by_more, sum_by-append}
+use Rattle.ss_sessions.specs.Headline.{handed_out}
 
 pub next_sum : (pieces : List ℕ) (i : ℕ) → i < length pieces → sum (take (i + 1) pieces) ≡ sum (take i pieces) + get_or pieces i 0
 next_sum pieces i lt = sum_by_more (λ x. x) pieces i 0 lt
@@ -29,3 +30,18 @@ used_since u v h = omega (arith, h)
 
 pub made_since : (a b c : ℕ) → a ≤ b → b ≤ c → (b - a) + (c - b) ≡ c - a
 made_since a b c h g = omega (arith, h, g)
+
+-- one piece more
+pub piece_more : (pieces : List ℕ) (ticks : ℕ) → sum (pieces ++ ticks ∷ []) ≡ sum pieces + ticks
+piece_more pieces ticks =
+    let one : sum (ticks ∷ []) ≡ ticks = omega arith in
+    sum_by-append (λ x. x) pieces (ticks ∷ []) ∙ ap (λ n. sum pieces + n) one
+
+pub used_more : (pieces : List ℕ) (ticks old new : ℕ) → old ≤ handed_out pieces → new ≤ old + ticks → new ≤ 2 ^ 64 - 1 → new ≤ handed_out (pieces ++ ticks ∷ [])
+used_more pieces ticks old new h g small = omega (arith, h, g, small, piece_more pieces ticks)
+
+pub still_used : (pieces : List ℕ) (ticks used : ℕ) → used ≤ handed_out pieces → used ≤ handed_out (pieces ++ ticks ∷ [])
+still_used pieces ticks used h = omega (arith, h, piece_more pieces ticks)
+
+pub used_all : (pieces : List ℕ) (ticks old new : ℕ) → old ≡ handed_out pieces → new ≡ min (old + ticks) (2 ^ 64 - 1) → new ≡ handed_out (pieces ++ ticks ∷ [])
+used_all pieces ticks old new h g = omega (arith, h, g, piece_more pieces ticks)

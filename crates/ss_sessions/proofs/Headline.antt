@@ -1,5 +1,5 @@
 -- What a run of the machine says of a program that its code behaves as.
-use Rattle.std.proofs.Common.{◌≡◌, ◌≢◌, ℕ, ◌+◌, false, List, [], ◌++◌, ◌⊎◌, inl, inr, Option, refl, sym, ap, ◌∙◌, subst, append_assoc, append-nil, arith}
+use Rattle.std.proofs.Common.{◌≡◌, ◌≢◌, ℕ, ◌+◌, ◌<◌, false, List, [], ◌++◌, ◌⊎◌, inl, inr, Option, refl, sym, ap, ◌∙◌, subst, append_assoc, append-nil, arith}
 use Rattle.std.proofs.KnownBytes.{Appends-nil, Consumes-nil}
 use Rattle.std.specs.Io.KnownBytes.{Consumes, IsAtEnd}
 use Rattle.ss_input.specs.Blocks.{KnowsEnd}
@@ -10,14 +10,15 @@ use Rattle.ss_meaning.specs.Meaning.{Ending, Ended as EndedThere, Fault as Fault
 use Rattle.ss_machine_code.specs.States.{State}
 use Rattle.ss_machine_code.specs.Machine.{Code, Goes, Over, step}
 use Rattle.ss_machine_code.specs.Running.{Underway, Ends, Behaves, result_at, result_of, start, steps, go_on as goes_on}
-use Rattle.ss_machine_code.specs.Laws.{Grows, OnTheWay, OneTickFewer, Pauses, StepsGoOn}
+use Rattle.ss_machine_code.specs.Laws.{EndingsStay, Grows, OnTheWay, OneTickFewer, Pauses, StepsGoOn}
 use Rattle.ss_machine.specs.declared.stop.Stop.{Stop}
 use Rattle.ss_machine.specs.declared.stop.Stop.TheVariants.{Ended, Fault, Paused, Memory, Output, Input, Failed}
 use Rattle.ss_runner.specs.declared.working.Working.{Working}
 use Rattle.ss_runner.specs.Holding.{state_of}
-use Rattle.ss_machine.specs.Runs.{Finishes, IsCut, TookLast, Comes, Ran}
+use Rattle.ss_machine.specs.Runs.{Finishes, IsCut, IsCutAt, TookLast, Comes, Ran, does_read, does_write}
 use Rattle.ss_sessions.specs.Headline.{IsBetween, Means, Gave, Simulated}
 use Rattle.ss_sessions.proofs.Inputs.{fresh_stands}
+use Rattle.ss_sessions.proofs.Ticks.{pauses_with_fewer}
 
 result_is : (e : Ending) (m r : Run) → e ≢ WentWrong → result_at e m ≡ Ends r → m ≡ r
 result_is EndedThere m r right h = cc
@@ -36,7 +37,7 @@ grows_first : (a b c : List ℕ) (part : List ℕ) → b ≡ a ++ part → Grows
 grows_first a b c part e g = record { by = (part ++ g.by.0, g.by.1 ∙ ap (λ l. l ++ g.by.0) e ∙ append_assoc a part g.by.0) }
 
 -- what a run of the code of a program says of what the program means
-module _ (on_the_way : OnTheWay) (fewer_ticks : OneTickFewer) (pauses : Pauses) (go_on : StepsGoOn) (p : Program) (right : (input : List ℕ) (n : ℕ) → (meaning p input n).ending ≢ WentWrong) (code : Code) (behaves : Behaves p code) where
+module _ (on_the_way : OnTheWay) (fewer_ticks : OneTickFewer) (pauses : Pauses) (go_on : StepsGoOn) (stay : EndingsStay) (p : Program) (right : (input : List ℕ) (n : ℕ) → (meaning p input n).ending ≢ WentWrong) (code : Code) (behaves : Behaves p code) where
   -- a run that comes to its end comes to what the program means
   finished : (input : List ℕ) (n m : ℕ) (s : State) (bytes : List ℕ) (ending : Ending) (ticks : ℕ) → s ≡ start code input n → Finishes code s m bytes ending ticks → meaning p input n ≡ record { report = bytes; ending = ending; ticks = ticks }
   finished input n m s bytes ending ticks same f =
@@ -54,6 +55,7 @@ module _ (on_the_way : OnTheWay) (fewer_ticks : OneTickFewer) (pauses : Pauses) 
     beyond = λ fewer e.
         let g = fewer_ticks p code behaves input fewer m c.state (right input fewer) (subst (λ k. steps code m (start code input k) ≡ Underway c.state) e passed) c.left in
         record { by = (g.by.0 ++ c.cut.part, c.cut.begins ∙ ap (λ l. l ++ c.cut.part) g.by.1 ∙ append_assoc (meaning p input fewer).report g.by.0 c.cut.part) };
+    taken = λ fewer lt. pauses_with_fewer stay p right code behaves input n m c.state passed c.left fewer lt;
   } where
     passed : steps code m (start code input n) ≡ Underway c.state
     passed = subst (λ x. steps code m x ≡ Underway c.state) same c.passed
@@ -97,14 +99,14 @@ module _ (on_the_way : OnTheWay) (fewer_ticks : OneTickFewer) (pauses : Pauses) 
           h.says;
     }
 
-    cut : (stop : Stop) → ((bytes input : List ℕ) → IsBetween p input used bytes → Means stop p used bytes input)
-        → TookLast remaining source last (contents writer) (contents last_writer) (λ bytes input report ticks. IsCut code (state_of w input report (used + ticks)) made (report ++ bytes) ticks)
+    cut : (stop : Stop) (P : State → List ℕ → ℕ → Type 0) → ((s : State) (report : List ℕ) (ticks : ℕ) → P s report ticks → IsCut code s made report ticks) → ((bytes input : List ℕ) → IsBetween p input used bytes → Means stop p used bytes input)
+        → TookLast remaining source last (contents writer) (contents last_writer) (λ bytes input report ticks. P (state_of w input report (used + ticks)) (report ++ bytes) ticks)
         → Simulated remaining contents p stop used reader last_reader writer last_writer
-    cut stop to h = record {
+    cut stop P is to h = record {
       bytes = h.bytes;
       took = h.took;
-      means = gave (λ input. (report : List ℕ) (ticks : ℕ) → IsCut code (state_of w input report (used + ticks)) made (report ++ h.bytes) ticks) (Means stop p used h.bytes)
-          (λ input s. to h.bytes input (cut_between input used made (state_of w input [] (used + 0)) h.bytes (first input (used + 0) ∙ ap (start code input) (no_more used)) (s [] 0)))
+      means = gave (λ input. (report : List ℕ) (ticks : ℕ) → P (state_of w input report (used + ticks)) (report ++ h.bytes) ticks) (Means stop p used h.bytes)
+          (λ input s. to h.bytes input (cut_between input used made (state_of w input [] (used + 0)) h.bytes (first input (used + 0) ∙ ap (start code input) (no_more used)) (is (state_of w input [] (used + 0)) h.bytes 0 (s [] 0))))
           h.says;
     }
 
@@ -126,10 +128,13 @@ module _ (on_the_way : OnTheWay) (fewer_ticks : OneTickFewer) (pauses : Pauses) 
     ran_simulated Ended right h = over Ended EndedThere (λ bytes input m. m) h
     ran_simulated (Fault kind line) right h = over (Fault kind line) (FaultThere kind line) (λ bytes input m. m) h
     ran_simulated Paused right h = paused h.0 h.1
-    ran_simulated Memory right h = cut Memory (λ bytes input m. m) h
-    ran_simulated Output right h = cut Output (λ bytes input m. m) h
-    ran_simulated Input right h = cut Input (λ bytes input m. m) h
+    ran_simulated Memory right h = cut Memory (λ s report ticks. IsCut code s made report ticks) (λ s report ticks c. c) (λ bytes input m. m) h
+    ran_simulated Output right h = cut Output (λ s report ticks. IsCutAt does_write code s made report ticks) (λ s report ticks c. c.cut) (λ bytes input m. m) h
+    ran_simulated Input right h = cut Input (λ s report ticks. IsCutAt does_read code s made report ticks) (λ s report ticks c. c.cut) (λ bytes input m. m) h
     ran_simulated Failed right h = absurd (right refl)
+
+none_fewer : (fewer : ℕ) → fewer < 0 → ⊥
+none_fewer fewer lt = omega (arith, lt)
 
 -- nothing was run, read or written
 pub nothing_simulated : {R W : Type 0} (remaining : R → Option (List ℕ)) (contents : W → Option (List ℕ)) (p : Program) (reader : R) (writer : W) → Simulated remaining contents p Memory 0 reader reader writer writer
@@ -141,6 +146,6 @@ nothing_simulated remaining contents p reader writer = record {
     ended = false;
     gave = Consumes-nil (remaining reader);
     at_end = λ e. absurd cc;
-    says = λ more e. record { within = record { by = ((meaning p more 0).report, refl) }; beyond = λ fewer e. absurd cc };
+    says = λ more e. record { within = record { by = ((meaning p more 0).report, refl) }; beyond = λ fewer e. absurd cc; taken = λ fewer lt. absurd (none_fewer fewer lt) };
   };
 }

@@ -3,3 +3,5 @@ mod Pieces
 mod Handing
 mod Headline
 mod Sessions
+mod Ticks
+mod Running

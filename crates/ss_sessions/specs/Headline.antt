@@ -1,5 +1,5 @@
 -- What a run of a model says of the program that it stands for.
-use Rattle.std.specs.Prelude.{◌≡◌, ℕ, suc, ◌+◌, ◌-◌, ◌^◌, min, Bool, true, List, [], ◌++◌}
+use Rattle.std.specs.Prelude.{◌≡◌, ℕ, suc, ◌+◌, ◌-◌, ◌^◌, ◌<◌, min, Bool, true, List, [], ◌++◌}
 use Rattle.std.specs.List.{sum}
 use Rattle.std.specs.declared.option.Option.{Option}
 use Rattle.std.specs.Io.KnownBytes.{Appends, Consumes, IsAtEnd}
@@ -13,10 +13,12 @@ use Rattle.ss_machine.specs.declared.stop.Stop.TheVariants.{Ended, Fault, Paused
 abbrev pub handed_out : List ℕ → ℕ
 handed_out pieces = min (sum pieces) (2 ^ 64 - 1)
 
--- bytes that begin the report for these ticks, and that begin with the report for a tick fewer
+-- bytes that begin the report for these ticks, and that begin with the report for a tick fewer; so many ticks are taken, since
+-- with fewer the program pauses
 pub record IsBetween (p : Program) (input : List ℕ) (used : ℕ) (bytes : List ℕ) : Type 0 where
   pub within : Grows bytes (meaning p input used).report
   pub beyond : (fewer : ℕ) → used ≡ suc fewer → Grows (meaning p input fewer).report bytes
+  pub taken : (fewer : ℕ) → fewer < used → (meaning p input fewer).ending ≡ PausedThere
 
 -- what a run that used so many ticks, wrote these bytes and stopped so says of the meaning of its program for an input:
 -- where it ended, that this is the report and the ending for these ticks and for any more, which are left

@@ -1,6 +1,7 @@
 //! Sessions: the code of a program under way, with the reader of its input and the writer of its report.
 #![tactic(auto)]
 
+pub mod laws;
 mod model;
 mod run;
 mod session;

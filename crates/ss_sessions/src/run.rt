@@ -1,23 +1,20 @@
 //! Runs of a model in pieces.
 
-ghost use Rattle.std.specs.Prelude.{◌≡◌, ◌+◌, ◌-◌, ◌^◌, ◌≤◌, min};
+ghost use Rattle.std.specs.Prelude.{◌≡◌, ◌≤◌, []};
 ghost use Rattle.std.specs.List.{sum};
 ghost use Rattle.ss_base.specs.Failures.{HasRisen};
 ghost use Rattle.ss_program.specs.Program.{Program};
 ghost use Rattle.ss_program.specs.WellTyped.{WellTyped};
+ghost use Rattle.ss_machine_code.specs.Machine.{Code};
 ghost use Rattle.ss_machine_code.specs.Running.{Behaves};
-ghost use Rattle.ss_input.specs.Blocks.{KnowsEnd};
-ghost use Rattle.ss_input.specs.Inputs.{source_block};
-ghost use Rattle.ss_machine.specs.Runs.{Ran};
 ghost use Rattle.ss_sessions.specs.Headline.{Simulated, handed_out};
-ghost use Rattle.ss_sessions.specs.Sessions.{GoesOn, session_machine, session_reader, session_source, session_writer};
+ghost use Rattle.ss_sessions.specs.Sessions.{GoesOn, HasRun, WasRun, session_machine, stands_so};
 
+use crate::laws::sessions_are_meant;
 use crate::model::Model;
 use crate::session::Session;
 use ss_base::{FaultyRead, FaultyWrite};
 use ss_machine::Stop;
-use ss_machine_code::laws::laws;
-use ss_typed::laws::laws as typed_laws;
 use std::alloc::Global;
 
 // One run for each piece of ticks, up to the first answer other than a pause; one run without a tick
@@ -25,15 +22,12 @@ use std::alloc::Global;
 fn run_pieces<R: FaultyRead, W: FaultyWrite>(session: &mut Session<R, W>, pieces: &[u64]) -> Stop
     requires goes_on { GoesOn session.old }
     requires first { (session_machine session.old).used ≡ 0 }
-    ensures ran { Ran R.remaining result (session_machine session.old).code (session_machine session.old).working (session_machine session.new).working (session_source session.old) (session_source session.new) (W.contents (session_writer session.old)) (W.contents (session_writer session.new)) ((session_machine session.new).used) ((session_machine session.new).steps - (session_machine session.old).steps) }
+    ensures was_run { (code : Code) (reader : R) (writer : W) → HasRun R.remaining R.faults W.contents W.faults code reader writer [] session.old → WasRun R.remaining R.faults W.contents W.faults code reader writer session.new }
+    ensures stopped { result ≡ stands_so (session_machine session.new).stopped }
     ensures never_failed { result ≡ Stop.Failed → ⊥ }
-    ensures end { KnowsEnd R.remaining (source_block (session_source session.old)) → KnowsEnd R.remaining (source_block (session_source session.new)) }
     ensures used { (session_machine session.new).used ≤ sum pieces.now }
     ensures paused { result ≡ Stop.Paused → (session_machine session.new).used ≡ handed_out pieces.now }
-    ensures output { result ≡ Stop.Output → HasRisen (W.faults (session_writer session.old)) (W.faults (session_writer session.new)) }
-    ensures input { result ≡ Stop.Input → HasRisen (R.faults (session_reader session.old)) (R.faults (session_reader session.new)) }
 {
-    laws();
     let Some((first, rest)) = pieces.split_first() else {
         return session.run(0);
     };
@@ -66,8 +60,7 @@ pub fn run_model<R: FaultyRead, W: FaultyWrite>(
     ensures output { result.0 ≡ Stop.Output → HasRisen (W.faults writer) (W.faults result.3) }
     ensures input { result.0 ≡ Stop.Input → HasRisen (R.faults reader) (R.faults result.2) }
 {
-    laws();
-    typed_laws();
+    sessions_are_meant::<R, W>();
     let mut session = match Session::start(alloc, model, reader, writer) {
         Ok(session) => session,
         Err((reader, writer)) => return (Stop::Memory, 0, reader, writer),

@@ -37,7 +37,7 @@ use Rattle.ss_typed.proofs.Fine.{Fine, Sane, There, fine_then, fine_turned, due_
 use Rattle.ss_typed.proofs.Lists.{every_get}
 use Rattle.ss_typed.proofs.Heaps.{Changed, Created, Filled, Gone, IsEntityAs, entity_known, entity_lives, value_sane, assigned_sane, created_sane, created_all_sane, destroyed_sane}
 use Rattle.ss_typed.proofs.Kept.{Noteworthy, number_fine, fit_gone}
-use Rattle.ss_typed.proofs.Stores.{same_is, held_there, put_at_fine, heap_fits, statistics_are, noted_fine, created_fits, filled_fits}
+use Rattle.ss_typed.proofs.Stores.{same_is, held_there, put_at_fine, heap_fits, statistics_are, lives_on, noted_fine, created_fits, filled_fits}
 
 -- ## What a program says
 
@@ -223,7 +223,7 @@ module _ (p : Program) (typed : WellTyped p) (ms : List Mode) where
   global_fine k m v s q g f =
       fine_then (Fits p ms) (put (Global k) v s) (noted (OfVariable k) (pos 0) v)
       (fine_turned (Fits p ms) (λ vs. record s { globals = vs }) (put_at s.globals k v) (put_at_fine s.globals p.globals k m v f.sound.globals q g) (λ vs h. globals_fit s vs f h)) (λ t ft.
-      noted_fine p ms (OfVariable k) (pos 0) v t (variable_noted k m v q g) ft)
+      noted_fine p ms (OfVariable k) (pos 0) v t (variable_noted k m v q g) refl ft)
 
   pub variable_fine : (b : Bool) (x : Variable) (m : Mode) (v : Value) (s : Store) → mode_at (record { program = p; locals = ms; is_main = b }) x ≡ Some m → mode_of v ≡ m → Fits p ms s → Fine (Fits p ms) (assigned_variable x v s)
   variable_fine b (Global k) m v s q g f = global_fine k m v s q g f
@@ -240,7 +240,7 @@ module _ (p : Program) (typed : WellTyped p) (ms : List Mode) where
       fit_fine (Fits p ms) (is_of_mode v (field_at c k s)) (if_ok (due (assigned s.scene.heap c k n v)) (λ h. noted (OfAttribute c k) n v (with_heap s h))) (of_mode s c k m v f there gv)
       (fine_then (Fits p ms) (due (assigned s.scene.heap c k n v)) (λ h. noted (OfAttribute c k) n v (with_heap s h))
       (due_fine (Changed s.scene.heap) (assigned s.scene.heap c k n v) (assigned_sane s.scene.heap c k n v m f.sound.scene.heap (field_here s c k m f there) gv)) (λ h g.
-      noted_fine p ms (OfAttribute c k) n v (with_heap s h) (attribute_noted c k m v q gv) (heap_fits p ms s h f g))))
+      noted_fine p ms (OfAttribute c k) n v (with_heap s h) (attribute_noted c k m v q gv) (lives_on s.scene.heap h c n g.1 r.1) (heap_fits p ms s h f g))))
 
   pub count_fine : (count : Counted) (v : Value) (s : Store) → Contains p.counts count → mode_of v ≡ Integer → Fits p ms s → Fine (Fits p ms) (assigned_count count v s)
   count_fine count v s c g f =

@@ -228,11 +228,12 @@ module _ (p : Program) (typed : WellTyped p) (ms : List Mode) where
   pub filed_notice_fine : (c : ℕ) (x : Value) (t : ℤ) (s : Store) → kind_said p c ≡ Some Notice → mode_of x ≡ Integer → Fits p ms s → Fine (Fits p ms) (filed_notice c x t s)
   filed_notice_fine c x t s q m f =
       let cl = class_said p c Notice q in
-      fine_then (Fits p ms) (entity c x s) (λ n. if_ok (sure (ranked c s)) (λ r. if_ok (ties_of c x s r.said.ties) (λ ties. turned (with_pending s) (due (scheduled (record { time = t; rank = r.rank; ties = ties }) n s.scene.pending))))) (entity_fine p typed ms c cl.0 x s cl.1 m f) (λ n l.
-      fine_then (Fits p ms) (sure (ranked c s)) (λ r. if_ok (ties_of c x s r.said.ties) (λ ties. turned (with_pending s) (due (scheduled (record { time = t; rank = r.rank; ties = ties }) n s.scene.pending)))) (sure_fine (RankedAs p.events c) (ranked c s) (ranked_there c s q f)) (λ r ok.
-      fine_then (Fits p ms) (ties_of c x s r.said.ties) (λ ties. turned (with_pending s) (due (scheduled (record { time = t; rank = r.rank; ties = ties }) n s.scene.pending))) (ties_fine c x s r.said.ties (keys r ok) m f) (λ ties u.
+      fine_then (Fits p ms) (entity c x s) (λ n. if_ok (sure (ranked c s)) (λ r. if_ok (ties_of c x s r.said.ties) (λ ties. unless_fault (int_lt t s.scene.time) faults.PastTime (turned (with_pending s) (due (scheduled (record { time = t; rank = r.rank; ties = ties }) n s.scene.pending)))))) (entity_fine p typed ms c cl.0 x s cl.1 m f) (λ n l.
+      fine_then (Fits p ms) (sure (ranked c s)) (λ r. if_ok (ties_of c x s r.said.ties) (λ ties. unless_fault (int_lt t s.scene.time) faults.PastTime (turned (with_pending s) (due (scheduled (record { time = t; rank = r.rank; ties = ties }) n s.scene.pending))))) (sure_fine (RankedAs p.events c) (ranked c s) (ranked_there c s q f)) (λ r ok.
+      fine_then (Fits p ms) (ties_of c x s r.said.ties) (λ ties. unless_fault (int_lt t s.scene.time) faults.PastTime (turned (with_pending s) (due (scheduled (record { time = t; rank = r.rank; ties = ties }) n s.scene.pending)))) (ties_fine c x s r.said.ties (keys r ok) m f) (λ ties u.
+      unless_fine (Fits p ms) (int_lt t s.scene.time) faults.PastTime (turned (with_pending s) (due (scheduled (record { time = t; rank = r.rank; ties = ties }) n s.scene.pending))) (λ due_time.
       fine_turned (Fits p ms) (with_pending s) (due (scheduled (record { time = t; rank = r.rank; ties = ties }) n s.scene.pending))
-      (due_fine (λ (q : PendingList). Every (λ (e : Entry). IsNotice s.scene.heap e.notice) q.entries) (scheduled (record { time = t; rank = r.rank; ties = ties }) n s.scene.pending) (scheduled_sane (record { time = t; rank = r.rank; ties = ties }) n s f (is_notice_here c n s q f l.1))) (λ d h. pending_fits s d f h))))
+      (due_fine (λ (q : PendingList). Every (λ (e : Entry). IsNotice s.scene.heap e.notice) q.entries) (scheduled (record { time = t; rank = r.rank; ties = ties }) n s.scene.pending) (scheduled_sane (record { time = t; rank = r.rank; ties = ties }) n s f (is_notice_here c n s q f l.1))) (λ d h. pending_fits s d f h)))))
     where
       keys : (r : Ranked) → RankedAs p.events c r → GoodKeys p c r.said.ties
       keys r ok =

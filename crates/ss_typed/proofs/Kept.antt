@@ -83,24 +83,38 @@ pub number_fine : (v : Value) → mode_of v ≡ Integer → Fine Any (number_of 
 number_fine (Whole z) q = tt
 number_fine (Text t) q = absurd cc
 
-noting_fine : (x now : ℤ) (v : Value) (c : Column) → mode_of v ≡ Integer → Fine (KeepsColumn c) (noting x now v c)
-noting_fine x now v c q = by (c x)
+-- the histories of statistics are there, and those of a subject have one of an entity
+abbrev pub AreThere : List Statistic → Subject → ℤ → List Column → Type 0
+AreThere ss subject x cs = (j : ℕ) (t : Statistic) → slice_get ss j ≡ Some t → (c : Column) × (slice_get cs j ≡ Some c) × (t.subject ≡ subject → Has c x)
+
+noting_fine : (x now : ℤ) (v : Value) (c : Column) → mode_of v ≡ Integer → Has c x → Fine (KeepsColumn c) (noting x now v c)
+noting_fine x now v c q g = subst (λ o. Fine (KeepsColumn c) (noting_in x now v o c)) (sym g.1) (by g.0)
   where
-    by : (o : Option History) → Fine (KeepsColumn c) (noting_in x now v o c)
-    by None = λ y g. g
-    by (Some h) =
+    by : (h : History) → Fine (KeepsColumn c) (noting_in x now v (Some h) c)
+    by h =
         fine_then (KeepsColumn c) (number_of v) (λ z. unless_fault (is_full h) Overflow (Ok (with_history x (with_value h now z) c))) (number_fine v q) (λ z u.
         unless_fine (KeepsColumn c) (is_full h) Overflow (Ok (with_history x (with_value h now z) c)) (λ p. history_keeps x (with_value h now z) c))
 
-pub all_noting_fine : (subject : Subject) (x now : ℤ) (v : Value) (ss : List Statistic) (cs : List Column) → Noteworthy ss subject v → Fine (KeepsAll cs) (all_noting subject x now v ss cs)
-all_noting_fine subject x now v [] cs h = keeps_same cs
-all_noting_fine subject x now v (s ∷ ss) [] h = keeps_same []
-all_noting_fine subject x now v (s ∷ ss) (c ∷ cs) h =
+none_there : (c : Column) → slice_get [] zero ≡ Some c → ⊥
+none_there c q = absurd cc
+
+pub all_noting_fine : (subject : Subject) (x now : ℤ) (v : Value) (ss : List Statistic) (cs : List Column) → Noteworthy ss subject v → AreThere ss subject x cs → Fine (KeepsAll cs) (all_noting subject x now v ss cs)
+all_noting_fine subject x now v [] cs h there = keeps_same cs
+all_noting_fine subject x now v (s ∷ ss) [] h there = none_there (there zero s refl).0 (there zero s refl).1
+all_noting_fine subject x now v (s ∷ ss) (c ∷ cs) h there =
     fine_then (KeepsAll (c ∷ cs)) (if same_subject s.subject subject then noting x now v c else Ok c) (λ d. turned (λ ds. d ∷ ds) (all_noting subject x now v ss cs)) (by (same_subject s.subject subject) refl) (λ d g.
-    fine_turned (KeepsAll (c ∷ cs)) (λ ds. d ∷ ds) (all_noting subject x now v ss cs) (all_noting_fine subject x now v ss cs (λ j t q. h (suc j) t q)) (λ ds later. keeps_cons c d cs ds g later))
+    fine_turned (KeepsAll (c ∷ cs)) (λ ds. d ∷ ds) (all_noting subject x now v ss cs) (all_noting_fine subject x now v ss cs (λ j t q. h (suc j) t q) (λ j t q. there (suc j) t q)) (λ ds later. keeps_cons c d cs ds g later))
   where
+    has : (d : Column) → Some c ≡ Some d → Has d x → Has c x
+    has d q g = subst (λ b. Has b x) (sym same) g
+      where
+        same : c ≡ d
+        same = cc
+
     by : (b : Bool) → same_subject s.subject subject ≡ b → Fine (KeepsColumn c) (if b then noting x now v c else Ok c)
-    by true q = noting_fine x now v c (h zero s refl (same_subject_is s.subject subject q))
+    by true q =
+        let same : s.subject ≡ subject = same_subject_is s.subject subject q in
+        noting_fine x now v c (h zero s refl same) (has (there zero s refl).0 (there zero s refl).1 ((there zero s refl).2 same))
     by false q = λ y g. g
 
 pub history_fine : (j : ℕ) (x : ℤ) (cs : List Column) (these : ℤ → Type 0) → IsKept j cs these → these x → Fine Any (history_of j x cs)

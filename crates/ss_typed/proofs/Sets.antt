@@ -16,7 +16,7 @@ use Rattle.ss_base.specs.declared.layout.Discipline.TheVariants.{Fifo, Lifo, Ran
 use Rattle.ss_base.specs.declared.value.Value.{Value}
 use Rattle.ss_base.specs.declared.value.Value.TheVariants.{Whole, Text}
 use Rattle.ss_base.specs.Layout.{mode_of}
-use Rattle.ss_records.specs.State.{State, modes_of, entity as entity_in, number_in}
+use Rattle.ss_records.specs.State.{State, modes_of, members_of, entity as entity_in, number_in}
 use Rattle.ss_records.specs.Sets.{member_class, owner_kind, owner_by as owner_of_kind, joiner, owner, first_in, last_in, count_in, next_in, previous_in, owner_of_member, filed_first, filed_last, filed_before, filed_after, removed}
 use Rattle.ss_sets.specs.Disciplines.{member_test, filed}
 use Rattle.ss_program.specs.declared.expression.Fold.{Fold}
@@ -143,10 +143,16 @@ module _ (p : Program) (typed : WellTyped p) (ms : List Mode) where
 
   -- ## Filing and removing
 
-  pub recounted_fine : (set : ℕ) (o : ℤ) (s : Store) (h : State) → Fits p ms s → Changed s.scene.heap h → Fine (Fits p ms) (recounted set o s h)
-  recounted_fine set o s h f g =
-      fine_then (Fits p ms) (due (count_in h set o)) (λ n. noted (OfCount set) o (Whole n) (with_heap s h)) (any_due (count_in h set o)) (λ n u.
-      noted_fine p ms (OfCount set) o (Whole n) (with_heap s h) (λ j t q e. refl) (heap_fits p ms s h f g))
+  -- who has members that can be counted is an owner
+  count_bears : (h : State) (set : ℕ) (o : ℤ) → IsOwnerNumber h set o → Sane (λ n. Bears h (OfCount set) o) (count_in h set o)
+  count_bears h set o z =
+      sane_then (λ n. Bears h (OfCount set) o) (owner h set o) (λ n. Ok (pos (length (members_of h.lists set n)))) (owner_bears h (owner_kind h.layout set) o z) (λ m b. b)
+
+  pub recounted_fine : (set : ℕ) (o : ℤ) (s : Store) (h : State) → IsOwnerNumber s.scene.heap set o → Fits p ms s → Changed s.scene.heap h → Fine (Fits p ms) (recounted set o s h)
+  recounted_fine set o s h z f g =
+      fine_then (Fits p ms) (due (count_in h set o)) (λ n. noted (OfCount set) o (Whole n) (with_heap s h))
+      (due_fine (λ n. Bears h (OfCount set) o) (count_in h set o) (count_bears h set o (λ e. z (ap (λ l. owner_kind l set) (sym g.1.layout) ∙ e)))) (λ n b.
+      noted_fine p ms (OfCount set) o (Whole n) (with_heap s h) (λ j t q e. refl) b (heap_fits p ms s h f g))
 
   discipline_at : (sets : List SetLayout) (ds : List Discipline) (k : ℕ) (t : SetLayout) → AllZip (GoodDiscipline p) sets ds → slice_get sets k ≡ Some t → There (GoodDiscipline p t) (slice_get ds k)
   discipline_at [] ds k t h q = absurd cc
@@ -192,14 +198,14 @@ module _ (p : Program) (typed : WellTyped p) (ms : List Mode) where
   filed_in_fine filing set x o s k g q f =
       fine_then (Fits p ms) (member set x s) (λ n. if_ok (owner_number set o s) (λ m. if_ok (filed_by filing set m n s) (recounted set m s))) (member_fine set x s (set_of set o q) g f) (λ n z.
       fine_then (Fits p ms) (owner_number set o s) (λ m. if_ok (filed_by filing set m n s) (recounted set m s)) (owner_number_fine set o s q f) (λ m y.
-      fine_then (Fits p ms) (filed_by filing set m n s) (recounted set m s) (filed_by_fine filing set m n s k (set_of set o q) f) (λ h c. recounted_fine set m s h f c)))
+      fine_then (Fits p ms) (filed_by filing set m n s) (recounted set m s) (filed_by_fine filing set m n s k (set_of set o q) f) (λ h c. recounted_fine set m s h y f c)))
 
   pub removed_from_fine : (set : ℕ) (x : Value) (o : Option Value) (s : Store) → mode_of x ≡ Integer → OwnerOk set o → Fits p ms s → Fine (Fits p ms) (removed_from set x o s)
   removed_from_fine set x o s g q f =
       fine_then (Fits p ms) (member set x s) (λ n. if_ok (owner_number set o s) (λ m. if_ok (due (removed s.scene.heap set m n)) (recounted set m s))) (member_fine set x s (set_of set o q) g f) (λ n z.
       fine_then (Fits p ms) (owner_number set o s) (λ m. if_ok (due (removed s.scene.heap set m n)) (recounted set m s)) (owner_number_fine set o s q f) (λ m y.
       fine_then (Fits p ms) (due (removed s.scene.heap set m n)) (recounted set m s) (due_fine (Changed s.scene.heap) (removed s.scene.heap set m n) (removed_sane s.scene.heap set m n f.sound.scene.heap)) (λ h c.
-      recounted_fine set m s h f c)))
+      recounted_fine set m s h y f c)))
 
   end_sane : (end : End) (h : State) (set : ℕ) (o : ℤ) → HeapFits h → Sane (λ r. Changed h r.1) (end_removed end h set o)
   end_sane ends.First h set o f = first_removed_sane h set o f
@@ -209,7 +215,7 @@ module _ (p : Program) (typed : WellTyped p) (ms : List Mode) where
   removed_at_fine end set o s q f =
       fine_then (λ b. (mode_of b.0 ≡ Integer) × Fits p ms b.1) (owner_number set o s) (λ m. if_ok (due (end_removed end s.scene.heap set m)) (λ r. turned (λ t. (Whole r.0, t)) (recounted set m s r.1))) (owner_number_fine set o s q f) (λ m y.
       fine_then (λ b. (mode_of b.0 ≡ Integer) × Fits p ms b.1) (due (end_removed end s.scene.heap set m)) (λ r. turned (λ t. (Whole r.0, t)) (recounted set m s r.1)) (due_fine (λ r. Changed s.scene.heap r.1) (end_removed end s.scene.heap set m) (end_sane end s.scene.heap set m f.sound.scene.heap)) (λ r c.
-      fine_turned (λ b. (mode_of b.0 ≡ Integer) × Fits p ms b.1) (λ t. (Whole r.0, t)) (recounted set m s r.1) (recounted_fine set m s r.1 f c) (λ t g. (refl, g))))
+      fine_turned (λ b. (mode_of b.0 ≡ Integer) × Fits p ms b.1) (λ t. (Whole r.0, t)) (recounted set m s r.1) (recounted_fine set m s r.1 y f c) (λ t g. (refl, g))))
 
   -- ## Going over members
 

@@ -20,11 +20,11 @@ use Rattle.ss_program.specs.Program.{Program}
 use Rattle.ss_meaning.specs.Values.{Misfit, same_mode}
 use Rattle.ss_meaning.specs.Store.{Column, Store, with_heap, with_histories, put_at}
 use Rattle.ss_meaning.specs.Histories.{home, starting, started, all_started, all_noting, noted}
-use Rattle.ss_typed.specs.Fitting.{Hold, HeapFits, made, IsIndex, LivesAs, IsNotice, BearsBy, Bears, Has, IsKept, HistoriesFit, Fits}
+use Rattle.ss_typed.specs.Fitting.{Hold, HeapFits, made, IsIndex, Lives, LivesAs, IsNotice, BearsBy, Bears, Has, IsKept, HistoriesFit, Fits}
 use Rattle.ss_typed.proofs.Fine.{Fine, There, fine_turned}
 use Rattle.ss_typed.proofs.Lists.{every_weaker}
 use Rattle.ss_typed.proofs.Heaps.{Same, Created, Filled}
-use Rattle.ss_typed.proofs.Kept.{KeepsColumn, KeepsAll, keeps_same, kept_on, Noteworthy, all_noting_fine, starting_kept, fit_same}
+use Rattle.ss_typed.proofs.Kept.{KeepsColumn, KeepsAll, keeps_same, kept_on, Noteworthy, AreThere, all_noting_fine, starting_kept, lived, fit_same}
 
 -- ## Modes
 
@@ -86,10 +86,21 @@ kept_fit p ms s ks f g = histories_fit p ms s ks f (λ j t q. kept_on j s.scene.
 pub statistics_are : (p : Program) (ms : List Mode) (s : Store) → Fits p ms s → s.scene.setting.statistics ≡ p.statistics
 statistics_are p ms s f = ap (λ t. t.statistics) f.sound.scene.setting
 
-pub noted_fine : (p : Program) (ms : List Mode) (subject : Subject) (x : ℤ) (v : Value) (s : Store) → Noteworthy p.statistics subject v → Fits p ms s → Fine (Fits p ms) (noted subject x v s)
-noted_fine p ms subject x v s h f =
+-- what lives goes on to live
+pub lives_on : (h t : State) (c : ℕ) (x : ℤ) → Same h t → Lives h c x → Lives t c x
+lives_on h t c x same g = lived t h c x (sym same.layout) (λ e. same.living x ∙ e) (sym (same.made c)) g
+
+all_there : (ss : List Statistic) (h : State) (cs : List Column) (subject : Subject) (x : ℤ) → HistoriesFit ss h cs → Bears h subject x → AreThere ss subject x cs
+all_there ss h cs subject x fit b j t q = (k.0, k.1, λ e. k.2 x (subst (λ u. Bears h u x) (sym e) b))
+  where
+    k : IsKept j cs (Bears h t.subject)
+    k = fit j t q
+
+pub noted_fine : (p : Program) (ms : List Mode) (subject : Subject) (x : ℤ) (v : Value) (s : Store) → Noteworthy p.statistics subject v → Bears s.scene.heap subject x → Fits p ms s → Fine (Fits p ms) (noted subject x v s)
+noted_fine p ms subject x v s h b f =
     fine_turned (Fits p ms) (with_histories s) (all_noting subject x s.scene.time v s.scene.setting.statistics s.scene.histories)
-    (all_noting_fine subject x s.scene.time v s.scene.setting.statistics s.scene.histories (subst (λ ss. Noteworthy ss subject v) (sym (statistics_are p ms s f)) h))
+    (all_noting_fine subject x s.scene.time v s.scene.setting.statistics s.scene.histories (subst (λ ss. Noteworthy ss subject v) (sym (statistics_are p ms s f)) h)
+    (subst (λ ss. AreThere ss subject x s.scene.histories) (sym (statistics_are p ms s f)) (all_there p.statistics s.scene.heap s.scene.histories subject x f.sound.scene.histories b)))
     (λ ks g. kept_fit p ms s ks f g)
 
 -- ## Entities that come into being

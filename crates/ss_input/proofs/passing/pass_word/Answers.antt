@@ -17,6 +17,13 @@ loop-count-preserved g c =
       risen = search rules;
     }
 
+pub returns-in-None-clause-passed : goal.returns-in-None-clause-passed
+returns-in-None-clause-passed g c count e =
+    let same : c.loop-count.count ≡ count = cc in
+    let none : Passes g.R.FaultyRead.remaining c.loop-count.block c.pass_word_byte.new.block [] × StandsBefore is_separator c.pass_word_byte.new.block = search rules in
+    let passed = word_stays g.R.FaultyRead.remaining c.args.block.now c.loop-count.block c.pass_word_byte.new.block (take c.loop-count.count c.loop-count.word) c.loop-count.invariant.passed none.0 in
+    (subst (λ n. WordPassed g.R.FaultyRead.remaining c.args.block.now c.pass_word_byte.new.block (take n c.loop-count.word)) same passed, omega (arith, same, c.loop-count-test.true), none.1)
+
 pub returns-in-Some-2-clause-too_long : goal.returns-in-Some-2-clause-too_long
 returns-in-Some-2-clause-too_long g c e =
     let at_end : c.loop-count.count ≡ 64 = omega (arith, c.loop-count.auto.count-end, c.loop-count-test.false) in

@@ -33,10 +33,12 @@ returns-in-Err-Output-clause-stepped g c =
     ap (λ l. slice_get l c.args.lines) (sym c.pictures.ensures) ∙ at_index c.pictures.result.now c.args.lines c.get.result c.get.ensures.lookup.0 c.get.ensures.lookup.1 c.in-Some.pictures c.in-Some.is in
     let off : take_off c.args.items w.operands.here [] ≡ Some taken = search rules in
     let count : (length taken.them == fields_in ps) ≡ true = search rules in
-    let part : TookPart (g.W.FaultyWrite.contents c.args.sink.now.writer) (g.W.FaultyWrite.contents c.print_lines.new.sink.writer) (lines_with ps taken.them) = search rules in
-    sends_cut c.args.code.now w (Print c.args.lines c.args.items) c.requires.here refl (lines_with ps taken.them) (λ input. core_with (w.place + 1) taken.rest (frames_of w) (store_of w input)) _ _
-    (λ input. right_count c.args.code.now c.args.lines c.args.items (core_of w input) ps found taken off count)
-    part
+    let part : TookPart (g.W.FaultyWrite.contents c.args.sink.now.writer) (g.W.FaultyWrite.contents c.print_lines.new.sink.writer) (lines_with ps taken.them) = search rules in (
+      record { instruction = Print c.args.lines c.args.items; here = c.requires.here; so = refl },
+      sends_cut c.args.code.now w (Print c.args.lines c.args.items) c.requires.here refl (lines_with ps taken.them) (λ input. core_with (w.place + 1) taken.rest (frames_of w) (store_of w input)) _ _
+          (λ input. right_count c.args.code.now c.args.lines c.args.items (core_of w input) ps found taken off count)
+          part,
+    )
 
 pub forget-requires : goal.forget-requires
 forget-requires g c =

@@ -1,4 +1,4 @@
-use Rattle.std.proofs.Common.{Err, ap, ◌∙◌, subst, List, ℕ, ◌+◌}
+use Rattle.std.proofs.Common.{Err, refl, ap, ◌∙◌, subst, List, ℕ, ◌+◌}
 use Rattle.ss_machine_code.specs.declared.instruction.Instruction.TheVariants.{TestData}
 use Rattle.ss_machine_code.specs.States.{To, past, core_of as core_with}
 use Rattle.ss_runner.specs.Holding.{core_of, frames_of, store_of, Told}
@@ -10,7 +10,7 @@ returns-in-Err-clause-stepped g c known =
     let w = c.args.working.now in
     let code = c.args.code.now in
     let e = c.ended.ensures in
-    rw c.unread.ensures (missed_step g.R.FaultyRead.remaining c.args.source.now c.ended.new.self known code w (TestData c.args.negated c.args.skip c.args.line) c.requires.here c.args.line c.in-Err.missed
+    rw c.unread.ensures (missed_step g.R.FaultyRead.remaining c.args.source.now c.ended.new.self known code w (TestData c.args.negated c.args.skip c.args.line) refl c.requires.here c.args.line c.in-Err.missed
     (λ kind q. test_fault g.R.FaultyRead.remaining c.args.source.now c.ended.new.self known code w c.args.negated c.args.skip c.args.line c.requires.here kind (e.fault c.requires.unmissed kind (c.in-Err.is ∙ ap Err q)))
     (λ q. e.lost c.requires.unmissed (c.in-Err.is ∙ ap Err q)))
 

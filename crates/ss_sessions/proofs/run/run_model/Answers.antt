@@ -1,13 +1,11 @@
-use Rattle.std.proofs.Common.{◌≡◌, sym, ap, subst, ◌-◌, inl}
+use Rattle.std.proofs.Common.{◌≡◌, sym, ap, subst, ◌∙◌, inl}
+use Rattle.ss_base.specs.Failures.{HasRisen}
 use Rattle.ss_machine.specs.Held.{IsAtStart}
-use Rattle.ss_machine.specs.declared.stop.Stop.TheVariants.{Memory}
-use Rattle.ss_machine.specs.Runs.{Ran}
-use Rattle.ss_input.specs.Blocks.{KnowsEnd}
-use Rattle.ss_input.specs.Inputs.{source_block}
-use Rattle.ss_sessions.specs.Sessions.{session_machine, session_reader, session_source, session_writer}
+use Rattle.ss_machine.specs.declared.stop.Stop.TheVariants.{Memory, Output, Input}
+use Rattle.ss_sessions.specs.Sessions.{session_machine, session_reader, session_writer}
 use Rattle.ss_sessions.specs.Headline.{Simulated}
-use Rattle.ss_sessions.proofs.Inputs.{fresh_knows}
-use Rattle.ss_sessions.proofs.Headline.{ran_simulated, nothing_simulated}
+use Rattle.ss_sessions.proofs.Headline.{nothing_simulated}
+use Rattle.ss_sessions.proofs.Running.{stands_stopped}
 use Rattle.ss_sessions.proofs.run.run_model.Goals as goal
 
 pub returns-in-Err-clause-simulated : goal.returns-in-Err-clause-simulated
@@ -23,21 +21,33 @@ pub returns-clause-simulated : goal.returns-clause-simulated
 returns-clause-simulated g c p typed b =
     let remaining = g.R.FaultyRead.remaining in
     let contents = g.W.FaultyWrite.contents in
-    let laws = c.laws.ensures in
-    let s = c.in-Ok.session in
     let now = c.run_pieces-stop.new.session in
-    let begins = c.in-Ok.ensures.ok in
     let out = c.close-reader.result in
     let closed = c.close-reader.ensures in
-    let made = (session_machine now).steps - (session_machine s).steps in
-    let knows : KnowsEnd remaining (source_block (session_source now)) = c.run_pieces-stop.ensures.end (fresh_knows remaining c.args.reader (session_source s) begins.fresh) in
     let last_reader : session_reader now ≡ out.0 = sym (ap (λ (x : g.row.R.Denot × g.row.W.Denot). x.0) closed) in
     let last_writer : session_writer now ≡ out.1 = sym (ap (λ (x : g.row.R.Denot × g.row.W.Denot). x.1) closed) in
-    let ran = subst (λ k. Ran remaining c.run_pieces-stop.result k (session_machine s).working (session_machine now).working (session_source s) (session_source now) (contents (session_writer s)) (contents (session_writer now)) (session_machine now).used made) begins.first.code_is c.run_pieces-stop.ensures.ran in
-    let from = subst (λ w. Ran remaining c.run_pieces-stop.result c.args.model (session_machine s).working (session_machine now).working (session_source s) (session_source now) (contents w) (contents (session_writer now)) (session_machine now).used made) begins.writer_is ran in
-    let to = subst (λ w. Ran remaining c.run_pieces-stop.result c.args.model (session_machine s).working (session_machine now).working (session_source s) (session_source now) (contents c.args.writer) (contents w) (session_machine now).used made) last_writer from in
-    let simulated = ran_simulated laws.on_the_way laws.one_tick_fewer laws.pauses laws.steps_go_on p (λ input n. c.laws-2.ensures.never_wrong p typed input n) c.args.model b remaining contents c.args.reader out.0 c.args.writer out.1 (session_machine s).working (session_machine now).working (session_source s) (session_source now) (session_machine now).used made begins.first.state begins.fresh last_reader knows c.run_pieces-stop.result c.run_pieces-stop.ensures.never_failed to in
-    subst (λ u. Simulated remaining contents p c.run_pieces-stop.result u c.args.reader out.0 c.args.writer out.1) (sym c.used-used.ensures) simulated
+    let was = c.run_pieces-stop.ensures.was_run c.args.model c.args.reader c.args.writer c.in-Ok.ensures.has_run in
+    let meant = c.sessions_are_meant.ensures now p c.args.model c.args.reader c.args.writer was.pieces typed b was.some was.run in
+    let stopped = subst (λ s. Simulated remaining contents p s (session_machine now).used c.args.reader (session_reader now) c.args.writer (session_writer now)) (sym c.run_pieces-stop.ensures.stopped) meant in
+    let read = subst (λ r. Simulated remaining contents p c.run_pieces-stop.result (session_machine now).used c.args.reader r c.args.writer (session_writer now)) last_reader stopped in
+    let written = subst (λ w. Simulated remaining contents p c.run_pieces-stop.result (session_machine now).used c.args.reader out.0 c.args.writer w) last_writer read in
+    subst (λ u. Simulated remaining contents p c.run_pieces-stop.result u c.args.reader out.0 c.args.writer out.1) (sym c.used-used.ensures) written
+
+pub returns-clause-output : goal.returns-clause-output
+returns-clause-output g c q =
+    let now = c.run_pieces-stop.new.session in
+    let was = c.run_pieces-stop.ensures.was_run c.args.model c.args.reader c.args.writer c.in-Ok.ensures.has_run in
+    let last_writer : session_writer now ≡ c.close-reader.result.1 = sym (ap (λ (x : g.row.R.Denot × g.row.W.Denot). x.1) c.close-reader.ensures) in
+    let stopped = stands_stopped (session_machine now).stopped Output (λ e. cc) (sym c.run_pieces-stop.ensures.stopped ∙ q) in
+    subst (λ w. HasRisen (g.W.Faulty.faults c.args.writer) (g.W.Faulty.faults w)) last_writer (was.run.output stopped)
+
+pub returns-clause-input : goal.returns-clause-input
+returns-clause-input g c q =
+    let now = c.run_pieces-stop.new.session in
+    let was = c.run_pieces-stop.ensures.was_run c.args.model c.args.reader c.args.writer c.in-Ok.ensures.has_run in
+    let last_reader : session_reader now ≡ c.close-reader.result.0 = sym (ap (λ (x : g.row.R.Denot × g.row.W.Denot). x.0) c.close-reader.ensures) in
+    let stopped = stands_stopped (session_machine now).stopped Input (λ e. cc) (sym c.run_pieces-stop.ensures.stopped ∙ q) in
+    subst (λ r. HasRisen (g.R.Faulty.faults c.args.reader) (g.R.Faulty.faults r)) last_reader (was.run.input stopped)
 
 pub run_pieces-stop-requires-clause-goes_on : goal.run_pieces-stop-requires-clause-goes_on
 run_pieces-stop-requires-clause-goes_on g c =

@@ -4,11 +4,11 @@ use Rattle.std.specs.Int.{int_min}
 use Rattle.ss_base.specs.declared.value.Value.TheVariants.{Whole}
 use Rattle.ss_meaning.specs.Entities.{class_at, is_permanent, made_count}
 use Rattle.ss_meaning.specs.Loops.{Range, indices, greatest}
-use Rattle.ss_store.specs.Seen.{told}
+use Rattle.ss_population.specs.Told.{told}
 use Rattle.ss_machine_code.specs.States.{To, did, past, core_of as core_with}
 use Rattle.ss_machine_code.specs.Machine.{begins}
-use Rattle.ss_runner.specs.Frames.{Stacked, frames_seen}
-use Rattle.ss_runner.specs.Ranged.{range_said}
+use Rattle.ss_stack.specs.Frames.{Stacked, frames_seen}
+use Rattle.ss_stack.specs.Ranged.{range_said}
 use Rattle.ss_runner.specs.Holding.{store_of, frames_of, core_of, Told}
 use Rattle.ss_runner.proofs.Popped.{with_operands}
 use Rattle.ss_runner.proofs.Outcomes.{breaks, lost}

@@ -1,6 +1,6 @@
 use Rattle.std.proofs.Common.{ap, ◌∙◌}
 use Rattle.ss_meaning.specs.Places.{held}
-use Rattle.ss_runner.specs.Effects.{spot_seen}
+use Rattle.ss_stack.specs.Spots.{spot_seen}
 use Rattle.ss_runner.specs.Holding.{store_of}
 use Rattle.ss_runner.proofs.working.Working.held.Goals as goal
 

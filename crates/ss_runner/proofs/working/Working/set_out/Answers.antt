@@ -1,7 +1,7 @@
 use Rattle.std.proofs.Common.{rules, ◌≡◌, ◌∷◌, w64, to_z, of_z, sym, ap, ◌∙◌, subst}
 use Rattle.ss_base.specs.declared.value.Value.TheVariants.{Whole}
-use Rattle.ss_store.specs.Seen.{told}
-use Rattle.ss_runner.specs.Frames.{Stacked}
+use Rattle.ss_population.specs.Told.{told}
+use Rattle.ss_stack.specs.Frames.{Stacked}
 use Rattle.ss_runner.specs.Holding.{core_of, Told}
 use Rattle.ss_runner.proofs.Popped.{with_operands}
 use Rattle.ss_runner.proofs.Outcomes.{goes, aimed, kept_below}

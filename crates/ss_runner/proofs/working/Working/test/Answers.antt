@@ -1,5 +1,5 @@
 use Rattle.std.proofs.Common.{sym, ap, ◌∙◌, subst}
-use Rattle.ss_store.specs.Seen.{told}
+use Rattle.ss_population.specs.Told.{told}
 use Rattle.ss_runner.specs.Holding.{core_of, Told}
 use Rattle.ss_runner.proofs.Outcomes.{goes, aimed}
 use Rattle.ss_runner.proofs.working.Working.test.Goals as goal

@@ -3,8 +3,9 @@ use Rattle.ss_program.specs.declared.expression.Variable.TheVariants.{Global}
 use Rattle.ss_meaning.specs.Entities.{class_at, is_permanent}
 use Rattle.ss_meaning.specs.Places.{written, assigned_attribute, assigned_variable}
 use Rattle.ss_records.specs.State.{is_made}
-use Rattle.ss_store.specs.Seen.{told, meant}
-use Rattle.ss_runner.specs.Effects.{spot_seen, Came}
+use Rattle.ss_population.specs.Told.{told, meant}
+use Rattle.ss_runner.specs.Effects.{Came}
+use Rattle.ss_stack.specs.Spots.{spot_seen}
 use Rattle.ss_runner.specs.Holding.{store_of}
 use Rattle.ss_runner.proofs.Outcomes.{changed}
 use Rattle.ss_runner.proofs.Counts.{open_then, open_not}

@@ -1,0 +1,26 @@
+//! Laws of sessions.
+
+ghost use Rattle.std.specs.Prelude.{◌≡◌, ◌≢◌, ℕ, List, []};
+ghost use Rattle.ss_program.specs.Program.{Program};
+ghost use Rattle.ss_program.specs.WellTyped.{WellTyped};
+ghost use Rattle.ss_machine_code.specs.Machine.{Code};
+ghost use Rattle.ss_machine_code.specs.Running.{Behaves};
+ghost use Rattle.ss_sessions.specs.declared.session.Session.{Session as SessionSeen};
+ghost use Rattle.ss_sessions.specs.Headline.{Simulated};
+ghost use Rattle.ss_sessions.specs.Sessions.{HasRun, session_machine, session_reader, session_writer, stands_so};
+
+use ss_base::{FaultyRead, FaultyWrite};
+use ss_machine_code::laws::laws;
+use ss_typed::laws::laws as typed_laws;
+
+/// What the runs of a session came to, however many and with whatever ticks, is what its program means for all their ticks
+/// at once: its writer took the report, or a beginning of it where memory, the reader or the writer failed, and the session
+/// stands still as the meaning ends.
+///
+/// Say of a session that `Session::start` answered that it `HasRun` no pieces; each `Session::run` makes that one piece more.
+pub fn sessions_are_meant<R: FaultyRead, W: FaultyWrite>()
+    ensures { (session : SessionSeen R W) (p : Program) (code : Code) (reader : R) (writer : W) (pieces : List ℕ) → WellTyped p → Behaves p code → pieces ≢ [] → HasRun R.remaining R.faults W.contents W.faults code reader writer pieces session → Simulated R.remaining W.contents p (stands_so (session_machine session).stopped) (session_machine session).used reader (session_reader session) writer (session_writer session) }
+{
+    laws();
+    typed_laws();
+}

@@ -1,0 +1,9 @@
+mod Layered
+mod Stacked
+mod Below
+mod Wholes
+mod Puts
+mod Yields
+mod Short
+mod Fits
+mod Lasts

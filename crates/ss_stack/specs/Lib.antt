@@ -1,0 +1,4 @@
+pub mod Frames
+pub mod Spots
+pub mod Ranged
+pub mod InPlace

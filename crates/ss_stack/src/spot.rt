@@ -1,0 +1,13 @@
+//! What can be assigned a value.
+
+use ss_base::Value;
+use ss_program::expression::Variable;
+use ss_program::statement::Counted;
+
+/// What can be assigned a value, with the reference to the entity of an attribute.
+#[derive(Clone, Copy)]
+pub enum Spot {
+    Variable(Variable),
+    Attribute(u32, u32, Value),
+    Count(Counted),
+}
