@@ -1,11 +1,8 @@
 -- What a program that breaks no rule comes to, by what was found.
-use Rattle.std.proofs.Common.{◌≡◌, ◌≤◌, List, Option, Some, None, Result, Ok, Err, sym, ap, subst, ◌∙◌}
-use Rattle.std.specs.Prelude.{IfErr, IsErrAnd}
-use Rattle.std.proofs.lemmas.Result.{err_from_is_err_and}
+use Rattle.std.proofs.Common.{◌≡◌, ◌≤◌, Option, Some, None, sym, ap, subst, ◌∙◌}
 use Rattle.ss_tree.specs.Nodes.{nodes as tree_nodes}
 use Rattle.ss_tree.specs.Tree.{ProgramTree}
 use Rattle.ss_scopes.specs.Whole.{Whole}
-use Rattle.ss_uses.specs.declared.rule.Broken.{Broken}
 use Rattle.ss_uses.specs.Refusal.{refusal}
 use Rattle.ss_declared.specs.Broken.{refusal as declared_refusal}
 use Rattle.ss_names.specs.Table.{Table, table}
@@ -18,8 +15,7 @@ use Rattle.ss_program.specs.WellTyped.{WellTyped}
 use Rattle.ss_whole.specs.Resolved.{resolved}
 use Rattle.ss_links.specs.Laws.{KeptProgramsResolve}
 use Rattle.ss_sizes.specs.Laws.{ProgramsStaySmall}
-use Rattle.ss_check.specs.declared.error.CheckError.{CheckError}
-use Rattle.ss_check.specs.Checking.{FormedProgram, Tells, program_of}
+use Rattle.ss_check.specs.Checking.{FormedProgram, program_of}
 
 -- what was found by a table and by what it says of names is what the tree says
 found_so : (t : Table) (w : Whole) (p : ProgramTree) (found : Option Program) → t ≡ table p → w ≡ whole_of p → found ≡ resolved t w p.sections → found ≡ program_of p
@@ -45,12 +41,6 @@ pub not_missing : KeptProgramsResolve → (t : Table) (w : Whole) (p : ProgramTr
 not_missing law t w p found formed declared kept e f h g =
     missing_not p (view_option view_program found) (found_so t w p (view_option view_program found) e f h) (ap (view_option view_program) g)
     (law p declared (subst (λ z. refusal z p ≡ None) f kept) formed)
-
--- the exit of a `?`
-pub refused_so : {X : Type 0} (r : Result X CheckError) (e : CheckError) (found wanted : Option Broken) → IsErrAnd r (λ f. f ≡ e) → Tells e found → found ≡ wanted → IfErr r (λ f. Tells f wanted)
-refused_so r e found wanted h k s =
-    let p = err_from_is_err_and r h in
-    subst (λ z. IfErr z (λ f. Tells f wanted)) (sym p.1) (subst (λ z. Tells z wanted) (sym p.2) (subst (λ z. Tells e z) s k))
 
 pub small : ProgramsStaySmall → (t : Table) (w : Whole) (p : ProgramTree) (found : Option ProgramValue) (r made : ProgramValue) →
     t ≡ table p → view_option view_program found ≡ resolved t w p.sections → found ≡ Some r → made ≡ r → nodes (view_program made) ≤ tree_nodes p

@@ -1,10 +1,8 @@
 -- What a program that breaks no rule becomes, and why another is refused.
 use Rattle.std.specs.Prelude.{◌≡◌, Option, Some, None}
 use Rattle.std.specs.List.{AllByRecursion as Every}
-use Rattle.ss_base.specs.declared.line.Line.{Line}
 use Rattle.ss_tree.specs.Tree.{ProgramTree, SectionTree}
 use Rattle.ss_uses.specs.declared.rule.Broken.{Broken}
-use Rattle.ss_uses.specs.declared.rule.Rule.{Rule}
 use Rattle.ss_uses.specs.declared.rule.Rule.TheVariants as rules
 use Rattle.ss_uses.specs.Refusal.{refusal}
 use Rattle.ss_names.specs.Table.{table}
@@ -14,6 +12,7 @@ use Rattle.ss_program.specs.declared.sections.Program.{Program as ProgramValue}
 use Rattle.ss_program.specs.Program.{Program}
 use Rattle.ss_program.specs.View.{view_program}
 use Rattle.ss_whole.specs.Resolved.{resolved}
+use Rattle.ss_tables.specs.Tables.{TellsWhat}
 use Rattle.ss_check.specs.declared.error.CheckError.{CheckError}
 use Rattle.ss_check.specs.declared.error.CheckError.TheVariants as errors
 
@@ -34,18 +33,19 @@ pub record Becomes (p : ProgramTree) (r : ProgramValue) : Type 0 where
   pub kept : refusal_of p ≡ None
   pub resolved : program_of p ≡ Some (view_program r)
 
-abbrev pub broken_at : Rule → Line → Option Broken
-broken_at rule line = Some (record { rule = rule; line = line })
+-- the rule and the line that an error tells; none where memory was refused
+abbrev pub told_by : CheckError → Option Broken
+told_by errors.Memory = None
+told_by (errors.NoMain line) = Some (record { rule = rules.NoMain; line = line })
+told_by (errors.NoEventRoutine line) = Some (record { rule = rules.NoEventRoutine; line = line })
+told_by (errors.Mode line) = Some (record { rule = rules.Mode; line = line })
+told_by (errors.Arguments line) = Some (record { rule = rules.Arguments; line = line })
+told_by (errors.Subscript line) = Some (record { rule = rules.Subscript; line = line })
+told_by (errors.NotAssignable line) = Some (record { rule = rules.NotAssignable; line = line })
+told_by (errors.Fields line) = Some (record { rule = rules.Fields; line = line })
+told_by (errors.StartPlace line) = Some (record { rule = rules.StartPlace; line = line })
+told_by (errors.Unknown line) = Some (record { rule = rules.Unknown; line = line })
 
 -- the error tells the first rule that is broken, and its line, unless memory was refused
 abbrev pub Tells : CheckError → Option Broken → Type 0
-Tells errors.Memory found = Unit {0}
-Tells (errors.NoMain line) found = found ≡ broken_at rules.NoMain line
-Tells (errors.NoEventRoutine line) found = found ≡ broken_at rules.NoEventRoutine line
-Tells (errors.Mode line) found = found ≡ broken_at rules.Mode line
-Tells (errors.Arguments line) found = found ≡ broken_at rules.Arguments line
-Tells (errors.Subscript line) found = found ≡ broken_at rules.Subscript line
-Tells (errors.NotAssignable line) found = found ≡ broken_at rules.NotAssignable line
-Tells (errors.Fields line) found = found ≡ broken_at rules.Fields line
-Tells (errors.StartPlace line) found = found ≡ broken_at rules.StartPlace line
-Tells (errors.Unknown line) found = found ≡ broken_at rules.Unknown line
+Tells e found = TellsWhat (told_by e) found

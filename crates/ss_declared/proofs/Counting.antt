@@ -17,7 +17,8 @@ use Rattle.ss_declared.specs.Counts.{count_of, AreCounts, CountsOne, is_foreign_
 use Rattle.ss_declared.specs.Lines.{line_if, later_lines, lines_where}
 use Rattle.ss_declared.specs.RankKey.{is_foreign, defines, misranks}
 use Rattle.ss_declared.specs.TooMany.{attribute_class, is_of}
-use Rattle.ss_declared.specs.Topics.{thing_of, same_name, class_of}
+use Rattle.ss_firsts.specs.Firsts.{same_name}
+use Rattle.ss_declared.specs.Topics.{thing_of, class_of}
 use Rattle.ss_declared.proofs.Finding.{take_next, where_more, later_more}
 use Rattle.ss_declared.proofs.Keeping.{or_none, any_last}
 

@@ -4,4 +4,3 @@ pub mod Telling
 pub mod Classing
 pub mod Counting
 pub mod Ordering
-mod Rooms

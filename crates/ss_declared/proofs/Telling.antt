@@ -13,7 +13,7 @@ use Rattle.ss_declared.specs.declared.globals.Globals.{Globals}
 use Rattle.ss_declared.specs.Declarations.{Declaration, declares, standing_told, standing_of, saying_declares}
 use Rattle.ss_declared.specs.Globals.{Tells, Adds, found_in}
 use Rattle.ss_declared.specs.Lines.{soonest, first_line, line_if}
-use Rattle.ss_declared.specs.Topics.{same_name}
+use Rattle.ss_firsts.specs.Firsts.{same_name}
 use Rattle.ss_declared.specs.Twice.{is_another, is_clash, declared_at, clashes}
 use Rattle.ss_declared.proofs.Finding.{take_next, later_more, soonest_both}
 

@@ -11,7 +11,7 @@ use Rattle.ss_declared.specs.declared.rank_key.Members.TheVariants.{One, Several
 use Rattle.ss_declared.specs.declared.rank_key.Ranks.{Ranks}
 use Rattle.ss_declared.specs.RankKey.{misranks}
 use Rattle.ss_declared.specs.TooMany.{is_of}
-use Rattle.ss_declared.specs.Topics.{same_name}
+use Rattle.ss_firsts.specs.Firsts.{same_name}
 
 -- ---- numbers of attributes
 

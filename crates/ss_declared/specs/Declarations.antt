@@ -11,7 +11,8 @@ use Rattle.ss_sayings.specs.Sayings.{NameBytes}
 use Rattle.ss_declared.specs.declared.topic.Topic.TheVariants as topics
 use Rattle.ss_declared.specs.declared.globals.Standing.{Standing}
 use Rattle.ss_declared.specs.declared.globals.Standing.TheVariants.{Variable, Class, Set, OfSet, Other}
-use Rattle.ss_declared.specs.Topics.{global, same_name, is_said}
+use Rattle.ss_firsts.specs.Firsts.{same_name}
+use Rattle.ss_declared.specs.Topics.{global, is_said}
 
 -- a name that is declared, what it stands for, and the line
 pub record Declaration : Type 0 where

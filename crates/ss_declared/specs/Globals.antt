@@ -6,7 +6,7 @@ use Rattle.ss_declared.specs.declared.globals.Standing.{Standing}
 use Rattle.ss_declared.specs.declared.globals.Globals.{Globals}
 use Rattle.ss_declared.specs.Declarations.{Declaration, standing_of}
 use Rattle.ss_declared.specs.Lines.{first_line}
-use Rattle.ss_declared.specs.Topics.{same_name}
+use Rattle.ss_firsts.specs.Firsts.{same_name}
 use Rattle.ss_declared.specs.Twice.{clashes}
 
 -- what is found of a name

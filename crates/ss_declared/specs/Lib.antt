@@ -13,7 +13,6 @@ pub mod TallyTwice
 pub mod TooMany
 pub mod TieKey
 pub mod Broken
-pub mod Spellings
 pub mod Things
 pub mod Globals
 pub mod Classes

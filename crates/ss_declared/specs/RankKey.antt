@@ -9,7 +9,8 @@ use Rattle.ss_sayings.specs.declared.saying.Saying.{Saying}
 use Rattle.ss_sayings.specs.Sayings.{NameBytes}
 use Rattle.ss_declared.specs.declared.topic.Topic.TheVariants as topics
 use Rattle.ss_declared.specs.Lines.{lines_where}
-use Rattle.ss_declared.specs.Topics.{Thing, thing_of, line_of, same_name, class_of}
+use Rattle.ss_firsts.specs.Firsts.{same_name}
+use Rattle.ss_declared.specs.Topics.{Thing, thing_of, line_of, class_of}
 
 -- whether a key of this class is none of the members' class, where there is one
 abbrev pub is_foreign : Option NameBytes → Option NameBytes → Bool

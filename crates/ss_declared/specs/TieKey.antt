@@ -8,7 +8,8 @@ use Rattle.ss_sayings.specs.declared.saying.Saying.{Saying}
 use Rattle.ss_sayings.specs.Sayings.{NameBytes}
 use Rattle.ss_declared.specs.declared.topic.Topic.TheVariants as topics
 use Rattle.ss_declared.specs.Lines.{lines_where}
-use Rattle.ss_declared.specs.Topics.{thing_of, line_of, same_name, class_of}
+use Rattle.ss_firsts.specs.Firsts.{same_name}
+use Rattle.ss_declared.specs.Topics.{thing_of, line_of, class_of}
 
 -- whether what is said is of a key that isn't an attribute of this class
 abbrev pub is_bad_tie : Said → Option NameBytes → Bool

@@ -9,7 +9,8 @@ use Rattle.ss_sayings.specs.declared.saying.Saying.{Saying}
 use Rattle.ss_sayings.specs.Sayings.{NameBytes}
 use Rattle.ss_declared.specs.declared.topic.Topic.TheVariants as topics
 use Rattle.ss_declared.specs.Lines.{lines_where, later_lines}
-use Rattle.ss_declared.specs.Topics.{thing_of, line_of, same_name, is_about, is_said}
+use Rattle.ss_firsts.specs.Firsts.{same_name}
+use Rattle.ss_declared.specs.Topics.{thing_of, line_of, is_about, is_said}
 
 -- the lines past the first 64
 abbrev pub past_most : List Line → List Line

@@ -62,9 +62,6 @@ section_of _ = 0
 abbrev pub thing_of : Saying → Thing
 thing_of s = (section_of s.said, s.name)
 
-abbrev pub same_name : NameBytes → NameBytes → Bool
-same_name a b = pointwise nat_eq a b
-
 abbrev pub same_thing : Thing → Thing → Bool
 same_thing a b = nat_eq a.0 b.0 && option_eq (pointwise nat_eq) a.1 b.1
 

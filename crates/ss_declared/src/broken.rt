@@ -1,8 +1,8 @@
 //! The first rule that a program breaks by what it declares.
 
 ghost use Rattle.std.specs.Prelude.{◌≡◌, map, IfOk};
-ghost use Rattle.ss_tree.specs.View.{view_section, view_program};
-ghost use Rattle.ss_declared.specs.Broken.{broken_by, told, first_of, first_broken, refusal_by, refusal};
+ghost use Rattle.ss_tree.specs.View.{view_section};
+ghost use Rattle.ss_declared.specs.Broken.{broken_by, told, first_of, first_broken, refusal_by};
 ghost use Rattle.ss_declared.specs.Declarations.{declarations};
 ghost use Rattle.ss_declared.specs.Globals.{Tells};
 ghost use Rattle.ss_declared.specs.Lines.{first_line};
@@ -20,8 +20,8 @@ use crate::twice::twice;
 use crate::unknown_class::unknown_class;
 use crate::unknown_set::unknown_set;
 use ss_base::Line;
-use ss_sayings::{Saying, sayings_of};
-use ss_tree::program::{Program, Section};
+use ss_sayings::Saying;
+use ss_tree::program::Section;
 use std::alloc::{AllocError, Global};
 
 /// The first line where a rule is broken.
@@ -98,8 +98,9 @@ fn first_broken(
     Ok(found)
 }
 
-/// The first rule that is broken by what is said of names and by what stands in the sections, in the
-/// order of the rules' numbers, with the first line where it is; None where all are kept.
+/// The first rule that a program breaks by what it declares, in the order of the rules' numbers, with the
+/// first line where it does; None where it keeps them all. The sayings are those of the program
+/// (`sayings_of` of ss_sayings), the sections its sections.
 ///
 /// # Errors
 /// `AllocError` where memory is refused.
@@ -124,16 +125,4 @@ pub fn refusal_of(
         Rule::TieKey,
     ];
     first_broken(alloc, &globals, &rules, sayings, sections)
-}
-
-/// The first rule that a program breaks by what it declares, in the order of the rules' numbers, with the
-/// first line where it does (`refusal`); None where it keeps them all.
-///
-/// # Errors
-/// `AllocError` where memory is refused.
-pub fn refusal(alloc: Global, program: &Program) -> Result<Option<Broken>, AllocError>
-    ensures { IfOk result (λ b. b ≡ refusal (view_program program.now)) }
-{
-    let sayings = sayings_of(alloc, program)?;
-    refusal_of(alloc, &sayings, &program.sections)
 }

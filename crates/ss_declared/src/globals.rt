@@ -11,11 +11,11 @@ ghost use Rattle.ss_declared.specs.Twice.{is_another, may_hide};
 ghost use Rattle.ss_declared.specs.Globals.{Tells, Adds, found_in};
 
 use crate::lines::sooner_if;
-use crate::spelling::Spelling;
 use crate::things::{Things, things_said};
 use crate::topic::Topic;
 use indexmap::IndexMap;
 use ss_base::Line;
+use ss_firsts::Spelling;
 use ss_lex::Name;
 use ss_sayings::{Said, Saying};
 use ss_tree::preamble::ClassKind;

@@ -11,7 +11,6 @@ mod no_owner;
 mod rank_key;
 mod real_mode;
 mod rule;
-mod spelling;
 mod tally_twice;
 mod things;
 mod tie_key;
@@ -21,5 +20,5 @@ mod twice;
 mod unknown_class;
 mod unknown_set;
 
-pub use broken::{refusal, refusal_of};
+pub use broken::refusal_of;
 pub use rule::{Broken, Rule};

@@ -7,8 +7,8 @@ use Rattle.ss_tree.specs.declared.preamble.Mode.TheVariants.{Integer, Alpha}
 use Rattle.ss_tree.specs.declared.preamble.StatisticKind.TheVariants.{Sum}
 use Rattle.ss_tree.specs.declared.preamble.Weighting.TheVariants.{Tally}
 use Rattle.ss_tree.specs.Tree.{has, owns, belongs_to, normally, every, system_owns, define_variables, statistics, routine, ProgramTree}
-use Rattle.ss_scopes.specs.declared.meaning.Holder.TheVariants.{Program, Entity}
-use Rattle.ss_scopes.specs.declared.meaning.Meaning.TheVariants.{Variable, Class, Attribute, Set, MemberCount, Membership, EntityCount, Statistic}
+use Rattle.ss_scopes.specs.declared.known.Holder.TheVariants.{Program, Entity}
+use Rattle.ss_scopes.specs.declared.known.Known.TheVariants.{Variable, Class, Attribute, Set, MemberCount, Membership, EntityCount, Statistic}
 use Rattle.ss_globals.specs.WholeOf.{whole_of}
 
 abbrev line : ℕ → Line

@@ -8,25 +8,25 @@ use Rattle.ss_base.specs.declared.layout.Owner.TheVariants as owners
 use Rattle.ss_tree.specs.declared.preamble.Mode.{Mode}
 use Rattle.ss_tree.specs.Tree.{ProgramTree}
 use Rattle.ss_walk.specs.Mentions.{NameBytes}
-use Rattle.ss_names.specs.declared.meaning.Attribute.{Attribute}
-use Rattle.ss_names.specs.declared.meaning.Class.{Class as ClassSaid}
+use Rattle.ss_entities.specs.declared.entry.Attribute.{Attribute}
+use Rattle.ss_entities.specs.declared.entry.Class.{Class as ClassSaid}
 use Rattle.ss_names.specs.declared.meaning.Derived.{Derived}
 use Rattle.ss_names.specs.declared.meaning.Derived.TheVariants as deriveds
 use Rattle.ss_names.specs.declared.meaning.History.{History}
 use Rattle.ss_names.specs.declared.meaning.Meaning.{Meaning as Numbered}
 use Rattle.ss_names.specs.declared.meaning.Meaning.TheVariants as numbered
-use Rattle.ss_names.specs.declared.meaning.Routine.{Routine as RoutineSaid}
-use Rattle.ss_names.specs.declared.meaning.Set.{Set as SetSaid}
-use Rattle.ss_names.specs.declared.meaning.Statistic.{Statistic as StatisticSaid}
+use Rattle.ss_entities.specs.declared.entry.Routine.{Routine as RoutineSaid}
+use Rattle.ss_entities.specs.declared.entry.Set.{Set as SetSaid}
+use Rattle.ss_entities.specs.declared.entry.Statistic.{Statistic as StatisticSaid}
 use Rattle.ss_names.specs.declared.meaning.Subject.{Subject}
 use Rattle.ss_names.specs.declared.meaning.Subject.TheVariants as subjects
-use Rattle.ss_names.specs.declared.meaning.Variable.{Variable as VariableSaid}
-use Rattle.ss_names.specs.Firsts.{place_in, told_of}
+use Rattle.ss_entities.specs.declared.entry.Variable.{Variable as VariableSaid}
+use Rattle.ss_firsts.specs.Firsts.{place_in, told_of}
 use Rattle.ss_names.specs.Table.{Table, table}
-use Rattle.ss_scopes.specs.declared.meaning.Holder.{Holder}
-use Rattle.ss_scopes.specs.declared.meaning.Holder.TheVariants.{Program, Entity}
-use Rattle.ss_scopes.specs.declared.meaning.Meaning.{Meaning}
-use Rattle.ss_scopes.specs.declared.meaning.Meaning.TheVariants.{Variable, Class, Attribute as AttributeMeaning, Set, MemberCount, Membership, EntityCount, Statistic, Routine}
+use Rattle.ss_scopes.specs.declared.known.Holder.{Holder}
+use Rattle.ss_scopes.specs.declared.known.Holder.TheVariants.{Program, Entity}
+use Rattle.ss_scopes.specs.declared.known.Known.{Known}
+use Rattle.ss_scopes.specs.declared.known.Known.TheVariants.{Variable, Class, Attribute as AttributeMeaning, Set, MemberCount, Membership, EntityCount, Statistic, Routine}
 use Rattle.ss_scopes.specs.Meanings.{value_mode}
 use Rattle.ss_scopes.specs.Signatures.{Signed, signature}
 use Rattle.ss_scopes.specs.Whole.{Whole}
@@ -80,24 +80,24 @@ statistic_holder t None = Program
 
 -- ---- what names mean
 
-abbrev pub variable_meaning : Option VariableSaid → Option Meaning
+abbrev pub variable_meaning : Option VariableSaid → Option Known
 variable_meaning (Some v) = Some (Variable (value_mode (Some v.mode)))
 variable_meaning None = None
 
-abbrev pub class_meaning : Option ClassSaid → Option Meaning
+abbrev pub class_meaning : Option ClassSaid → Option Known
 class_meaning (Some c) = Some (Class c.kind)
 class_meaning None = None
 
-abbrev pub attribute_of_class : Option Mode → Option NameBytes → Option Meaning
+abbrev pub attribute_of_class : Option Mode → Option NameBytes → Option Known
 attribute_of_class mode (Some class) = Some (AttributeMeaning class (value_mode mode))
 attribute_of_class mode None = None
 
-abbrev pub attribute_meaning : Table → Option Attribute → Option Meaning
+abbrev pub attribute_meaning : Table → Option Attribute → Option Known
 attribute_meaning t (Some a) = attribute_of_class a.mode (slice_get (keys_of t.classes) a.class)
 attribute_meaning t None = None
 
 -- F., L. and N. of a set are its owner's; P., S. and M. are the member's
-abbrev pub derived_meaning : Table → Derived → ℕ → Meaning
+abbrev pub derived_meaning : Table → Derived → ℕ → Known
 derived_meaning t deriveds.MemberCount set = MemberCount (set_holder t (slice_get t.sets set))
 derived_meaning t deriveds.FirstMember set = Membership (set_holder t (slice_get t.sets set))
 derived_meaning t deriveds.LastMember set = Membership (set_holder t (slice_get t.sets set))
@@ -106,7 +106,7 @@ derived_meaning t deriveds.Successor set = Membership (membership_holder t (slic
 derived_meaning t deriveds.Membership set = Membership (membership_holder t (slice_get t.sets set))
 
 -- what a name means by what it stands for in the table
-abbrev pub meaning_by : Table → Numbered → Option Meaning
+abbrev pub meaning_by : Table → Numbered → Option Known
 meaning_by t (numbered.Variable variable) = variable_meaning (slice_get (values_of t.variables) variable)
 meaning_by t (numbered.Class class variable) = class_meaning (slice_get (values_of t.classes) class)
 meaning_by t (numbered.Count class variable) = Some EntityCount
@@ -116,7 +116,7 @@ meaning_by t (numbered.Derived derived set) = Some (derived_meaning t derived se
 meaning_by t (numbered.Statistic statistic) = Some (Statistic (statistic_holder t (slice_get (values_of t.statistics) statistic)))
 meaning_by t (numbered.Routine routine) = Some Routine
 
-abbrev pub meaning_of : Table → Option Numbered → Option Meaning
+abbrev pub meaning_of : Table → Option Numbered → Option Known
 meaning_of t None = None
 meaning_of t (Some stands) = meaning_by t stands
 

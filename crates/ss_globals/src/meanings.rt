@@ -6,37 +6,38 @@ ghost use Rattle.ss_globals.specs.WholeOf.{attribute_meaning, attribute_of_class
 
 use crate::holders::{membership_holder, set_holder, statistic_holder};
 use ss_base::Mode as ValueMode;
+use ss_entities::Attribute;
 use ss_lex::Name;
-use ss_names::{Attribute, Derived, Meaning as Numbered, Names};
-use ss_scopes::{Meaning, value_mode};
+use ss_names::{Derived, Meaning as Numbered, Names};
+use ss_scopes::{Known, value_mode};
 use ss_tree::preamble::Mode;
 
 // The global variable of this number.
-fn variable_meaning(names: &Names, variable: usize) -> Option<Meaning>
+fn variable_meaning(names: &Names, variable: usize) -> Option<Known>
     ensures { result ≡ variable_meaning (slice_get (values_of names.now.variables) variable) }
 {
     match names.variable(variable) {
-        Some(variable) => Some(Meaning::Variable(value_mode(Some(variable.mode)))),
+        Some(variable) => Some(Known::Variable(value_mode(Some(variable.mode)))),
         None => None,
     }
 }
 
 // The class of this number.
-fn class_meaning(names: &Names, class: usize) -> Option<Meaning>
+fn class_meaning(names: &Names, class: usize) -> Option<Known>
     ensures { result ≡ class_meaning (slice_get (values_of names.now.classes) class) }
 {
     match names.class(class) {
-        Some(class) => Some(Meaning::Class(class.kind)),
+        Some(class) => Some(Known::Class(class.kind)),
         None => None,
     }
 }
 
 // An attribute of this mode of the class of this number.
-fn attribute_of_class(names: &Names, mode: Option<Mode>, class: usize) -> Option<Meaning>
+fn attribute_of_class(names: &Names, mode: Option<Mode>, class: usize) -> Option<Known>
     ensures { result ≡ attribute_of_class mode (slice_get (keys_of names.now.classes) class) }
 {
     match names.class_name(class) {
-        Some(class) => Some(Meaning::Attribute {
+        Some(class) => Some(Known::Attribute {
             class,
             mode: value_mode(mode),
         }),
@@ -45,7 +46,7 @@ fn attribute_of_class(names: &Names, mode: Option<Mode>, class: usize) -> Option
 }
 
 // The attribute of this number.
-fn attribute_meaning(names: &Names, attribute: usize) -> Option<Meaning>
+fn attribute_meaning(names: &Names, attribute: usize) -> Option<Known>
     ensures { result ≡ attribute_meaning names.now (slice_get (values_of names.now.attributes) attribute) }
 {
     match names.attribute(attribute) {
@@ -55,35 +56,33 @@ fn attribute_meaning(names: &Names, attribute: usize) -> Option<Meaning>
 }
 
 // A derived name of the set of this number.
-fn derived_meaning(names: &Names, derived: Derived, set: usize) -> Meaning
+fn derived_meaning(names: &Names, derived: Derived, set: usize) -> Known
     ensures { result ≡ derived_meaning names.now derived set }
 {
     match derived {
-        Derived::MemberCount => Meaning::MemberCount(set_holder(names, set)),
-        Derived::FirstMember | Derived::LastMember => {
-            Meaning::Membership(set_holder(names, set))
-        }
+        Derived::MemberCount => Known::MemberCount(set_holder(names, set)),
+        Derived::FirstMember | Derived::LastMember => { Known::Membership(set_holder(names, set)) }
         Derived::Predecessor | Derived::Successor | Derived::Membership => {
-            Meaning::Membership(membership_holder(names, set))
+            Known::Membership(membership_holder(names, set))
         }
     }
 }
 
 // What a name means by what it stands for.
-pub(crate) fn meaning_by(names: &Names, stands: Numbered) -> Option<Meaning>
+pub(crate) fn meaning_by(names: &Names, stands: Numbered) -> Option<Known>
     ensures { result ≡ meaning_by names.now stands }
 {
     match stands {
         Numbered::Variable(variable) => variable_meaning(names, variable),
         Numbered::Class { class, .. } => class_meaning(names, class),
-        Numbered::Count { .. } => Some(Meaning::EntityCount),
+        Numbered::Count { .. } => Some(Known::EntityCount),
         Numbered::Attribute(attribute) => attribute_meaning(names, attribute),
-        Numbered::Set(set) => Some(Meaning::Set(set_holder(names, set))),
+        Numbered::Set(set) => Some(Known::Set(set_holder(names, set))),
         Numbered::Derived { derived, set } => Some(derived_meaning(names, derived, set)),
         Numbered::Statistic(statistic) => {
-            Some(Meaning::Statistic(statistic_holder(names, statistic)))
+            Some(Known::Statistic(statistic_holder(names, statistic)))
         }
-        Numbered::Routine(_) => Some(Meaning::Routine),
+        Numbered::Routine(_) => Some(Known::Routine),
     }
 }
 

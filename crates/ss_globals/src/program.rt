@@ -3,7 +3,7 @@
 ghost use Rattle.std.specs.Prelude.{◌≡◌, map, length, option_map, slice_get, IfOk};
 ghost use Rattle.std.specs.Option.{option_copied};
 ghost use Rattle.ss_tree.specs.View.{view_program, view_section};
-ghost use Rattle.ss_names.specs.Firsts.{told_of};
+ghost use Rattle.ss_firsts.specs.Firsts.{told_of};
 ghost use Rattle.ss_names.specs.Table.{table};
 ghost use Rattle.ss_scopes.specs.Signatures.{signature};
 ghost use Rattle.ss_scopes.specs.Whole.{mode_at};
@@ -13,7 +13,7 @@ use crate::meanings::{field_mode, meaning_by};
 use ss_base::Mode as ValueMode;
 use ss_lex::Name;
 use ss_names::{Meaning as Numbered, Names};
-use ss_scopes::{Globals, Meaning, Signature, value_mode};
+use ss_scopes::{Globals, Known, Signature, value_mode};
 use ss_tree::preamble::Mode;
 use ss_tree::program::{Program, Section};
 use std::alloc::{AllocError, Global};
@@ -86,7 +86,7 @@ impl Globals for ProgramGlobals {
         self.names.usual_mode()
     }
 
-    fn meaning_of(&self, name: Name) -> Option<Meaning> {
+    fn meaning_of(&self, name: Name) -> Option<Known> {
         match self.names.meaning(&name) {
             Some(stands) => meaning_by(&self.names, stands),
             None => None,

@@ -7,7 +7,8 @@ use Rattle.std.specs.Cmp.Lexicographic.{bytes_decides}
 use Rattle.std.proofs.lemmas.List.{append-nil, append_assoc}
 use Rattle.ss_tree.specs.declared.preamble.Mode.{Mode}
 use Rattle.ss_walk.specs.Mentions.{NameBytes}
-use Rattle.ss_scopes.specs.Locals.{same_name, Moded, entry_beside, with_entry, first_entries}
+use Rattle.ss_firsts.specs.Firsts.{same_name, entry_beside, with_first, firsts}
+use Rattle.ss_scopes.specs.Locals.{Moded}
 use Rattle.ss_kept.specs.Parameters.{AreDistinct}
 
 -- ---- names
@@ -43,20 +44,20 @@ fresh_last : (es : Moded) (e : NameBytes × Option Mode) (xs : Moded) → Fresh 
 fresh_last es e [] f d = tt
 fresh_last es e (x ∷ xs) f d = (lookup_last (same_name x.0) es e f.0 (apart x.0 e.0 d.0), fresh_last es e xs f.1 d.1)
 
-entered : (es : Moded) (e : NameBytes × Option Mode) → lookup (same_name e.0) es ≡ None → with_entry es e ≡ es ++ e ∷ []
+entered : (es : Moded) (e : NameBytes × Option Mode) → lookup (same_name e.0) es ≡ None → with_first es e ≡ es ++ e ∷ []
 entered es e h = ap (λ o. entry_beside es e o) h
 
-entered_all : (es xs : Moded) → Fresh es xs → AreDistinct (keys_of xs) → fold with_entry es xs ≡ es ++ xs
+entered_all : (es xs : Moded) → Fresh es xs → AreDistinct (keys_of xs) → fold with_first es xs ≡ es ++ xs
 entered_all es [] f d = sym (append-nil es)
 entered_all es (x ∷ xs) f d =
-    ap (λ z. fold with_entry z xs) (entered es x f.0) ∙ entered_all (es ++ x ∷ []) xs (fresh_last es x xs f.1 d.0) d.1 ∙ append_assoc es (x ∷ []) xs
+    ap (λ z. fold with_first z xs) (entered es x f.0) ∙ entered_all (es ++ x ∷ []) xs (fresh_last es x xs f.1 d.0) d.1 ∙ append_assoc es (x ∷ []) xs
 
 fresh_first : (xs : Moded) → Fresh [] xs
 fresh_first [] = tt
 fresh_first (x ∷ xs) = (refl, fresh_first xs)
 
 -- distinct names are entered as they come
-pub distinct_entered : (xs : Moded) → AreDistinct (keys_of xs) → first_entries xs ≡ xs
+pub distinct_entered : (xs : Moded) → AreDistinct (keys_of xs) → firsts xs ≡ xs
 distinct_entered xs d = entered_all [] xs (fresh_first xs) d
 
 -- ---- what stands first stays first
@@ -65,11 +66,11 @@ beside : (es : Moded) (e : NameBytes × Option Mode) (known : Option (Option Mod
 beside es e None = (e ∷ [], refl)
 beside es e (Some v) = ([], sym (append-nil es))
 
-pub stay_first : (es xs : Moded) → (more : Moded) × (fold with_entry es xs ≡ es ++ more)
+pub stay_first : (es xs : Moded) → (more : Moded) × (fold with_first es xs ≡ es ++ more)
 stay_first es [] = ([], sym (append-nil es))
 stay_first es (x ∷ xs) =
     let one = beside es x (lookup (same_name x.0) es) in
-    let rest = stay_first (with_entry es x) xs in
+    let rest = stay_first (with_first es x) xs in
     (one.0 ++ rest.0, rest.1 ∙ ap (λ z. z ++ rest.0) one.1 ∙ append_assoc es one.0 rest.0)
 
 -- ---- each name once
@@ -100,9 +101,9 @@ found_beside es e None h f =
     with_last (Found (es ++ e ∷ [])) es e (all_found_last es e es f) (new_last (same_name e.0) es e h same)
 found_beside es e (Some v) h f = f
 
-pub all_found : (es xs : Moded) → Every (Found es) es → Every (Found (fold with_entry es xs)) (fold with_entry es xs)
+pub all_found : (es xs : Moded) → Every (Found es) es → Every (Found (fold with_first es xs)) (fold with_first es xs)
 all_found es [] f = f
-all_found es (x ∷ xs) f = all_found (with_entry es x) xs (found_beside es x (lookup (same_name x.0) es) refl f)
+all_found es (x ∷ xs) f = all_found (with_first es x) xs (found_beside es x (lookup (same_name x.0) es) refl f)
 
 pub at_place : {A : Type 0} (P : A → Type 0) (xs : List A) (n : ℕ) (x : A) → Every P xs → slice_get xs n ≡ Some x → P x
 at_place P [] n x h e = absurd cc

@@ -13,7 +13,7 @@ use Rattle.ss_walk.specs.declared.mention.Role.TheVariants as roles
 use Rattle.ss_walk.specs.Mentions.{NameBytes, place, row_length, in_expression, in_expressions, in_terms}
 use Rattle.ss_demands.specs.declared.demand.Aspect.TheVariants as aspects
 use Rattle.ss_demands.specs.Demands as demanded
-use Rattle.ss_scopes.specs.declared.meaning.Meaning.{Meaning as Known}
+use Rattle.ss_scopes.specs.declared.known.Known.{Known}
 use Rattle.ss_scopes.specs.Locals.{Moded}
 use Rattle.ss_scopes.specs.Meanings.{meaning_in}
 use Rattle.ss_scopes.specs.Whole.{Whole}

@@ -18,8 +18,8 @@ use Rattle.ss_walk.specs.Mentions.{NameBytes}
 use Rattle.ss_demands.specs.declared.demand.Aspect.TheVariants as aspects
 use Rattle.ss_demands.specs.declared.demand.Demand.{Demand}
 use Rattle.ss_demands.specs.Demands as demanded
-use Rattle.ss_scopes.specs.declared.meaning.Meaning.{Meaning as Known}
-use Rattle.ss_scopes.specs.declared.meaning.Meaning.TheVariants as knowns
+use Rattle.ss_scopes.specs.declared.known.Known.{Known}
+use Rattle.ss_scopes.specs.declared.known.Known.TheVariants as knowns
 use Rattle.ss_scopes.specs.Locals.{Moded}
 use Rattle.ss_scopes.specs.Meanings.{meaning_in}
 use Rattle.ss_scopes.specs.Whole.{Whole}

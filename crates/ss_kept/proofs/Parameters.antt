@@ -16,7 +16,8 @@ use Rattle.ss_walk.specs.Mentions.{NameBytes}
 use Rattle.ss_demands.specs.declared.demand.Aspect.TheVariants as aspects
 use Rattle.ss_demands.specs.declared.demand.Demand.{Demand}
 use Rattle.ss_demands.specs.Demands as demanded
-use Rattle.ss_scopes.specs.Locals.{Moded, same_name, first_entries, with_entry, mode_of, moded, local_mentioned}
+use Rattle.ss_firsts.specs.Firsts.{same_name, firsts, with_first}
+use Rattle.ss_scopes.specs.Locals.{Moded, mode_of, moded, local_mentioned}
 use Rattle.ss_scopes.specs.Meanings.{value_mode, local_or}
 use Rattle.ss_scopes.specs.Signatures.{given_to, yielded_by, signature}
 use Rattle.ss_scopes.specs.Whole.{Whole, is_global, locals_of, mode_at}
@@ -70,14 +71,14 @@ module _ (usual : Option Mode) (definitions : List DefinitionTree) where
   keys_moded [] = refl
   keys_moded (name ∷ names) = ap (λ ns. name ∷ ns) (keys_moded names)
 
-  moded_first : (names rest : List NameBytes) → AreDistinct names → (others : Moded) × (first_entries (map (moded usual definitions) (names ++ rest)) ≡ map (moded usual definitions) names ++ others)
+  moded_first : (names rest : List NameBytes) → AreDistinct names → (others : Moded) × (firsts (map (moded usual definitions) (names ++ rest)) ≡ map (moded usual definitions) names ++ others)
   moded_first names rest d =
       let front = map (moded usual definitions) names in
       let back = map (moded usual definitions) rest in
       let apart : AreDistinct (keys_of front) = subst AreDistinct (sym (keys_moded names)) d in
       let more = stay_first front back in (
         more.0,
-        ap first_entries (map-append (moded usual definitions) names rest) ∙ fold-append with_entry [] front back ∙ ap (λ es. fold with_entry es back) (distinct_entered front apart) ∙ more.1,
+        ap firsts (map-append (moded usual definitions) names rest) ∙ fold-append with_first [] front back ∙ ap (λ es. fold with_first es back) (distinct_entered front apart) ∙ more.1,
       )
 
   -- ---- their modes
@@ -104,7 +105,7 @@ module _ (usual : Option Mode) (definitions : List DefinitionTree) where
 pub parameters_first : (w : Whole) (s : SectionTree) → AreDistinct (parameters s) → (others : Moded) × (locals_of w s ≡ map (moded w.usual s.definitions) (parameters s) ++ others)
 parameters_first w s d =
     let r = moded_first w.usual s.definitions (parameters s) (rest_of (is_global w.meanings) s) d in
-    (r.0, ap (λ ns. first_entries (map (moded w.usual s.definitions) ns)) (all_mentioned (is_global w.meanings) s) ∙ r.1)
+    (r.0, ap (λ ns. firsts (map (moded w.usual s.definitions) ns)) (all_mentioned (is_global w.meanings) s) ∙ r.1)
 
 pub signatures_first : (w : Whole) (s : SectionTree) → AreDistinct (parameters s) →
     (take (length (given_to s.kind)) (modes_of (locals_of w s)) ≡ map value_mode (signature w.usual s).given) ×

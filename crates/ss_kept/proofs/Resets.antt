@@ -9,9 +9,9 @@ use Rattle.ss_walk.specs.declared.mention.Role.TheVariants as roles
 use Rattle.ss_walk.specs.Mentions as mentioned
 use Rattle.ss_walk.specs.Mentions.{NameBytes, place, row_length}
 use Rattle.ss_demands.specs.Demands as demanded
-use Rattle.ss_scopes.specs.declared.meaning.Holder.TheVariants.{Program as TheProgram, Entity as EachOf}
-use Rattle.ss_scopes.specs.declared.meaning.Meaning.{Meaning as Known}
-use Rattle.ss_scopes.specs.declared.meaning.Meaning.TheVariants as knowns
+use Rattle.ss_scopes.specs.declared.known.Holder.TheVariants.{Program as TheProgram, Entity as EachOf}
+use Rattle.ss_scopes.specs.declared.known.Known.{Known}
+use Rattle.ss_scopes.specs.declared.known.Known.TheVariants as knowns
 use Rattle.ss_scopes.specs.Locals.{Moded}
 use Rattle.ss_scopes.specs.Whole.{Whole}
 use Rattle.ss_uses.specs.Unknown.{is_told_here}

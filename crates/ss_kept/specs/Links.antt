@@ -9,10 +9,10 @@ use Rattle.ss_tree.specs.declared.expression.Designator.TheVariants.{Name, TimeV
 use Rattle.ss_tree.specs.declared.preamble.ClassKind.{ClassKind as ClassWord}
 use Rattle.ss_tree.specs.declared.preamble.ClassKind.TheVariants as class_words
 use Rattle.ss_walk.specs.Mentions.{NameBytes}
-use Rattle.ss_scopes.specs.declared.meaning.Holder.{Holder}
-use Rattle.ss_scopes.specs.declared.meaning.Holder.TheVariants.{Program as TheProgram, Entity as EachOf}
-use Rattle.ss_scopes.specs.declared.meaning.Meaning.{Meaning as Known}
-use Rattle.ss_scopes.specs.declared.meaning.Meaning.TheVariants as knowns
+use Rattle.ss_scopes.specs.declared.known.Holder.{Holder}
+use Rattle.ss_scopes.specs.declared.known.Holder.TheVariants.{Program as TheProgram, Entity as EachOf}
+use Rattle.ss_scopes.specs.declared.known.Known.{Known}
+use Rattle.ss_scopes.specs.declared.known.Known.TheVariants as knowns
 use Rattle.ss_scopes.specs.Locals.{Moded}
 use Rattle.ss_scopes.specs.Meanings.{meaning_in}
 use Rattle.ss_scopes.specs.Whole.{Whole}

@@ -13,17 +13,17 @@ use Rattle.ss_sayings.specs.declared.saying.Saying.{Saying}
 use Rattle.ss_sayings.specs.Sayings.{NameBytes}
 use Rattle.ss_declared.specs.declared.globals.Standing.TheVariants as standings
 use Rattle.ss_declared.specs.Declarations.{Declaration, declaration, class_declares, named_declares, saying_declares, is_attribute}
-use Rattle.ss_names.specs.declared.meaning.Attribute.{Attribute}
-use Rattle.ss_names.specs.declared.meaning.Class.{Class}
-use Rattle.ss_names.specs.declared.meaning.Variable.{Variable}
-use Rattle.ss_names.specs.declared.meaning.VariableKind.TheVariants.{Defined, OfClass, CountOf}
-use Rattle.ss_names.specs.Entities.{attributes, classes}
-use Rattle.ss_names.specs.Firsts.{entry_beside, place_in, told_of, with_first}
-use Rattle.ss_names.specs.Variables.{class_variables, count_name, variable_by, variable_told, variables}
+use Rattle.ss_entities.specs.declared.entry.Attribute.{Attribute}
+use Rattle.ss_entities.specs.declared.entry.Class.{Class}
+use Rattle.ss_entities.specs.declared.entry.Variable.{Variable}
+use Rattle.ss_entities.specs.declared.entry.VariableKind.TheVariants.{Defined, OfClass, CountOf}
+use Rattle.ss_entities.specs.Entities.{attributes, classes}
+use Rattle.ss_firsts.specs.Firsts.{entry_beside, place_in, told_of, with_first}
+use Rattle.ss_entities.specs.Variables.{class_variables, count_name, variable_by, variable_told, variables}
 use Rattle.ss_lists.specs.Lists.{Somewhere, Pairwise}
 use Rattle.ss_lists.specs.Declared.{Says, IsOfSet, Agree}
 use Rattle.ss_lists.proofs.Lists.{across, at_item, each, each_item, pairs_of_pieces, pairwise, pick, pieces_of_pairs, some_equal}
-use Rattle.ss_kept_tables.proofs.Entries.{entry_of_value, place_from, told_from_place, value_at}
+use Rattle.ss_firsts.proofs.Entries.{entry_of_value, place_from, told_from_place, value_at}
 use Rattle.ss_kept_tables.proofs.Facts.{Facts, SaysIt, class_place}
 use Rattle.ss_kept_tables.proofs.Names.{no_attribute}
 use Rattle.ss_kept_tables.proofs.Told.{FromClass, FromCount, FromDefine, first_or_rest, no_some, not_derived}

@@ -13,17 +13,18 @@ use Rattle.ss_sayings.specs.Sayings.{NameBytes, sayings}
 use Rattle.ss_declared.specs.declared.topic.Topic.{Topic}
 use Rattle.ss_declared.specs.declared.topic.Topic.TheVariants as topics
 use Rattle.ss_declared.specs.Topics.{is_about}
-use Rattle.ss_names.specs.declared.meaning.Attribute.{Attribute}
-use Rattle.ss_names.specs.declared.meaning.Class.{Class}
-use Rattle.ss_names.specs.Entities.{attribute_behind, attribute_by, attribute_classes, attribute_told, attributes, attributes_behind, class_by, class_told, classes, defined_modes, mode_of, usual_mode}
-use Rattle.ss_names.specs.Firsts.{place_in, same_name, told_of}
+use Rattle.ss_entities.specs.declared.entry.Attribute.{Attribute}
+use Rattle.ss_entities.specs.declared.entry.Class.{Class}
+use Rattle.ss_entities.specs.Entities.{attribute_behind, attribute_by, attribute_classes, attribute_told, attributes, attributes_behind, class_by, class_told, classes, defined_modes, mode_of, usual_mode}
+use Rattle.ss_firsts.specs.Firsts.{place_in, same_name, told_of}
 use Rattle.ss_lists.specs.Declared.{KeepsDeclarations, Says, NamesDeclaredOnce, NamesStand, SaidOnce, ThingsAreThere, ClassesAreThere, RankKeysFit, TieKeysFit, NothingIsReal}
 use Rattle.ss_lists.proofs.Lists.{names_equal, pick, some_equal, somewhere}
 use Rattle.ss_lists.proofs.Sayings.{says_so}
 use Rattle.ss_lists.proofs.Classes.{every_is_of_class}
 use Rattle.ss_lists.proofs.Declarations.{where_kept, names_declared_once, names_stand, said_once, nothing_is_real}
 use Rattle.ss_lists.proofs.Declared.{things_there, rank_keys_fit, tie_keys_fit}
-use Rattle.ss_kept_tables.proofs.Entries.{entry_of_key, entry_of_value, firsts_once, place_from, place_of_told, told_by, told_first, told_from_place, told_where}
+use Rattle.ss_firsts.proofs.Entries.{entry_of_key, entry_of_value, firsts_once, place_from, place_of_told, told_first, told_from_place}
+use Rattle.ss_kept_tables.proofs.Entries.{told_by, told_where}
 use Rattle.ss_kept_tables.proofs.Told.{attribute_is_told, class_is_told, if_here, here_told, no_some}
 
 pub record Facts (says : List Saying) : Type 0 where

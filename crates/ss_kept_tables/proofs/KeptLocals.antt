@@ -19,9 +19,10 @@ use Rattle.ss_sayings.specs.Sayings.{NameBytes, section_says, preambles_say, sec
 use Rattle.ss_declared.specs.declared.globals.Standing.TheVariants as standings
 use Rattle.ss_declared.specs.Declarations.{declarations, standing_of}
 use Rattle.ss_declared.specs.RealMode.{is_variable_role, says_real}
-use Rattle.ss_names.specs.Entities.{usual_mode}
-use Rattle.ss_names.specs.Firsts.{told_of}
-use Rattle.ss_scopes.specs.Locals.{same_name, defined_in, all_defined, or_usual, declares, is_variable, is_local_at}
+use Rattle.ss_entities.specs.Entities.{usual_mode}
+use Rattle.ss_firsts.specs.Firsts.{told_of}
+use Rattle.ss_firsts.specs.Firsts.{same_name}
+use Rattle.ss_scopes.specs.Locals.{defined_in, all_defined, or_usual, declares, is_variable, is_local_at}
 use Rattle.ss_scopes.specs.Whole.{is_global, locals_of}
 use Rattle.ss_globals.specs.WholeOf.{whole_of}
 use Rattle.ss_lists.specs.Lists.{Somewhere}

@@ -9,11 +9,11 @@ use Rattle.ss_declared.specs.declared.globals.Standing.{Standing}
 use Rattle.ss_declared.specs.declared.globals.Standing.TheVariants as standings
 use Rattle.ss_names.specs.declared.meaning.Meaning.{Meaning}
 use Rattle.ss_names.specs.declared.meaning.Meaning.TheVariants as meanings
-use Rattle.ss_names.specs.Firsts.{is_one_of, place_among, place_in, same_name, told_of, with_name}
+use Rattle.ss_firsts.specs.Firsts.{is_one_of, place_among, place_in, same_name, told_of, with_name}
 use Rattle.ss_names.specs.Meanings.{Numbered, class_meaning}
 use Rattle.ss_lists.specs.Lists.{Somewhere}
 use Rattle.ss_lists.proofs.Lists.{Among, same_as_itself, some_equal}
-use Rattle.ss_kept_tables.proofs.Entries.{number, place_of_told, told_append}
+use Rattle.ss_firsts.proofs.Entries.{number, place_of_told, told_append}
 use Rattle.ss_kept_tables.proofs.Names.{Fits, IsOther, mapped}
 
 -- ---- what a meaning is declared as

@@ -10,9 +10,10 @@ use Rattle.ss_walk.specs.declared.mention.Mentioned.TheVariants.{Name}
 use Rattle.ss_walk.specs.declared.mention.Mention.{Mention}
 use Rattle.ss_walk.specs.Mentions.{mentions}
 use Rattle.ss_sayings.specs.Sayings.{NameBytes}
-use Rattle.ss_scopes.specs.Locals.{same_name, mode_of, moded, is_local_at, local_named, local_mentioned, locals}
+use Rattle.ss_firsts.specs.Firsts.{same_name}
+use Rattle.ss_scopes.specs.Locals.{mode_of, moded, is_local_at, local_named, local_mentioned, locals}
 use Rattle.ss_lists.proofs.Lists.{Among, in_one_of, names_equal, some_equal}
-use Rattle.ss_kept_tables.proofs.Entries.{told_first}
+use Rattle.ss_firsts.proofs.Entries.{told_first}
 
 -- ---- the local variables of a section
 

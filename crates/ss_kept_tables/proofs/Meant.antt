@@ -19,22 +19,23 @@ use Rattle.ss_declared.specs.declared.globals.Standing.{Standing}
 use Rattle.ss_declared.specs.declared.globals.Standing.TheVariants as standings
 use Rattle.ss_declared.specs.Declarations.{Declaration, declaration, class_declares, set_declares, named_declares, saying_declares, is_attribute, declarations, declares, standing_told, standing_of}
 use Rattle.ss_declared.specs.Topics.{global, is_about, is_said_by, section_of}
-use Rattle.ss_names.specs.declared.meaning.Attribute.{Attribute}
+use Rattle.ss_entities.specs.declared.entry.Attribute.{Attribute}
 use Rattle.ss_names.specs.declared.meaning.Meaning.{Meaning}
 use Rattle.ss_names.specs.declared.meaning.Meaning.TheVariants as meanings
-use Rattle.ss_names.specs.declared.meaning.Routine.{Routine}
-use Rattle.ss_names.specs.declared.meaning.Statistic.{Statistic}
-use Rattle.ss_names.specs.declared.meaning.Variable.{Variable}
-use Rattle.ss_names.specs.declared.meaning.VariableKind.TheVariants.{Defined, OfClass, CountOf}
-use Rattle.ss_names.specs.Entities.{attributes, classes, set_by, set_names, set_told}
-use Rattle.ss_names.specs.Firsts.{entry_if, place_among, place_in, told_of}
+use Rattle.ss_entities.specs.declared.entry.Routine.{Routine}
+use Rattle.ss_entities.specs.declared.entry.Statistic.{Statistic}
+use Rattle.ss_entities.specs.declared.entry.Variable.{Variable}
+use Rattle.ss_entities.specs.declared.entry.VariableKind.TheVariants.{Defined, OfClass, CountOf}
+use Rattle.ss_entities.specs.Entities.{attributes, classes, set_by, set_names, set_told}
+use Rattle.ss_firsts.specs.Firsts.{entry_if, place_among, place_in, told_of}
 use Rattle.ss_names.specs.Meanings.{numbered, set_meanings, class_meaning, class_name_meaning, count_meaning, meaning_told, meaning_by, meanings_in}
-use Rattle.ss_names.specs.Statistics.{statistic_by, statistic_of, statistic_told, statistics, weighing_by, weighing_told, weighings}
-use Rattle.ss_names.specs.Variables.{class_variables, count_name, routine_by, routine_told, routines, variable_by, variable_told, variables}
+use Rattle.ss_entities.specs.Statistics.{statistic_by, statistic_of, statistic_told, statistics, weighing_by, weighing_told, weighings}
+use Rattle.ss_entities.specs.Variables.{class_variables, count_name, routine_by, routine_told, routines, variable_by, variable_told, variables}
 use Rattle.ss_lists.specs.Declared.{Says}
 use Rattle.ss_lists.proofs.Lists.{Among, any_there, at_item, found_first, holds_among, in_left, in_one_of, in_right, names_equal, somewhere}
 use Rattle.ss_lists.proofs.Sayings.{by_said, says_so}
-use Rattle.ss_kept_tables.proofs.Entries.{no_place, told_first, told_somewhere}
+use Rattle.ss_firsts.proofs.Entries.{no_place, told_first}
+use Rattle.ss_kept_tables.proofs.Entries.{told_somewhere}
 use Rattle.ss_kept_tables.proofs.Facts.{Facts, SaysIt, attribute_declared, attribute_there, class_place}
 use Rattle.ss_kept_tables.proofs.Known.{among_some, folded_one, in_either, key_there, placed}
 use Rattle.ss_kept_tables.proofs.Told.{class_variable_here, here_told, if_here, no_some}

@@ -15,16 +15,17 @@ use Rattle.ss_sayings.specs.Sayings.{NameBytes, sayings}
 use Rattle.ss_declared.specs.declared.topic.Topic.TheVariants as topics
 use Rattle.ss_declared.specs.RealMode.{gives_mode}
 use Rattle.ss_declared.specs.Topics.{thing_of, section_of, is_about}
-use Rattle.ss_names.specs.declared.meaning.Attribute.{Attribute}
-use Rattle.ss_names.specs.Entities.{attributes, defined_by, defined_modes, defined_told, normal_told, usual_mode}
-use Rattle.ss_names.specs.Firsts.{told_of}
+use Rattle.ss_entities.specs.declared.entry.Attribute.{Attribute}
+use Rattle.ss_entities.specs.Entities.{attributes, defined_by, defined_modes, defined_told, normal_told, usual_mode}
+use Rattle.ss_firsts.specs.Firsts.{told_of}
 use Rattle.ss_lists.specs.Lists.{Somewhere}
 use Rattle.ss_lists.specs.Declared.{KeepsDeclarations, Says, AllDefined, IsOnce}
 use Rattle.ss_lists.proofs.Declarations.{modes_are_given}
 use Rattle.ss_lists.proofs.Lists.{all_of, at_item, pick, somewhere}
 use Rattle.ss_lists.proofs.Sayings.{says_so}
 use Rattle.ss_kept_tables.specs.Tables.{IsValueMode}
-use Rattle.ss_kept_tables.proofs.Entries.{told_by, told_first, told_somewhere}
+use Rattle.ss_firsts.proofs.Entries.{told_first}
+use Rattle.ss_kept_tables.proofs.Entries.{told_by, told_somewhere}
 use Rattle.ss_kept_tables.proofs.Told.{define_is_told, here_told}
 use Rattle.ss_kept_tables.proofs.Facts.{Facts, SaysIt, attribute_at}
 use Rattle.ss_kept_tables.proofs.Variables.{define_not_real}

@@ -16,20 +16,21 @@ use Rattle.ss_declared.specs.declared.globals.Standing.{Standing}
 use Rattle.ss_declared.specs.declared.globals.Standing.TheVariants as standings
 use Rattle.ss_declared.specs.Declarations.{Declaration, declaration, set_declares, class_declares, said_declares, named_declares, saying_declares, is_attribute, declarations, standing_of}
 use Rattle.ss_declared.specs.Topics.{global}
-use Rattle.ss_names.specs.declared.meaning.Attribute.{Attribute}
+use Rattle.ss_entities.specs.declared.entry.Attribute.{Attribute}
 use Rattle.ss_names.specs.declared.meaning.Derived.{Derived}
 use Rattle.ss_names.specs.declared.meaning.Derived.TheVariants as deriveds
 use Rattle.ss_names.specs.declared.meaning.Meaning.{Meaning}
 use Rattle.ss_names.specs.declared.meaning.Meaning.TheVariants as meanings
-use Rattle.ss_names.specs.Entities.{attributes}
-use Rattle.ss_names.specs.Firsts.{entry_if, place_among, place_in, told_of}
+use Rattle.ss_entities.specs.Entities.{attributes}
+use Rattle.ss_firsts.specs.Firsts.{entry_if, place_among, place_in, told_of}
 use Rattle.ss_names.specs.Meanings.{Numbered, numbered, derived_entry, set_meanings, class_meaning, class_meanings, class_name_meaning, count_meaning, meaning_told, meaning_by, meanings_in}
-use Rattle.ss_names.specs.Variables.{count_name}
+use Rattle.ss_entities.specs.Variables.{count_name}
 use Rattle.ss_lists.specs.Lists.{Somewhere}
 use Rattle.ss_lists.specs.Declared.{Says, IsOfSet, Agree}
 use Rattle.ss_lists.proofs.Lists.{Among, at_item, in_left, in_right, pairs_of_pieces, pick, some_equal}
 use Rattle.ss_lists.proofs.Sayings.{IsOf, of_attribute, says_so, who_says}
-use Rattle.ss_kept_tables.proofs.Entries.{place_of_told, told_append, told_by, told_first, told_where}
+use Rattle.ss_firsts.proofs.Entries.{place_of_told, told_append, told_first}
+use Rattle.ss_kept_tables.proofs.Entries.{told_by, told_where}
 use Rattle.ss_kept_tables.proofs.Told.{first_or_rest, if_told, no_some}
 use Rattle.ss_kept_tables.proofs.Facts.{Facts, SaysIt, attribute_there}
 

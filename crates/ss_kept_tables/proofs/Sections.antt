@@ -16,11 +16,12 @@ use Rattle.ss_sayings.specs.declared.saying.Said.{Said}
 use Rattle.ss_sayings.specs.declared.saying.Said.TheVariants as said
 use Rattle.ss_sayings.specs.declared.saying.Saying.{Saying}
 use Rattle.ss_sayings.specs.Sayings.{NameBytes, said_of_all, head_says, definition_says, section_says, preambles_say, sections_say, sayings}
-use Rattle.ss_scopes.specs.Locals.{same_name, defined_in, all_defined, declares}
+use Rattle.ss_firsts.specs.Firsts.{same_name}
+use Rattle.ss_scopes.specs.Locals.{defined_in, all_defined, declares}
 use Rattle.ss_lists.specs.Lists.{Somewhere}
 use Rattle.ss_lists.specs.Declared.{Says}
 use Rattle.ss_lists.proofs.Lists.{Among, all_of, at_item, in_left, in_one_of, in_right, pick, some_equal, somewhere}
-use Rattle.ss_names.specs.Firsts.{told_of}
+use Rattle.ss_firsts.specs.Firsts.{told_of}
 use Rattle.ss_kept_tables.proofs.Entries.{told_somewhere}
 use Rattle.ss_kept_tables.proofs.Facts.{SaysIt}
 use Rattle.ss_kept_tables.proofs.Known.{key_there}

@@ -13,20 +13,21 @@ use Rattle.ss_sayings.specs.declared.saying.Saying.{Saying}
 use Rattle.ss_sayings.specs.Sayings.{NameBytes}
 use Rattle.ss_declared.specs.declared.topic.Topic.TheVariants as topics
 use Rattle.ss_declared.specs.Topics.{is_about, section_of, thing_of}
-use Rattle.ss_names.specs.declared.keys.RankedBy.{RankedBy}
-use Rattle.ss_names.specs.declared.keys.TiedBy.{TiedBy}
-use Rattle.ss_names.specs.declared.meaning.Ordering.{Ordering}
-use Rattle.ss_names.specs.declared.meaning.Set.{Set}
-use Rattle.ss_names.specs.Entities.{attributes, classes, member_by, member_told, ordering_by, orderings, owner_by, owner_told, set_by, set_members, set_names, set_of, set_owners, set_told, sets}
-use Rattle.ss_names.specs.Firsts.{is_one_of, place_in, same_name, told_of, with_name}
-use Rattle.ss_names.specs.Keys.{rank_by, rank_keys, rank_told, tie_by, tie_keys, tie_told}
+use Rattle.ss_entities.specs.declared.keys.RankedBy.{RankedBy}
+use Rattle.ss_entities.specs.declared.keys.TiedBy.{TiedBy}
+use Rattle.ss_entities.specs.declared.entry.Ordering.{Ordering}
+use Rattle.ss_entities.specs.declared.entry.Set.{Set}
+use Rattle.ss_entities.specs.Entities.{attributes, classes, member_by, member_told, ordering_by, orderings, owner_by, owner_told, set_by, set_members, set_names, set_of, set_owners, set_told, sets}
+use Rattle.ss_firsts.specs.Firsts.{is_one_of, place_in, same_name, told_of, with_name}
+use Rattle.ss_entities.specs.Keys.{rank_by, rank_keys, rank_told, tie_by, tie_keys, tie_told}
 use Rattle.ss_names.specs.Table.{declared}
 use Rattle.ss_lists.specs.Lists.{Somewhere}
 use Rattle.ss_lists.specs.Declared.{Says, IsOwned, HasMembers}
 use Rattle.ss_lists.proofs.Lists.{Among, each_item, joined, names_equal, pick, pieces, some_equal, somewhere}
 use Rattle.ss_lists.proofs.Sayings.{says_so}
 use Rattle.ss_kept_tables.specs.Tables.{IsKeyOf}
-use Rattle.ss_kept_tables.proofs.Entries.{place_of_told, told_by, told_first, told_somewhere, told_where, value_at}
+use Rattle.ss_firsts.proofs.Entries.{place_of_told, told_first, value_at}
+use Rattle.ss_kept_tables.proofs.Entries.{told_by, told_somewhere, told_where}
 use Rattle.ss_kept_tables.proofs.Told.{here_told, if_here, member_is_told, no_some, ordering_is_told}
 use Rattle.ss_kept_tables.proofs.Facts.{Facts, SaysIt, attribute_there, class_at, class_place}
 

@@ -17,8 +17,8 @@ use Rattle.ss_sayings.specs.declared.saying.Saying.{Saying}
 use Rattle.ss_sayings.specs.Sayings.{NameBytes, sayings}
 use Rattle.ss_declared.specs.declared.globals.Standing.{Standing}
 use Rattle.ss_declared.specs.declared.globals.Standing.TheVariants as standings
-use Rattle.ss_names.specs.declared.meaning.Attribute.{Attribute}
-use Rattle.ss_names.specs.declared.meaning.Class.{Class}
+use Rattle.ss_entities.specs.declared.entry.Attribute.{Attribute}
+use Rattle.ss_entities.specs.declared.entry.Class.{Class}
 use Rattle.ss_names.specs.declared.meaning.Derived.{Derived}
 use Rattle.ss_names.specs.declared.meaning.Derived.TheVariants as deriveds
 use Rattle.ss_names.specs.declared.meaning.History.{History}
@@ -26,16 +26,17 @@ use Rattle.ss_names.specs.declared.meaning.Meaning.{Meaning}
 use Rattle.ss_names.specs.declared.meaning.Meaning.TheVariants as meanings
 use Rattle.ss_names.specs.declared.meaning.Subject.{Subject}
 use Rattle.ss_names.specs.declared.meaning.Subject.TheVariants as subjects
-use Rattle.ss_names.specs.declared.meaning.Variable.{Variable}
-use Rattle.ss_names.specs.declared.meaning.VariableKind.{VariableKind}
-use Rattle.ss_names.specs.declared.meaning.VariableKind.TheVariants.{Defined, OfClass, CountOf}
-use Rattle.ss_names.specs.Entities.{set_of, set_owners, set_members, orderings}
-use Rattle.ss_names.specs.Firsts.{place_among, place_in, same_name, told_of}
+use Rattle.ss_entities.specs.declared.entry.Variable.{Variable}
+use Rattle.ss_entities.specs.declared.entry.VariableKind.{VariableKind}
+use Rattle.ss_entities.specs.declared.entry.VariableKind.TheVariants.{Defined, OfClass, CountOf}
+use Rattle.ss_entities.specs.Entities.{set_of, set_owners, set_members, orderings}
+use Rattle.ss_firsts.specs.Firsts.{place_among, place_in, same_name, told_of}
 use Rattle.ss_names.specs.Meanings.{class_meaning, numbered}
-use Rattle.ss_names.specs.Statistics.{history_of, subject_of, weighing_by, weighings}
+use Rattle.ss_entities.specs.Statistics.{weighing_by, weighings}
+use Rattle.ss_names.specs.Histories.{history_of, subject_of}
 use Rattle.ss_names.specs.Table.{table}
-use Rattle.ss_scopes.specs.declared.meaning.Meaning.{Meaning as Known}
-use Rattle.ss_scopes.specs.declared.meaning.Meaning.TheVariants as knowns
+use Rattle.ss_scopes.specs.declared.known.Known.{Known}
+use Rattle.ss_scopes.specs.declared.known.Known.TheVariants as knowns
 use Rattle.ss_scopes.specs.Meanings.{value_mode}
 use Rattle.ss_globals.specs.WholeOf.{attribute_meaning, attribute_of_class, class_meaning as known_class, derived_meaning, set_holder, statistic_holder, meaning_by, meaning_of, variable_meaning, whole_of}
 use Rattle.ss_uses.specs.Modes.{mode_of}
@@ -46,7 +47,8 @@ use Rattle.ss_lists.proofs.Lists.{at_item, each, pick, some_equal}
 use Rattle.ss_lists.proofs.Uses.{subjects_fit}
 use Rattle.ss_kept_tables.specs.Tables.{IsValueMode, standing_of}
 use Rattle.ss_kept_tables.specs.Subjects.{IsWhole}
-use Rattle.ss_kept_tables.proofs.Entries.{firsts_once, there, told_by, told_by_place, told_first, told_from_place, value_at}
+use Rattle.ss_firsts.proofs.Entries.{firsts_once, there, told_by_place, told_first, told_from_place, value_at}
+use Rattle.ss_kept_tables.proofs.Entries.{told_by}
 use Rattle.ss_kept_tables.proofs.Facts.{facts}
 use Rattle.ss_kept_tables.proofs.Names.{Fits, names_fit}
 use Rattle.ss_kept_tables.proofs.Statements.{Well, SubjectWell, program_well}

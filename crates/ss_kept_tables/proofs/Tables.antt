@@ -2,11 +2,11 @@
 use Rattle.ss_tree.specs.Tree.{ProgramTree}
 use Rattle.ss_sayings.specs.Sayings.{sayings}
 use Rattle.ss_names.specs.Table.{table}
-use Rattle.ss_names.specs.Variables.{variables}
+use Rattle.ss_entities.specs.Variables.{variables}
 use Rattle.ss_lists.specs.Declared.{KeepsDeclarations}
 use Rattle.ss_kept_tables.specs.Tables.{KeepsTable}
 use Rattle.ss_kept_tables.proofs.Counts.{count_is_behind}
-use Rattle.ss_kept_tables.proofs.Entries.{entry_of_value, told_from_place}
+use Rattle.ss_firsts.proofs.Entries.{entry_of_value, told_from_place}
 use Rattle.ss_kept_tables.proofs.Facts.{facts}
 use Rattle.ss_kept_tables.proofs.Modes.{attribute_mode, usual_or_defined}
 use Rattle.ss_kept_tables.proofs.Sets.{has_owner, has_member, ranks_fit, ties_fit}

@@ -10,15 +10,15 @@ use Rattle.ss_tree.specs.declared.preamble.Weighting.{Weighting}
 use Rattle.ss_sayings.specs.declared.saying.Said.{Said}
 use Rattle.ss_sayings.specs.declared.saying.Said.TheVariants as said
 use Rattle.ss_sayings.specs.Sayings.{NameBytes}
-use Rattle.ss_names.specs.declared.meaning.Attribute.{Attribute}
-use Rattle.ss_names.specs.declared.meaning.Class.{Class}
-use Rattle.ss_names.specs.declared.meaning.Ordering.{Ordering}
-use Rattle.ss_names.specs.declared.meaning.Variable.{Variable}
-use Rattle.ss_names.specs.declared.meaning.VariableKind.TheVariants.{Defined, OfClass, CountOf}
-use Rattle.ss_names.specs.Entities.{attribute_told, class_told, defined_told, member_told, ordering_told}
-use Rattle.ss_names.specs.Firsts.{entry_if, place_in, same_name, told_of}
-use Rattle.ss_names.specs.Statistics.{weighing_told}
-use Rattle.ss_names.specs.Variables.{class_variables, count_name, variable_told}
+use Rattle.ss_entities.specs.declared.entry.Attribute.{Attribute}
+use Rattle.ss_entities.specs.declared.entry.Class.{Class}
+use Rattle.ss_entities.specs.declared.entry.Ordering.{Ordering}
+use Rattle.ss_entities.specs.declared.entry.Variable.{Variable}
+use Rattle.ss_entities.specs.declared.entry.VariableKind.TheVariants.{Defined, OfClass, CountOf}
+use Rattle.ss_entities.specs.Entities.{attribute_told, class_told, defined_told, member_told, ordering_told}
+use Rattle.ss_firsts.specs.Firsts.{entry_if, place_in, same_name, told_of}
+use Rattle.ss_entities.specs.Statistics.{weighing_told}
+use Rattle.ss_entities.specs.Variables.{class_variables, count_name, variable_told}
 use Rattle.ss_lists.proofs.Lists.{names_equal, same_as_itself, some_equal}
 
 -- ---- entries

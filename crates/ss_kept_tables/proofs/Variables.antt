@@ -16,21 +16,22 @@ use Rattle.ss_sayings.specs.Sayings.{NameBytes}
 use Rattle.ss_declared.specs.declared.globals.Standing.TheVariants as standings
 use Rattle.ss_declared.specs.Declarations.{Declaration, declaration, class_declares}
 use Rattle.ss_declared.specs.RealMode.{says_real}
-use Rattle.ss_names.specs.declared.meaning.Class.{Class}
+use Rattle.ss_entities.specs.declared.entry.Class.{Class}
 use Rattle.ss_names.specs.declared.meaning.Meaning.{Meaning}
 use Rattle.ss_names.specs.declared.meaning.Meaning.TheVariants as meanings
-use Rattle.ss_names.specs.declared.meaning.Variable.{Variable}
-use Rattle.ss_names.specs.declared.meaning.VariableKind.TheVariants.{Defined, OfClass, CountOf}
-use Rattle.ss_names.specs.Entities.{attributes, classes}
-use Rattle.ss_names.specs.Firsts.{entry_if, place_in, same_name, told_of}
+use Rattle.ss_entities.specs.declared.entry.Variable.{Variable}
+use Rattle.ss_entities.specs.declared.entry.VariableKind.TheVariants.{Defined, OfClass, CountOf}
+use Rattle.ss_entities.specs.Entities.{attributes, classes}
+use Rattle.ss_firsts.specs.Firsts.{entry_if, place_in, same_name, told_of}
 use Rattle.ss_names.specs.Meanings.{numbered, class_meaning, class_meanings, class_name_meaning, count_meaning, meanings_in}
-use Rattle.ss_names.specs.Variables.{count_name, variable_by, variable_told, variables}
+use Rattle.ss_entities.specs.Variables.{count_name, variable_by, variable_told, variables}
 use Rattle.ss_lists.specs.Lists.{Somewhere}
 use Rattle.ss_lists.specs.Declared.{Says}
 use Rattle.ss_lists.proofs.Lists.{at_item, pick, some_equal, somewhere}
 use Rattle.ss_lists.proofs.Sayings.{says_so, saying_of}
 use Rattle.ss_kept_tables.specs.Tables.{IsValueMode, standing_of}
-use Rattle.ss_kept_tables.proofs.Entries.{entry_of_value, firsts_once, place_from, place_of_told, no_place, told_append, told_by, told_first, told_from_place, told_somewhere, value_at}
+use Rattle.ss_firsts.proofs.Entries.{entry_of_value, firsts_once, place_from, place_of_told, no_place, told_append, told_first, told_from_place, value_at}
+use Rattle.ss_kept_tables.proofs.Entries.{told_by, told_somewhere}
 use Rattle.ss_kept_tables.proofs.Told.{FromDefine, FromClass, FromCount, class_variable_here, if_here, if_told, no_some, not_derived, variable_is_told}
 use Rattle.ss_kept_tables.proofs.Facts.{Facts, SaysIt, class_at, class_place}
 use Rattle.ss_kept_tables.proofs.Names.{no_attribute, stands_for}

@@ -8,24 +8,24 @@ use Rattle.ss_sayings.specs.Sayings.{NameBytes, sayings}
 use Rattle.ss_declared.specs.declared.globals.Standing.{Standing}
 use Rattle.ss_declared.specs.declared.globals.Standing.TheVariants as standings
 use Rattle.ss_declared.specs.Declarations.{declarations, standing_of}
-use Rattle.ss_names.specs.declared.meaning.Attribute.{Attribute}
-use Rattle.ss_names.specs.declared.meaning.Class.{Class}
+use Rattle.ss_entities.specs.declared.entry.Attribute.{Attribute}
+use Rattle.ss_entities.specs.declared.entry.Class.{Class}
 use Rattle.ss_names.specs.declared.meaning.Derived.{Derived}
 use Rattle.ss_names.specs.declared.meaning.Derived.TheVariants as deriveds
 use Rattle.ss_names.specs.declared.meaning.Meaning.{Meaning}
 use Rattle.ss_names.specs.declared.meaning.Meaning.TheVariants as meanings
-use Rattle.ss_names.specs.declared.meaning.Variable.{Variable}
-use Rattle.ss_names.specs.Firsts.{place_in, told_of}
+use Rattle.ss_entities.specs.declared.entry.Variable.{Variable}
+use Rattle.ss_firsts.specs.Firsts.{place_in, told_of}
 use Rattle.ss_names.specs.Meanings.{numbered}
 use Rattle.ss_names.specs.Table.{table}
-use Rattle.ss_scopes.specs.declared.meaning.Holder.{Holder}
-use Rattle.ss_scopes.specs.declared.meaning.Meaning.{Meaning as Known}
-use Rattle.ss_scopes.specs.declared.meaning.Meaning.TheVariants as knowns
+use Rattle.ss_scopes.specs.declared.known.Holder.{Holder}
+use Rattle.ss_scopes.specs.declared.known.Known.{Known}
+use Rattle.ss_scopes.specs.declared.known.Known.TheVariants as knowns
 use Rattle.ss_scopes.specs.Meanings.{value_mode}
 use Rattle.ss_globals.specs.WholeOf.{attribute_meaning, attribute_of_class, class_meaning as known_class, derived_meaning, meaning_by as known_by, meaning_of, variable_meaning as known_variable, whole_of}
 use Rattle.ss_lists.specs.Declared.{KeepsDeclarations}
 use Rattle.ss_lists.proofs.Lists.{some_equal}
-use Rattle.ss_kept_tables.proofs.Entries.{key_at, told_by_place, value_at}
+use Rattle.ss_firsts.proofs.Entries.{key_at, told_by_place, value_at}
 use Rattle.ss_kept_tables.proofs.Facts.{facts, attribute_declared, attribute_there}
 use Rattle.ss_kept_tables.proofs.Known.{fits_as, placed_class, placed_variable, stands_as}
 use Rattle.ss_kept_tables.proofs.Meant.{name_known}

@@ -5,9 +5,10 @@ use Rattle.std.specs.Map.{lookup}
 use Rattle.ss_tree.specs.declared.preamble.Mode.{Mode}
 use Rattle.ss_tree.specs.Tree.{ProgramTree}
 use Rattle.ss_sayings.specs.Sayings.{NameBytes}
-use Rattle.ss_scopes.specs.declared.meaning.Holder.{Holder}
-use Rattle.ss_scopes.specs.declared.meaning.Meaning.TheVariants as knowns
-use Rattle.ss_scopes.specs.Locals.{Moded, same_name}
+use Rattle.ss_scopes.specs.declared.known.Holder.{Holder}
+use Rattle.ss_scopes.specs.declared.known.Known.TheVariants as knowns
+use Rattle.ss_firsts.specs.Firsts.{same_name}
+use Rattle.ss_scopes.specs.Locals.{Moded}
 use Rattle.ss_scopes.specs.Whole.{Whole, locals_of}
 use Rattle.ss_globals.specs.WholeOf.{whole_of}
 use Rattle.ss_lists.specs.Declared.{KeepsDeclarations}

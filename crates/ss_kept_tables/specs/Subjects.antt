@@ -3,13 +3,13 @@ use Rattle.std.specs.Prelude.{◌≡◌, ℕ, slice_get, Some}
 use Rattle.std.specs.Map.{values_of}
 use Rattle.ss_tree.specs.declared.preamble.Mode.TheVariants as modes
 use Rattle.ss_tree.specs.Tree.{ProgramTree}
-use Rattle.ss_names.specs.declared.meaning.Attribute.{Attribute}
+use Rattle.ss_entities.specs.declared.entry.Attribute.{Attribute}
 use Rattle.ss_names.specs.declared.meaning.History.{History}
-use Rattle.ss_names.specs.declared.meaning.Set.{Set}
+use Rattle.ss_entities.specs.declared.entry.Set.{Set}
 use Rattle.ss_names.specs.declared.meaning.Subject.{Subject}
 use Rattle.ss_names.specs.declared.meaning.Subject.TheVariants as subjects
-use Rattle.ss_names.specs.declared.meaning.Variable.{Variable}
-use Rattle.ss_names.specs.declared.meaning.VariableKind.TheVariants.{Defined}
+use Rattle.ss_entities.specs.declared.entry.Variable.{Variable}
+use Rattle.ss_entities.specs.declared.entry.VariableKind.TheVariants.{Defined}
 use Rattle.ss_names.specs.Table.{Table, table}
 use Rattle.ss_globals.specs.WholeOf.{whole_of}
 use Rattle.ss_lists.specs.Declared.{KeepsDeclarations}

@@ -9,18 +9,18 @@ use Rattle.ss_tree.specs.declared.preamble.Mode.TheVariants as modes
 use Rattle.ss_tree.specs.Tree.{ProgramTree}
 use Rattle.ss_sayings.specs.declared.saying.SetRule.TheVariants.{Ranked}
 use Rattle.ss_sayings.specs.Sayings.{NameBytes}
-use Rattle.ss_names.specs.declared.keys.RankedBy.{RankedBy}
-use Rattle.ss_names.specs.declared.keys.TiedBy.{TiedBy}
-use Rattle.ss_names.specs.declared.meaning.Attribute.{Attribute}
-use Rattle.ss_names.specs.declared.meaning.Class.{Class}
+use Rattle.ss_entities.specs.declared.keys.RankedBy.{RankedBy}
+use Rattle.ss_entities.specs.declared.keys.TiedBy.{TiedBy}
+use Rattle.ss_entities.specs.declared.entry.Attribute.{Attribute}
+use Rattle.ss_entities.specs.declared.entry.Class.{Class}
 use Rattle.ss_names.specs.declared.meaning.Meaning.{Meaning}
 use Rattle.ss_names.specs.declared.meaning.Meaning.TheVariants as meanings
-use Rattle.ss_names.specs.declared.meaning.Ordering.{Ordering}
-use Rattle.ss_names.specs.declared.meaning.Set.{Set}
-use Rattle.ss_names.specs.declared.meaning.Variable.{Variable}
-use Rattle.ss_names.specs.declared.meaning.VariableKind.{VariableKind}
-use Rattle.ss_names.specs.declared.meaning.VariableKind.TheVariants.{Defined, OfClass, CountOf}
-use Rattle.ss_names.specs.Firsts.{place_in, same_name, told_of}
+use Rattle.ss_entities.specs.declared.entry.Ordering.{Ordering}
+use Rattle.ss_entities.specs.declared.entry.Set.{Set}
+use Rattle.ss_entities.specs.declared.entry.Variable.{Variable}
+use Rattle.ss_entities.specs.declared.entry.VariableKind.{VariableKind}
+use Rattle.ss_entities.specs.declared.entry.VariableKind.TheVariants.{Defined, OfClass, CountOf}
+use Rattle.ss_firsts.specs.Firsts.{place_in, same_name, told_of}
 use Rattle.ss_names.specs.Table.{Table, table}
 use Rattle.ss_lists.specs.Declared.{KeepsDeclarations}
 

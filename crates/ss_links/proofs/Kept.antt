@@ -15,7 +15,7 @@ use Rattle.ss_scopes.specs.Signatures.{given_to, yielded_by}
 use Rattle.ss_scopes.specs.Whole.{Whole, locals_of}
 use Rattle.ss_kept.specs.Forms.{Formed}
 use Rattle.ss_kept.specs.Parameters.{AreDistinct, parameters}
-use Rattle.ss_links.specs.Declared.{IsKept}
+use Rattle.ss_laid.specs.Declared.{IsKept}
 use Rattle.ss_links.specs.Programs.{KeepsAllRules, KeepsRules}
 
 -- ---- the table

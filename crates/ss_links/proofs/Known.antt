@@ -8,15 +8,15 @@ use Rattle.ss_base.specs.declared.layout.Mode.TheVariants.{Integer}
 use Rattle.ss_tree.specs.declared.preamble.Mode.{Mode as ModeWord}
 use Rattle.ss_tree.specs.declared.preamble.Mode.TheVariants as mode_words
 use Rattle.ss_sayings.specs.Sayings.{NameBytes}
-use Rattle.ss_names.specs.declared.meaning.Attribute.{Attribute}
+use Rattle.ss_entities.specs.declared.entry.Attribute.{Attribute}
 use Rattle.ss_names.specs.declared.meaning.Meaning.{Meaning as Global}
 use Rattle.ss_names.specs.declared.meaning.Meaning.TheVariants as globals
-use Rattle.ss_names.specs.declared.meaning.Variable.{Variable as VariableSaid}
-use Rattle.ss_names.specs.declared.meaning.VariableKind.{VariableKind}
-use Rattle.ss_names.specs.declared.meaning.VariableKind.TheVariants as kinds
-use Rattle.ss_names.specs.Firsts.{place_in, same_name, told_of}
+use Rattle.ss_entities.specs.declared.entry.Variable.{Variable as VariableSaid}
+use Rattle.ss_entities.specs.declared.entry.VariableKind.{VariableKind}
+use Rattle.ss_entities.specs.declared.entry.VariableKind.TheVariants as kinds
+use Rattle.ss_firsts.specs.Firsts.{place_in, same_name, told_of}
 use Rattle.ss_names.specs.Table.{Table}
-use Rattle.ss_scopes.specs.declared.meaning.Meaning.TheVariants as knowns
+use Rattle.ss_scopes.specs.declared.known.Known.TheVariants as knowns
 use Rattle.ss_scopes.specs.Locals.{Moded, number_of}
 use Rattle.ss_scopes.specs.Meanings.{local_or, meaning_in, value_mode}
 use Rattle.ss_scopes.specs.Signatures.{Signed}
@@ -34,12 +34,12 @@ use Rattle.ss_whole.specs.Resolved.{local_mode, local_modes}
 use Rattle.ss_whole.specs.Words.{mode_given, mode_said}
 use Rattle.ss_kept.specs.Links.{IsImplied}
 use Rattle.ss_kept_tables.specs.Tables.{standing_of}
-use Rattle.ss_links.specs.Declared.{IsKept}
-use Rattle.ss_links.specs.Tables.{HasTables}
-use Rattle.ss_links.proofs.Names.{key_at, no_place, place_of_told, value_at}
-use Rattle.ss_links.proofs.Steps.{got, numbers_at}
-use Rattle.ss_links.proofs.Structure.{IsClassMode, IsTable}
-use Rattle.ss_links.proofs.Typed.{global_known, plain}
+use Rattle.ss_laid.specs.Declared.{IsKept}
+use Rattle.ss_laid.specs.Tables.{HasTables}
+use Rattle.ss_firsts.proofs.Entries.{key_at, no_place, place_of_told, value_at}
+use Rattle.ss_laid.proofs.Steps.{got, numbers_at}
+use Rattle.ss_laid.proofs.Structure.{IsClassMode, IsTable}
+use Rattle.ss_laid.proofs.Typed.{global_known, plain}
 
 -- ---- modes and kinds
 

@@ -1,11 +1,5 @@
-pub mod Steps
-pub mod Names
-pub mod Entries
-pub mod Structure
 pub mod Sections
 pub mod Ranks
-pub mod Laid
-pub mod Typed
 pub mod Known
 pub mod Told
 pub mod Values

@@ -12,23 +12,23 @@ use Rattle.ss_tree.specs.declared.preamble.ClassKind.{ClassKind as ClassWord}
 use Rattle.ss_tree.specs.declared.preamble.ClassKind.TheVariants as class_words
 use Rattle.ss_tree.specs.declared.preamble.Mode.{Mode as ModeWord}
 use Rattle.ss_sayings.specs.Sayings.{NameBytes}
-use Rattle.ss_names.specs.declared.meaning.Class.{Class}
+use Rattle.ss_entities.specs.declared.entry.Class.{Class}
 use Rattle.ss_names.specs.declared.meaning.Derived.TheVariants as derived
 use Rattle.ss_names.specs.declared.meaning.History.{History}
 use Rattle.ss_names.specs.declared.meaning.Meaning.{Meaning as Global}
 use Rattle.ss_names.specs.declared.meaning.Meaning.TheVariants as globals
-use Rattle.ss_names.specs.declared.meaning.Set.{Set}
+use Rattle.ss_entities.specs.declared.entry.Set.{Set}
 use Rattle.ss_names.specs.declared.meaning.Subject.{Subject as SubjectNumber}
 use Rattle.ss_names.specs.declared.meaning.Subject.TheVariants as subjects
-use Rattle.ss_names.specs.declared.meaning.Variable.{Variable as VariableSaid}
-use Rattle.ss_names.specs.declared.meaning.VariableKind.TheVariants as kinds
-use Rattle.ss_names.specs.Firsts.{place_in, same_name, told_of}
-use Rattle.ss_names.specs.Statistics as statistics
+use Rattle.ss_entities.specs.declared.entry.Variable.{Variable as VariableSaid}
+use Rattle.ss_entities.specs.declared.entry.VariableKind.TheVariants as kinds
+use Rattle.ss_firsts.specs.Firsts.{place_in, same_name, told_of}
+use Rattle.ss_names.specs.Histories as histories
 use Rattle.ss_names.specs.Table.{Table}
-use Rattle.ss_scopes.specs.declared.meaning.Holder.{Holder}
-use Rattle.ss_scopes.specs.declared.meaning.Holder.TheVariants.{Program as TheProgram, Entity as EachOf}
-use Rattle.ss_scopes.specs.declared.meaning.Meaning.{Meaning as Known}
-use Rattle.ss_scopes.specs.declared.meaning.Meaning.TheVariants as knowns
+use Rattle.ss_scopes.specs.declared.known.Holder.{Holder}
+use Rattle.ss_scopes.specs.declared.known.Holder.TheVariants.{Program as TheProgram, Entity as EachOf}
+use Rattle.ss_scopes.specs.declared.known.Known.{Known}
+use Rattle.ss_scopes.specs.declared.known.Known.TheVariants as knowns
 use Rattle.ss_scopes.specs.Locals.{Moded}
 use Rattle.ss_scopes.specs.Meanings.{local_or, meaning_in, value_mode}
 use Rattle.ss_scopes.specs.Signatures.{Signed}
@@ -52,15 +52,16 @@ use Rattle.ss_whole.specs.Words.{class_kind, mode_given, mode_said}
 use Rattle.ss_kept.specs.Links.{HasCount, IsClass, IsRoutine, IsSetOf, IsSubject, Linked, kind_said}
 use Rattle.ss_kept_tables.specs.Tables.{standing_of}
 use Rattle.ss_kept_tables.specs.Locals.{KeepsLocals}
-use Rattle.ss_links.specs.Declared.{IsKept}
-use Rattle.ss_links.specs.Tables.{AreSigned, HasTables}
+use Rattle.ss_laid.specs.Declared.{IsKept}
+use Rattle.ss_laid.specs.Tables.{HasTables}
+use Rattle.ss_links.specs.Signed.{AreSigned}
 use Rattle.ss_links.proofs.Known.{mode_agrees, class_variable_typed, class_stands, unhidden, w}
-use Rattle.ss_links.proofs.Names.{told_by_place, value_at}
-use Rattle.ss_links.proofs.Steps.{each_length, each_map, goes, holds}
-use Rattle.ss_links.proofs.Structure.{IsTable, same_number}
+use Rattle.ss_firsts.proofs.Entries.{told_by_place, value_at}
+use Rattle.ss_laid.proofs.Steps.{each_length, each_map, goes, holds}
+use Rattle.ss_laid.proofs.Structure.{IsTable, same_number}
 use Rattle.ss_links.proofs.Told.{attribute_of_each, attribute_there, class_there, count_alone, count_of_each, owner_there, set_meant, variable_alone}
 use Rattle.ss_links.proofs.Values.{class_told, meant, routine_told, set_told, told_meaning, value_linked}
-use Rattle.ss_links.proofs.Typed.{class_known, count_there}
+use Rattle.ss_laid.proofs.Typed.{class_known, count_there}
 
 kinds_same : (kind : ClassWord) → class_kind kind ≡ kind_said kind
 kinds_same class_words.Permanent = refl
@@ -186,7 +187,7 @@ module _ (t : Table) (signatures : List Signed) (is : IsTable t) (k : IsKept t) 
   named (subjects.Attribute n) = globals.Attribute n
   named (subjects.MemberCount n) = globals.Derived derived.MemberCount n
 
-  subject_named : (o : Option Global) (number : SubjectNumber) → statistics.subject_of o ≡ Some number → o ≡ Some (named number)
+  subject_named : (o : Option Global) (number : SubjectNumber) → histories.subject_of o ≡ Some number → o ≡ Some (named number)
   subject_named (Some (globals.Variable n)) number e = ap (λ x. Some (named x)) (same_Some (subjects.Variable n) number e)
   subject_named (Some (globals.Attribute n)) number e = ap (λ x. Some (named x)) (same_Some (subjects.Attribute n) number e)
   subject_named (Some (globals.Derived derived.MemberCount n)) number e = ap (λ x. Some (named x)) (same_Some (subjects.MemberCount n) number e)
@@ -282,7 +283,7 @@ module _ (t : Table) (signatures : List Signed) (is : IsTable t) (k : IsKept t) 
       by (Some i) (Some mode) f g b = absurd cc
       by (Some i) None f g b =
           let weighting = told_by_place t.weighings name i f in
-          let history = statistics.history_of t.names (name, weighting.0) in
+          let history = histories.history_of t.names (name, weighting.0) in
           let there = is.histories i name weighting.0 weighting.2 in
           let number = k.subjects i history there in
           subject_told name i history number.0 (record { place = f; alone = g; there = there }) (subject_named (told_of t.names name) number.0 number.1) number.1

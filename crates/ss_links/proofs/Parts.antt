@@ -9,12 +9,12 @@ use Rattle.ss_tree.specs.declared.preamble.ClassKind.TheVariants as class_words
 use Rattle.ss_tree.specs.declared.preamble.Mode.{Mode as ModeWord}
 use Rattle.ss_tree.specs.Tree as tree
 use Rattle.ss_sayings.specs.Sayings.{NameBytes, sayings}
-use Rattle.ss_names.specs.declared.meaning.Class.{Class}
+use Rattle.ss_entities.specs.declared.entry.Class.{Class}
 use Rattle.ss_names.specs.declared.meaning.Meaning.TheVariants as globals
-use Rattle.ss_names.specs.declared.meaning.Routine.{Routine as RoutineSaid}
-use Rattle.ss_names.specs.Firsts.{same_name, told_of}
+use Rattle.ss_entities.specs.declared.entry.Routine.{Routine as RoutineSaid}
+use Rattle.ss_firsts.specs.Firsts.{same_name, told_of}
 use Rattle.ss_names.specs.Table.{Table, table}
-use Rattle.ss_scopes.specs.declared.meaning.Meaning.TheVariants as knowns
+use Rattle.ss_scopes.specs.declared.known.Known.TheVariants as knowns
 use Rattle.ss_scopes.specs.Locals.{Moded, mode_of}
 use Rattle.ss_scopes.specs.Meanings.{value_mode}
 use Rattle.ss_scopes.specs.Signatures.{Signed, given_to, signature, yielded_by}
@@ -29,16 +29,17 @@ use Rattle.ss_whole.specs.Resolved.{Parts, body, local_mode, local_modes, parts_
 use Rattle.ss_whole.specs.Words.{mode_given}
 use Rattle.ss_kept.specs.Laws.{BodyResolves, KeptSectionsResolve}
 use Rattle.ss_kept.specs.Parameters as parameters
-use Rattle.ss_links.specs.Declared.{IsKept}
+use Rattle.ss_laid.specs.Declared.{IsKept}
 use Rattle.ss_links.specs.Programs.{KeepsAllRules, KeepsRules}
-use Rattle.ss_links.specs.Tables.{AreSigned, HasTables, IsSigned, LaysOut}
+use Rattle.ss_laid.specs.Tables.{HasTables, LaysOut}
+use Rattle.ss_links.specs.Signed.{AreSigned, IsSigned}
 use Rattle.ss_links.proofs.Known.{value_is}
-use Rattle.ss_links.proofs.Laid.{lays_out, value_mode_there}
+use Rattle.ss_laid.proofs.Laid.{lays_out, value_mode_there}
 use Rattle.ss_links.proofs.Linked.{linked}
-use Rattle.ss_links.proofs.Names.{entry_of_value, key_at, there, value_at}
+use Rattle.ss_firsts.proofs.Entries.{entry_of_value, key_at, there, value_at}
 use Rattle.ss_links.proofs.Sections.{routine_section}
-use Rattle.ss_links.proofs.Steps.{every_at, goes, numbers_at, numbers_map, numbers_there}
-use Rattle.ss_links.proofs.Structure.{IsTable, is_table}
+use Rattle.ss_laid.proofs.Steps.{every_at, goes, numbers_at, numbers_map, numbers_there}
+use Rattle.ss_laid.proofs.Structure.{IsTable, is_table}
 use Rattle.ss_links.proofs.Values.{class_told, told_meaning}
 
 -- what is proved of sections that keep the rules

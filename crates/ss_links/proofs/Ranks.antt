@@ -14,17 +14,17 @@ use Rattle.ss_sayings.specs.declared.saying.Said.{Said}
 use Rattle.ss_sayings.specs.declared.saying.Said.TheVariants as said
 use Rattle.ss_sayings.specs.declared.saying.Saying.{Saying}
 use Rattle.ss_sayings.specs.Sayings.{NameBytes, definition_says, head_says, preambles_say, section_says, sections_say, sayings}
-use Rattle.ss_names.specs.declared.meaning.Class.{Class}
-use Rattle.ss_names.specs.declared.meaning.Event.{Event}
-use Rattle.ss_names.specs.Entities.{class_by, class_told, classes}
-use Rattle.ss_names.specs.Firsts.{entry_beside, entry_if, firsts, place_in, same_name, told_of, with_first}
+use Rattle.ss_entities.specs.declared.entry.Class.{Class}
+use Rattle.ss_entities.specs.declared.entry.Event.{Event}
+use Rattle.ss_entities.specs.Entities.{class_by, class_told, classes}
+use Rattle.ss_firsts.specs.Firsts.{entry_beside, entry_if, firsts, place_in, same_name, told_of, with_first}
 use Rattle.ss_names.specs.Table.{table}
-use Rattle.ss_names.specs.Variables.{declared_by, declared_told, event_by, is_notice_class, is_notice_kind, notice, priority_by, priority_told, ranks_among}
+use Rattle.ss_entities.specs.Variables.{declared_by, declared_told, event_by, is_notice_class, is_notice_kind, notice, priority_by, priority_told, ranks_among}
 use Rattle.ss_lists.specs.Lists.{Somewhere}
 use Rattle.ss_lists.specs.Uses.{IsEventOf}
-use Rattle.ss_links.proofs.Entries.{Entries, first_of_entries, flat, told_entry}
-use Rattle.ss_links.proofs.Names.{firsts_once, key_at, place_of_told, told_by_place, told_from_place}
-use Rattle.ss_links.proofs.Steps.{every_append, every_at, somewhere_left, somewhere_right}
+use Rattle.ss_laid.proofs.Entries.{Entries, first_of_entries, flat, told_entry}
+use Rattle.ss_firsts.proofs.Entries.{firsts_once, key_at, place_of_told, told_by_place, told_from_place}
+use Rattle.ss_laid.proofs.Steps.{every_append, every_at, somewhere_left, somewhere_right}
 
 same : (name : NameBytes) → same_name name name ≡ true
 same name = (bytes_decides name name).1 refl

@@ -17,7 +17,7 @@ use Rattle.ss_scopes.specs.Locals.{mode_of}
 use Rattle.ss_tree.specs.Tree as tree
 use Rattle.ss_sayings.specs.Sayings.{NameBytes}
 use Rattle.ss_names.specs.declared.meaning.Meaning.TheVariants as globals
-use Rattle.ss_names.specs.Firsts.{told_of}
+use Rattle.ss_firsts.specs.Firsts.{told_of}
 use Rattle.ss_names.specs.Table.{table}
 use Rattle.ss_scopes.specs.Meanings.{value_mode}
 use Rattle.ss_scopes.specs.Signatures.{given_to, signature}
@@ -31,15 +31,16 @@ use Rattle.ss_resolve.specs.Answers.{◌>>=◌, each, upto, where_holds}
 use Rattle.ss_whole.specs.Layouts.{Laid, counts, disciplines, field_mode, global_mode, laid_out, layout, statistic_kept}
 use Rattle.ss_whole.specs.Resolved.{Parts, is_known, main_parts, resolved, resolved_event, resolved_routine}
 use Rattle.ss_whole.specs.Words.{class_kind}
-use Rattle.ss_links.specs.Declared.{IsKept}
+use Rattle.ss_laid.specs.Declared.{IsKept}
 use Rattle.ss_links.specs.Programs.{KeepsAllRules}
-use Rattle.ss_links.specs.Tables.{AreSigned, HasTables}
+use Rattle.ss_laid.specs.Tables.{HasTables}
+use Rattle.ss_links.specs.Signed.{AreSigned}
 use Rattle.ss_links.proofs.Known.{class_variable_whole, mode_agrees}
-use Rattle.ss_links.proofs.Names.{key_at, place_of_told, there, value_at}
+use Rattle.ss_firsts.proofs.Entries.{key_at, place_of_told, there, value_at}
 use Rattle.ss_links.proofs.Parts.{Laws, body_typed, has_tables, is, laid, program_with, scope_of, section_of, signatures, w}
 use Rattle.ss_links.proofs.Ranks.{rank_there}
-use Rattle.ss_links.proofs.Steps.{contains_at, each_map, goes, holds, numbers_at, numbers_every}
-use Rattle.ss_links.proofs.Typed.{are_well_typed, class_count, class_known}
+use Rattle.ss_laid.proofs.Steps.{contains_at, each_map, goes, holds, numbers_at, numbers_every}
+use Rattle.ss_laid.proofs.Typed.{are_well_typed, class_count, class_known}
 use Rattle.ss_links.proofs.Whole.{EventFacts, RoutineFacts, all_known, attributes_known, event_facts, events, main_facts, main_kind, notice_word, routine_facts, routines, routines_signed}
 
 module _ (p : tree.ProgramTree) (k : IsKept (table p)) (g : KeepsAllRules (whole.whole_of p) p) (laws : Laws)

@@ -9,17 +9,17 @@ use Rattle.ss_tree.specs.Tree as tree
 use Rattle.ss_sayings.specs.declared.saying.Said.TheVariants as said
 use Rattle.ss_sayings.specs.declared.saying.Saying.{Saying}
 use Rattle.ss_sayings.specs.Sayings.{NameBytes, clause_says, definition_says, head_says, order_says, preamble_says, preambles_say, rank_says, rule_of, said_of, said_of_all, section_says, sections_say, sayings, statistic_says, tie_says}
-use Rattle.ss_names.specs.declared.meaning.Class.{Class}
-use Rattle.ss_names.specs.declared.meaning.Event.{Event}
-use Rattle.ss_names.specs.declared.meaning.Routine.{Routine}
-use Rattle.ss_names.specs.Entities.{class_by, classes}
-use Rattle.ss_names.specs.Firsts.{told_of}
+use Rattle.ss_entities.specs.declared.entry.Class.{Class}
+use Rattle.ss_entities.specs.declared.entry.Event.{Event}
+use Rattle.ss_entities.specs.declared.entry.Routine.{Routine}
+use Rattle.ss_entities.specs.Entities.{class_by, classes}
+use Rattle.ss_firsts.specs.Firsts.{told_of}
 use Rattle.ss_names.specs.Table.{table}
-use Rattle.ss_names.specs.Variables.{event_by, routine_by}
+use Rattle.ss_entities.specs.Variables.{event_by, routine_by}
 use Rattle.ss_lists.specs.Lists.{Somewhere}
 use Rattle.ss_lists.specs.Uses.{notice_named, notices_in}
-use Rattle.ss_links.proofs.Entries.{Entries, first_of_every, told_entry}
-use Rattle.ss_links.proofs.Steps.{every_append, every_at, every_map, somewhere_left, somewhere_right}
+use Rattle.ss_laid.proofs.Entries.{Entries, first_of_every, told_entry}
+use Rattle.ss_laid.proofs.Steps.{every_append, every_at, every_map, somewhere_left, somewhere_right}
 
 -- the section of a routine, and of an event routine
 abbrev pub IsRoutineSection : List tree.SectionTree → NameBytes → Routine → Type 0

@@ -7,9 +7,9 @@ use Rattle.ss_base.specs.declared.layout.Owner.{Owner}
 use Rattle.ss_base.specs.declared.layout.Owner.TheVariants as owners
 use Rattle.ss_base.specs.declared.layout.SetLayout.{SetLayout}
 use Rattle.ss_sayings.specs.Sayings.{NameBytes}
-use Rattle.ss_names.specs.declared.meaning.Attribute.{Attribute}
+use Rattle.ss_entities.specs.declared.entry.Attribute.{Attribute}
 use Rattle.ss_names.specs.declared.meaning.History.{History}
-use Rattle.ss_names.specs.declared.meaning.Set.{Set}
+use Rattle.ss_entities.specs.declared.entry.Set.{Set}
 use Rattle.ss_names.specs.declared.meaning.Subject.{Subject as SubjectNumber}
 use Rattle.ss_names.specs.declared.meaning.Subject.TheVariants as subjects
 use Rattle.ss_names.specs.Table.{Table}
@@ -33,13 +33,13 @@ use Rattle.ss_whole.specs.Meanings.{class_variable, figure, figure_owned, of_mem
 use Rattle.ss_whole.specs.Resolved.{local_modes}
 use Rattle.ss_kept.specs.Links.{IsFigure, IsImplied, IsSetOf, IsTold}
 use Rattle.ss_kept_tables.specs.Subjects.{IsWhole}
-use Rattle.ss_links.specs.Declared.{IsKept}
-use Rattle.ss_links.specs.Tables.{HasTables}
+use Rattle.ss_laid.specs.Declared.{IsKept}
+use Rattle.ss_laid.specs.Tables.{HasTables}
 use Rattle.ss_links.proofs.Known.{implied_known, w}
-use Rattle.ss_links.proofs.Names.{entry_of_value, key_at, there}
-use Rattle.ss_links.proofs.Steps.{goes, numbers_at}
-use Rattle.ss_links.proofs.Structure.{IsTable}
-use Rattle.ss_links.proofs.Typed.{laid, set_known, statistic_known}
+use Rattle.ss_firsts.proofs.Entries.{entry_of_value, key_at, there}
+use Rattle.ss_laid.proofs.Steps.{goes, numbers_at}
+use Rattle.ss_laid.proofs.Structure.{IsTable}
+use Rattle.ss_laid.proofs.Typed.{laid, set_known, statistic_known}
 
 module _ (t : Table) (signatures : List Signed) (is : IsTable t) (k : IsKept t) (s : Scope) (h : HasTables t s.program)
     (locals : Moded) (modes : local_modes locals ≡ Some s.locals) where

@@ -12,13 +12,13 @@ use Rattle.ss_names.specs.declared.meaning.Derived.{Derived}
 use Rattle.ss_names.specs.declared.meaning.Derived.TheVariants as derived
 use Rattle.ss_names.specs.declared.meaning.Meaning.{Meaning as Global}
 use Rattle.ss_names.specs.declared.meaning.Meaning.TheVariants as globals
-use Rattle.ss_names.specs.declared.meaning.Set.{Set}
-use Rattle.ss_names.specs.declared.meaning.VariableKind.TheVariants as kinds
-use Rattle.ss_names.specs.Firsts.{same_name, told_of}
+use Rattle.ss_entities.specs.declared.entry.Set.{Set}
+use Rattle.ss_entities.specs.declared.entry.VariableKind.TheVariants as kinds
+use Rattle.ss_firsts.specs.Firsts.{same_name, told_of}
 use Rattle.ss_names.specs.Table.{Table}
-use Rattle.ss_scopes.specs.declared.meaning.Holder.{Holder}
-use Rattle.ss_scopes.specs.declared.meaning.Meaning.{Meaning as Known}
-use Rattle.ss_scopes.specs.declared.meaning.Meaning.TheVariants as knowns
+use Rattle.ss_scopes.specs.declared.known.Holder.{Holder}
+use Rattle.ss_scopes.specs.declared.known.Known.{Known}
+use Rattle.ss_scopes.specs.declared.known.Known.TheVariants as knowns
 use Rattle.ss_scopes.specs.Locals.{Moded}
 use Rattle.ss_scopes.specs.Meanings.{local_or, meaning_in, value_mode}
 use Rattle.ss_scopes.specs.Signatures.{Signed}
@@ -40,14 +40,14 @@ use Rattle.ss_whole.specs.Resolved.{local_modes}
 use Rattle.ss_whole.specs.Words.{fold_of, mode_given, mode_said}
 use Rattle.ss_kept.specs.Links.{Fits, IsTold}
 use Rattle.ss_kept_tables.specs.Tables.{standing_of}
-use Rattle.ss_links.specs.Declared.{IsKept}
-use Rattle.ss_links.specs.Tables.{HasTables}
+use Rattle.ss_laid.specs.Declared.{IsKept}
+use Rattle.ss_laid.specs.Tables.{HasTables}
 use Rattle.ss_links.proofs.Known.{class_variable_whole, count_stands, defined_is_no_count, hidden, local_known, value_is, variable_stands, w}
-use Rattle.ss_links.proofs.Names.{no_place, there, value_at}
-use Rattle.ss_links.proofs.Steps.{goes}
-use Rattle.ss_links.proofs.Structure.{IsClassMode, IsTable}
+use Rattle.ss_firsts.proofs.Entries.{no_place, there, value_at}
+use Rattle.ss_laid.proofs.Steps.{goes}
+use Rattle.ss_laid.proofs.Structure.{IsClassMode, IsTable}
 use Rattle.ss_links.proofs.Told.{attribute_there, figure_known, of_member_known, of_set_known}
-use Rattle.ss_links.proofs.Typed.{count_there, field_known, global_known, plain}
+use Rattle.ss_laid.proofs.Typed.{count_there, field_known, global_known, plain}
 
 module _ (t : Table) (signatures : List Signed) (is : IsTable t) (k : IsKept t) (s : Scope) (h : HasTables t s.program)
     (locals : Moded) (modes : local_modes locals ≡ Some s.locals) where

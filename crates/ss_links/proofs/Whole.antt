@@ -12,11 +12,11 @@ use Rattle.ss_tree.specs.declared.preamble.ClassKind.{ClassKind as ClassWord}
 use Rattle.ss_tree.specs.declared.preamble.ClassKind.TheVariants as class_words
 use Rattle.ss_tree.specs.Tree as tree
 use Rattle.ss_sayings.specs.Sayings.{NameBytes}
-use Rattle.ss_names.specs.declared.meaning.Class.{Class}
-use Rattle.ss_names.specs.declared.meaning.Event.{Event as EventSaid}
+use Rattle.ss_entities.specs.declared.entry.Class.{Class}
+use Rattle.ss_entities.specs.declared.entry.Event.{Event as EventSaid}
 use Rattle.ss_names.specs.declared.meaning.Meaning.TheVariants as globals
-use Rattle.ss_names.specs.declared.meaning.Routine.{Routine as RoutineSaid}
-use Rattle.ss_names.specs.Firsts.{told_of}
+use Rattle.ss_entities.specs.declared.entry.Routine.{Routine as RoutineSaid}
+use Rattle.ss_firsts.specs.Firsts.{told_of}
 use Rattle.ss_names.specs.Table.{table}
 use Rattle.ss_scopes.specs.Signatures.{given_to, yielded_by}
 use Rattle.ss_globals.specs.WholeOf as whole
@@ -29,16 +29,16 @@ use Rattle.ss_whole.specs.Layouts.{tie_keys}
 use Rattle.ss_whole.specs.Resolved.{Parts, class_event, class_variable, event_of, is_known, is_known_kind, is_main, is_main_kind, main_parts, parts_at, parts_of, resolved_event, resolved_routine, routine_of, saved}
 use Rattle.ss_whole.specs.Words.{class_kind}
 use Rattle.ss_kept.specs.Parameters as parameters
-use Rattle.ss_links.specs.Declared.{IsKept}
+use Rattle.ss_laid.specs.Declared.{IsKept}
 use Rattle.ss_links.specs.Programs.{KeepsAllRules, KeepsRules}
-use Rattle.ss_links.specs.Tables.{AreSigned}
-use Rattle.ss_links.proofs.Laid.{ties_there}
-use Rattle.ss_links.proofs.Names.{entry_of_value, key_at, place_of_told, there, value_at}
+use Rattle.ss_links.specs.Signed.{AreSigned}
+use Rattle.ss_laid.proofs.Laid.{ties_there}
+use Rattle.ss_firsts.proofs.Entries.{entry_of_value, key_at, place_of_told, there, value_at}
 use Rattle.ss_links.proofs.Parts.{HasParts, Laws, is, notice_known, parts_there, section_of, signatures, signed, w}
 use Rattle.ss_links.proofs.Ranks.{event_there, rank_known, rank_there}
 use Rattle.ss_links.proofs.Sections.{event_section, notice_said, routine_section}
-use Rattle.ss_links.proofs.Steps.{every_map, goes, holds, numbers_at, numbers_there}
-use Rattle.ss_links.proofs.Typed.{all_of}
+use Rattle.ss_laid.proofs.Steps.{every_map, goes, holds, numbers_at, numbers_there}
+use Rattle.ss_laid.proofs.Typed.{all_of}
 
 somewhere_named : (P : NameBytes → Type 0) (names : List NameBytes) (name : NameBytes) → Every P names → Somewhere (λ n. n ≡ name) names → P name
 somewhere_named P [] name h f = absurd f

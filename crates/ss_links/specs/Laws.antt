@@ -1,7 +1,6 @@
 -- What names stand for is what the rules know of them.
 use Rattle.std.specs.Prelude.{◌≡◌, List, Some}
 use Rattle.std.specs.List.{AllByRecursion as Every}
-use Rattle.ss_base.specs.Plain.{PlainLayout}
 use Rattle.ss_tree.specs.Tree.{SectionTree, ProgramTree}
 use Rattle.ss_names.specs.Table.{table}
 use Rattle.ss_scopes.specs.Locals.{Moded}
@@ -11,27 +10,15 @@ use Rattle.ss_lists.specs.Uses as uses
 use Rattle.ss_globals.specs.WholeOf.{whole_in, whole_of}
 use Rattle.ss_program.specs.Program.{Program}
 use Rattle.ss_program.specs.WellTyped.{Scope, WellTyped}
-use Rattle.ss_whole.specs.Layouts.{layout}
 use Rattle.ss_whole.specs.Meanings.{context_in}
 use Rattle.ss_whole.specs.Resolved.{local_modes, resolved}
 use Rattle.ss_kept.specs.Links.{Linked}
 use Rattle.ss_kept.specs.Forms.{Formed}
 use Rattle.ss_kept_tables.specs.Locals.{KeepsLocals}
-use Rattle.ss_links.specs.Declared.{IsKept}
+use Rattle.ss_laid.specs.Declared.{IsKept}
 use Rattle.ss_links.specs.Programs.{KeepsAllRules}
-use Rattle.ss_links.specs.Tables.{AreSigned, AreWellTyped, HasTables, LaysOut}
-
--- the table of a program that keeps the rules on declarations lays it out
-abbrev pub TablesAreThere : Type 0
-TablesAreThere = (tree : ProgramTree) → IsKept (table tree) → LaysOut (table tree)
-
--- and what it lays out is well typed
-abbrev pub TablesAreWellTyped : Type 0
-TablesAreWellTyped = (tree : ProgramTree) (p : Program) → IsKept (table tree) → HasTables (table tree) p → AreWellTyped (table tree) p
-
--- a program that breaks no rule on declarations has a layout
-abbrev pub LayoutsAreThere : Type 0
-LayoutsAreThere = (tree : ProgramTree) → declarations.KeepsDeclarations tree → (laid : PlainLayout) × (layout (table tree) ≡ Some laid)
+use Rattle.ss_laid.specs.Tables.{HasTables}
+use Rattle.ss_links.specs.Signed.{AreSigned}
 
 -- what names stand for in a section with these local variables is what the rules on uses know of them
 abbrev pub ContextsAreLinked : Type 0

@@ -1,5 +1,4 @@
-pub mod Declared
-pub mod Tables
+pub mod Signed
 pub mod Programs
 pub mod Laws
 pub mod Examples

@@ -1,25 +1,10 @@
-//! Laws of the tables of resolved programs.
+//! Laws of resolved programs.
 
-ghost use Rattle.ss_links.specs.Laws.{ContextsAreLinked, KeptProgramsResolve, LayoutsAreThere, ProgramsResolve, TablesAreThere, TablesAreWellTyped};
+ghost use Rattle.ss_links.specs.Laws.{ContextsAreLinked, KeptProgramsResolve, ProgramsResolve};
 
 use ss_kept::laws::{laws, laws_of_parameters};
 use ss_kept_tables::laws::laws_of_tables;
 use ss_lists::laws::{laws_of_declarations, laws_of_uses};
-
-/// What is proved of the table of every program that keeps the rules on declarations: it lays out classes,
-/// sets with their disciplines, global variables, counts, statistics and ties, and what it lays out is well
-/// typed.
-pub fn tables_are_well_typed()
-    ensures there { TablesAreThere }
-    ensures well_typed { TablesAreWellTyped }
-{}
-
-/// What is proved of a program that breaks no rule on declarations: it has a layout.
-pub fn layouts_are_there()
-    ensures { LayoutsAreThere }
-{
-    laws_of_tables();
-}
 
 /// What is proved of the names in a section of such a program: each stands for what the rules on uses know
 /// of it, where the resolved program is laid out by the table, its routines are given and yield what their

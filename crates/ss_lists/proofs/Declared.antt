@@ -21,7 +21,8 @@ use Rattle.ss_declared.specs.Lines.{sooner, first_line, line_if, lines_where}
 use Rattle.ss_declared.specs.Missing.{lacks, missing}
 use Rattle.ss_declared.specs.RankKey.{is_foreign, defines, misranks, is_bad_rank, is_misranked}
 use Rattle.ss_declared.specs.TieKey.{is_bad_tie, is_mistied}
-use Rattle.ss_declared.specs.Topics.{global, thing_of, section_of, line_of, same_name, is_about, is_said, class_of}
+use Rattle.ss_firsts.specs.Firsts.{same_name}
+use Rattle.ss_declared.specs.Topics.{global, thing_of, section_of, line_of, is_about, is_said, class_of}
 use Rattle.ss_lists.specs.Lists.{Somewhere}
 use Rattle.ss_lists.specs.Declared.{KeepsDeclarations, Says, IsOwned, HasMembers, ThingsAreThere, RankKeysFit, TieKeysFit}
 use Rattle.ss_lists.proofs.Lists.{Among, each, each_empty, both_empty, at_item, none_found, names_equal}

@@ -10,7 +10,8 @@ use Rattle.ss_sayings.specs.declared.saying.Saying.{Saying}
 use Rattle.ss_sayings.specs.Sayings.{NameBytes}
 use Rattle.ss_declared.specs.Lines.{line_if, lines_where, later_lines}
 use Rattle.ss_declared.specs.TooMany.{past_most, is_class, classes, sets, attribute_class, is_of, is_full, is_past, too_many}
-use Rattle.ss_declared.specs.Topics.{line_of, same_name}
+use Rattle.ss_firsts.specs.Firsts.{same_name}
+use Rattle.ss_declared.specs.Topics.{line_of}
 use Rattle.ss_lists.specs.Declared.{FewEnough}
 use Rattle.ss_lists.proofs.Lists.{both_empty, names_equal}
 use Rattle.ss_lists.proofs.Once.{EachBehind, none_behind}

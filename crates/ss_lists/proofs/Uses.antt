@@ -16,9 +16,10 @@ use Rattle.ss_demands.specs.declared.demand.Aspect.TheVariants as aspects
 use Rattle.ss_demands.specs.declared.demand.Demand.{Demand}
 use Rattle.ss_demands.specs.Demands as demanded
 use Rattle.ss_demands.specs.Demands.{demands}
-use Rattle.ss_scopes.specs.declared.meaning.Meaning.{Meaning}
-use Rattle.ss_scopes.specs.declared.meaning.Meaning.TheVariants as meanings
-use Rattle.ss_scopes.specs.Locals.{same_name, Moded}
+use Rattle.ss_scopes.specs.declared.known.Known.{Known}
+use Rattle.ss_scopes.specs.declared.known.Known.TheVariants as meanings
+use Rattle.ss_firsts.specs.Firsts.{same_name}
+use Rattle.ss_scopes.specs.Locals.{Moded}
 use Rattle.ss_scopes.specs.Whole.{Whole, locals_of}
 use Rattle.ss_uses.specs.declared.rule.Rule.{Rule}
 use Rattle.ss_uses.specs.declared.rule.Rule.TheVariants as rules
@@ -239,7 +240,7 @@ counts_fit w p h =
 
 -- ---- EVENT sections
 
-notice_known : (o : Option Meaning) → not (if_known is_notice o) ≡ false → o ≡ Some (meanings.Class class_kinds.EventNotice)
+notice_known : (o : Option Known) → not (if_known is_notice o) ≡ false → o ≡ Some (meanings.Class class_kinds.EventNotice)
 notice_known None h = absurd cc
 notice_known (Some (meanings.Class class_kinds.EventNotice)) h = refl
 notice_known (Some _) h = absurd cc
@@ -263,8 +264,8 @@ events_fit w p h =
 
 -- ---- statistics
 
-numbers_told : (o : Option Meaning) → not (if_known may_be_told o) ≡ false → differ (known_mode o) (Some modes.Integer) ≡ false →
-    (meant : Meaning) × (o ≡ Some meant) × (may_be_told meant ≡ true) × (mode_of meant ≡ Some modes.Integer)
+numbers_told : (o : Option Known) → not (if_known may_be_told o) ≡ false → differ (known_mode o) (Some modes.Integer) ≡ false →
+    (meant : Known) × (o ≡ Some meant) × (may_be_told meant ≡ true) × (mode_of meant ≡ Some modes.Integer)
 numbers_told None h g = absurd cc
 numbers_told (Some (meanings.Variable modes.Integer)) h g = (meanings.Variable modes.Integer, refl, refl, refl)
 numbers_told (Some (meanings.Attribute class modes.Integer)) h g = (meanings.Attribute class modes.Integer, refl, refl, refl)

@@ -12,8 +12,8 @@ use Rattle.ss_demands.specs.declared.demand.Aspect.{Aspect}
 use Rattle.ss_demands.specs.declared.demand.Aspect.TheVariants as aspects
 use Rattle.ss_demands.specs.declared.demand.Demand.{Demand}
 use Rattle.ss_demands.specs.Demands.{demands}
-use Rattle.ss_scopes.specs.declared.meaning.Meaning.{Meaning}
-use Rattle.ss_scopes.specs.declared.meaning.Meaning.TheVariants as meanings
+use Rattle.ss_scopes.specs.declared.known.Known.{Known}
+use Rattle.ss_scopes.specs.declared.known.Known.TheVariants as meanings
 use Rattle.ss_scopes.specs.Whole.{Whole, locals_of}
 use Rattle.ss_uses.specs.Arguments.{argument_count}
 use Rattle.ss_uses.specs.Events.{is_start}
@@ -104,7 +104,7 @@ EventsFit = (w : Whole) (p : ProgramTree) → KeepsUses w p → Every (λ (s : S
 -- a TALLY or an ACCUMULATE is of a variable, an attribute or N. of a set, and of numbers
 abbrev pub SubjectFits : Whole → PreambleTree → Type 0
 SubjectFits w (statistics line weighting found subject) =
-    (meant : Meaning) × (w.meanings subject ≡ Some meant) × (may_be_told meant ≡ true) × (mode_of meant ≡ Some modes.Integer)
+    (meant : Known) × (w.meanings subject ≡ Some meant) × (may_be_told meant ≡ true) × (mode_of meant ≡ Some modes.Integer)
 SubjectFits w _ = Unit
 
 abbrev pub SubjectsFit : Type 0

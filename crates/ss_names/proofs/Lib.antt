@@ -1,5 +1,3 @@
-pub mod Rooms
-mod Fields
 mod Short
 mod Once
 mod Placed

@@ -17,19 +17,21 @@ use Rattle.ss_sayings.specs.declared.saying.Said.{Said}
 use Rattle.ss_sayings.specs.declared.saying.Said.TheVariants as said
 use Rattle.ss_sayings.specs.declared.saying.Saying.{Saying}
 use Rattle.ss_sayings.specs.Sayings.{NameBytes, sayings}
-use Rattle.ss_names.specs.declared.meaning.Attribute.{Attribute}
-use Rattle.ss_names.specs.declared.meaning.Class.{Class}
-use Rattle.ss_names.specs.declared.meaning.Set.{Set}
+use Rattle.ss_entities.specs.declared.entry.Attribute.{Attribute}
+use Rattle.ss_entities.specs.declared.entry.Class.{Class}
+use Rattle.ss_entities.specs.declared.entry.Set.{Set}
 use Rattle.ss_names.specs.declared.meaning.Meaning.{Meaning}
 use Rattle.ss_names.specs.declared.meaning.Meaning.TheVariants as meanings
-use Rattle.ss_names.specs.declared.meaning.Statistic.{Statistic}
-use Rattle.ss_names.specs.Entities.{attribute_by, attribute_classes, attribute_told, attributes_behind, classes, defined_modes, fields_among, fields_of, member_by, member_told, orderings, owner_by, owner_told, set_members, set_names, set_of, set_owners, usual_mode}
-use Rattle.ss_names.specs.Firsts.{entry_beside, entry_if, firsts, place_among, place_in, same_name, told_of, with_first}
+use Rattle.ss_entities.specs.declared.entry.Statistic.{Statistic}
+use Rattle.ss_entities.specs.Entities.{attribute_by, attribute_classes, attribute_told, attributes_behind, classes, defined_modes, fields_among, fields_of, member_by, member_told, orderings, owner_by, owner_told, set_members, set_names, set_of, set_owners, usual_mode}
+use Rattle.ss_firsts.specs.Firsts.{entry_beside, entry_if, firsts, place_among, place_in, same_name, told_of, with_first}
+use Rattle.ss_firsts.proofs.Entries.{keys_append}
 use Rattle.ss_names.specs.Laws.{AttributesArePlaced, IsClassOrSystem, IsPlaced, NumbersArePlaces, RanksAreClasses, SetsArePlaced, StatisticsHaveHistories}
 use Rattle.ss_names.specs.Meanings.{class_meaning, class_meanings, count_meaning, class_name_meaning, meaning_by, meaning_told, numbered, set_meanings}
-use Rattle.ss_names.specs.Statistics.{history_of, statistic_by, statistic_of, statistic_told, weighings}
+use Rattle.ss_entities.specs.Statistics.{statistic_by, statistic_of, statistic_told, weighings}
+use Rattle.ss_names.specs.Histories.{history_of}
 use Rattle.ss_names.specs.Table.{declared}
-use Rattle.ss_names.specs.Variables.{count_name, declared_by, declared_told, is_notice_class, notice, priority_by, priority_told}
+use Rattle.ss_entities.specs.Variables.{count_name, declared_by, declared_told, is_notice_class, notice, priority_by, priority_told}
 
 -- ---- what is told of all names
 
@@ -199,10 +201,6 @@ owned_classes says =
 abbrev IsField : ℕ → List (List NameBytes) → Attribute → Type 0
 IsField count rows a = (a.class < count) × (a.field < length (get_or rows a.class []))
 
-keys_of_append : {V : Type 0} (xs ys : List (NameBytes × V)) → keys_of (xs ++ ys) ≡ keys_of xs ++ keys_of ys
-keys_of_append [] ys = refl
-keys_of_append (x ∷ xs) ys = ap (λ l. x.0 ∷ l) (keys_of_append xs ys)
-
 first_of_class : (e : NameBytes × ℕ) (es : List (NameBytes × ℕ)) (same : Bool) → nat_eq e.1 e.1 ≡ same → same ≡ true → 0 < length (fields_among (e ∷ es) e.1)
 first_of_class e es false h k = absurd cc
 first_of_class e es true h k =
@@ -218,7 +216,7 @@ behind : (before es : List (NameBytes × ℕ)) (e : NameBytes × ℕ) → length
 behind before es e =
     let of : NameBytes × ℕ → Bool = λ f. nat_eq f.1 e.1 in
     let split : fields_among (before ++ e ∷ es) e.1 ≡ fields_among before e.1 ++ fields_among (e ∷ es) e.1 =
-    ap keys_of (filter-append of before (e ∷ es)) ∙ keys_of_append (filter of before) (filter of (e ∷ es)) in
+    ap keys_of (filter-append of before (e ∷ es)) ∙ keys_append (filter of before) (filter of (e ∷ es)) in
     let more = first_of_class e es (nat_eq e.1 e.1) refl (same_number e.1) in
     let long : length (fields_among (before ++ e ∷ es) e.1) ≡ length (fields_among before e.1) + length (fields_among (e ∷ es) e.1) =
     ap length split ∙ length-append (fields_among before e.1) (fields_among (e ∷ es) e.1) in

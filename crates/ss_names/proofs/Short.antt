@@ -7,14 +7,11 @@ use Rattle.std.specs.Cmp.Lexicographic.{bytes_decides}
 use Rattle.std.proofs.lemmas.Bool.Decides.{nat_tests}
 use Rattle.std.proofs.lemmas.List.Folds.{list_all-append}
 use Rattle.ss_sayings.specs.Sayings.{NameBytes}
-use Rattle.ss_names.specs.Firsts.{entry_beside, place_in, same_name, told_of, with_first}
-use Rattle.ss_names.specs.Spellings.{are_short, spelling_of}
+use Rattle.ss_firsts.specs.Firsts.{entry_beside, place_in, same_name, told_of, with_first}
+use Rattle.ss_firsts.proofs.Entries.{keys_append}
+use Rattle.ss_firsts.specs.Spellings.{are_short, spelling_of}
 
 -- ---- one more name
-
-keys_append : {V : Type 0} (xs ys : List (NameBytes × V)) → keys_of (xs ++ ys) ≡ keys_of xs ++ keys_of ys
-keys_append [] ys = refl
-keys_append (x ∷ xs) ys = ap (λ l. x.0 ∷ l) (keys_append xs ys)
 
 is_short : (name : NameBytes) → length name ≤ 34 → nat_le (length name) 34 ≡ true
 is_short name l = grind (arith, nat_tests)

@@ -12,16 +12,16 @@ use Rattle.ss_tree.specs.declared.preamble.Weighting.TheVariants.{Tally, Accumul
 use Rattle.ss_tree.specs.Tree.{has, owns, belongs_to, ranked, permanent_entities, temporary_entities, event_notices, every, normally, system_owns, define_variables, define_sets, priority_order, break_ties, statistics, main, routine, event, ProgramTree, SectionKindTree, SectionTree}
 use Rattle.ss_sayings.specs.declared.saying.SetRule.TheVariants as rules
 use Rattle.ss_sayings.specs.Sayings.{NameBytes}
-use Rattle.ss_names.specs.declared.meaning.Attribute.{Attribute}
-use Rattle.ss_names.specs.declared.meaning.Class.{Class}
+use Rattle.ss_entities.specs.declared.entry.Attribute.{Attribute}
+use Rattle.ss_entities.specs.declared.entry.Class.{Class}
 use Rattle.ss_names.specs.declared.meaning.Derived.TheVariants.{Predecessor}
 use Rattle.ss_names.specs.declared.meaning.Meaning.{Meaning}
 use Rattle.ss_names.specs.declared.meaning.Meaning.TheVariants as meanings
 use Rattle.ss_names.specs.declared.meaning.Subject.TheVariants as subjects
-use Rattle.ss_names.specs.declared.meaning.Variable.{Variable}
-use Rattle.ss_names.specs.declared.meaning.VariableKind.{VariableKind}
-use Rattle.ss_names.specs.declared.meaning.VariableKind.TheVariants.{Defined, OfClass, CountOf}
-use Rattle.ss_names.specs.Firsts.{place_in, told_of}
+use Rattle.ss_entities.specs.declared.entry.Variable.{Variable}
+use Rattle.ss_entities.specs.declared.entry.VariableKind.{VariableKind}
+use Rattle.ss_entities.specs.declared.entry.VariableKind.TheVariants.{Defined, OfClass, CountOf}
+use Rattle.ss_firsts.specs.Firsts.{place_in, told_of}
 use Rattle.ss_names.specs.Table.{table}
 
 abbrev line : ℕ → Line

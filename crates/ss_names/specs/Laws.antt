@@ -7,7 +7,7 @@ use Rattle.ss_tree.specs.Tree.{ProgramTree}
 use Rattle.ss_sayings.specs.Sayings.{NameBytes}
 use Rattle.ss_names.specs.declared.meaning.Meaning.{Meaning}
 use Rattle.ss_names.specs.declared.meaning.Meaning.TheVariants as meanings
-use Rattle.ss_names.specs.Firsts.{place_in, told_of}
+use Rattle.ss_firsts.specs.Firsts.{place_in, told_of}
 use Rattle.ss_names.specs.Table.{Table, table}
 
 -- the numbers of what a name stands for are those of something in the table

@@ -1,12 +1,5 @@
-pub mod Firsts
-pub mod Spellings
-pub mod Rows
-pub mod Entities
-pub mod Variables
-pub mod Statistics
 pub mod Meanings
-pub mod Keys
-pub mod Notices
+pub mod Histories
 pub mod Table
 pub mod Laws
 pub mod Examples

@@ -1,8 +1,8 @@
 //! The histories that statistics tell of.
 
 ghost use Rattle.std.specs.Prelude.{◌≡◌, map, IfOk};
-ghost use Rattle.ss_names.specs.Firsts.{told_of};
-ghost use Rattle.ss_names.specs.Statistics.{history_of, subject_of};
+ghost use Rattle.ss_firsts.specs.Firsts.{told_of};
+ghost use Rattle.ss_names.specs.Histories.{history_of, subject_of};
 
 use crate::meaning::{Derived, History, Meaning, Subject};
 use crate::meanings::Meanings;

@@ -4,15 +4,14 @@ ghost use Rattle.std.specs.Prelude.{◌≡◌, ◌<◌, [], ◌∷◌, length, s
 ghost use Rattle.std.specs.List.{flat_map, fold};
 ghost use Rattle.std.specs.Map.{keys_of, values_of};
 ghost use Rattle.ss_names.specs.declared.meaning.Meaning.TheVariants as meanings;
-ghost use Rattle.ss_names.specs.Firsts.{entry_if, firsts, place_among, place_in, told_of, with_first};
+ghost use Rattle.ss_firsts.specs.Firsts.{entry_if, firsts, place_among, place_in, told_of, with_first};
 ghost use Rattle.ss_names.specs.Meanings.{class_meanings, class_name_meaning, count_meaning, derived_entry, letter_of, meaning_by, meaning_told, meanings_in, set_meanings, variable_meaning};
-ghost use Rattle.ss_names.specs.Variables.{count_name};
+ghost use Rattle.ss_entities.specs.Variables.{count_name};
 
-use crate::first::{keep_spelled, spelled_at};
 use crate::meaning::{Derived, Meaning};
 use crate::numbers::Numbers;
-use crate::spelling::Spelling;
 use indexmap::IndexMap;
+use ss_firsts::{Spelling, keep_spelled, spelled_at};
 use ss_lex::Name;
 use ss_sayings::{Said, Saying};
 use ss_tree::preamble::ClassKind;
@@ -43,7 +42,7 @@ impl Model for Meanings {
     ghost use Rattle.std.specs.Map.{keys_of};
     ghost use Rattle.ss_sayings.specs.Sayings.{NameBytes};
     ghost use Rattle.ss_names.specs.declared.meaning.Meaning.{Meaning};
-    ghost use Rattle.ss_names.specs.Spellings.{are_short};
+    ghost use Rattle.ss_firsts.specs.Spellings.{are_short};
 
     ghost Value = { List (NameBytes × Meaning) };
 
@@ -92,7 +91,10 @@ impl Meanings {
     {
         self.keep_if(Spelling::of_name(name), numbers.class(name))?;
         match kind {
-            ClassKind::Permanent => self.keep_if(Spelling::count_of(name), numbers.count(name)),
+            ClassKind::Permanent => self.keep_if(
+                Spelling::derived(b'N', name),
+                numbers.count(name),
+            ),
             ClassKind::Temporary => Ok(()),
             ClassKind::EventNotice => Ok(()),
         }

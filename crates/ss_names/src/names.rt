@@ -2,29 +2,25 @@
 
 ghost use Rattle.std.specs.Prelude.{◌≡◌, ◌<◌, [], length, slice_get, get_or, option_map, Some, IfOk};
 ghost use Rattle.std.specs.Map.{keys_of, values_of};
-ghost use Rattle.ss_tree.specs.View.{view_program};
-ghost use Rattle.ss_names.specs.Entities.{sets as sets_said};
-ghost use Rattle.ss_names.specs.Firsts.{place_in, told_of};
+ghost use Rattle.ss_entities.specs.Entities.{sets as sets_said};
+ghost use Rattle.ss_firsts.specs.Firsts.{place_in, told_of};
 ghost use Rattle.ss_names.specs.Meanings.{meanings_in, numbered};
-ghost use Rattle.ss_names.specs.Notices.{notices as notices_said};
-ghost use Rattle.ss_names.specs.Statistics.{histories as histories_said};
-ghost use Rattle.ss_names.specs.Table.{declared, table};
+ghost use Rattle.ss_entities.specs.Notices.{notices as notices_said};
+ghost use Rattle.ss_names.specs.Histories.{histories as histories_said};
+ghost use Rattle.ss_names.specs.Table.{declared};
 
-use crate::classes::usual_mode;
-use crate::first::{key_at, spelled_at, value_at};
 use crate::histories::histories_of;
-use crate::keys::{RankedBy, TiedBy};
-use crate::meaning::{
-    Attribute, Class, Event, History, Meaning, Routine, Set, Statistic, Variable,
-};
+use crate::meaning::{History, Meaning};
 use crate::meanings::{Meanings, meanings_of};
-use crate::notices::{Notices, notices_of};
 use crate::numbers::{Numbers, numbers_of};
-use crate::sets::sets_in;
+use ss_entities::{
+    Attribute, Class, Event, Notices, RankedBy, Routine, Set, Statistic, TiedBy, Variable,
+    notices_of, sets_in, usual_mode,
+};
+use ss_firsts::{key_at, spelled_at, value_at};
 use ss_lex::Name;
-use ss_sayings::{Saying, sayings_of};
+use ss_sayings::Saying;
 use ss_tree::preamble::Mode;
-use ss_tree::program::Program;
 use std::alloc::{AllocError, Global};
 use std::marker::Model;
 
@@ -100,33 +96,25 @@ fn told_in(
     })
 }
 
-// What is declared where this is said.
-fn declared(alloc: Global, sayings: &[Saying]) -> Result<Names, AllocError>
-    ensures { IfOk result (λ n. n ≡ declared sayings.now) }
-{
-    let named = named_in(alloc, sayings)?;
-    let told = told_in(alloc, &named.numbers, &named.names, sayings)?;
-    Ok(Names {
-        names: named.names,
-        usual: usual_mode(sayings),
-        numbers: named.numbers,
-        sets: told.sets,
-        notices: told.notices,
-        histories: told.histories,
-    })
-}
-
 impl Names {
-    /// The table of a program, also of one that breaks rules: of two declarations of a name the first
-    /// counts.
+    /// The table of a program of which this is said, also of one that breaks rules: of two declarations of
+    /// a name the first counts.
     ///
     /// # Errors
     /// `AllocError` where memory is refused.
-    pub fn of(alloc: Global, program: &Program) -> Result<Names, AllocError>
-        ensures { IfOk result (λ n. n ≡ table (view_program program.now)) }
+    pub fn of(alloc: Global, sayings: &[Saying]) -> Result<Names, AllocError>
+        ensures { IfOk result (λ n. n ≡ declared sayings.now) }
     {
-        let sayings = sayings_of(alloc, program)?;
-        declared(alloc, &sayings)
+        let named = named_in(alloc, sayings)?;
+        let told = told_in(alloc, &named.numbers, &named.names, sayings)?;
+        Ok(Names {
+            names: named.names,
+            usual: usual_mode(sayings),
+            numbers: named.numbers,
+            sets: told.sets,
+            notices: told.notices,
+            histories: told.histories,
+        })
     }
 
     /// The global or derived name of this spelling, in capitals. None where there is none.

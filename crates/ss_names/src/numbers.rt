@@ -1,22 +1,18 @@
 //! What has a number.
 
-ghost use Rattle.std.specs.Prelude.{◌≡◌, length, option_map, IfOk};
-ghost use Rattle.std.specs.List.{flat_map};
+ghost use Rattle.std.specs.Prelude.{◌≡◌, option_map, IfOk};
+ghost use Rattle.ss_firsts.specs.Firsts.{place_among, place_in};
+ghost use Rattle.ss_entities.specs.Entities.{attributes, classes, fields};
 ghost use Rattle.ss_names.specs.declared.meaning.Meaning.TheVariants as meanings;
-ghost use Rattle.ss_names.specs.Entities.{AreAttributes, attribute_by, attributes, classes, defined_modes, fields, usual_mode};
-ghost use Rattle.ss_names.specs.Firsts.{firsts, place_among, place_in};
 ghost use Rattle.ss_names.specs.Meanings.{class_name_meaning, count_meaning, numbered, variable_meaning};
-ghost use Rattle.ss_names.specs.Statistics.{statistics, weighings};
 
-use crate::attributes::{Attributes, attributes_of};
-use crate::classes::{classes_of, defined_modes, usual_mode};
-use crate::meaning::{Class, Meaning, Routine, Statistic, Variable};
-use crate::sections::routines_of;
-use crate::sets::set_names;
-use crate::spelling::Spelling;
-use crate::statistics::{statistics_of, weighings_of};
-use crate::variables::variables_of;
+use crate::meaning::Meaning;
 use indexmap::{IndexMap, IndexSet};
+use ss_entities::{
+    Attributes, Class, Entities, Routine, Statistic, Variable, entities_of, routines_of, set_names,
+    tellings_of, variables_of,
+};
+use ss_firsts::Spelling;
 use ss_lex::Name;
 use ss_sayings::Saying;
 use ss_tree::preamble::Weighting;
@@ -58,7 +54,7 @@ impl Numbers {
         ensures { result ≡ count_meaning self.now name.now }
     {
         let class = self.classes.get_index_of(name)?;
-        let variable = self.variables.get_index_of(&Spelling::count_of(name))?;
+        let variable = self.variables.get_index_of(&Spelling::derived(b'N', name))?;
         Some(Meaning::Count { class, variable })
     }
 
@@ -102,59 +98,6 @@ impl Numbers {
     {
         self.routines.get_index_of(name).map(Meaning::Routine)
     }
-}
-
-/// The classes and their attributes.
-#[derive(Drop)]
-pub struct Entities {
-    pub classes: IndexMap<Name, Class>,
-    pub attributes: Attributes,
-}
-
-// The attributes of these classes.
-fn attributes_in(
-    alloc: Global,
-    classes: &IndexMap<Name, Class>,
-    sayings: &[Saying],
-) -> Result<Attributes, AllocError>
-    ensures { IfOk result (AreAttributes (usual_mode sayings.now) (defined_modes sayings.now) (length classes.now.entries) (firsts (flat_map (attribute_by classes.now.entries) sayings.now))) }
-{
-    let defined = defined_modes(alloc, sayings)?;
-    attributes_of(alloc, classes, usual_mode(sayings), &defined, sayings)
-}
-
-// The classes and their attributes.
-fn entities_of(alloc: Global, sayings: &[Saying]) -> Result<Entities, AllocError>
-    ensures classes { IfOk result (λ e. e.classes.entries ≡ classes sayings.now) }
-    ensures attributes { IfOk result (λ e. e.attributes.entries ≡ attributes sayings.now) }
-    ensures fields { IfOk result (λ e. e.attributes.fields ≡ fields sayings.now) }
-{
-    let classes = classes_of(alloc, sayings)?;
-    let attributes = attributes_in(alloc, &classes, sayings)?;
-    Ok(Entities {
-        classes,
-        attributes,
-    })
-}
-
-/// What TALLY and ACCUMULATE say.
-#[derive(Drop)]
-pub struct Tellings {
-    pub weighings: IndexMap<Name, Weighting>,
-    pub statistics: IndexMap<Name, Statistic>,
-}
-
-// What TALLY and ACCUMULATE say.
-fn tellings_of(alloc: Global, sayings: &[Saying]) -> Result<Tellings, AllocError>
-    ensures weighings { IfOk result (λ t. t.weighings.entries ≡ weighings sayings.now) }
-    ensures statistics { IfOk result (λ t. t.statistics.entries ≡ statistics sayings.now) }
-{
-    let weighings = weighings_of(alloc, sayings)?;
-    let statistics = statistics_of(alloc, &weighings, sayings)?;
-    Ok(Tellings {
-        weighings,
-        statistics,
-    })
 }
 
 // What else is numbered beside these classes and attributes.

@@ -1,4 +1,4 @@
-mod Each
+pub mod Each
 mod Nested
 mod Steps
 mod Trees

@@ -8,9 +8,10 @@ use Rattle.ss_tree.specs.declared.preamble.Mode.TheVariants.{Integer, Alpha}
 use Rattle.ss_tree.specs.Tree.{ExpressionTree, number, named, no_expression, and_expression, NamedTree, from_end, over_members, over_class, let_statement, create_statement, loop_statement, reset_statement, no_statement, StatementTree, main, routine, event, SectionKindTree, DefinitionTree, SectionTree}
 use Rattle.ss_walk.specs.Mentions.{NameBytes}
 use Rattle.ss_scopes.specs.declared.heading.Heading.TheVariants.{Routine, Event}
-use Rattle.ss_scopes.specs.declared.meaning.Meaning.{Meaning}
-use Rattle.ss_scopes.specs.declared.meaning.Meaning.TheVariants as meanings
-use Rattle.ss_scopes.specs.Locals.{same_name, locals, number_of}
+use Rattle.ss_scopes.specs.declared.known.Known.{Known}
+use Rattle.ss_scopes.specs.declared.known.Known.TheVariants as meanings
+use Rattle.ss_firsts.specs.Firsts.{same_name}
+use Rattle.ss_scopes.specs.Locals.{locals, number_of}
 use Rattle.ss_scopes.specs.Signatures.{signature}
 use Rattle.ss_scopes.specs.Meanings.{meaning_in}
 
@@ -78,7 +79,7 @@ pub a_number : number_of ((codes "A", Some Alpha) ∷ (codes "JOB", None) ∷ []
 a_number = refl
 
 -- JOB is a class, and in a section with a local variable JOB that variable
-abbrev in_the_program : NameBytes → Option Meaning
+abbrev in_the_program : NameBytes → Option Known
 in_the_program n = elim (same_name n (codes "JOB")) [ true ↦ Some (meanings.Class Temporary) | false ↦ None ]
 
 pub not_hidden : meaning_in in_the_program [] (codes "JOB") ≡ Some (meanings.Class Temporary)

@@ -1,8 +1,7 @@
 -- The local variables of a section.
-use Rattle.std.specs.Prelude.{ℕ, nat_eq, Bool, true, false, not, ◌&&◌, ◌||◌, ◌==◌, List, [], ◌∷◌, ◌++◌, map, Option, Some, None, if◌then◌else◌}
-use Rattle.std.specs.List.{flat_map, fold, position}
+use Rattle.std.specs.Prelude.{ℕ, Bool, true, false, not, ◌&&◌, ◌||◌, ◌==◌, List, [], ◌∷◌, map, Option, Some, None, if◌then◌else◌}
+use Rattle.std.specs.List.{flat_map, position}
 use Rattle.std.specs.Map.{lookup, keys_of}
-use Rattle.std.specs.Cmp.Lexicographic.{pointwise}
 use Rattle.ss_tree.specs.declared.preamble.Mode.{Mode}
 use Rattle.ss_tree.specs.Tree.{DefinitionTree, SectionTree}
 use Rattle.ss_walk.specs.declared.mention.Role.{Role}
@@ -11,27 +10,11 @@ use Rattle.ss_walk.specs.declared.mention.Mentioned.{Mentioned}
 use Rattle.ss_walk.specs.declared.mention.Mentioned.TheVariants.{Name}
 use Rattle.ss_walk.specs.declared.mention.Mention.{Mention}
 use Rattle.ss_walk.specs.Mentions.{NameBytes, mentions}
-
-abbrev pub same_name : NameBytes → NameBytes → Bool
-same_name a b = pointwise nat_eq a b
+use Rattle.ss_firsts.specs.Firsts.{firsts, same_name}
 
 -- names with their modes; None is a mode that nothing gives
 abbrev pub Moded : Type 0
 Moded = List (NameBytes × Option Mode)
-
--- ---- each name once
-
--- the entries, and one more behind them, unless its name has one
-abbrev pub entry_beside : Moded → NameBytes × Option Mode → Option (Option Mode) → Moded
-entry_beside entries e None = entries ++ e ∷ []
-entry_beside entries e (Some known) = entries
-
-abbrev pub with_entry : Moded → NameBytes × Option Mode → Moded
-with_entry entries e = entry_beside entries e (lookup (same_name e.0) entries)
-
--- each name once, in the order in which they first stand, with the first of its entries
-abbrev pub first_entries : Moded → Moded
-first_entries all = fold with_entry [] all
 
 -- ---- modes
 
@@ -94,7 +77,7 @@ local_mentioned is_global m = local_named is_global m m.what
 -- the local variables of a section with their modes, in the order of their numbers: parameters, given ones before
 -- yielded ones, those that DEFINEs name, and those that are only used, each once and in the order of its first mention
 abbrev pub locals : (NameBytes → Bool) → Option Mode → SectionTree → Moded
-locals is_global usual s = first_entries (map (moded usual s.definitions) (flat_map (local_mentioned is_global) (mentions s)))
+locals is_global usual s = firsts (map (moded usual s.definitions) (flat_map (local_mentioned is_global) (mentions s)))
 
 -- the number of a local variable: its place
 abbrev pub number_of : Moded → NameBytes → Option ℕ

@@ -4,14 +4,14 @@ use Rattle.ss_base.specs.declared.layout.Mode.{Mode as ValueMode}
 use Rattle.ss_tree.specs.declared.preamble.Mode.{Mode}
 use Rattle.ss_tree.specs.Tree.{SectionTree}
 use Rattle.ss_walk.specs.Mentions.{NameBytes}
-use Rattle.ss_scopes.specs.declared.meaning.Meaning.{Meaning}
+use Rattle.ss_scopes.specs.declared.known.Known.{Known}
 use Rattle.ss_scopes.specs.Locals.{Moded, locals}
 
 pub record Whole : Type 0 where
   -- the mode that NORMALLY gives to every name that has none
   pub usual : Option Mode
   -- what a name means in the whole program
-  pub meanings : NameBytes → Option Meaning
+  pub meanings : NameBytes → Option Known
   -- whether a TALLY or an ACCUMULATE is of it
   pub is_told : NameBytes → Bool
   -- the modes of the attributes of a class
@@ -26,7 +26,7 @@ mode_at None place = None
 mode_at (Some modes) place = slice_get modes place
 
 -- the names that mean something in the whole program
-abbrev pub is_global : (NameBytes → Option Meaning) → NameBytes → Bool
+abbrev pub is_global : (NameBytes → Option Known) → NameBytes → Bool
 is_global meanings name = is_some (meanings name)
 
 -- the local variables of a section of the program

@@ -3,7 +3,7 @@
 ghost use Rattle.std.specs.Prelude.{◌≡◌, length, option_map};
 ghost use Rattle.ss_scopes.specs.Whole.{Whole, mode_at};
 
-use crate::meaning::Meaning;
+use crate::known::Known;
 use ss_base::Mode as ValueMode;
 use ss_lex::Name;
 use ss_tree::preamble::Mode;
@@ -19,7 +19,7 @@ pub trait Globals {
         ensures { result ≡ (whole self.now).usual };
 
     /// What a name means in the whole program. None where it means nothing there.
-    fn meaning_of(&self, name: Name) -> Option<Meaning>
+    fn meaning_of(&self, name: Name) -> Option<Known>
         ensures { result ≡ (whole self.now).meanings name };
 
     /// Whether a TALLY or an ACCUMULATE is of it.

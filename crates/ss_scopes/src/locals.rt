@@ -4,12 +4,14 @@ ghost use Rattle.std.specs.Prelude.{◌≡◌, ◌++◌, ◌==◌, [], ◌∷◌
 ghost use Rattle.std.specs.List.{flat_map, fold};
 ghost use Rattle.std.specs.Map.{lookup, keys_of};
 ghost use Rattle.ss_tree.specs.View.{view_definition, view_section};
-ghost use Rattle.ss_scopes.specs.Locals.{declares, first_entries, is_local_at, is_variable, local_mentioned, moded_in, number_of, same_name, with_entry};
+ghost use Rattle.ss_firsts.specs.Firsts.{firsts, same_name, with_first};
+ghost use Rattle.ss_scopes.specs.Locals.{declares, is_local_at, is_variable, local_mentioned, moded_in, number_of};
 ghost use Rattle.ss_scopes.specs.Whole.{is_global, locals_of};
 
 use crate::globals::Globals;
-use crate::modes::{add, mode_in, modes_of};
+use crate::modes::{mode_in, modes_of};
 use indexmap::IndexMap;
+use ss_firsts::{keep_first, key_at};
 use ss_lex::Name;
 use ss_tree::preamble::Mode;
 use ss_tree::program::Section;
@@ -72,12 +74,12 @@ fn add_mentioned<G: Globals>(
     usual: Option<Mode>,
     mention: &Mention,
 ) -> Result<(), AllocError>
-    ensures { OnOk result (entries.new.entries ≡ fold with_entry entries.old.entries (map (moded_in usual modes.now.entries) (local_mentioned (is_global (G.whole globals.now).meanings) mention.now))) }
+    ensures { OnOk result (entries.new.entries ≡ fold with_first entries.old.entries (map (moded_in usual modes.now.entries) (local_mentioned (is_global (G.whole globals.now).meanings) mention.now))) }
 {
     match mention.what {
         Mentioned::Name(name) => {
             if is_local_at(globals, mention, name) {
-                add(entries, name, mode_in(modes, usual, name))
+                keep_first(entries, name, mode_in(modes, usual, name))
             } else {
                 Ok(())
             }
@@ -139,10 +141,7 @@ impl Locals {
     pub fn name(&self, number: usize) -> Option<Name>
         ensures { result ≡ slice_get (keys_of self.now) number }
     {
-        match self.entries.get_index(number) {
-            Some((name, _)) => Some(*name),
-            None => None,
-        }
+        key_at(&self.entries, number)
     }
 }
 
@@ -154,7 +153,7 @@ fn collect<G: Globals>(
     usual: Option<Mode>,
     mentions: &[Mention],
 ) -> Result<IndexMap<Name, Option<Mode>>, AllocError>
-    ensures { IfOk result (λ found. found.entries ≡ first_entries (map (moded_in usual modes.now.entries) (flat_map (local_mentioned (is_global (G.whole globals.now).meanings)) mentions.now))) }
+    ensures { IfOk result (λ found. found.entries ≡ firsts (map (moded_in usual modes.now.entries) (flat_map (local_mentioned (is_global (G.whole globals.now).meanings)) mentions.now))) }
 {
     let mut entries = IndexMap::new(alloc);
     for mention in mentions {

@@ -1,33 +1,18 @@
 //! The modes that local DEFINEs give.
 
-ghost use Rattle.std.specs.Prelude.{◌≡◌, ◌++◌, [], ◌∷◌, map, IfOk, OnOk};
+ghost use Rattle.std.specs.Prelude.{◌≡◌, map, IfOk, OnOk};
 ghost use Rattle.std.specs.List.{fold};
 ghost use Rattle.ss_tree.specs.View.{view_definition};
 ghost use Rattle.std.specs.Map.{lookup};
-ghost use Rattle.ss_scopes.specs.Locals.{all_defined, defined, first_entries, or_usual, same_name, with_entry};
+ghost use Rattle.ss_firsts.specs.Firsts.{firsts, same_name, with_first};
+ghost use Rattle.ss_scopes.specs.Locals.{all_defined, defined, or_usual};
 
 use indexmap::IndexMap;
+use ss_firsts::keep_first;
 use ss_lex::Name;
 use ss_tree::preamble::Mode;
 use ss_tree::program::LocalDefinition;
 use std::alloc::{AllocError, Global};
-
-// Adds a name with its mode, unless the name is there.
-pub(crate) fn add(
-    entries: &mut IndexMap<Name, Option<Mode>>,
-    name: Name,
-    mode: Option<Mode>,
-) -> Result<(), AllocError>
-    ensures { OnOk result (entries.new.entries ≡ with_entry entries.old.entries (name, mode)) }
-{
-    match entries.get(&name) {
-        Some(_) => Ok(()),
-        None => {
-            entries.insert(name, mode)?;
-            Ok(())
-        }
-    }
-}
 
 // Adds the names that a DEFINE gives a mode.
 fn add_defined(
@@ -35,10 +20,10 @@ fn add_defined(
     mode: Mode,
     names: &[Name],
 ) -> Result<(), AllocError>
-    ensures { OnOk result (entries.new.entries ≡ fold with_entry entries.old.entries (map (defined mode) names.now)) }
+    ensures { OnOk result (entries.new.entries ≡ fold with_first entries.old.entries (map (defined mode) names.now)) }
 {
     for name in names {
-        add(entries, *name, Some(mode))?;
+        keep_first(entries, *name, Some(mode))?;
     }
     Ok(())
 }
@@ -48,7 +33,7 @@ pub(crate) fn modes_of(
     alloc: Global,
     definitions: &[LocalDefinition],
 ) -> Result<IndexMap<Name, Option<Mode>>, AllocError>
-    ensures { IfOk result (λ modes. modes.entries ≡ first_entries (all_defined (map view_definition definitions.now))) }
+    ensures { IfOk result (λ modes. modes.entries ≡ firsts (all_defined (map view_definition definitions.now))) }
 {
     let mut modes = IndexMap::new(alloc);
     for definition in definitions {

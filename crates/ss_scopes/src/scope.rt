@@ -4,8 +4,8 @@ ghost use Rattle.std.specs.Prelude.{◌≡◌};
 ghost use Rattle.ss_scopes.specs.Meanings.{meaning_in, value_mode};
 
 use crate::globals::Globals;
+use crate::known::Known;
 use crate::locals::Locals;
-use crate::meaning::Meaning;
 use ss_base::Mode as ValueMode;
 use ss_lex::Name;
 use ss_tree::preamble::Mode;
@@ -21,11 +21,11 @@ pub fn value_mode(mode: Option<Mode>) -> ValueMode
 }
 
 /// What a name means in a section with these local variables. None where it means nothing.
-pub fn meaning_in<G: Globals>(globals: &G, locals: &Locals, name: Name) -> Option<Meaning>
+pub fn meaning_in<G: Globals>(globals: &G, locals: &Locals, name: Name) -> Option<Known>
     ensures { result ≡ meaning_in (G.whole globals.now).meanings locals.now name }
 {
     match locals.mode(name) {
-        Some(mode) => Some(Meaning::Local(value_mode(mode))),
+        Some(mode) => Some(Known::Local(value_mode(mode))),
         None => globals.meaning_of(name),
     }
 }

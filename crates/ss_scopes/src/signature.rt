@@ -3,7 +3,8 @@
 ghost use Rattle.std.specs.Prelude.{◌≡◌, map, IfOk};
 ghost use Rattle.std.specs.Map.{lookup};
 ghost use Rattle.ss_tree.specs.View.{view_kind, view_section};
-ghost use Rattle.ss_scopes.specs.Locals.{or_usual, same_name};
+ghost use Rattle.ss_firsts.specs.Firsts.{same_name};
+ghost use Rattle.ss_scopes.specs.Locals.{or_usual};
 ghost use Rattle.ss_scopes.specs.Signatures.{given_to, heading_of, signature, yielded_by};
 
 use crate::heading::Heading;

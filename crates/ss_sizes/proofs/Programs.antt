@@ -14,13 +14,13 @@ use Rattle.ss_sayings.specs.declared.saying.Said.TheVariants as said
 use Rattle.ss_sayings.specs.declared.saying.Saying.{Saying}
 use Rattle.ss_sayings.specs.Sayings.{NameBytes, sayings}
 use Rattle.ss_scopes.specs.Whole.{Whole, locals_of}
-use Rattle.ss_names.specs.declared.meaning.Class.{Class}
-use Rattle.ss_names.specs.declared.meaning.Event.{Event as EventSection}
-use Rattle.ss_names.specs.declared.meaning.Routine.{Routine as RoutineSection}
-use Rattle.ss_names.specs.Entities.{classes}
-use Rattle.ss_names.specs.Firsts.{entry_if, place_in, same_name, told_of}
+use Rattle.ss_entities.specs.declared.entry.Class.{Class}
+use Rattle.ss_entities.specs.declared.entry.Event.{Event as EventSection}
+use Rattle.ss_entities.specs.declared.entry.Routine.{Routine as RoutineSection}
+use Rattle.ss_entities.specs.Entities.{classes}
+use Rattle.ss_firsts.specs.Firsts.{entry_if, place_in, same_name, told_of}
 use Rattle.ss_names.specs.Table.{Table, table}
-use Rattle.ss_names.specs.Variables.{declared_by, declared_told, event_by, is_notice_class, notice, priority_by, priority_told, ranks, routine_by}
+use Rattle.ss_entities.specs.Variables.{declared_by, declared_told, event_by, is_notice_class, notice, priority_by, priority_told, ranks, routine_by}
 use Rattle.ss_program.specs.Program.{Program}
 use Rattle.ss_program.specs.Nodes.{total, option_nodes, block_nodes, routine_nodes, event_nodes, nodes}
 use Rattle.ss_resolve.specs.Answers.{◌>>=◌, each, upto, where_holds}

@@ -14,9 +14,9 @@ use Rattle.ss_sayings.specs.declared.saying.Said.{Said}
 use Rattle.ss_sayings.specs.declared.saying.Said.TheVariants as said
 use Rattle.ss_sayings.specs.declared.saying.Saying.{Saying}
 use Rattle.ss_sayings.specs.Sayings.{NameBytes, clause_says, definition_says, head_says, order_says, preamble_says, preambles_say, rank_says, rule_of, said_of, said_of_all, section_says, sections_say, sayings, statistic_says, tie_says}
-use Rattle.ss_names.specs.declared.meaning.Event.{Event}
-use Rattle.ss_names.specs.declared.meaning.Routine.{Routine}
-use Rattle.ss_names.specs.Variables.{event_by, routine_by}
+use Rattle.ss_entities.specs.declared.entry.Event.{Event}
+use Rattle.ss_entities.specs.declared.entry.Routine.{Routine}
+use Rattle.ss_entities.specs.Variables.{event_by, routine_by}
 use Rattle.ss_program.specs.Nodes.{total, option_nodes}
 use Rattle.ss_whole.specs.Resolved.{is_main}
 use Rattle.ss_sizes.proofs.Sums.{total_append}

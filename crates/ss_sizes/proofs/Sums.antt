@@ -6,7 +6,7 @@ use Rattle.std.specs.Map.{values_of}
 use Rattle.std.specs.Cmp.Lexicographic.{bytes_decides}
 use Rattle.std.proofs.lemmas.List.Sums.{sum_by-append, sum_by-cons}
 use Rattle.ss_sayings.specs.Sayings.{NameBytes}
-use Rattle.ss_names.specs.Firsts.{entry_beside, firsts, same_name, told_of, with_first}
+use Rattle.ss_firsts.specs.Firsts.{entry_beside, firsts, same_name, told_of, with_first}
 use Rattle.ss_program.specs.Nodes.{total, option_nodes}
 use Rattle.ss_resolve.specs.Answers.{◌>>=◌, each, upto}
 use Rattle.ss_sizes.proofs.Within.{Within, up, each_small}

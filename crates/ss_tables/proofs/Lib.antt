@@ -1,1 +1,3 @@
 mod Stand
+pub mod Refused
+pub mod Made

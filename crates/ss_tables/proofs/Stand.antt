@@ -9,7 +9,7 @@ use Rattle.ss_tree.specs.Tree.{ProgramTree}
 use Rattle.ss_sayings.specs.Sayings.{NameBytes}
 use Rattle.ss_names.specs.declared.meaning.Meaning.{Meaning}
 use Rattle.ss_names.specs.declared.names.NameId.{NameId}
-use Rattle.ss_names.specs.Firsts.{place_among, place_in, same_name}
+use Rattle.ss_firsts.specs.Firsts.{place_among, place_in, same_name}
 use Rattle.ss_names.specs.Laws.{NamesStandOnce}
 use Rattle.ss_names.specs.Table.{Table, table}
 

@@ -1,20 +1,22 @@
 //! The tables of a program.
 
-ghost use Rattle.std.specs.Prelude.{◌≡◌, ◌<◌, length, slice_get, option_map, Some, IfSome, IfOk, IfErr};
+ghost use Rattle.std.specs.Prelude.{◌≡◌, ◌<◌, length, map, slice_get, option_map, Some, None, IfSome, IfOk, IfErr, OnOk};
 ghost use Rattle.std.specs.Map.{keys_of};
-ghost use Rattle.ss_tree.specs.View.{view_program};
-ghost use Rattle.ss_declared.specs.Broken.{refusal};
-ghost use Rattle.ss_names.specs.Firsts.{place_in};
+ghost use Rattle.ss_tree.specs.View.{view_program, view_section};
+ghost use Rattle.ss_declared.specs.Broken.{refusal, refusal_by};
+ghost use Rattle.ss_firsts.specs.Firsts.{place_in};
+ghost use Rattle.ss_names.specs.Table.{declared};
 ghost use Rattle.ss_whole.specs.Layouts.{layout};
 ghost use Rattle.ss_tables.specs.Tables.{AreTables, AreTablesOf, Tells};
 
 use crate::error::{TableError, error_of};
 use ss_base::Layout;
-use ss_declared::refusal;
-use ss_links::laws::layouts_are_there;
+use ss_declared::refusal_of;
+use ss_laid::laws::layouts_are_there;
 use ss_names::laws::names_stand_once;
 use ss_names::{NameId, Names};
-use ss_tree::program::Program;
+use ss_sayings::{Saying, sayings_of};
+use ss_tree::program::{Program, Section};
 use ss_whole::layout;
 use std::alloc::{AllocError, Global};
 use std::marker::Model;
@@ -38,6 +40,18 @@ impl Model for Tables {
     ghost invariant = { λ t. AreTables t.names };
 }
 
+// The table of names of a program of which this is said and that has these sections, where it breaks no rule.
+fn names_of(alloc: Global, sayings: &[Saying], sections: &[Section]) -> Result<Names, TableError>
+    ensures kept { OnOk result (refusal_by sayings.now (map view_section sections.now) ≡ None) }
+    ensures made { IfOk result (λ names. names ≡ declared sayings.now) }
+    ensures refused { IfErr result (λ e. Tells e (refusal_by sayings.now (map view_section sections.now))) }
+{
+    match refusal_of(alloc, sayings, sections)? {
+        Some(broken) => Err(error_of(broken)),
+        None => Ok(Names::of(alloc, sayings)?),
+    }
+}
+
 impl Tables {
     /// The tables of a program.
     ///
@@ -48,12 +62,9 @@ impl Tables {
         ensures made { IfOk result (λ t. AreTablesOf (view_program program.now) t) }
         ensures refused { IfErr result (λ e. Tells e (refusal (view_program program.now))) }
     {
-        match refusal(alloc, program)? {
-            Some(broken) => Err(error_of(broken)),
-            None => Ok(Tables {
-                names: Names::of(alloc, program)?,
-            }),
-        }
+        let sayings = sayings_of(alloc, program)?;
+        let names = names_of(alloc, &sayings, &program.sections)?;
+        Ok(Tables { names })
     }
 
     /// The global or derived name of this spelling, in capitals. None where there is none.

@@ -5,7 +5,7 @@ use Rattle.std.specs.List.{list_any}
 use Rattle.std.specs.Cmp.Lexicographic.{bytes_decides}
 use Rattle.std.proofs.lemmas.List.Folds.{list_any-append}
 use Rattle.ss_walk.specs.Mentions.{NameBytes}
-use Rattle.ss_scopes.specs.Locals.{same_name}
+use Rattle.ss_firsts.specs.Firsts.{same_name}
 use Rattle.ss_uses.specs.Events.{lacks_event}
 use Rattle.ss_uses.specs.Once.{with_name, with_names}
 

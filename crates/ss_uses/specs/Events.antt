@@ -9,7 +9,7 @@ use Rattle.ss_walk.specs.declared.mention.Role.{Role}
 use Rattle.ss_walk.specs.declared.mention.Role.TheVariants.{Start}
 use Rattle.ss_walk.specs.declared.mention.Mention.{Mention}
 use Rattle.ss_walk.specs.Mentions.{NameBytes}
-use Rattle.ss_scopes.specs.Locals.{same_name}
+use Rattle.ss_firsts.specs.Firsts.{same_name}
 use Rattle.ss_uses.specs.Lines.{line_if}
 use Rattle.ss_uses.specs.Uses.{is_main, Uses}
 

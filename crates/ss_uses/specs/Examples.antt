@@ -13,10 +13,10 @@ use Rattle.ss_tree.specs.declared.preamble.Weighting.TheVariants.{Tally}
 use Rattle.ss_tree.specs.Tree.{ExpressionTree, number, text, named, call, no_expression, and_expression, NamedTree, by_discipline, now, StatementTree, let_statement, call_statement, start_simulation, create_statement, file_statement, schedule_new, reset_statement, print_statement, event_notices, every, statistics, SectionKindTree, main, routine, event, SectionTree}
 use Rattle.ss_picture.specs.Pictures.{widths}
 use Rattle.ss_walk.specs.Mentions.{NameBytes}
-use Rattle.ss_scopes.specs.declared.meaning.Holder.TheVariants.{Program, Entity}
-use Rattle.ss_scopes.specs.declared.meaning.Meaning.{Meaning}
-use Rattle.ss_scopes.specs.declared.meaning.Meaning.TheVariants as meanings
-use Rattle.ss_scopes.specs.Locals.{same_name}
+use Rattle.ss_scopes.specs.declared.known.Holder.TheVariants.{Program, Entity}
+use Rattle.ss_scopes.specs.declared.known.Known.{Known}
+use Rattle.ss_scopes.specs.declared.known.Known.TheVariants as meanings
+use Rattle.ss_firsts.specs.Firsts.{same_name}
 use Rattle.ss_scopes.specs.Whole.{Whole}
 use Rattle.ss_uses.specs.declared.rule.Rule.{Rule}
 use Rattle.ss_uses.specs.declared.rule.Rule.TheVariants as rules
@@ -26,7 +26,7 @@ use Rattle.ss_uses.specs.Refusal.{refusal}
 -- A program with the permanent class MACHINE, which owns QUEUE; the temporary class JOB, which has RANK, an INTEGER, and
 -- may belong to QUEUE and to POOL of THE SYSTEM; notices BELL, which have TONE; an ALPHA variable W, a variable X, of
 -- which S1 is the sum; a routine R that is given nothing and a routine T that is given a text
-abbrev known : List (NameBytes × Meaning)
+abbrev known : List (NameBytes × Known)
 known =
     (codes "MACHINE", meanings.Class Permanent) ∷ (codes "N.MACHINE", meanings.EntityCount) ∷ (codes "QUEUE", meanings.Set (Entity (codes "MACHINE"))) ∷
     (codes "JOB", meanings.Class Temporary) ∷ (codes "RANK", meanings.Attribute (codes "JOB") values.Integer) ∷

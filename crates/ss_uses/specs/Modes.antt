@@ -8,17 +8,17 @@ use Rattle.ss_walk.specs.Mentions.{NameBytes}
 use Rattle.ss_demands.specs.declared.demand.Aspect.{Aspect}
 use Rattle.ss_demands.specs.declared.demand.Aspect.TheVariants.{Integer, Alpha, Named, Implied, Given, Yielded, Attribute}
 use Rattle.ss_demands.specs.declared.demand.Demand.{Demand}
-use Rattle.ss_scopes.specs.declared.meaning.Holder.{Holder}
-use Rattle.ss_scopes.specs.declared.meaning.Holder.TheVariants.{Program, Entity}
-use Rattle.ss_scopes.specs.declared.meaning.Meaning.{Meaning}
-use Rattle.ss_scopes.specs.declared.meaning.Meaning.TheVariants as meanings
+use Rattle.ss_scopes.specs.declared.known.Holder.{Holder}
+use Rattle.ss_scopes.specs.declared.known.Holder.TheVariants.{Program, Entity}
+use Rattle.ss_scopes.specs.declared.known.Known.{Known}
+use Rattle.ss_scopes.specs.declared.known.Known.TheVariants as meanings
 use Rattle.ss_scopes.specs.Locals.{Moded}
 use Rattle.ss_scopes.specs.Whole.{Whole, mode_at}
 use Rattle.ss_scopes.specs.Meanings.{meaning_in}
 use Rattle.ss_uses.specs.Lines.{line_if}
 
 -- the mode of what a name means; a set and a routine have none
-abbrev pub mode_of : Meaning → Option Mode
+abbrev pub mode_of : Known → Option Mode
 mode_of (meanings.Local mode) = Some mode
 mode_of (meanings.Variable mode) = Some mode
 mode_of (meanings.Class kind) = Some modes.Integer
@@ -30,7 +30,7 @@ mode_of meanings.EntityCount = Some modes.Integer
 mode_of (meanings.Statistic holder) = Some modes.Integer
 mode_of meanings.Routine = None
 
-abbrev pub known_mode : Option Meaning → Option Mode
+abbrev pub known_mode : Option Known → Option Mode
 known_mode None = None
 known_mode (Some meaning) = mode_of meaning
 
@@ -43,7 +43,7 @@ held_by Program = None
 held_by (Entity class) = Some class
 
 -- the class whose variable has the entity where no subscript is written
-abbrev pub class_implied : Meaning → Option NameBytes
+abbrev pub class_implied : Known → Option NameBytes
 class_implied (meanings.Attribute class mode) = Some class
 class_implied (meanings.Set holder) = held_by holder
 class_implied (meanings.MemberCount holder) = held_by holder
@@ -51,7 +51,7 @@ class_implied (meanings.Membership holder) = held_by holder
 class_implied (meanings.Statistic holder) = held_by holder
 class_implied _ = None
 
-abbrev pub known_class : Option Meaning → Option NameBytes
+abbrev pub known_class : Option Known → Option NameBytes
 known_class None = None
 known_class (Some meaning) = class_implied meaning
 

@@ -2,7 +2,7 @@
 use Rattle.std.specs.Prelude.{List, [], ◌∷◌, ◌++◌, if◌then◌else◌}
 use Rattle.std.specs.List.{fold, list_any}
 use Rattle.ss_walk.specs.Mentions.{NameBytes}
-use Rattle.ss_scopes.specs.Locals.{same_name}
+use Rattle.ss_firsts.specs.Firsts.{same_name}
 
 -- the names and one more, unless it is among them
 abbrev pub with_name : List NameBytes → NameBytes → List NameBytes

@@ -3,10 +3,10 @@ use Rattle.std.specs.Prelude.{ℕ, zero, suc, Bool, true, false}
 use Rattle.ss_walk.specs.declared.mention.Mentioned.{Mentioned}
 use Rattle.ss_walk.specs.declared.mention.Mentioned.TheVariants.{Name, TimeV, TimeA, Simulation}
 use Rattle.ss_walk.specs.declared.mention.Mention.{Mention}
-use Rattle.ss_scopes.specs.declared.meaning.Holder.{Holder}
-use Rattle.ss_scopes.specs.declared.meaning.Holder.TheVariants.{Program, Entity}
-use Rattle.ss_scopes.specs.declared.meaning.Meaning.{Meaning}
-use Rattle.ss_scopes.specs.declared.meaning.Meaning.TheVariants.{Local, Variable, Class, Attribute, Set, MemberCount, Membership, EntityCount, Statistic, Routine}
+use Rattle.ss_scopes.specs.declared.known.Holder.{Holder}
+use Rattle.ss_scopes.specs.declared.known.Holder.TheVariants.{Program, Entity}
+use Rattle.ss_scopes.specs.declared.known.Known.{Known}
+use Rattle.ss_scopes.specs.declared.known.Known.TheVariants.{Local, Variable, Class, Attribute, Set, MemberCount, Membership, EntityCount, Statistic, Routine}
 use Rattle.ss_scopes.specs.Locals.{Moded}
 use Rattle.ss_scopes.specs.Whole.{Whole}
 use Rattle.ss_scopes.specs.Meanings.{meaning_in}
@@ -17,7 +17,7 @@ is_of_program Program = true
 is_of_program (Entity class) = false
 
 -- what there is one of, so that it takes no subscript: a variable or its statistic, N. of a class, a thing of THE SYSTEM
-abbrev pub is_single : Meaning → Bool
+abbrev pub is_single : Known → Bool
 is_single (Local mode) = true
 is_single (Variable mode) = true
 is_single (Class kind) = true

@@ -5,15 +5,15 @@ use Rattle.ss_walk.specs.declared.mention.Role.TheVariants.{Target}
 use Rattle.ss_walk.specs.declared.mention.Mentioned.{Mentioned}
 use Rattle.ss_walk.specs.declared.mention.Mentioned.TheVariants.{Name, TimeV, TimeA, Simulation}
 use Rattle.ss_walk.specs.declared.mention.Mention.{Mention}
-use Rattle.ss_scopes.specs.declared.meaning.Meaning.{Meaning}
-use Rattle.ss_scopes.specs.declared.meaning.Meaning.TheVariants.{Local, Variable, Class, Attribute, EntityCount}
+use Rattle.ss_scopes.specs.declared.known.Known.{Known}
+use Rattle.ss_scopes.specs.declared.known.Known.TheVariants.{Local, Variable, Class, Attribute, EntityCount}
 use Rattle.ss_scopes.specs.Locals.{Moded}
 use Rattle.ss_scopes.specs.Whole.{Whole}
 use Rattle.ss_scopes.specs.Meanings.{meaning_in}
 use Rattle.ss_uses.specs.Unknown.{if_known}
 
 -- what takes values: variables, attributes and N. of classes
-abbrev pub takes_values : Meaning → Bool
+abbrev pub takes_values : Known → Bool
 takes_values (Local mode) = true
 takes_values (Variable mode) = true
 takes_values (Class kind) = true

@@ -10,49 +10,50 @@ use Rattle.ss_walk.specs.declared.mention.Mentioned.{Mentioned}
 use Rattle.ss_walk.specs.declared.mention.Mentioned.TheVariants.{Name, TimeV, TimeA, Simulation}
 use Rattle.ss_walk.specs.declared.mention.Mention.{Mention}
 use Rattle.ss_walk.specs.Mentions.{NameBytes}
-use Rattle.ss_scopes.specs.declared.meaning.Meaning.{Meaning}
-use Rattle.ss_scopes.specs.declared.meaning.Meaning.TheVariants.{Local, Variable, Class, Attribute, Set, MemberCount, Routine}
-use Rattle.ss_scopes.specs.Locals.{same_name, Moded}
+use Rattle.ss_scopes.specs.declared.known.Known.{Known}
+use Rattle.ss_scopes.specs.declared.known.Known.TheVariants.{Local, Variable, Class, Attribute, Set, MemberCount, Routine}
+use Rattle.ss_firsts.specs.Firsts.{same_name}
+use Rattle.ss_scopes.specs.Locals.{Moded}
 use Rattle.ss_scopes.specs.Whole.{Whole}
 use Rattle.ss_scopes.specs.Meanings.{meaning_in}
 use Rattle.ss_uses.specs.Lines.{line_if}
 
 -- what may stand as a value or a target: all but sets and routines
-abbrev pub has_value : Meaning → Bool
+abbrev pub has_value : Known → Bool
 has_value (Set holder) = false
 has_value Routine = false
 has_value _ = true
 
-abbrev pub is_variable : Meaning → Bool
+abbrev pub is_variable : Known → Bool
 is_variable (Local mode) = true
 is_variable (Variable mode) = true
 is_variable (Class kind) = true
 is_variable _ = false
 
-abbrev pub is_set : Meaning → Bool
+abbrev pub is_set : Known → Bool
 is_set (Set holder) = true
 is_set _ = false
 
-abbrev pub is_routine : Meaning → Bool
+abbrev pub is_routine : Known → Bool
 is_routine Routine = true
 is_routine _ = false
 
-abbrev pub is_permanent : Meaning → Bool
+abbrev pub is_permanent : Known → Bool
 is_permanent (Class Permanent) = true
 is_permanent _ = false
 
-abbrev pub is_notice : Meaning → Bool
+abbrev pub is_notice : Known → Bool
 is_notice (Class EventNotice) = true
 is_notice _ = false
 
 -- a class whose entities are created one by one: a temporary one, or one of notices
-abbrev pub is_transient : Meaning → Bool
+abbrev pub is_transient : Known → Bool
 is_transient (Class Temporary) = true
 is_transient (Class EventNotice) = true
 is_transient _ = false
 
 -- what is known of a name, if it means something
-abbrev pub if_known : (Meaning → Bool) → Option Meaning → Bool
+abbrev pub if_known : (Known → Bool) → Option Known → Bool
 if_known suits None = false
 if_known suits (Some meaning) = suits meaning
 
@@ -61,12 +62,12 @@ abbrev pub is_told_here : Whole → Moded → NameBytes → Bool
 is_told_here w locals name = w.is_told name && not (is_some (lookup (same_name name) locals))
 
 -- whether what a name means in a section is of the kind that a value, a target or a loop's name needs
-abbrev pub suits_here : Role → Meaning → Bool
+abbrev pub suits_here : Role → Known → Bool
 suits_here roles.LoopVariable meaning = is_variable meaning
 suits_here _ meaning = has_value meaning
 
 -- whether what a name means in the whole program is of the kind that the place of a set, a class or a routine needs
-abbrev pub suits_there : Role → Meaning → Bool
+abbrev pub suits_there : Role → Known → Bool
 suits_there roles.Set meaning = is_set meaning
 suits_there roles.Create meaning = is_transient meaning
 suits_there roles.Destroy meaning = is_transient meaning
@@ -107,7 +108,7 @@ abbrev pub is_unknown : Whole → Moded → Mention → Bool
 is_unknown w locals m = not (suits_place w locals m.role m.what)
 
 -- what TALLY and ACCUMULATE may be of: a global variable made by DEFINE, an attribute or N. of a set
-abbrev pub may_be_told : Meaning → Bool
+abbrev pub may_be_told : Known → Bool
 may_be_told (Variable mode) = true
 may_be_told (Attribute class mode) = true
 may_be_told (MemberCount holder) = true

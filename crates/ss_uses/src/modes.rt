@@ -7,22 +7,22 @@ ghost use Rattle.ss_uses.specs.Modes.{are_two, aspect_mode, class_implied, class
 use ss_base::Mode;
 use ss_demands::{Aspect, Demand};
 use ss_lex::Name;
-use ss_scopes::{Globals, Holder, Locals, Meaning, meaning_in};
+use ss_scopes::{Globals, Holder, Known, Locals, meaning_in};
 
 // The mode of what a name means. None for a set and a routine.
-fn mode_of(meaning: &Meaning) -> Option<Mode>
+fn mode_of(meaning: &Known) -> Option<Mode>
     ensures { result ≡ mode_of meaning.now }
 {
     match meaning {
-        Meaning::Local(mode) | Meaning::Variable(mode) | Meaning::Attribute { mode, .. } => {
+        Known::Local(mode) | Known::Variable(mode) | Known::Attribute { mode, .. } => {
             Some(*mode)
         }
-        Meaning::Class(_)
-        | Meaning::MemberCount(_)
-        | Meaning::Membership(_)
-        | Meaning::EntityCount
-        | Meaning::Statistic(_) => Some(Mode::Integer),
-        Meaning::Set(_) | Meaning::Routine => None,
+        Known::Class(_)
+        | Known::MemberCount(_)
+        | Known::Membership(_)
+        | Known::EntityCount
+        | Known::Statistic(_) => Some(Mode::Integer),
+        Known::Set(_) | Known::Routine => None,
     }
 }
 
@@ -57,20 +57,20 @@ fn held_by(holder: &Holder) -> Option<Name>
 }
 
 // The class whose variable has the entity where no subscript is written.
-fn class_implied(meaning: &Meaning) -> Option<Name>
+fn class_implied(meaning: &Known) -> Option<Name>
     ensures { result ≡ class_implied meaning.now }
 {
     match meaning {
-        Meaning::Attribute { class, .. } => Some(*class),
-        Meaning::Set(holder)
-        | Meaning::MemberCount(holder)
-        | Meaning::Membership(holder)
-        | Meaning::Statistic(holder) => held_by(holder),
-        Meaning::Local(_)
-        | Meaning::Variable(_)
-        | Meaning::Class(_)
-        | Meaning::EntityCount
-        | Meaning::Routine => None,
+        Known::Attribute { class, .. } => Some(*class),
+        Known::Set(holder)
+        | Known::MemberCount(holder)
+        | Known::Membership(holder)
+        | Known::Statistic(holder) => held_by(holder),
+        Known::Local(_)
+        | Known::Variable(_)
+        | Known::Class(_)
+        | Known::EntityCount
+        | Known::Routine => None,
     }
 }
 

@@ -6,7 +6,7 @@ ghost use Rattle.ss_scopes.specs.Meanings.{meaning_in};
 ghost use Rattle.ss_uses.specs.Unknown.{if_known};
 
 use ss_lex::Name;
-use ss_scopes::{Globals, Holder, Locals, Meaning, meaning_in};
+use ss_scopes::{Globals, Holder, Known, Locals, meaning_in};
 use ss_walk::{Mention, Mentioned};
 
 // Whether there is one in the program.
@@ -17,16 +17,16 @@ fn is_of_program(holder: &Holder) -> bool
 }
 
 // Whether there is one of it, so that it takes no subscript.
-fn is_single(meaning: &Meaning) -> bool
+fn is_single(meaning: &Known) -> bool
     ensures { result ≡ is_single meaning.now }
 {
     match meaning {
-        Meaning::Local(_) | Meaning::Variable(_) | Meaning::Class(_) | Meaning::EntityCount => true,
-        Meaning::Attribute { .. } | Meaning::Routine => false,
-        Meaning::Set(holder)
-        | Meaning::MemberCount(holder)
-        | Meaning::Membership(holder)
-        | Meaning::Statistic(holder) => is_of_program(holder),
+        Known::Local(_) | Known::Variable(_) | Known::Class(_) | Known::EntityCount => true,
+        Known::Attribute { .. } | Known::Routine => false,
+        Known::Set(holder)
+        | Known::MemberCount(holder)
+        | Known::Membership(holder)
+        | Known::Statistic(holder) => is_of_program(holder),
     }
 }
 

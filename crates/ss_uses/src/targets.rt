@@ -3,24 +3,24 @@
 ghost use Rattle.std.specs.Prelude.{◌≡◌};
 ghost use Rattle.ss_uses.specs.Targets.{is_not_assignable, is_target, may_be_assigned, takes_values};
 
-use ss_scopes::{Globals, Locals, Meaning, meaning_in};
+use ss_scopes::{Globals, Known, Locals, meaning_in};
 use ss_walk::{Mention, Mentioned, Role};
 
 // Whether it takes values.
-fn takes_values(meaning: &Meaning) -> bool
+fn takes_values(meaning: &Known) -> bool
     ensures { result ≡ takes_values meaning.now }
 {
     match meaning {
-        Meaning::Local(_)
-        | Meaning::Variable(_)
-        | Meaning::Class(_)
-        | Meaning::Attribute { .. }
-        | Meaning::EntityCount => true,
-        Meaning::Set(_)
-        | Meaning::MemberCount(_)
-        | Meaning::Membership(_)
-        | Meaning::Statistic(_)
-        | Meaning::Routine => false,
+        Known::Local(_)
+        | Known::Variable(_)
+        | Known::Class(_)
+        | Known::Attribute { .. }
+        | Known::EntityCount => true,
+        Known::Set(_)
+        | Known::MemberCount(_)
+        | Known::Membership(_)
+        | Known::Statistic(_)
+        | Known::Routine => false,
     }
 }
 

@@ -4,72 +4,72 @@ ghost use Rattle.std.specs.Prelude.{◌≡◌};
 ghost use Rattle.ss_uses.specs.Unknown.{has_value, if_known, is_notice, is_permanent, is_routine, is_set, is_told_here, is_transient, is_unknown, is_variable, may_be_told, suits, suits_here, suits_there, suits_times};
 
 use ss_lex::Name;
-use ss_scopes::{Globals, Locals, Meaning, meaning_in};
+use ss_scopes::{Globals, Known, Locals, meaning_in};
 use ss_tree::preamble::ClassKind;
 use ss_walk::{Mention, Mentioned, Role};
 
 // Whether it may stand as a value or a target.
-fn has_value(meaning: &Meaning) -> bool
+fn has_value(meaning: &Known) -> bool
     ensures { result ≡ has_value meaning.now }
 {
-    !matches!(meaning, Meaning::Set(_) | Meaning::Routine)
+    !matches!(meaning, Known::Set(_) | Known::Routine)
 }
 
 // Whether it is a variable.
-fn is_variable(meaning: &Meaning) -> bool
+fn is_variable(meaning: &Known) -> bool
     ensures { result ≡ is_variable meaning.now }
 {
     matches!(
         meaning,
-        Meaning::Local(_) | Meaning::Variable(_) | Meaning::Class(_)
+        Known::Local(_) | Known::Variable(_) | Known::Class(_)
     )
 }
 
 // Whether it is a set.
-fn is_set(meaning: &Meaning) -> bool
+fn is_set(meaning: &Known) -> bool
     ensures { result ≡ is_set meaning.now }
 {
-    matches!(meaning, Meaning::Set(_))
+    matches!(meaning, Known::Set(_))
 }
 
 // Whether it is a routine.
-fn is_routine(meaning: &Meaning) -> bool
+fn is_routine(meaning: &Known) -> bool
     ensures { result ≡ is_routine meaning.now }
 {
-    matches!(meaning, Meaning::Routine)
+    matches!(meaning, Known::Routine)
 }
 
 // Whether it is a permanent class.
-fn is_permanent(meaning: &Meaning) -> bool
+fn is_permanent(meaning: &Known) -> bool
     ensures { result ≡ is_permanent meaning.now }
 {
-    matches!(meaning, Meaning::Class(ClassKind::Permanent))
+    matches!(meaning, Known::Class(ClassKind::Permanent))
 }
 
 // Whether it is a class of notices.
-fn is_notice(meaning: &Meaning) -> bool
+fn is_notice(meaning: &Known) -> bool
     ensures { result ≡ is_notice meaning.now }
 {
-    matches!(meaning, Meaning::Class(ClassKind::EventNotice))
+    matches!(meaning, Known::Class(ClassKind::EventNotice))
 }
 
 // Whether it is a class whose entities are created one by one.
-fn is_transient(meaning: &Meaning) -> bool
+fn is_transient(meaning: &Known) -> bool
     ensures { result ≡ is_transient meaning.now }
 {
     matches!(
         meaning,
-        Meaning::Class(ClassKind::Temporary | ClassKind::EventNotice)
+        Known::Class(ClassKind::Temporary | ClassKind::EventNotice)
     )
 }
 
 // Whether TALLY and ACCUMULATE may be of it.
-fn may_be_told(meaning: &Meaning) -> bool
+fn may_be_told(meaning: &Known) -> bool
     ensures { result ≡ may_be_told meaning.now }
 {
     matches!(
         meaning,
-        Meaning::Variable(_) | Meaning::Attribute { .. } | Meaning::MemberCount(_)
+        Known::Variable(_) | Known::Attribute { .. } | Known::MemberCount(_)
     )
 }
 
@@ -91,7 +91,7 @@ fn is_told_here<G: Globals>(globals: &G, locals: &Locals, name: Name) -> bool
 }
 
 // Whether a meaning in a section is of the kind that a value, a target or a loop's name needs.
-fn suits_here(role: Role, meaning: &Meaning) -> bool
+fn suits_here(role: Role, meaning: &Known) -> bool
     ensures { result ≡ suits_here role meaning.now }
 {
     match role {
@@ -101,7 +101,7 @@ fn suits_here(role: Role, meaning: &Meaning) -> bool
 }
 
 // Whether a meaning in the whole program is of the kind that the other roles need.
-fn suits_there(role: Role, meaning: &Meaning) -> bool
+fn suits_there(role: Role, meaning: &Known) -> bool
     ensures { result ≡ suits_there role meaning.now }
 {
     match role {

@@ -1,13 +1,14 @@
--- Steps for each item of a list.
+-- Steps for each item of a list that passes a test, and lists with more behind them.
 use Rattle.std.proofs.Common.{◌≡◌, ℕ, zero, suc, ◌+◌, ◌<◌, Bool, true, false, cond, List, [], ◌∷◌, ◌++◌, length, get_or, take, Option, Some, None, Result, refl, sym, ap, subst, ◌∙◌, arith}
 use Rattle.std.specs.Prelude.{IsErrAnd}
 use Rattle.std.specs.List.{filter}
-use Rattle.std.proofs.lemmas.List.{append-nil, take_more}
+use Rattle.std.proofs.lemmas.List.{append-nil}
 use Rattle.std.proofs.lemmas.List.Elements.{filter_more}
 use Rattle.std.proofs.lemmas.Result.{err_from_is_err_and}
 use Rattle.ss_resolve.specs.declared.error.ResolveError.{ResolveError}
 use Rattle.ss_resolve.specs.declared.error.ResolveError.TheVariants.{Memory, Unresolved}
 use Rattle.ss_resolve.specs.Answers.{◌>>=◌, each, Fails, Gives}
+use Rattle.ss_resolve.proofs.Each.{each_more}
 
 -- the exit of a `?`
 pub failed : {X Y : Type 0} (view : X → Y) (r : Result X ResolveError) (e : ResolveError) (found : Option Y) →
@@ -17,25 +18,8 @@ failed view r e found h k =
     subst (λ z. Gives view z found) (sym p.1) (subst (λ z. Fails z found) (sym p.2) k)
 
 -- one more in front
-abbrev pub cons_of : {B : Type 0} → Option B → Option (List B) → Option (List B)
+abbrev cons_of : {B : Type 0} → Option B → Option (List B) → Option (List B)
 cons_of r q = r >>= λ y. q >>= λ ys. Some (y ∷ ys)
-
-cons_more : {B : Type 0} (r : Option B) (q p : Option (List B)) (bs : List B) (b : B) →
-    cons_of r q ≡ Some bs → ((ys : List B) → q ≡ Some ys → p ≡ Some (ys ++ b ∷ [])) → cons_of r p ≡ Some (bs ++ b ∷ [])
-cons_more None q p bs b e h = absurd cc
-cons_more (Some y) None p bs b e h = absurd cc
-cons_more (Some y) (Some ys) p bs b e h =
-    let k : p ≡ Some (ys ++ b ∷ []) = h ys refl in
-    let made : bs ≡ y ∷ ys = cc in
-    rw (k, made) refl
-
-pub each_more : {A B : Type 0} (step : A → Option B) (ts : List A) (a : A) (bs : List B) (b : B) →
-    each step ts ≡ Some bs → step a ≡ Some b → each step (ts ++ a ∷ []) ≡ Some (bs ++ b ∷ [])
-unfolding each
-each_more step [] a bs b e h =
-    let none : bs ≡ [] = cc in
-    rw (none, h) refl
-each_more step (x ∷ xs) a bs b e h = cons_more (step x) (each step xs) (each step (xs ++ a ∷ [])) bs b e (λ ys k. each_more step xs a ys b k h)
 
 cons_none : {B : Type 0} (r : Option B) → cons_of r None ≡ None
 cons_none None = refl
@@ -56,31 +40,6 @@ pub last_none : {A B : Type 0} (step : A → Option B) (xs : List A) (a : A) →
 unfolding each
 last_none step [] a h = rw h refl
 last_none step (x ∷ xs) a h = rw (last_none step xs a h) (cons_none (step x))
-
--- ---- all items
-
-items_none : {A B : Type 0} (step : A → Option B) (xs : List A) (i : ℕ) (d : A) →
-    i < length xs → step (get_or xs i d) ≡ None → each step xs ≡ None
-unfolding each
-items_none step [] i d lt h = absurd (omega (arith, lt))
-items_none step (x ∷ xs) zero d lt h = rw h refl
-items_none step (x ∷ xs) (suc i) d lt h = rw (items_none step xs i d (omega (arith, lt)) h) (cons_none (step x))
-
-pub items_fail : {A B : Type 0} (step : A → Option B) (xs : List A) (i : ℕ) (x : A) (e : ResolveError) →
-    i < length xs → x ≡ get_or xs i x → Fails e (step x) → Fails e (each step xs)
-items_fail step xs i x Memory lt is h = tt
-items_fail step xs i x Unresolved lt is h = items_none step xs i x lt (subst (λ y. step y ≡ None) is h)
-
-pub no_items : {A B : Type 0} (step : A → Option B) (ys : List B) → ys ≡ [] → each step [] ≡ Some ys
-unfolding each
-no_items step ys e = rw e refl
-
-pub items_next : {A B : Type 0} (step : A → Option B) (xs : List A) (i : ℕ) (x : A) (old new : List B) (y : B) →
-    i < length xs → x ≡ get_or xs i x → new ≡ old ++ y ∷ [] →
-    each step (take i xs) ≡ Some old → step x ≡ Some y → each step (take (i + 1) xs) ≡ Some new
-items_next step xs i x old new y lt is e h g =
-    let taken : take (i + 1) xs ≡ take i xs ++ x ∷ [] = take_more xs i x lt ∙ ap (λ z. take i xs ++ z ∷ []) (sym is) in
-    rw (taken, e) (each_more step (take i xs) x old y h g)
 
 -- ---- the items that pass a test
 

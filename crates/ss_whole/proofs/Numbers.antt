@@ -7,7 +7,8 @@ use Rattle.std.proofs.lemmas.Bool.{cases_lt}
 use Rattle.ss_resolve.specs.declared.error.ResolveError.{ResolveError}
 use Rattle.ss_resolve.specs.declared.error.ResolveError.TheVariants.{Memory, Unresolved}
 use Rattle.ss_resolve.specs.Answers.{◌>>=◌, each, upto, Fails}
-use Rattle.ss_whole.proofs.Each.{each_more, front_none, last_none}
+use Rattle.ss_resolve.proofs.Each.{each_more}
+use Rattle.ss_whole.proofs.Each.{front_none, last_none}
 
 upto_none : {B : Type 0} (step : ℕ → Option B) (n i : ℕ) → i < n → step i ≡ None → each step (upto n) ≡ None
 unfolding upto

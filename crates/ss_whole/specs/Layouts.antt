@@ -11,15 +11,15 @@ use Rattle.ss_base.specs.Plain.{PlainClass, PlainLayout}
 use Rattle.ss_sayings.specs.declared.saying.SetRule.{SetRule}
 use Rattle.ss_sayings.specs.declared.saying.SetRule.TheVariants as rules
 use Rattle.ss_sayings.specs.Sayings.{NameBytes}
-use Rattle.ss_names.specs.declared.keys.RankedBy.{RankedBy}
-use Rattle.ss_names.specs.declared.keys.TiedBy.{TiedBy}
-use Rattle.ss_names.specs.declared.meaning.Attribute.{Attribute}
-use Rattle.ss_names.specs.declared.meaning.Ordering.{Ordering}
+use Rattle.ss_entities.specs.declared.keys.RankedBy.{RankedBy}
+use Rattle.ss_entities.specs.declared.keys.TiedBy.{TiedBy}
+use Rattle.ss_entities.specs.declared.entry.Attribute.{Attribute}
+use Rattle.ss_entities.specs.declared.entry.Ordering.{Ordering}
 use Rattle.ss_names.specs.declared.meaning.Subject.{Subject as SubjectNumber}
 use Rattle.ss_names.specs.declared.meaning.Subject.TheVariants as subjects
-use Rattle.ss_names.specs.declared.meaning.VariableKind.{VariableKind}
-use Rattle.ss_names.specs.declared.meaning.VariableKind.TheVariants.{Defined, OfClass, CountOf}
-use Rattle.ss_names.specs.Firsts.{place_in, same_name}
+use Rattle.ss_entities.specs.declared.entry.VariableKind.{VariableKind}
+use Rattle.ss_entities.specs.declared.entry.VariableKind.TheVariants.{Defined, OfClass, CountOf}
+use Rattle.ss_firsts.specs.Firsts.{place_in, same_name}
 use Rattle.ss_names.specs.Table.{Table}
 use Rattle.ss_program.specs.declared.sections.Statistic.{Statistic}
 use Rattle.ss_program.specs.declared.sections.Subject.{Subject}

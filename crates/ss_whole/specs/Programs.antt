@@ -16,9 +16,9 @@ use Rattle.ss_tree.specs.declared.preamble.StatisticKind.TheVariants as folds
 use Rattle.ss_tree.specs.declared.preamble.Weighting.TheVariants as weighting_words
 use Rattle.ss_tree.specs.Tree.{ExpressionTree, number, named, no_expression, StatementTree, let_statement, has, owns, belongs_to, lifo, ranked, permanent_entities, temporary_entities, event_notices, every, normally, system_owns, define_variables, define_sets, priority_order, break_ties, statistics, main, routine, event, ProgramTree, SectionTree}
 use Rattle.ss_sayings.specs.Sayings.{NameBytes}
-use Rattle.ss_names.specs.Firsts.{told_of}
+use Rattle.ss_firsts.specs.Firsts.{told_of}
 use Rattle.ss_names.specs.Table.{table}
-use Rattle.ss_scopes.specs.declared.meaning.Meaning.TheVariants as meanings
+use Rattle.ss_scopes.specs.declared.known.Known.TheVariants as meanings
 use Rattle.ss_scopes.specs.Whole.{Whole}
 use Rattle.ss_program.specs.declared.expression.Variable.TheVariants.{Local}
 use Rattle.ss_program.specs.declared.sections.Subject.TheVariants.{OfAttribute, OfCount}

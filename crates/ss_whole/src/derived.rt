@@ -6,7 +6,8 @@ ghost use Rattle.ss_whole.specs.Meanings.{asked, attribute, derived_name, of_mem
 use crate::variables::class_variable;
 use crate::words::{mode_given, narrow};
 use ss_base::Owner;
-use ss_names::{Derived, Names, Set};
+use ss_entities::Set;
+use ss_names::{Derived, Names};
 use ss_program::expression::{MemberQuery, SetQuery};
 use ss_resolve::{Meaning, ResolveError};
 use ss_scopes::Locals;

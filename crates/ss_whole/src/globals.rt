@@ -6,7 +6,8 @@ ghost use Rattle.ss_whole.specs.Layouts.{counted_kind, counted_variable, counts,
 
 use crate::words::{mode_said, narrow};
 use ss_base::Mode;
-use ss_names::{Names, VariableKind};
+use ss_entities::VariableKind;
+use ss_names::Names;
 use ss_program::statement::Counted;
 use ss_resolve::ResolveError;
 use std::alloc::{AllocError, Global};

@@ -2,12 +2,14 @@ use Rattle.std.proofs.Common.{ap}
 use Rattle.ss_tree.specs.View.{view_program}
 use Rattle.ss_uses.specs.Refusal.{refusal}
 use Rattle.ss_globals.specs.WholeOf.{whole_in}
-use Rattle.ss_check.proofs.Kept.{not_missing, refused_so, small, typed}
+use Rattle.ss_tables.proofs.Refused.{refused_so}
+use Rattle.ss_check.specs.Checking.{Tells}
+use Rattle.ss_check.proofs.Kept.{not_missing, small, typed}
 use Rattle.ss_check.proofs.checking.judged.Goals as goal
 
 pub returns-in_err-keep_rules-clause-refused : goal.returns-in_err-keep_rules-clause-refused
 returns-in_err-keep_rules-clause-refused c =
-    refused_so c.from_residual.result c.in_err-keep_rules.field-0.0 _ _ c.from_residual.ensures.1 c.in_err-keep_rules.ensures.refused (ap (λ w. refusal w (view_program c.args.program.now)) c.requires.whole)
+    refused_so Tells c.from_residual.result c.in_err-keep_rules.field-0.0 _ _ c.from_residual.ensures.1 c.in_err-keep_rules.ensures.refused (ap (λ w. refusal w (view_program c.args.program.now)) c.requires.whole)
 
 pub new-requires : goal.new-requires
 new-requires c =

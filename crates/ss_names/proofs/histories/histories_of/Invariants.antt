@@ -1,5 +1,5 @@
 use Rattle.std.proofs.Common.{◌≡◌, ◌++◌, map}
-use Rattle.ss_names.specs.Statistics.{history_of}
+use Rattle.ss_names.specs.Histories.{history_of}
 use Rattle.ss_names.proofs.histories.histories_of.Given as goal
 
 abbrev pub invariant-loop-name : goal.invariant-loop-name

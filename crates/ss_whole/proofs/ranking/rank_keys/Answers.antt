@@ -3,12 +3,13 @@ use Rattle.std.specs.List.{filter}
 use Rattle.std.proofs.lemmas.Bool.{eq-eqb, ne_eqb}
 use Rattle.ss_resolve.specs.Answers.{each, Fails}
 use Rattle.ss_whole.specs.Layouts.{ranked_by}
-use Rattle.ss_whole.proofs.Each.{failed, no_items, passed_fail, passed_next, passed_over}
+use Rattle.ss_resolve.proofs.Each.{no_plain_items}
+use Rattle.ss_whole.proofs.Each.{failed, passed_fail, passed_next, passed_over}
 use Rattle.ss_whole.proofs.ranking.rank_keys.Goals as goal
 use Rattle.ss_whole.proofs.ranking.rank_keys.Goals.{then-key-statement+in_ok-one+in_ok-push, else-key-statement}
 
 pub loop-key-init : goal.loop-key-init
-loop-key-init c = no_items (ranked_by c.args.names.now c.args.class) c.new-resolved.result.items c.new-resolved.ensures.items
+loop-key-init c = no_plain_items (ranked_by c.args.names.now c.args.class) c.new-resolved.result.items c.new-resolved.ensures.items
 
 pub returns-in_err-one : goal.returns-in_err-one
 returns-in_err-one c =

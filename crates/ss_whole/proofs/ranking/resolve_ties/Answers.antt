@@ -1,14 +1,15 @@
 use Rattle.std.proofs.Common.{◌≡◌, ◌+◌, ◌∙◌, ap, subst, sym, take, Some}
 use Rattle.std.specs.List.{filter}
-use Rattle.ss_names.specs.Firsts.{same_name}
+use Rattle.ss_firsts.specs.Firsts.{same_name}
 use Rattle.ss_resolve.specs.Answers.{each, Fails}
 use Rattle.ss_whole.specs.Layouts.{tied_by}
-use Rattle.ss_whole.proofs.Each.{failed, no_items, passed_fail, passed_next, passed_over}
+use Rattle.ss_resolve.proofs.Each.{no_plain_items}
+use Rattle.ss_whole.proofs.Each.{failed, passed_fail, passed_next, passed_over}
 use Rattle.ss_whole.proofs.ranking.resolve_ties.Goals as goal
 use Rattle.ss_whole.proofs.ranking.resolve_ties.Goals.{then-eq+in_ok-one+in_ok-push, else-eq}
 
 pub loop-tie-init : goal.loop-tie-init
-loop-tie-init c = no_items (tied_by c.args.names.now c.args.class) c.new-resolved.result.items c.new-resolved.ensures.items
+loop-tie-init c = no_plain_items (tied_by c.args.names.now c.args.class) c.new-resolved.result.items c.new-resolved.ensures.items
 
 pub returns-in_err-one : goal.returns-in_err-one
 returns-in_err-one c =

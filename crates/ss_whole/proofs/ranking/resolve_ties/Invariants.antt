@@ -1,6 +1,6 @@
 use Rattle.std.proofs.Common.{◌≡◌, take, Some}
 use Rattle.std.specs.List.{filter}
-use Rattle.ss_names.specs.Firsts.{same_name}
+use Rattle.ss_firsts.specs.Firsts.{same_name}
 use Rattle.ss_resolve.specs.Answers.{each}
 use Rattle.ss_whole.specs.Layouts.{tied_by}
 use Rattle.ss_whole.proofs.ranking.resolve_ties.Given as goal

@@ -2,7 +2,7 @@ use Rattle.std.proofs.Common.{refl, sym, ap, ◌∙◌}
 use Rattle.indexmap.proofs.CallerLemmas.{insert_entry-new}
 use Rattle.ss_declared.specs.Declarations.{declaration}
 use Rattle.ss_declared.specs.Lines.{soonest, line_if}
-use Rattle.ss_declared.specs.Topics.{same_name}
+use Rattle.ss_firsts.specs.Firsts.{same_name}
 use Rattle.ss_declared.proofs.Telling.{told_new, told_again}
 use Rattle.ss_declared.proofs.globals.Globals.declare.Goals as goal
 

@@ -6,7 +6,8 @@ use Rattle.ss_walk.specs.declared.mention.Mention.{Mention}
 use Rattle.ss_walk.specs.Mentions.{NameBytes, mentions}
 use Rattle.ss_tree.specs.declared.preamble.Mode.{Mode}
 use Rattle.std.specs.Prelude.{Option}
-use Rattle.ss_scopes.specs.Locals.{all_defined, first_entries, local_mentioned, moded}
+use Rattle.ss_firsts.specs.Firsts.{firsts}
+use Rattle.ss_scopes.specs.Locals.{all_defined, local_mentioned, moded}
 use Rattle.ss_scopes.specs.Whole.{is_global}
 use Rattle.ss_scopes.proofs.Entering.{moded_found}
 use Rattle.ss_scopes.proofs.locals.Locals.of.Goals as goal
@@ -16,9 +17,9 @@ returns g c =
     let s = view_section c.args.section.now in
     let local = local_mentioned (is_global (g.G.Globals.whole c.args.globals.now).meanings) in
     let modes = c.in_ok-modes.modes.entries in
-    let is : modes ≡ first_entries (all_defined s.definitions) =
-    c.in_ok-modes.ensures ∙ ap (λ (l : List LocalDefinition). first_entries (all_defined (map view_definition l))) c.deref.ensures.value in
+    let is : modes ≡ firsts (all_defined s.definitions) =
+    c.in_ok-modes.ensures ∙ ap (λ (l : List LocalDefinition). firsts (all_defined (map view_definition l))) c.deref.ensures.value in
     let found = moded_found c.usual.result s.definitions modes is in
-    c.in_ok-entries.ensures ∙ ap (λ (m : NameBytes → NameBytes × Option Mode). first_entries (map m (flat_map local c.deref-2.result.now))) found ∙
-    ap (λ (l : List Mention). first_entries (map (moded c.usual.result s.definitions) (flat_map local l))) (c.deref-2.ensures.value ∙ c.in_ok-mentions.ensures) ∙
-    ap (λ (u : Option Mode). first_entries (map (moded u s.definitions) (flat_map local (mentions s)))) c.usual.ensures
+    c.in_ok-entries.ensures ∙ ap (λ (m : NameBytes → NameBytes × Option Mode). firsts (map m (flat_map local c.deref-2.result.now))) found ∙
+    ap (λ (l : List Mention). firsts (map (moded c.usual.result s.definitions) (flat_map local l))) (c.deref-2.ensures.value ∙ c.in_ok-mentions.ensures) ∙
+    ap (λ (u : Option Mode). firsts (map (moded u s.definitions) (flat_map local (mentions s)))) c.usual.ensures

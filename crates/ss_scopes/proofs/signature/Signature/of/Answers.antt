@@ -7,7 +7,8 @@ use Rattle.ss_tree.specs.declared.program.LocalDefinition.{LocalDefinition}
 use Rattle.ss_tree.specs.View.{view_definition, view_section}
 use Rattle.ss_walk.specs.Mentions.{NameBytes}
 use Rattle.ss_scopes.specs.declared.heading.Heading.{Heading}
-use Rattle.ss_scopes.specs.Locals.{all_defined, first_entries, mode_of, or_usual, same_name}
+use Rattle.ss_firsts.specs.Firsts.{firsts, same_name}
+use Rattle.ss_scopes.specs.Locals.{all_defined, mode_of, or_usual}
 use Rattle.ss_scopes.specs.Signatures.{Signed, given_to, heading_of, yielded_by}
 use Rattle.ss_scopes.proofs.Entering.{modes_found}
 use Rattle.ss_scopes.proofs.signature.Signature.of.Goals as goal
@@ -20,8 +21,8 @@ pub returns : goal.returns
 returns c =
     let s = view_section c.args.section.now in
     let modes = c.in_ok-modes.modes.entries in
-    let is : modes ≡ first_entries (all_defined s.definitions) =
-    c.in_ok-modes.ensures ∙ ap (λ (l : List LocalDefinition). first_entries (all_defined (map view_definition l))) c.deref.ensures.value in
+    let is : modes ≡ firsts (all_defined s.definitions) =
+    c.in_ok-modes.ensures ∙ ap (λ (l : List LocalDefinition). firsts (all_defined (map view_definition l))) c.deref.ensures.value in
     let found : (λ (name : NameBytes). or_usual c.args.usual (lookup (same_name name) modes)) ≡ mode_of c.args.usual s.definitions =
     fun_ext (modes_found c.args.usual s.definitions modes is) in
     let given : c.in_ok-given.given.items ≡ map (mode_of c.args.usual s.definitions) (given_to s.kind) =

@@ -1,0 +1,18 @@
+use Rattle.std.proofs.Common.{◌≡◌, OnOk, sym, ap, subst, ◌∙◌}
+use Rattle.std.specs.List.{fold}
+use Rattle.ss_sayings.specs.declared.saying.Said.TheVariants as said
+use Rattle.ss_firsts.specs.Firsts.{with_first}
+use Rattle.ss_entities.specs.Statistics.{statistic_by, statistic_of, statistic_told}
+use Rattle.ss_entities.proofs.statistics.note_statistic.Goals as goal
+
+pub returns-in-Some : goal.returns-in-Some
+returns-in-Some c =
+    let ws = c.args.weighings.now.entries in
+    let s = c.args.saying.now in
+    let kind = c.in-Statistic.kind in
+    let name = c.in-Some.name in
+    let e : statistic_by ws s ≡ statistic_of kind name c.get_index_of.result =
+    ap (λ w. statistic_told ws w s.name) c.in-Statistic.is
+    ∙ ap (statistic_told ws (said.Statistic c.in-Statistic.weighting kind c.in-Statistic.subject)) c.in-Some.is
+    ∙ ap (statistic_of kind name) (sym c.get_index_of.ensures.index) in
+    subst (λ l. OnOk c.keep_statistic.result (c.keep_statistic.new.entries.entries ≡ fold with_first c.args.entries.now.entries l)) (sym e) c.keep_statistic.ensures

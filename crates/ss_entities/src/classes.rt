@@ -1,0 +1,89 @@
+//! The classes, and the modes that DEFINE and NORMALLY say.
+
+ghost use Rattle.std.specs.Prelude.{◌≡◌, OnOk, IfOk};
+ghost use Rattle.std.specs.List.{flat_map, fold};
+ghost use Rattle.ss_entities.specs.Entities.{class_by, defined_by, normal_told, usual_mode};
+ghost use Rattle.ss_firsts.specs.Firsts.{firsts, with_first};
+
+use crate::entry::Class;
+use indexmap::IndexMap;
+use ss_firsts::keep_first;
+use ss_lex::Name;
+use ss_sayings::{Said, Saying};
+use ss_tree::preamble::Mode;
+use std::alloc::{AllocError, Global};
+
+// The mode that NORMALLY says.
+fn normal(said: &Said) -> Option<Mode>
+    ensures { result ≡ normal_told said.now }
+{
+    match said {
+        Said::Normally { mode } => Some(*mode),
+        _ => None,
+    }
+}
+
+/// The mode that NORMALLY gives to every name that has none.
+pub fn usual_mode(sayings: &[Saying]) -> Option<Mode>
+    ensures { result ≡ usual_mode sayings.now }
+{
+    let mut found: Option<Mode> = None;
+    for saying in sayings {
+        found = found.or(normal(&saying.said));
+    }
+    found
+}
+
+// Keeps the mode that a DEFINE gives a name.
+fn note_defined(entries: &mut IndexMap<Name, Mode>, saying: &Saying) -> Result<(), AllocError>
+    ensures { OnOk result (entries.new.entries ≡ fold with_first entries.old.entries (defined_by saying.now)) }
+{
+    match &saying.said {
+        Said::Variable { mode } => match &saying.name {
+            Some(name) => keep_first(entries, *name, *mode),
+            None => Ok(()),
+        },
+        _ => Ok(()),
+    }
+}
+
+/// Each name that a DEFINE gives a mode, with the first.
+pub fn defined_modes(alloc: Global, sayings: &[Saying]) -> Result<IndexMap<Name, Mode>, AllocError>
+    ensures { IfOk result (λ entries. entries.entries ≡ firsts (flat_map (defined_by) sayings.now)) }
+{
+    let mut entries = IndexMap::new(alloc);
+    for saying in sayings {
+        note_defined(&mut entries, saying)?;
+    }
+    Ok(entries)
+}
+
+// Keeps a class.
+fn note_class(entries: &mut IndexMap<Name, Class>, saying: &Saying) -> Result<(), AllocError>
+    ensures { OnOk result (entries.new.entries ≡ fold with_first entries.old.entries (class_by saying.now)) }
+{
+    match &saying.said {
+        Said::Class { kind } => match &saying.name {
+            Some(name) => {
+                let class = Class {
+                    kind: *kind,
+                    line: saying.line,
+                };
+                keep_first(entries, *name, class)
+            },
+            None => Ok(()),
+        },
+        _ => Ok(()),
+    }
+}
+
+/// The classes, in the order of the text.
+pub fn classes_of(alloc: Global, sayings: &[Saying]) -> Result<IndexMap<Name, Class>, AllocError>
+    ensures { IfOk result (λ entries. entries.entries ≡ firsts (flat_map (class_by) sayings.now)) }
+{
+    let mut entries = IndexMap::new(alloc);
+    for saying in sayings {
+        note_class(&mut entries, saying)?;
+    }
+    Ok(entries)
+}

@@ -1,0 +1,127 @@
+//! The classes of notices in the order of rank.
+
+ghost use Rattle.std.specs.Prelude.{◌≡◌, OnOk, IfOk};
+ghost use Rattle.std.specs.List.{flat_map, fold};
+ghost use Rattle.ss_firsts.specs.Firsts.{told_of, with_first};
+ghost use Rattle.ss_entities.specs.Variables.{declared_by, is_notice_kind, is_notice_class, notice, priority_by, ranks_among};
+
+use crate::entry::Class;
+use indexmap::IndexMap;
+use ss_firsts::keep_if;
+use ss_lex::Name;
+use ss_sayings::{Said, Saying};
+use ss_tree::preamble::ClassKind;
+use std::alloc::{AllocError, Global};
+
+// Whether the entities of a kind are notices.
+fn is_notice_kind(kind: ClassKind) -> bool
+    ensures { result ≡ is_notice_kind kind }
+{
+    match kind {
+        ClassKind::Permanent => false,
+        ClassKind::Temporary => false,
+        ClassKind::EventNotice => true,
+    }
+}
+
+// Whether a name is that of a class of notices.
+fn is_notice(classes: &IndexMap<Name, Class>, name: &Name) -> bool
+    ensures { result ≡ is_notice_class (told_of classes.now.entries name.now) }
+{
+    match classes.get(name).copied() {
+        None => false,
+        Some(class) => is_notice_kind(class.kind),
+    }
+}
+
+// Keeps a class of notices with its number.
+fn keep_notice(
+    entries: &mut IndexMap<Name, usize>,
+    classes: &IndexMap<Name, Class>,
+    name: &Name,
+) -> Result<(), AllocError>
+    ensures { OnOk result (entries.new.entries ≡ fold with_first entries.old.entries (notice classes.now.entries name.now)) }
+{
+    if is_notice(classes, name) {
+        keep_if(entries, *name, classes.get_index_of(name))
+    } else {
+        Ok(())
+    }
+}
+
+// Keeps a class of notices that PRIORITY ORDER names.
+fn note_priority(
+    entries: &mut IndexMap<Name, usize>,
+    classes: &IndexMap<Name, Class>,
+    saying: &Saying,
+) -> Result<(), AllocError>
+    ensures { OnOk result (entries.new.entries ≡ fold with_first entries.old.entries (priority_by classes.now.entries saying.now)) }
+{
+    match &saying.said {
+        Said::Priority => match &saying.name {
+            Some(name) => keep_notice(entries, classes, name),
+            None => Ok(()),
+        },
+        _ => Ok(()),
+    }
+}
+
+// Keeps a class of notices that is declared.
+fn note_declared(
+    entries: &mut IndexMap<Name, usize>,
+    classes: &IndexMap<Name, Class>,
+    saying: &Saying,
+) -> Result<(), AllocError>
+    ensures { OnOk result (entries.new.entries ≡ fold with_first entries.old.entries (declared_by classes.now.entries saying.now)) }
+{
+    match &saying.said {
+        Said::Class { .. } => match &saying.name {
+            Some(name) => keep_notice(entries, classes, name),
+            None => Ok(()),
+        },
+        _ => Ok(()),
+    }
+}
+
+// Adds the classes of PRIORITY ORDER.
+fn add_priorities(
+    entries: &mut IndexMap<Name, usize>,
+    classes: &IndexMap<Name, Class>,
+    sayings: &[Saying],
+) -> Result<(), AllocError>
+    ensures { OnOk result (entries.new.entries ≡ fold with_first entries.old.entries (flat_map (priority_by classes.now.entries) sayings.now)) }
+{
+    for saying in sayings {
+        note_priority(entries, classes, saying)?;
+    }
+    Ok(())
+}
+
+// Adds the classes that are declared.
+fn add_declared(
+    entries: &mut IndexMap<Name, usize>,
+    classes: &IndexMap<Name, Class>,
+    sayings: &[Saying],
+) -> Result<(), AllocError>
+    ensures { OnOk result (entries.new.entries ≡ fold with_first entries.old.entries (flat_map (declared_by classes.now.entries) sayings.now)) }
+{
+    for saying in sayings {
+        note_declared(entries, classes, saying)?;
+    }
+    Ok(())
+}
+
+/// The classes of notices with their numbers: those of PRIORITY ORDER in that order, then the others as
+/// declared.
+pub fn ranks_of(
+    alloc: Global,
+    classes: &IndexMap<Name, Class>,
+    sayings: &[Saying],
+) -> Result<IndexMap<Name, usize>, AllocError>
+    ensures { IfOk result (λ entries. entries.entries ≡ ranks_among classes.now.entries sayings.now) }
+{
+    let mut entries = IndexMap::new(alloc);
+    add_priorities(&mut entries, classes, sayings)?;
+    add_declared(&mut entries, classes, sayings)?;
+    Ok(entries)
+}

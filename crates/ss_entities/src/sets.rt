@@ -1,0 +1,205 @@
+//! The sets.
+
+ghost use Rattle.std.specs.Prelude.{◌≡◌, map, OnOk, IfOk};
+ghost use Rattle.std.specs.List.{flat_map, fold};
+ghost use Rattle.ss_entities.specs.Entities.{classes as classes_said, member_by, ordering_by, owner_by, set_by, set_names as set_names_said, set_of, sets as sets_said};
+ghost use Rattle.ss_firsts.specs.Firsts.{each_once, firsts, with_first, with_name, with_name_if};
+
+use crate::entry::{Class, Ordering, Set};
+use indexmap::{IndexMap, IndexSet};
+use ss_base::Owner;
+use ss_firsts::{keep_first, keep_if};
+use ss_lex::Name;
+use ss_sayings::{Said, Saying};
+use std::alloc::{AllocError, Global};
+
+// Keeps the owner of a set.
+fn note_owner(
+    entries: &mut IndexMap<Name, Owner>,
+    classes: &IndexMap<Name, Class>,
+    saying: &Saying,
+) -> Result<(), AllocError>
+    ensures { OnOk result (entries.new.entries ≡ fold with_first entries.old.entries (owner_by classes.now.entries saying.now)) }
+{
+    match &saying.said {
+        Said::SystemSet => match &saying.name {
+            Some(name) => keep_first(entries, *name, Owner::System),
+            None => Ok(()),
+        },
+        Said::OwnedSet { class } => match &saying.name {
+            Some(name) => keep_if(
+                entries,
+                *name,
+                classes.get_index_of(class).map(Owner::Class),
+            ),
+            None => Ok(()),
+        },
+        _ => Ok(()),
+    }
+}
+
+/// Each set that has an owner, with the first.
+pub fn owners_of(
+    alloc: Global,
+    classes: &IndexMap<Name, Class>,
+    sayings: &[Saying],
+) -> Result<IndexMap<Name, Owner>, AllocError>
+    ensures { IfOk result (λ entries. entries.entries ≡ firsts (flat_map (owner_by classes.now.entries) sayings.now)) }
+{
+    let mut entries = IndexMap::new(alloc);
+    for saying in sayings {
+        note_owner(&mut entries, classes, saying)?;
+    }
+    Ok(entries)
+}
+
+// Keeps the class of the members of a set.
+fn note_member(
+    entries: &mut IndexMap<Name, usize>,
+    classes: &IndexMap<Name, Class>,
+    saying: &Saying,
+) -> Result<(), AllocError>
+    ensures { OnOk result (entries.new.entries ≡ fold with_first entries.old.entries (member_by classes.now.entries saying.now)) }
+{
+    match &saying.said {
+        Said::MemberSet { class } => match &saying.name {
+            Some(name) => keep_if(entries, *name, classes.get_index_of(class)),
+            None => Ok(()),
+        },
+        _ => Ok(()),
+    }
+}
+
+/// Each set that has members, with the number of their class.
+pub fn members_of(
+    alloc: Global,
+    classes: &IndexMap<Name, Class>,
+    sayings: &[Saying],
+) -> Result<IndexMap<Name, usize>, AllocError>
+    ensures { IfOk result (λ entries. entries.entries ≡ firsts (flat_map (member_by classes.now.entries) sayings.now)) }
+{
+    let mut entries = IndexMap::new(alloc);
+    for saying in sayings {
+        note_member(&mut entries, classes, saying)?;
+    }
+    Ok(entries)
+}
+
+// Keeps how a DEFINE orders a set.
+fn note_ordering(entries: &mut IndexMap<Name, Ordering>, saying: &Saying) -> Result<(), AllocError>
+    ensures { OnOk result (entries.new.entries ≡ fold with_first entries.old.entries (ordering_by saying.now)) }
+{
+    match &saying.said {
+        Said::Discipline { statement, rule } => match &saying.name {
+            Some(name) => {
+                let ordering = Ordering {
+                    statement: *statement,
+                    rule: *rule,
+                };
+                keep_first(entries, *name, ordering)
+            },
+            None => Ok(()),
+        },
+        _ => Ok(()),
+    }
+}
+
+/// Each name that a DEFINE orders as a set, with the first.
+pub fn orderings_of(
+    alloc: Global,
+    sayings: &[Saying],
+) -> Result<IndexMap<Name, Ordering>, AllocError>
+    ensures { IfOk result (λ entries. entries.entries ≡ firsts (flat_map (ordering_by) sayings.now)) }
+{
+    let mut entries = IndexMap::new(alloc);
+    for saying in sayings {
+        note_ordering(&mut entries, saying)?;
+    }
+    Ok(entries)
+}
+
+// Adds a name, unless it is there.
+fn add_name(names: &mut IndexSet<Name>, name: &Option<Name>) -> Result<(), AllocError>
+    ensures { OnOk result (names.new.keys ≡ with_name_if names.old.keys name.now) }
+{
+    match name {
+        Some(name) => {
+            names.insert_full(*name)?;
+            Ok(())
+        }
+        None => Ok(()),
+    }
+}
+
+// Adds a set that is owned or belonged to.
+fn note_set(names: &mut IndexSet<Name>, saying: &Saying) -> Result<(), AllocError>
+    ensures { OnOk result (names.new.keys ≡ fold with_name names.old.keys (set_by saying.now)) }
+{
+    match &saying.said {
+        Said::SystemSet => add_name(names, &saying.name),
+        Said::OwnedSet { .. } => add_name(names, &saying.name),
+        Said::MemberSet { .. } => add_name(names, &saying.name),
+        _ => Ok(()),
+    }
+}
+
+/// The sets, in the order of the text.
+pub fn set_names(alloc: Global, sayings: &[Saying]) -> Result<IndexSet<Name>, AllocError>
+    ensures { IfOk result (λ names. names.keys ≡ each_once (flat_map set_by sayings.now)) }
+{
+    let mut names = IndexSet::new(alloc);
+    for saying in sayings {
+        note_set(&mut names, saying)?;
+    }
+    Ok(names)
+}
+
+// What is told of a set.
+fn set_of(
+    owners: &IndexMap<Name, Owner>,
+    members: &IndexMap<Name, usize>,
+    orderings: &IndexMap<Name, Ordering>,
+    name: &Name,
+) -> Set
+    ensures { result ≡ set_of owners.now.entries members.now.entries orderings.now.entries name.now }
+{
+    Set {
+        owner: owners.get(name).copied(),
+        member: members.get(name).copied(),
+        ordering: orderings.get(name).copied(),
+    }
+}
+
+/// What is told of each of these sets.
+pub fn sets_of(
+    alloc: Global,
+    owners: &IndexMap<Name, Owner>,
+    members: &IndexMap<Name, usize>,
+    orderings: &IndexMap<Name, Ordering>,
+    names: &[Name],
+) -> Result<Vec<Set>, AllocError>
+    ensures { IfOk result (λ sets. sets.items ≡ map (set_of owners.now.entries members.now.entries orderings.now.entries) names.now) }
+{
+    let mut sets = Vec::new(alloc);
+    for name in names {
+        sets.push(set_of(owners, members, orderings, name))?;
+    }
+    Ok(sets)
+}
+
+/// The sets of these names, where these are the classes.
+pub fn sets_in(
+    alloc: Global,
+    classes: &IndexMap<Name, Class>,
+    names: &IndexSet<Name>,
+    sayings: &[Saying],
+) -> Result<Vec<Set>, AllocError>
+    requires classes { classes.now.entries ≡ classes_said sayings.now }
+    requires names { names.now.keys ≡ set_names_said sayings.now }
+    ensures { IfOk result (λ out. out.items ≡ sets_said sayings.now) }
+{
+    let owners = owners_of(alloc, classes, sayings)?;
+    let members = members_of(alloc, classes, sayings)?;
+    let orderings = orderings_of(alloc, sayings)?;
+    sets_of(alloc, &owners, &members, &orderings, names.as_slice())
+}

@@ -1,0 +1,111 @@
+//! Statistics, and what they are of.
+
+ghost use Rattle.std.specs.Prelude.{◌≡◌, OnOk, IfOk};
+ghost use Rattle.std.specs.List.{flat_map, fold};
+ghost use Rattle.ss_firsts.specs.Firsts.{firsts, with_first};
+ghost use Rattle.ss_entities.specs.Statistics.{statistic_by, statistic_of, statistics, weighing_by, weighings};
+
+use crate::entry::Statistic;
+use indexmap::IndexMap;
+use ss_firsts::keep_first;
+use ss_lex::Name;
+use ss_sayings::{Said, Saying};
+use ss_tree::preamble::{StatisticKind, Weighting};
+use std::alloc::{AllocError, Global};
+
+// Keeps what a TALLY or an ACCUMULATE is of.
+fn note_weighing(entries: &mut IndexMap<Name, Weighting>, saying: &Saying) -> Result<(), AllocError>
+    ensures { OnOk result (entries.new.entries ≡ fold with_first entries.old.entries (weighing_by saying.now)) }
+{
+    match &saying.said {
+        Said::Subject { weighting } => match &saying.name {
+            Some(name) => keep_first(entries, *name, *weighting),
+            None => Ok(()),
+        },
+        _ => Ok(()),
+    }
+}
+
+/// What TALLY and ACCUMULATE name behind OF, each with how the first of them weighs its values.
+pub fn weighings_of(
+    alloc: Global,
+    sayings: &[Saying],
+) -> Result<IndexMap<Name, Weighting>, AllocError>
+    ensures { IfOk result (λ entries. entries.entries ≡ firsts (flat_map (weighing_by) sayings.now)) }
+{
+    let mut entries = IndexMap::new(alloc);
+    for saying in sayings {
+        note_weighing(&mut entries, saying)?;
+    }
+    Ok(entries)
+}
+
+// Keeps a statistic, where its subject has a history.
+fn keep_statistic(
+    entries: &mut IndexMap<Name, Statistic>,
+    kind: StatisticKind,
+    name: Name,
+    history: Option<usize>,
+) -> Result<(), AllocError>
+    ensures { OnOk result (entries.new.entries ≡ fold with_first entries.old.entries (statistic_of kind name history)) }
+{
+    match history {
+        Some(history) => keep_first(entries, name, Statistic { history, kind }),
+        None => Ok(()),
+    }
+}
+
+// Keeps a statistic.
+fn note_statistic(
+    entries: &mut IndexMap<Name, Statistic>,
+    weighings: &IndexMap<Name, Weighting>,
+    saying: &Saying,
+) -> Result<(), AllocError>
+    ensures { OnOk result (entries.new.entries ≡ fold with_first entries.old.entries (statistic_by weighings.now.entries saying.now)) }
+{
+    match &saying.said {
+        Said::Statistic { kind, subject, .. } => match &saying.name {
+            Some(name) => keep_statistic(entries, *kind, *name, weighings.get_index_of(subject)),
+            None => Ok(()),
+        },
+        _ => Ok(()),
+    }
+}
+
+/// The statistics, in the order of the text.
+pub fn statistics_of(
+    alloc: Global,
+    weighings: &IndexMap<Name, Weighting>,
+    sayings: &[Saying],
+) -> Result<IndexMap<Name, Statistic>, AllocError>
+    ensures { IfOk result (λ entries. entries.entries ≡ firsts (flat_map (statistic_by weighings.now.entries) sayings.now)) }
+{
+    let mut entries = IndexMap::new(alloc);
+    for saying in sayings {
+        note_statistic(&mut entries, weighings, saying)?;
+    }
+    Ok(entries)
+}
+
+/// What TALLY and ACCUMULATE say: what they are of, and the statistics.
+#[derive(Drop)]
+pub struct Tellings {
+    pub weighings: IndexMap<Name, Weighting>,
+    pub statistics: IndexMap<Name, Statistic>,
+}
+
+/// What TALLY and ACCUMULATE say, where this is said.
+///
+/// # Errors
+/// `AllocError` where memory is refused.
+pub fn tellings_of(alloc: Global, sayings: &[Saying]) -> Result<Tellings, AllocError>
+    ensures weighings { IfOk result (λ t. t.weighings.entries ≡ weighings sayings.now) }
+    ensures statistics { IfOk result (λ t. t.statistics.entries ≡ statistics sayings.now) }
+{
+    let weighings = weighings_of(alloc, sayings)?;
+    let statistics = statistics_of(alloc, &weighings, sayings)?;
+    Ok(Tellings {
+        weighings,
+        statistics,
+    })
+}

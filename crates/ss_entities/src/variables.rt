@@ -1,0 +1,126 @@
+//! Global variables.
+
+ghost use Rattle.std.specs.Prelude.{◌≡◌, is_some, [], ◌∷◌, if◌then◌else◌, OnOk, IfOk};
+ghost use Rattle.std.specs.List.{flat_map, fold};
+ghost use Rattle.ss_firsts.specs.Firsts.{firsts, told_of, with_first};
+ghost use Rattle.ss_entities.specs.Variables.{class_variables, count_name, variable_by};
+ghost use Rattle.ss_entities.specs.declared.entry.VariableKind.TheVariants.{Defined, OfClass, CountOf};
+ghost use Rattle.ss_tree.specs.declared.preamble.Mode.TheVariants.{Integer};
+
+use crate::entry::{Attribute, Class, Variable, VariableKind};
+use indexmap::IndexMap;
+use ss_firsts::{Spelling, is_told, keep_spelled};
+use ss_lex::Name;
+use ss_sayings::{Said, Saying};
+use ss_tree::preamble::{ClassKind, Mode};
+use std::alloc::{AllocError, Global};
+
+// Keeps the variable of a class.
+fn keep_class(
+    entries: &mut IndexMap<Spelling, Variable>,
+    name: &Name,
+    class: usize,
+) -> Result<(), AllocError>
+    ensures { OnOk result (entries.new.entries ≡ with_first entries.old.entries (name.now, record { kind = OfClass class; mode = Integer })) }
+{
+    let variable = Variable {
+        kind: VariableKind::OfClass(class),
+        mode: Mode::Integer,
+    };
+    keep_spelled(entries, Spelling::of_name(name), variable)
+}
+
+// Keeps N. of a class.
+fn keep_count(
+    entries: &mut IndexMap<Spelling, Variable>,
+    name: &Name,
+    class: usize,
+) -> Result<(), AllocError>
+    ensures { OnOk result (entries.new.entries ≡ with_first entries.old.entries (count_name name.now, record { kind = CountOf class; mode = Integer })) }
+{
+    let variable = Variable {
+        kind: VariableKind::CountOf(class),
+        mode: Mode::Integer,
+    };
+    keep_spelled(entries, Spelling::derived(b'N', name), variable)
+}
+
+// Keeps the variables of a class: that of its name, and N. of it where it is permanent.
+fn keep_class_variables(
+    entries: &mut IndexMap<Spelling, Variable>,
+    kind: ClassKind,
+    name: &Name,
+    class: Option<usize>,
+) -> Result<(), AllocError>
+    ensures { OnOk result (entries.new.entries ≡ fold with_first entries.old.entries (class_variables kind name.now class)) }
+{
+    match class {
+        None => Ok(()),
+        Some(class) => match kind {
+            ClassKind::Permanent => {
+                keep_class(entries, name, class)?;
+                keep_count(entries, name, class)
+            }
+            ClassKind::Temporary => keep_class(entries, name, class),
+            ClassKind::EventNotice => keep_class(entries, name, class),
+        },
+    }
+}
+
+// Keeps the variable of a DEFINE, unless it is an attribute.
+fn keep_defined(
+    entries: &mut IndexMap<Spelling, Variable>,
+    attributes: &IndexMap<Name, Attribute>,
+    name: &Name,
+    mode: Mode,
+) -> Result<(), AllocError>
+    ensures { OnOk result (entries.new.entries ≡ fold with_first entries.old.entries (if is_some (told_of attributes.now.entries name.now) then [] else (name.now, record { kind = Defined; mode = mode }) ∷ [])) }
+{
+    let variable = Variable {
+        kind: VariableKind::Defined,
+        mode,
+    };
+    if is_told(attributes, name) {
+        Ok(())
+    } else {
+        keep_spelled(entries, Spelling::of_name(name), variable)
+    }
+}
+
+// Keeps the variables that a saying declares.
+fn note_variable(
+    entries: &mut IndexMap<Spelling, Variable>,
+    classes: &IndexMap<Name, Class>,
+    attributes: &IndexMap<Name, Attribute>,
+    saying: &Saying,
+) -> Result<(), AllocError>
+    ensures { OnOk result (entries.new.entries ≡ fold with_first entries.old.entries (variable_by classes.now.entries attributes.now.entries saying.now)) }
+{
+    match &saying.said {
+        Said::Variable { mode } => match &saying.name {
+            Some(name) => keep_defined(entries, attributes, name, *mode),
+            None => Ok(()),
+        },
+        Said::Class { kind } => match &saying.name {
+            Some(name) => keep_class_variables(entries, *kind, name, classes.get_index_of(name)),
+            None => Ok(()),
+        },
+        _ => Ok(()),
+    }
+}
+
+/// The global variables: those of DEFINE, the variable of each class, and N. of each permanent class.
+pub fn variables_of(
+    alloc: Global,
+    classes: &IndexMap<Name, Class>,
+    attributes: &IndexMap<Name, Attribute>,
+    sayings: &[Saying],
+) -> Result<IndexMap<Spelling, Variable>, AllocError>
+    ensures { IfOk result (λ entries. entries.entries ≡ firsts (flat_map (variable_by classes.now.entries attributes.now.entries) sayings.now)) }
+{
+    let mut entries = IndexMap::new(alloc);
+    for saying in sayings {
+        note_variable(&mut entries, classes, attributes, saying)?;
+    }
+    Ok(entries)
+}

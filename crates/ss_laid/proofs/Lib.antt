@@ -1,0 +1,6 @@
+pub mod Steps
+pub mod Names
+pub mod Entries
+pub mod Structure
+pub mod Laid
+pub mod Typed
