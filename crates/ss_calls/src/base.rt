@@ -7,125 +7,213 @@ use std::cmp::Ordering;
 use std::io;
 use std::test::Fail;
 
+static FAULTS: [(FaultKind, u32, &str); 22] = [
+    (FaultKind::NoEntity, 1, "NO ENTITY"),
+    (FaultKind::NeverCreated, 2, "NEVER CREATED"),
+    (FaultKind::DestroyedEntity, 3, "DESTROYED ENTITY"),
+    (FaultKind::WrongClass, 4, "WRONG CLASS"),
+    (FaultKind::Index, 5, "INDEX"),
+    (FaultKind::FiledTwice, 6, "FILED TWICE"),
+    (FaultKind::NotFiled, 7, "NOT FILED"),
+    (FaultKind::EmptySet, 8, "EMPTY SET"),
+    (FaultKind::InASet, 9, "IN A SET"),
+    (FaultKind::OwnsMembers, 10, "OWNS MEMBERS"),
+    (FaultKind::AlreadyScheduled, 11, "ALREADY SCHEDULED"),
+    (FaultKind::NotScheduled, 12, "NOT SCHEDULED"),
+    (FaultKind::PastTime, 13, "PAST TIME"),
+    (FaultKind::Overflow, 14, "OVERFLOW"),
+    (FaultKind::ZeroDivisor, 15, "ZERO DIVISOR"),
+    (FaultKind::LoopMemberGone, 16, "LOOP MEMBER GONE"),
+    (FaultKind::LoopStep, 17, "LOOP STEP"),
+    (FaultKind::CreatedTwice, 18, "CREATED TWICE"),
+    (FaultKind::EndOfData, 19, "END OF DATA"),
+    (FaultKind::BadData, 20, "BAD DATA"),
+    (FaultKind::Scheduled, 21, "SCHEDULED"),
+    (FaultKind::BadCount, 22, "BAD COUNT"),
+];
+
+// Whether faults have these numbers and words.
+fn are_told(faults: &[(FaultKind, u32, &str)]) -> bool {
+    for (kind, number, words) in faults {
+        if kind.number() != *number || kind.text() != *words {
+            return false;
+        }
+    }
+    true
+}
+
 #[test]
 fn faults_have_their_numbers_and_words(rt: HostRuntime) {
-    let faults = [
-        (FaultKind::NoEntity, 1, "NO ENTITY"),
-        (FaultKind::NeverCreated, 2, "NEVER CREATED"),
-        (FaultKind::DestroyedEntity, 3, "DESTROYED ENTITY"),
-        (FaultKind::WrongClass, 4, "WRONG CLASS"),
-        (FaultKind::Index, 5, "INDEX"),
-        (FaultKind::FiledTwice, 6, "FILED TWICE"),
-        (FaultKind::NotFiled, 7, "NOT FILED"),
-        (FaultKind::EmptySet, 8, "EMPTY SET"),
-        (FaultKind::InASet, 9, "IN A SET"),
-        (FaultKind::OwnsMembers, 10, "OWNS MEMBERS"),
-        (FaultKind::AlreadyScheduled, 11, "ALREADY SCHEDULED"),
-        (FaultKind::NotScheduled, 12, "NOT SCHEDULED"),
-        (FaultKind::PastTime, 13, "PAST TIME"),
-        (FaultKind::Overflow, 14, "OVERFLOW"),
-        (FaultKind::ZeroDivisor, 15, "ZERO DIVISOR"),
-        (FaultKind::LoopMemberGone, 16, "LOOP MEMBER GONE"),
-        (FaultKind::LoopStep, 17, "LOOP STEP"),
-        (FaultKind::CreatedTwice, 18, "CREATED TWICE"),
-        (FaultKind::EndOfData, 19, "END OF DATA"),
-        (FaultKind::BadData, 20, "BAD DATA"),
-        (FaultKind::Scheduled, 21, "SCHEDULED"),
-        (FaultKind::BadCount, 22, "BAD COUNT"),
-    ];
-    for (kind, number, words) in faults {
-        assert_eq!(rt; kind.number(), number);
-        assert!(rt; kind.text() == words, "{words}");
-    }
-    assert_eq!(rt;
-        Refused::from(FaultKind::Index),
-        Refused::Fault(FaultKind::Index)
-    );
+    assert!(rt; are_told(&FAULTS));
+}
+
+#[test]
+fn faults_and_lines_are_compared(rt: HostRuntime) {
+    let index = Refused::Fault(FaultKind::Index);
+    assert_eq!(rt; Refused::from(FaultKind::Index), index);
     assert_ne!(rt; Line(1), Line(2));
 }
 
-#[test]
-fn texts_lose_the_blanks_at_their_end(rt: HostRuntime) -> Result<(), Fail> {
-    let texts: [(&[u8], &[u8]); 7] = [
-        (b"", b""),
-        (b"   ", b""),
-        (b"BOX", b"BOX"),
-        (b"BOX  ", b"BOX"),
-        (b" A B ", b" A B"),
-        (b"~ABCDEFG", b"~ABCDEFG"),
-        (b"ABCDEFGH   ", b"ABCDEFGH"),
-    ];
+static TEXTS: [(&[u8], &[u8]); 7] = [
+    (b"", b""),
+    (b"   ", b""),
+    (b"BOX", b"BOX"),
+    (b"BOX  ", b"BOX"),
+    (b" A B ", b" A B"),
+    (b"~ABCDEFG", b"~ABCDEFG"),
+    (b"ABCDEFGH   ", b"ABCDEFGH"),
+];
+
+static NO_TEXTS: [&[u8]; 5] = [b"ABCDEFGHI", b"\x1f", b"A\x7f", b"A\tB", b"\xc8        "];
+
+// Whether bytes are these texts.
+fn are_kept(texts: &[(&[u8], &[u8])]) -> bool {
     for (bytes, text) in texts {
-        let alpha = Alpha::of(bytes).ok_or("no text")?;
-        assert!(rt; alpha.bytes() == text);
+        let Some(alpha) = Alpha::of(bytes) else {
+            return false;
+        };
+        if alpha.bytes() != *text {
+            return false;
+        }
     }
-    let others: [&[u8]; 5] = [b"ABCDEFGHI", b"\x1f", b"A\x7f", b"A\tB", b"\xc8        "];
+    true
+}
+
+// Whether no bytes are a text.
+fn are_no_texts(others: &[&[u8]]) -> bool {
     for bytes in others {
-        assert!(rt; Alpha::of(bytes).is_none());
+        if Alpha::of(bytes).is_some() {
+            return false;
+        }
     }
-    assert_eq!(rt; Alpha::empty(), Alpha::of(b"  ").ok_or("no text")?);
-    Ok(())
+    true
 }
 
 #[test]
-fn values_are_ordered(rt: HostRuntime) -> Result<(), Fail> {
-    let texts: [&[u8]; 5] = [b"", b" A", b"A", b"AB", b"B"];
+fn texts_lose_the_blanks_at_their_end(rt: HostRuntime) {
+    assert!(rt; are_kept(&TEXTS));
+    assert!(rt; are_no_texts(&NO_TEXTS));
+    assert!(rt; Alpha::of(b"  ") == Some(Alpha::empty()));
+}
+
+static RISING: [&[u8]; 5] = [b"", b" A", b"A", b"AB", b"B"];
+
+// Whether texts rise, from above each whole number on.
+fn rise(texts: &[&[u8]]) -> bool {
     let mut last = Value::Whole(i64::MAX);
     for bytes in texts {
-        let next = Value::Text(Alpha::of(bytes).ok_or("no text")?);
-        assert!(rt; last < next);
-        assert_eq!(rt; next.cmp(&next), Ordering::Equal);
-        assert_eq!(rt; next.mode(), Mode::Alpha);
+        let Some(text) = Alpha::of(bytes) else {
+            return false;
+        };
+        let next = Value::Text(text);
+        if last >= next || next.cmp(&next) != Ordering::Equal || next.mode() != Mode::Alpha {
+            return false;
+        }
         last = next;
     }
+    true
+}
+
+#[test]
+fn values_are_ordered(rt: HostRuntime) {
+    assert!(rt; rise(&RISING));
     assert!(rt; Value::Whole(-3) < Value::Whole(2));
     assert_eq!(rt; Value::Whole(-3).mode(), Mode::Integer);
+}
+
+#[test]
+fn first_values_have_their_mode(rt: HostRuntime) {
     assert_eq!(rt; Mode::Integer.first_value(), Value::Whole(0));
     assert_eq!(rt; Mode::Alpha.first_value(), Value::Text(Alpha::empty()));
-    Ok(())
+}
+
+// Two numbers and what comes of them.
+type Sum = (i64, i64, Result<i64, FaultKind>);
+
+static SUMS: [Sum; 3] = [
+    (2, 3, Ok(5)),
+    (i64::MAX, 0, Ok(i64::MAX)),
+    (i64::MAX, 1, Err(FaultKind::Overflow)),
+];
+
+static DIFFERENCES: [Sum; 3] = [
+    (2, 3, Ok(-1)),
+    (0, i64::MAX, Ok(-i64::MAX)),
+    (0, i64::MIN, Err(FaultKind::Overflow)),
+];
+
+static PRODUCTS: [Sum; 3] = [
+    (6, 7, Ok(42)),
+    (-3037000500, 3037000500, Err(FaultKind::Overflow)),
+    (i64::MIN, 1, Ok(i64::MIN)),
+];
+
+static QUOTIENTS: [Sum; 4] = [
+    (-7, 2, Ok(-3)),
+    (7, -2, Ok(-3)),
+    (7, 0, Err(FaultKind::ZeroDivisor)),
+    (i64::MIN, -1, Err(FaultKind::Overflow)),
+];
+
+static RESTS: [Sum; 4] = [
+    (-7, 2, Ok(-1)),
+    (7, -2, Ok(1)),
+    (7, 0, Err(FaultKind::ZeroDivisor)),
+    (i64::MIN, -1, Ok(0)),
+];
+
+fn are_sums(rows: &[Sum]) -> bool {
+    for (x, y, wanted) in rows {
+        if plus(*x, *y) != *wanted {
+            return false;
+        }
+    }
+    true
+}
+
+fn are_differences(rows: &[Sum]) -> bool {
+    for (x, y, wanted) in rows {
+        if minus(*x, *y) != *wanted {
+            return false;
+        }
+    }
+    true
+}
+
+fn are_products(rows: &[Sum]) -> bool {
+    for (x, y, wanted) in rows {
+        if times(*x, *y) != *wanted {
+            return false;
+        }
+    }
+    true
+}
+
+fn are_quotients(rows: &[Sum]) -> bool {
+    for (x, y, wanted) in rows {
+        if div_f(*x, *y) != *wanted {
+            return false;
+        }
+    }
+    true
+}
+
+fn are_rests(rows: &[Sum]) -> bool {
+    for (x, y, wanted) in rows {
+        if mod_f(*x, *y) != *wanted {
+            return false;
+        }
+    }
+    true
 }
 
 #[test]
 fn results_fit_64_bits_or_are_faults(rt: HostRuntime) {
-    let least = i64::MIN;
-    let most = i64::MAX;
-    for (x, y, sum) in [
-        (2, 3, Ok(5)),
-        (most, 0, Ok(most)),
-        (most, 1, Err(FaultKind::Overflow)),
-    ] {
-        assert_eq!(rt; plus(x, y), sum);
-    }
-    for (x, y, rest) in [
-        (2, 3, Ok(-1)),
-        (0, most, Ok(-most)),
-        (0, least, Err(FaultKind::Overflow)),
-    ] {
-        assert_eq!(rt; minus(x, y), rest);
-    }
-    for (x, y, product) in [
-        (6, 7, Ok(42)),
-        (-3037000500, 3037000500, Err(FaultKind::Overflow)),
-        (least, 1, Ok(least)),
-    ] {
-        assert_eq!(rt; times(x, y), product);
-    }
-    for (x, y, quotient) in [
-        (-7, 2, Ok(-3)),
-        (7, -2, Ok(-3)),
-        (7, 0, Err(FaultKind::ZeroDivisor)),
-        (least, -1, Err(FaultKind::Overflow)),
-    ] {
-        assert_eq!(rt; div_f(x, y), quotient);
-    }
-    for (x, y, rest) in [
-        (-7, 2, Ok(-1)),
-        (7, -2, Ok(1)),
-        (7, 0, Err(FaultKind::ZeroDivisor)),
-        (least, -1, Ok(0)),
-    ] {
-        assert_eq!(rt; mod_f(x, y), rest);
-    }
+    assert!(rt; are_sums(&SUMS));
+    assert!(rt; are_differences(&DIFFERENCES));
+    assert!(rt; are_products(&PRODUCTS));
+    assert!(rt; are_quotients(&QUOTIENTS));
+    assert!(rt; are_rests(&RESTS));
 }
 
 #[test]
@@ -165,39 +253,64 @@ fn sets_name_classes_of_their_layout(rt: HostRuntime) -> Result<(), Fail> {
     Ok(())
 }
 
+// Whether reads of four bytes give these bytes in turn; None is an error.
+fn gives<R: FaultyRead>(reader: &mut R, wanted: &[Option<&[u8]>]) -> bool {
+    for bytes in wanted {
+        let mut buf = [0; 4];
+        let given = reader.read_some(&mut buf).ok().and_then(|n| buf.get(..n));
+        if given != *bytes {
+            return false;
+        }
+    }
+    true
+}
+
 #[test]
 fn a_reader_over_memory_goes_by_its_plan(rt: HostRuntime) -> Result<(), Fail> {
     let mut reader = MemoryRead::new(rt.alloc(), b"HELLO", Plan::smooth(3))?;
-    let mut buf = [0; 4];
-    assert_eq!(rt; reader.read_some(&mut buf)?, 3);
-    assert_eq!(rt; buf, [b'H', b'E', b'L', 0]);
-    assert_eq!(rt; reader.read_some(&mut buf)?, 2);
-    assert_eq!(rt; reader.read_some(&mut buf)?, 0);
+    assert!(rt; gives(&mut reader, &[Some(b"HEL"), Some(b"LO"), Some(b"")]));
     assert_eq!(rt; reader.faults(), 0);
-    let mut failing = MemoryRead::new(rt.alloc(), b"HELLO", Plan::wrong_after_bytes(9, 2))?;
-    assert_eq!(rt; failing.read_some(&mut buf)?, 2);
-    assert!(rt; failing.read_some(&mut buf).is_err());
-    assert!(rt; failing.read_some(&mut buf).is_err());
-    assert_eq!(rt; failing.faults(), 2);
     Ok(())
 }
 
 #[test]
-fn a_writer_over_memory_goes_by_its_plan(rt: HostRuntime) -> Result<(), Fail> {
+fn a_failing_reader_over_memory_goes_by_its_plan(rt: HostRuntime) -> Result<(), Fail> {
+    let plan = Plan::wrong_after_bytes(9, 2);
+    let mut failing = MemoryRead::new(rt.alloc(), b"HELLO", plan)?;
+    assert!(rt; gives(&mut failing, &[Some(b"HE"), None, None]));
+    assert_eq!(rt; failing.faults(), 2);
+    Ok(())
+}
+
+// Whether writes of these bytes take so many in turn; None is an error.
+fn takes<W: FaultyWrite>(writer: &mut W, bytes: &[u8], wanted: &[Option<usize>]) -> bool {
+    for taken in wanted {
+        if writer.write_some(bytes).ok() != *taken {
+            return false;
+        }
+    }
+    true
+}
+
+#[test]
+fn a_failing_writer_over_memory_goes_by_its_plan(rt: HostRuntime) -> Result<(), Fail> {
     let plan = Plan::wrong_after_bytes(9, 3);
     let mut failing = MemoryWrite::new(rt.alloc(), 9, plan, Trouble::Error)?;
-    assert_eq!(rt; failing.write_some(b"HELLO")?, 3);
-    assert!(rt; failing.write_some(b"LO").is_err());
+    assert!(rt; takes(&mut failing, b"HELLO", &[Some(3), None]));
     assert!(rt; failing.bytes() == b"HEL".as_slice());
     assert_eq!(rt; failing.faults(), 1);
+    Ok(())
+}
+
+#[test]
+fn a_stalling_writer_over_memory_goes_by_its_plan(rt: HostRuntime) -> Result<(), Fail> {
     let plan = Plan {
         times: 2,
         ..Plan::wrong_from_call(1, 2)
     };
     let mut stalling = MemoryWrite::new(rt.alloc(), 2, plan, Trouble::NoByte)?;
-    for taken in [1, 0, 0, 1, 0] {
-        assert_eq!(rt; stalling.write_some(b"XY")?, taken);
-    }
+    let taken = [Some(1), Some(0), Some(0), Some(1), Some(0)];
+    assert!(rt; takes(&mut stalling, b"XY", &taken));
     assert!(rt; stalling.bytes() == b"XX".as_slice());
     assert_eq!(rt; stalling.faults(), 3);
     Ok(())
@@ -223,19 +336,20 @@ impl io::Write for Narrow {
 }
 
 #[test]
-fn counted_readers_and_writers_count_what_failed(rt: HostRuntime) -> Result<(), Fail> {
+fn counted_readers_count_what_failed(rt: HostRuntime) {
     let mut reader = Counted::new(b"HELLO".as_slice());
-    let mut buf = [0; 3];
-    assert_eq!(rt; reader.read_some(&mut buf)?, 3);
-    assert_eq!(rt; buf, [b'H', b'E', b'L']);
+    assert!(rt; gives(&mut reader, &[Some(b"HELL")]));
     assert_eq!(rt; reader.faults(), 0);
-    assert!(rt; reader.into_inner() == b"LO".as_slice());
+    assert!(rt; reader.into_inner() == b"O".as_slice());
+}
+
+#[test]
+fn counted_writers_count_what_failed(rt: HostRuntime) {
     let mut writer = Counted::new(Narrow(0));
-    for (taken, faults) in [(2, 0), (2, 0), (0, 1)] {
-        assert_eq!(rt; writer.write_some(b"HELLO")?, taken);
-        assert_eq!(rt; writer.faults(), faults);
-    }
-    assert!(rt; writer.write_some(b"HELLO").is_err());
+    assert!(rt; takes(&mut writer, b"HELLO", &[Some(2), Some(2)]));
+    assert_eq!(rt; writer.faults(), 0);
+    assert!(rt; takes(&mut writer, b"HELLO", &[Some(0)]));
+    assert_eq!(rt; writer.faults(), 1);
+    assert!(rt; takes(&mut writer, b"HELLO", &[None]));
     assert_eq!(rt; writer.faults(), 2);
-    Ok(())
 }

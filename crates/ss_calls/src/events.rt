@@ -158,20 +158,6 @@ fn cancelled_and_scheduled_again_comes_last(rt: HostRuntime) -> Result<(), Fail>
     Ok(())
 }
 
-// Schedules notices from 1 on.
-fn schedule_all(
-    alloc: Global,
-    pending: &mut Pending,
-    standings: &[Standing],
-) -> Result<(), Refused> {
-    let mut notice: i64 = 0;
-    for standing in standings {
-        notice = notice.wrapping_add(1);
-        schedule(alloc, pending, *standing, notice)?;
-    }
-    Ok(())
-}
-
 fn high(number: i64) -> [Tie; 1] {
     [Tie {
         value: Value::Whole(number),
@@ -192,37 +178,68 @@ fn low(text: Alpha, number: i64) -> [Tie; 2] {
     ]
 }
 
+// Schedules a notice of the second class.
+fn numbered(
+    alloc: Global,
+    pending: &mut Pending,
+    time: i64,
+    number: i64,
+    notice: i64,
+) -> Result<(), Refused> {
+    schedule(alloc, pending, (time, 1, &high(number)), notice)
+}
+
+// Schedules a notice of the third class.
+fn named(
+    alloc: Global,
+    pending: &mut Pending,
+    time: i64,
+    text: Alpha,
+    number: i64,
+    notice: i64,
+) -> Result<(), Refused> {
+    schedule(alloc, pending, (time, 2, &low(text, number)), notice)
+}
+
+// Schedules notices of three classes.
+fn schedule_three(
+    alloc: Global,
+    pending: &mut Pending,
+    a: Alpha,
+    ab: Alpha,
+) -> Result<(), Refused> {
+    named(alloc, pending, 5, ab, 1, 1)?;
+    named(alloc, pending, 5, a, 2, 2)?;
+    named(alloc, pending, 5, a, -1, 3)?;
+    numbered(alloc, pending, 5, 1, 4)?;
+    numbered(alloc, pending, 5, 2, 5)?;
+    schedule(alloc, pending, (5, 0, &[]), 6)?;
+    numbered(alloc, pending, 5, 2, 7)?;
+    named(alloc, pending, 4, ab, 0, 8)?;
+    named(alloc, pending, 5, ab, 0, 9)
+}
+
+static BY_TIME_RANK_AND_TIES: [(i64, i64); 9] = [
+    (4, 8),
+    (5, 6),
+    (5, 5),
+    (5, 7),
+    (5, 4),
+    (5, 3),
+    (5, 2),
+    (5, 9),
+    (5, 1),
+];
+
 #[test]
 fn times_then_ranks_then_ties(rt: HostRuntime) -> Result<(), Fail> {
-    let classes: [&[TieShape]; 3] = [&PLAIN, &HIGH_NUMBER, &LOW_TEXT_AND_NUMBER];
-    let mut pending = listed(rt.alloc(), &classes)?;
     let (Some(a), Some(ab)) = (Alpha::of(b"A"), Alpha::of(b"AB")) else {
         return Err(Fail::from("a text"));
     };
-    let standings: [Standing; 9] = [
-        (5, 2, &low(ab, 1)),
-        (5, 2, &low(a, 2)),
-        (5, 2, &low(a, -1)),
-        (5, 1, &high(1)),
-        (5, 1, &high(2)),
-        (5, 0, &[]),
-        (5, 1, &high(2)),
-        (4, 2, &low(ab, 0)),
-        (5, 2, &low(ab, 0)),
-    ];
-    assert_eq!(rt; schedule_all(rt.alloc(), &mut pending, &standings), Ok(()));
-    let wanted = [
-        (4, 8),
-        (5, 6),
-        (5, 5),
-        (5, 7),
-        (5, 4),
-        (5, 3),
-        (5, 2),
-        (5, 9),
-        (5, 1),
-    ];
-    assert!(rt; come_out(&mut pending, &wanted));
+    let classes: [&[TieShape]; 3] = [&PLAIN, &HIGH_NUMBER, &LOW_TEXT_AND_NUMBER];
+    let mut pending = listed(rt.alloc(), &classes)?;
+    assert!(rt; schedule_three(rt.alloc(), &mut pending, a, ab).is_ok());
+    assert!(rt; come_out(&mut pending, &BY_TIME_RANK_AND_TIES));
     Ok(())
 }
 

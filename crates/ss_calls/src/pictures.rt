@@ -97,33 +97,55 @@ fn texts(rt: HostRuntime) -> Result<(), Fail> {
     Ok(())
 }
 
+// Whether a picture with this value, or with none, adds a line to make these bytes.
+fn adds(picture: &Picture, line: &mut Vec<u8>, value: Option<i64>, wanted: &[u8]) -> bool {
+    if picture.fields().is_empty() {
+        return false;
+    }
+    let filled = match value {
+        Some(number) => picture.fill_into(line, &[Value::Whole(number)]),
+        None => picture.fill_into(line, &[]),
+    };
+    filled.is_ok() && line.as_slice() == wanted
+}
+
 #[test]
 fn one_buffer_for_many_lines(rt: HostRuntime) -> Result<(), Fail> {
     let alloc = rt.alloc();
     let picture = Picture::of(alloc, b"<**>")?;
-    assert!(rt; picture.fields().len() == 1);
     let mut line = Vec::from_slice(alloc, b"1: ")?;
-    picture.fill_into(&mut line, &[Value::Whole(5)])?;
-    assert_eq!(rt; line.as_slice(), b"1: < 5>".as_slice());
+    assert!(rt; adds(&picture, &mut line, Some(5), b"1: < 5>"));
     line.clear();
-    picture.fill_into(&mut line, &[Value::Whole(-5)])?;
-    assert_eq!(rt; line.as_slice(), b"<-5>".as_slice());
-    picture.fill_into(&mut line, &[])?;
-    assert_eq!(rt; line.as_slice(), b"<-5><**>".as_slice());
+    assert!(rt; adds(&picture, &mut line, Some(-5), b"<-5>"));
+    assert!(rt; adds(&picture, &mut line, None, b"<-5><**>"));
     Ok(())
+}
+
+// Bytes that are written, and what comes of it.
+type Written<'a> = (&'a [u8], Result<(), SinkError>);
+
+// Whether writes end so in turn, and so many bytes are sent in all.
+fn writes(sink: &mut Sink<MemoryWrite>, lines: &[Written], sent: u128) -> bool {
+    for (bytes, wanted) in lines {
+        if sink.write(bytes) != *wanted {
+            return false;
+        }
+    }
+    sink.sent() == sent
+}
+
+// Whether a writer has these bytes, and failed so often.
+fn has(writer: &MemoryWrite, bytes: &[u8], faults: u64) -> bool {
+    writer.bytes() == bytes && writer.faults() == faults
 }
 
 #[test]
 fn a_byte_per_write(rt: HostRuntime) -> Result<(), Fail> {
     let writer = MemoryWrite::new(rt.alloc(), 64, Plan::smooth(1), Trouble::Error)?;
     let mut sink = Sink::new(writer);
-    assert_eq!(rt; sink.write(b"ANSWER"), Ok(()));
-    assert_eq!(rt; sink.write(b""), Ok(()));
-    assert_eq!(rt; sink.write(b"  42\n"), Ok(()));
-    assert_eq!(rt; sink.sent(), 11);
-    let writer = sink.into_inner();
-    assert_eq!(rt; writer.bytes(), b"ANSWER  42\n".as_slice());
-    assert_eq!(rt; writer.faults(), 0);
+    let lines: [Written; 3] = [(b"ANSWER", Ok(())), (b"", Ok(())), (b"  42\n", Ok(()))];
+    assert!(rt; writes(&mut sink, &lines, 11));
+    assert!(rt; has(&sink.into_inner(), b"ANSWER  42\n", 0));
     Ok(())
 }
 
@@ -131,12 +153,9 @@ fn a_byte_per_write(rt: HostRuntime) -> Result<(), Fail> {
 fn three_bytes_and_then_an_error(rt: HostRuntime) -> Result<(), Fail> {
     let plan = Plan::wrong_after_bytes(2, 3);
     let mut sink = Sink::new(MemoryWrite::new(rt.alloc(), 64, plan, Trouble::Error)?);
-    assert_eq!(rt; sink.write(b"1\n"), Ok(()));
-    assert_eq!(rt; sink.write(b"2\n"), Err(SinkError::Failed));
-    assert_eq!(rt; sink.sent(), 3);
-    let writer = sink.into_inner();
-    assert_eq!(rt; writer.bytes(), b"1\n2".as_slice());
-    assert_eq!(rt; writer.faults(), 1);
+    let lines: [Written; 2] = [(b"1\n", Ok(())), (b"2\n", Err(SinkError::Failed))];
+    assert!(rt; writes(&mut sink, &lines, 3));
+    assert!(rt; has(&sink.into_inner(), b"1\n2", 1));
     Ok(())
 }
 
@@ -154,15 +173,19 @@ fn stalling(times: u64) -> Plan {
 fn a_thousand_writes_of_no_byte(rt: HostRuntime) -> Result<(), Fail> {
     let writer = MemoryWrite::new(rt.alloc(), 64, stalling(u64::MAX), Trouble::NoByte)?;
     let mut sink = Sink::new(writer);
-    assert_eq!(rt; sink.write(b"AB"), Err(SinkError::Stalled));
-    assert_eq!(rt; sink.sent(), 1);
-    assert_eq!(rt; sink.into_inner().faults(), 1000);
+    let lines: [Written; 1] = [(b"AB", Err(SinkError::Stalled))];
+    assert!(rt; writes(&mut sink, &lines, 1));
+    assert!(rt; has(&sink.into_inner(), b"A", 1000));
+    Ok(())
+}
+
+#[test]
+fn nearly_a_thousand_writes_of_no_byte(rt: HostRuntime) -> Result<(), Fail> {
     let writer = MemoryWrite::new(rt.alloc(), 64, stalling(999), Trouble::NoByte)?;
     let mut sink = Sink::new(writer);
-    assert_eq!(rt; sink.write(b"AB"), Ok(()));
-    let writer = sink.into_inner();
-    assert_eq!(rt; writer.bytes(), b"AB".as_slice());
-    assert_eq!(rt; writer.faults(), 999);
+    let lines: [Written; 1] = [(b"AB", Ok(()))];
+    assert!(rt; writes(&mut sink, &lines, 2));
+    assert!(rt; has(&sink.into_inner(), b"AB", 999));
     Ok(())
 }
 

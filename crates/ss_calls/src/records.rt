@@ -161,162 +161,249 @@ fn answer(heap: &mut Heap, set: usize, asked: Ask) -> Option<Result<i64, FaultKi
     })
 }
 
+// A call of a set, and what it answers.
+type Asked = (usize, Ask, Result<i64, FaultKind>);
+
+// Whether calls of sets answer this in turn.
+fn answer_so(heap: &mut Heap, asked: &[Asked]) -> bool {
+    for (set, what, wanted) in asked {
+        match answer(heap, *set, *what) {
+            Some(found) if found == *wanted => {}
+            _ => return false,
+        }
+    }
+    true
+}
+
+// Whether jobs are created with these numbers in turn.
+fn are_created(heap: &mut Heap, from: i64, to: i64) -> bool {
+    for x in from..to {
+        if create(heap, JOB) != Some(x) {
+            return false;
+        }
+    }
+    true
+}
+
+// Whether a job that is created gets the number 1 and goes, the next gets 2, and a bell 3.
+fn are_numbered(heap: &mut Heap) -> bool {
+    create(heap, JOB) == Some(1)
+        && destroy(heap, JOB, 1) == Some(Ok(()))
+        && create(heap, JOB) == Some(2)
+        && create(heap, BELL) == Some(3)
+}
+
+// Whether each call refuses a job with these numbers so.
+fn are_refused(heap: &mut Heap, numbers: &[(i64, FaultKind)]) -> bool {
+    for (r, fault) in numbers {
+        if known(heap, JOB, *r) != Some(Err(*fault))
+            || value(heap, JOB, *r) != Some(Err(*fault))
+            || set_value(heap, JOB, *r, 5) != Some(Err(*fault))
+            || answer(heap, POOL, Ask::Next(*r)) != Some(Err(*fault))
+        {
+            return false;
+        }
+    }
+    true
+}
+
+static NO_JOBS: [(i64, FaultKind); 5] = [
+    (0, FaultKind::NoEntity),
+    (99, FaultKind::NeverCreated),
+    (-1, FaultKind::NeverCreated),
+    (1, FaultKind::DestroyedEntity),
+    (3, FaultKind::WrongClass),
+];
+
 #[test]
 fn numbers_are_never_used_again(rt: HostRuntime) -> Result<(), Fail> {
     let mut heap = yard(rt.alloc())?;
-    assert_eq!(rt; create(&mut heap, JOB), Some(1));
-    assert_eq!(rt; destroy(&mut heap, JOB, 1), Some(Ok(())));
-    assert_eq!(rt; create(&mut heap, JOB), Some(2));
-    assert_eq!(rt; create(&mut heap, BELL), Some(3));
-    let faults = [
-        (0, FaultKind::NoEntity),
-        (99, FaultKind::NeverCreated),
-        (-1, FaultKind::NeverCreated),
-        (1, FaultKind::DestroyedEntity),
-        (3, FaultKind::WrongClass),
-    ];
-    for (r, fault) in faults {
-        assert_eq!(rt; known(&heap, JOB, r), Some(Err(fault)));
-        assert!(rt; value(&heap, JOB, r) == Some(Err(fault)));
-        assert_eq!(rt; set_value(&mut heap, JOB, r, 5), Some(Err(fault)));
-        assert_eq!(rt; answer(&mut heap, POOL, Ask::Next(r)), Some(Err(fault)));
-    }
-    assert_eq!(rt; heap.known_notice(2), Err(FaultKind::WrongClass));
-    assert_eq!(rt; heap.time_a(3), Ok(0));
-    assert_eq!(rt; heap.set_time_a(3, -7), Ok(()));
-    assert_eq!(rt; heap.time_a(3), Ok(-7));
-    assert_eq!(rt; set_value(&mut heap, JOB, 2, -5), Some(Ok(())));
-    assert!(rt; value(&heap, JOB, 2) == Some(Ok(Value::Whole(-5))));
-    assert_eq!(rt; heap.blocks(), 3);
+    assert!(rt; are_numbered(&mut heap));
+    assert!(rt; are_refused(&mut heap, &NO_JOBS));
+    assert!(rt; heap.blocks() == 3);
     Ok(())
 }
+
+// Whether a bell keeps its time, which a job has not, and a job its value.
+fn are_kept(heap: &mut Heap) -> bool {
+    heap.known_notice(2) == Err(FaultKind::WrongClass)
+        && heap.time_a(3) == Ok(0)
+        && heap.set_time_a(3, -7) == Ok(())
+        && heap.time_a(3) == Ok(-7)
+        && set_value(heap, JOB, 2, -5) == Some(Ok(()))
+        && value(heap, JOB, 2) == Some(Ok(Value::Whole(-5)))
+}
+
+#[test]
+fn times_and_values_are_kept(rt: HostRuntime) -> Result<(), Fail> {
+    let mut heap = yard(rt.alloc())?;
+    assert!(rt; are_numbered(&mut heap));
+    assert!(rt; are_kept(&mut heap));
+    Ok(())
+}
+
+static IN_THREE_SETS: [Asked; 28] = [
+    (POOL, Ask::FileLast(0, 2), Ok(0)),
+    (POOL, Ask::FileLast(0, 3), Ok(0)),
+    (POOL, Ask::FileLast(0, 4), Ok(0)),
+    (RACK, Ask::FileFirst(1, 2), Ok(0)),
+    (RACK, Ask::FileFirst(1, 3), Ok(0)),
+    (RACK, Ask::FileFirst(1, 4), Ok(0)),
+    (ROW, Ask::FileLast(1, 2), Ok(0)),
+    (ROW, Ask::FileBefore(1, 3, 2), Ok(0)),
+    (ROW, Ask::FileAfter(1, 4, 3), Ok(0)),
+    (ROW, Ask::FileAfter(1, 4, 3), Err(FaultKind::FiledTwice)),
+    (POOL, Ask::Remove(0, 3), Ok(0)),
+    (POOL, Ask::Remove(0, 3), Err(FaultKind::NotFiled)),
+    (POOL, Ask::FileBefore(0, 3, 3), Err(FaultKind::NotFiled)),
+    (POOL, Ask::Count(0), Ok(2)),
+    (POOL, Ask::First(0), Ok(2)),
+    (POOL, Ask::Last(0), Ok(4)),
+    (POOL, Ask::Next(2), Ok(4)),
+    (POOL, Ask::Previous(4), Ok(2)),
+    (POOL, Ask::Next(3), Ok(0)),
+    (POOL, Ask::Owner(2), Ok(0)),
+    (POOL, Ask::Owner(3), Ok(-1)),
+    (RACK, Ask::Owner(2), Ok(1)),
+    (RACK, Ask::Next(4), Ok(3)),
+    (RACK, Ask::Next(3), Ok(2)),
+    (RACK, Ask::Next(2), Ok(0)),
+    (ROW, Ask::Next(3), Ok(4)),
+    (ROW, Ask::Next(4), Ok(2)),
+    (ROW, Ask::Previous(3), Ok(0)),
+];
 
 #[test]
 fn an_entity_is_in_three_sets_at_once(rt: HostRuntime) -> Result<(), Fail> {
     let mut heap = yard(rt.alloc())?;
-    assert_eq!(rt; create(&mut heap, TOOL), Some(1));
-    for x in 2..5 {
-        assert_eq!(rt; create(&mut heap, JOB), Some(x));
-    }
-    let asked = [
-        (POOL, Ask::FileLast(0, 2), Ok(0)),
-        (POOL, Ask::FileLast(0, 3), Ok(0)),
-        (POOL, Ask::FileLast(0, 4), Ok(0)),
-        (RACK, Ask::FileFirst(1, 2), Ok(0)),
-        (RACK, Ask::FileFirst(1, 3), Ok(0)),
-        (RACK, Ask::FileFirst(1, 4), Ok(0)),
-        (ROW, Ask::FileLast(1, 2), Ok(0)),
-        (ROW, Ask::FileBefore(1, 3, 2), Ok(0)),
-        (ROW, Ask::FileAfter(1, 4, 3), Ok(0)),
-        (ROW, Ask::FileAfter(1, 4, 3), Err(FaultKind::FiledTwice)),
-        (POOL, Ask::Remove(0, 3), Ok(0)),
-        (POOL, Ask::Remove(0, 3), Err(FaultKind::NotFiled)),
-        (POOL, Ask::FileBefore(0, 3, 3), Err(FaultKind::NotFiled)),
-        (POOL, Ask::Count(0), Ok(2)),
-        (POOL, Ask::First(0), Ok(2)),
-        (POOL, Ask::Last(0), Ok(4)),
-        (POOL, Ask::Next(2), Ok(4)),
-        (POOL, Ask::Previous(4), Ok(2)),
-        (POOL, Ask::Next(3), Ok(0)),
-        (POOL, Ask::Owner(2), Ok(0)),
-        (POOL, Ask::Owner(3), Ok(-1)),
-        (RACK, Ask::Owner(2), Ok(1)),
-        (RACK, Ask::Next(4), Ok(3)),
-        (RACK, Ask::Next(3), Ok(2)),
-        (RACK, Ask::Next(2), Ok(0)),
-        (ROW, Ask::Next(3), Ok(4)),
-        (ROW, Ask::Next(4), Ok(2)),
-        (ROW, Ask::Previous(3), Ok(0)),
-    ];
-    for (set, what, wanted) in asked {
-        assert_eq!(rt; answer(&mut heap, set, what), Some(wanted));
-    }
-    assert_eq!(rt; destroy(&mut heap, JOB, 3), Some(Err(FaultKind::InASet)));
-    assert_eq!(rt;
-        destroy(&mut heap, TOOL, 1),
-        Some(Err(FaultKind::OwnsMembers))
-    );
+    assert!(rt; create(&mut heap, TOOL) == Some(1));
+    assert!(rt; are_created(&mut heap, 2, 5));
+    assert!(rt; answer_so(&mut heap, &IN_THREE_SETS));
+    assert!(rt; destroy(&mut heap, JOB, 3) == Some(Err(FaultKind::InASet)));
+    assert!(rt; destroy(&mut heap, TOOL, 1) == Some(Err(FaultKind::OwnsMembers)));
     Ok(())
+}
+
+// Whether new jobs up to a number are filed last in the pool.
+fn are_pooled(heap: &mut Heap, to: i64) -> bool {
+    for x in 1..to {
+        if create(heap, JOB) != Some(x) || answer(heap, POOL, Ask::FileLast(0, x)) != Some(Ok(0)) {
+            return false;
+        }
+    }
+    true
 }
 
 #[test]
 fn a_member_in_the_middle_of_a_long_set_is_removed_at_once(rt: HostRuntime) -> Result<(), Fail> {
     let mut heap = yard(rt.alloc())?;
-    for x in 1..10001 {
-        assert_eq!(rt; create(&mut heap, JOB), Some(x));
-        assert_eq!(rt; answer(&mut heap, POOL, Ask::FileLast(0, x)), Some(Ok(0)));
-    }
-    assert_eq!(rt; answer(&mut heap, POOL, Ask::Remove(0, 5000)), Some(Ok(0)));
+    assert!(rt; are_pooled(&mut heap, 10001));
+    assert!(rt; answer(&mut heap, POOL, Ask::Remove(0, 5000)) == Some(Ok(0)));
     assert!(rt; heap.touches() <= 12);
-    assert_eq!(rt; answer(&mut heap, POOL, Ask::Next(4999)), Some(Ok(5001)));
-    assert_eq!(rt; answer(&mut heap, POOL, Ask::Count(0)), Some(Ok(9999)));
-    assert_eq!(rt; heap.blocks(), 10001);
+    let asked = [
+        (POOL, Ask::Next(4999), Ok(5001)),
+        (POOL, Ask::Count(0), Ok(9999)),
+    ];
+    assert!(rt; answer_so(&mut heap, &asked));
+    assert!(rt; heap.blocks() == 10001);
     Ok(())
+}
+
+// Whether jobs up to a number are created and destroyed, one after another, within a page.
+fn come_and_go(heap: &mut Heap, to: i64) -> bool {
+    for x in 1..to {
+        if create(heap, JOB) != Some(x)
+            || destroy(heap, JOB, x) != Some(Ok(()))
+            || heap.pages() > 1
+        {
+            return false;
+        }
+    }
+    true
+}
+
+// Whether jobs of these numbers are destroyed, but for one.
+fn go_but_one(heap: &mut Heap, from: i64, to: i64, kept: i64) -> bool {
+    for x in from..to {
+        if x != kept && destroy(heap, JOB, x) != Some(Ok(())) {
+            return false;
+        }
+    }
+    true
+}
+
+// Whether a job was destroyed.
+fn is_gone(heap: &Heap, x: i64) -> bool {
+    value(heap, JOB, x) == Some(Err(FaultKind::DestroyedEntity))
 }
 
 #[test]
 fn a_page_without_a_living_number_is_given_back(rt: HostRuntime) -> Result<(), Fail> {
     let mut heap = yard(rt.alloc())?;
-    for x in 1..1001 {
-        assert_eq!(rt; create(&mut heap, JOB), Some(x));
-        assert_eq!(rt; destroy(&mut heap, JOB, x), Some(Ok(())));
-        assert!(rt; heap.pages() <= 1);
-    }
-    assert!(rt; value(&heap, JOB, 1) == Some(Err(FaultKind::DestroyedEntity)));
-    assert_eq!(rt; heap.blocks(), 1);
-    for x in 1001..1601 {
-        assert_eq!(rt; create(&mut heap, JOB), Some(x));
-    }
+    assert!(rt; come_and_go(&mut heap, 1001));
+    assert!(rt; is_gone(&heap, 1) && heap.blocks() == 1);
+    assert!(rt; are_created(&mut heap, 1001, 1601));
     assert!(rt; heap.pages() >= 3);
-    for x in 1001..1601 {
-        if x != 1300 {
-            assert_eq!(rt; destroy(&mut heap, JOB, x), Some(Ok(())));
-        }
-    }
+    assert!(rt; go_but_one(&mut heap, 1001, 1601, 1300));
     assert!(rt; heap.pages() <= 2);
+    assert!(rt; is_gone(&heap, 1299));
     assert!(rt; value(&heap, JOB, 1300) == Some(Ok(Value::Whole(0))));
-    assert!(rt; value(&heap, JOB, 1299) == Some(Err(FaultKind::DestroyedEntity)));
     Ok(())
 }
 
+// Whether a number of machines is refused so.
+fn makes_none(heap: &mut Heap, n: i64, kind: FaultKind) -> bool {
+    make(heap, n) == Some(Err(Refused::Fault(kind)))
+}
+
+// Whether there is no machine of this number.
+fn is_no_machine(heap: &Heap, r: i64) -> bool {
+    known(heap, MACHINE, r) == Some(Err(FaultKind::Index))
+}
+
 #[test]
-fn machines_are_made_once_and_own_and_join_sets(rt: HostRuntime) -> Result<(), Fail> {
+fn machines_are_made_once(rt: HostRuntime) -> Result<(), Fail> {
     let mut heap = yard(rt.alloc())?;
-    assert_eq!(rt; known(&heap, MACHINE, 1), Some(Err(FaultKind::Index)));
-    for n in [-1, 1048577] {
-        let refused = Refused::Fault(FaultKind::BadCount);
-        assert_eq!(rt; make(&mut heap, n), Some(Err(refused)));
-    }
-    assert_eq!(rt; make(&mut heap, 3), Some(Ok(())));
-    let twice = Refused::Fault(FaultKind::CreatedTwice);
-    assert_eq!(rt; make(&mut heap, -1), Some(Err(twice)));
-    assert_eq!(rt; create(&mut heap, JOB), Some(1));
-    assert_eq!(rt; heap.blocks(), 5);
-    for r in [0, 4, -1] {
-        assert_eq!(rt; known(&heap, MACHINE, r), Some(Err(FaultKind::Index)));
-    }
-    assert_eq!(rt; set_value(&mut heap, MACHINE, 3, 8), Some(Ok(())));
-    assert!(rt; value(&heap, MACHINE, 3) == Some(Ok(Value::Whole(8))));
-    assert!(rt; value(&heap, MACHINE, 1) == Some(Ok(Value::Whole(0))));
-    let asked = [
-        (QUEUE, Ask::FileLast(2, 1), Ok(0)),
-        (QUEUE, Ask::FileLast(3, 1), Err(FaultKind::FiledTwice)),
-        (QUEUE, Ask::FileLast(4, 1), Err(FaultKind::Index)),
-        (QUEUE, Ask::Remove(3, 1), Err(FaultKind::NotFiled)),
-        (QUEUE, Ask::Owner(1), Ok(2)),
-        (QUEUE, Ask::First(2), Ok(1)),
-        (QUEUE, Ask::Count(1), Ok(0)),
-        (FLOOR, Ask::FileFirst(0, 1), Ok(0)),
-        (FLOOR, Ask::FileFirst(0, 3), Ok(0)),
-        (FLOOR, Ask::Next(3), Ok(1)),
-        (FLOOR, Ask::Previous(1), Ok(3)),
-        (FLOOR, Ask::Remove(0, 3), Ok(0)),
-        (FLOOR, Ask::Last(0), Ok(1)),
-        (FLOOR, Ask::Next(4), Err(FaultKind::Index)),
-    ];
-    for (set, what, wanted) in asked {
-        assert_eq!(rt; answer(&mut heap, set, what), Some(wanted));
-    }
+    assert!(rt; is_no_machine(&heap, 1));
+    assert!(rt; makes_none(&mut heap, -1, FaultKind::BadCount));
+    assert!(rt; makes_none(&mut heap, 1048577, FaultKind::BadCount));
+    assert!(rt; make(&mut heap, 3) == Some(Ok(())));
+    assert!(rt; makes_none(&mut heap, -1, FaultKind::CreatedTwice));
+    assert!(rt; is_no_machine(&heap, 0) && is_no_machine(&heap, 4) && is_no_machine(&heap, -1));
+    Ok(())
+}
+
+// Whether machines keep their values, which begin as 0.
+fn keep_values(heap: &mut Heap) -> bool {
+    set_value(heap, MACHINE, 3, 8) == Some(Ok(()))
+        && value(heap, MACHINE, 3) == Some(Ok(Value::Whole(8)))
+        && value(heap, MACHINE, 1) == Some(Ok(Value::Whole(0)))
+}
+
+static OF_MACHINES: [Asked; 14] = [
+    (QUEUE, Ask::FileLast(2, 1), Ok(0)),
+    (QUEUE, Ask::FileLast(3, 1), Err(FaultKind::FiledTwice)),
+    (QUEUE, Ask::FileLast(4, 1), Err(FaultKind::Index)),
+    (QUEUE, Ask::Remove(3, 1), Err(FaultKind::NotFiled)),
+    (QUEUE, Ask::Owner(1), Ok(2)),
+    (QUEUE, Ask::First(2), Ok(1)),
+    (QUEUE, Ask::Count(1), Ok(0)),
+    (FLOOR, Ask::FileFirst(0, 1), Ok(0)),
+    (FLOOR, Ask::FileFirst(0, 3), Ok(0)),
+    (FLOOR, Ask::Next(3), Ok(1)),
+    (FLOOR, Ask::Previous(1), Ok(3)),
+    (FLOOR, Ask::Remove(0, 3), Ok(0)),
+    (FLOOR, Ask::Last(0), Ok(1)),
+    (FLOOR, Ask::Next(4), Err(FaultKind::Index)),
+];
+
+#[test]
+fn machines_own_and_join_sets(rt: HostRuntime) -> Result<(), Fail> {
+    let mut heap = yard(rt.alloc())?;
+    assert!(rt; make(&mut heap, 3) == Some(Ok(())));
+    assert!(rt; create(&mut heap, JOB) == Some(1) && heap.blocks() == 5);
+    assert!(rt; keep_values(&mut heap));
+    assert!(rt; answer_so(&mut heap, &OF_MACHINES));
     Ok(())
 }
 
@@ -329,22 +416,34 @@ fn is_created(heap: &mut Heap, x: i64) -> bool {
             && create(heap, JOB) == Some(x)
 }
 
+// Whether 600 jobs are created, though memory may be refused in between.
+fn are_created_in_spite(heap: &mut Heap) -> bool {
+    for x in 1..601 {
+        if !is_created(heap, x) {
+            return false;
+        }
+    }
+    true
+}
+
+// Whether five machines are made, where memory may be refused: then nothing has changed, and the next try succeeds.
+fn are_made_in_spite(heap: &mut Heap) -> bool {
+    if make(heap, 5) == Some(Err(Refused::Memory)) {
+        return is_no_machine(heap, 1) && heap.blocks() == 601 && make(heap, 5) == Some(Ok(()));
+    }
+    true
+}
+
 #[test]
 fn refused_memory_leaves_the_heap(rt: HostRuntime) -> Result<(), Fail> {
     let mut heap = match yard(rt.alloc()) {
         Ok(heap) => heap,
         Err(_) => yard(rt.alloc())?,
     };
-    for x in 1..601 {
-        assert!(rt; is_created(&mut heap, x));
-    }
-    if make(&mut heap, 5) == Some(Err(Refused::Memory)) {
-        assert_eq!(rt; known(&heap, MACHINE, 1), Some(Err(FaultKind::Index)));
-        assert_eq!(rt; heap.blocks(), 601);
-        assert_eq!(rt; make(&mut heap, 5), Some(Ok(())));
-    }
-    assert_eq!(rt; known(&heap, MACHINE, 5), Some(Ok(())));
-    assert_eq!(rt; heap.blocks(), 606);
+    assert!(rt; are_created_in_spite(&mut heap));
+    assert!(rt; are_made_in_spite(&mut heap));
+    assert!(rt; known(&heap, MACHINE, 5) == Some(Ok(())));
+    assert!(rt; heap.blocks() == 606);
     Ok(())
 }
 

@@ -43,7 +43,11 @@ fn keeps_a_sum_that_does_not_fit(rt: HostRuntime) -> Result<(), Fail> {
     assert_eq!(rt; totals.sum(0), Err(FaultKind::Overflow));
     totals.note(0, -5)?;
     assert_eq!(rt; totals.sum(0), Ok(9_223_372_036_854_775_803));
+    Ok(())
+}
 
+#[test]
+fn keeps_a_sum_over_time_that_does_not_fit(rt: HostRuntime) -> Result<(), Fail> {
     let mut totals = Totals::accumulate(0, i64::MIN);
     assert_eq!(rt; totals.sum(1), Ok(i64::MIN));
     assert_eq!(rt; totals.sum(2), Err(FaultKind::Overflow));
