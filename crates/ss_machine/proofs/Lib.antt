@@ -10,3 +10,4 @@ mod Onwards
 mod Counting
 mod Good
 mod Reaching
+mod Trying

@@ -4,3 +4,4 @@ pub mod Runs
 pub mod Unread
 pub mod Measure
 pub mod Held
+pub mod Tried
