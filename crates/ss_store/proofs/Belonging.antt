@@ -8,7 +8,7 @@ use Rattle.ss_base.specs.declared.value.Value.{Value}
 use Rattle.ss_meaning.specs.Values.{Trouble as Meant, Fails, if_ok, turned, due, where_fit, unless_fault}
 use Rattle.ss_meaning.specs.Store.{Store}
 use Rattle.ss_meaning.specs.Sets.{owner_number}
-use Rattle.ss_store.specs.declared.trouble.Trouble.{Trouble}
+use Rattle.ss_population.specs.declared.trouble.Trouble.{Trouble}
 use Rattle.ss_store.specs.Seen.{Seen, with_seen, set_in, Gains}
 use Rattle.ss_store.proofs.Asking.{owned_there}
 

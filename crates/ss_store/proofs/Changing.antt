@@ -3,7 +3,7 @@ use Rattle.std.proofs.Common.{◌≡◌, ℤ, Bool, true, false, Ok, Err, ap, �
 use Rattle.std.specs.Prelude.{Result as OkOr}
 use Rattle.ss_meaning.specs.Values.{Trouble as Meant, if_ok, turned, where_fit}
 use Rattle.ss_meaning.specs.Store.{Store}
-use Rattle.ss_store.specs.declared.trouble.Trouble.{Trouble}
+use Rattle.ss_population.specs.declared.trouble.Trouble.{Trouble}
 use Rattle.ss_store.specs.Seen.{Seen, with_seen, Changes}
 
 -- a look at a number, and then a change

@@ -12,19 +12,10 @@ use Rattle.ss_records.specs.Sets.{member_class}
 use Rattle.ss_sets.specs.Disciplines.{Fits, filed}
 use Rattle.ss_meaning.specs.Values.{if_ok, due, sure, where_fit}
 use Rattle.ss_meaning.specs.Sets.{ByRule, is_field, is_fit, filed_by}
-use Rattle.ss_store.specs.declared.trouble.Trouble.{Trouble}
-use Rattle.ss_store.specs.Seen.{Seen, meant}
+use Rattle.ss_population.specs.declared.trouble.Trouble.{Trouble}
+use Rattle.ss_population.specs.Told.{meant}
+use Rattle.ss_store.specs.Seen.{Seen}
 use Rattle.ss_store.specs.Filed.{Resettles}
-
-fits_decided : (l : PlainLayout) (set : ℕ) (d : Discipline) → Decides (is_fit l set d) (Fits l set d)
-fits_decided l set Fifo = (λ e. tt, λ u. refl)
-fits_decided l set Lifo = (λ e. tt, λ u. refl)
-fits_decided l set (Ranked ks) =
-    let fields = length (modes_of l (member_class l set)) in
-    Decides-by_and (λ (k : RankKey). nat_lt k.field fields) (λ (k : RankKey). k.field < fields) (list_all (is_field l (member_class l set))) (λ k. Decides-ltb k.field fields) refl (λ k rest. refl) ks
-
-pub fit_is : (l : PlainLayout) (set : ℕ) (d : Discipline) (r : Bool) → Decides r (Fits l set d) → r ≡ is_fit l set d
-fit_is l set d r h = same_from_decides r (is_fit l set d) h (fits_decided l set d)
 
 -- filing by the discipline of the set
 pub by_rule : (e : Seen) (set : ℕ) (o x : ℤ) (d : Discipline) (g : State) (r : OkOr (Unit {0}) Trouble) → slice_get e.disciplines set ≡ Some d → (let answer = where_fit (is_fit e.heap.layout set d) (due (filed e.heap d set o x)) in MatchResult r (λ _. answer ≡ Ok g) (λ t. (answer ≡ Err (meant t)) × (g ≡ e.heap))) → Resettles (filed_by ByRule set o x) e (record e { heap = g }) r

@@ -12,7 +12,7 @@ use Rattle.ss_meaning.specs.Store.{Store}
 use Rattle.ss_meaning.specs.Sets.{Filing, ByRule, Foremost, Hindmost, Ahead, Behind, is_fit, member, filed_by, recounted}
 use Rattle.ss_store.specs.Filed.{filed_known, removed_known, tested}
 use Rattle.ss_store.proofs.Late.{if_ok_ok}
-use Rattle.ss_store.proofs.Refiled.{and_then_ok}
+use Rattle.ss_population.proofs.Refiled.{and_then_ok}
 use Rattle.ss_store.proofs.Recounting.{due_ok}
 
 looked : {A : Type 0} (st : State) (set : ℕ) (x : ℤ) (f : ℕ → OkOr A FaultKind) (a : A) → due (and_then (joiner st set x) f) ≡ Ok a → (i : ℕ) × (joiner st set x ≡ Ok i)

@@ -1,8 +1,6 @@
-pub mod Counting
 pub mod Changing
 pub mod Asking
 pub mod Creating
-pub mod Refiled
 pub mod Belonging
 pub mod Late
 pub mod Recounting

@@ -16,11 +16,11 @@ use Rattle.ss_meaning.specs.Values.{Trouble as Meant, if_ok, turned, due, sure, 
 use Rattle.ss_meaning.specs.Store.{Store, with_heap}
 use Rattle.ss_meaning.specs.Histories.{noted}
 use Rattle.ss_meaning.specs.Sets.{Filing, ByRule, Foremost, Hindmost, Ahead, Behind, is_fit, member, owner_number, filed_by, recounted, end_removed, removed_at}
-use Rattle.ss_store.specs.declared.trouble.Trouble.{Trouble}
+use Rattle.ss_population.specs.declared.trouble.Trouble.{Trouble}
 use Rattle.ss_store.specs.Seen.{Seen, with_seen, set_in, Changes, Gains}
 use Rattle.ss_store.specs.Filed.{Resettles, Gives, end_counted}
 use Rattle.ss_store.proofs.Late.{if_ok_ok}
-use Rattle.ss_store.proofs.Refiled.{IsRefiled, counted, first_refiled, last_refiled, before_refiled, after_refiled, filed_refiled, out_refiled, first_out_refiled, last_out_refiled}
+use Rattle.ss_population.proofs.Refiled.{IsRefiled, counted, first_refiled, last_refiled, before_refiled, after_refiled, filed_refiled, out_refiled, first_out_refiled, last_out_refiled}
 
 -- ## What is noted
 

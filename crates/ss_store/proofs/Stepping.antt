@@ -11,11 +11,12 @@ use Rattle.ss_meaning.specs.Values.{Trouble as Meant, if_ok, turned, sure, unles
 use Rattle.ss_meaning.specs.Store.{Notices, Store}
 use Rattle.ss_meaning.specs.Entities.{entity, attribute}
 use Rattle.ss_meaning.specs.Events.{Ranked, ranked, ranked_from, ties_of, prepared, filed_notice, rescheduled}
-use Rattle.ss_store.specs.declared.trouble.Trouble.{Trouble}
-use Rattle.ss_store.specs.declared.trouble.Trouble.TheVariants.{Fault, Misfit}
-use Rattle.ss_store.specs.declared.trouble.Unmade.{Unmade}
-use Rattle.ss_store.specs.declared.trouble.Unmade.TheVariants as unmade
-use Rattle.ss_store.specs.Seen.{Seen, with_seen, told, Changes, Grows}
+use Rattle.ss_population.specs.declared.trouble.Trouble.{Trouble}
+use Rattle.ss_population.specs.declared.trouble.Trouble.TheVariants.{Fault, Misfit}
+use Rattle.ss_population.specs.declared.trouble.Unmade.{Unmade}
+use Rattle.ss_population.specs.declared.trouble.Unmade.TheVariants as unmade
+use Rattle.ss_population.specs.Told.{told}
+use Rattle.ss_store.specs.Seen.{Seen, with_seen, Changes, Grows}
 use Rattle.ss_store.specs.Scheduled.{Leads, Forms, Goes, Finds, put_there, lacking, ranked_at, key_ranked, key_meant, scheduled_known, scheduled_anew}
 
 -- ## Steps

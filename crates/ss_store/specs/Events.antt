@@ -16,10 +16,11 @@ use Rattle.ss_meaning.specs.Events.{Ranked, Coming, Beginning, ranked_as, next_e
 use Rattle.ss_store.specs.declared.coming.Event.{Event}
 use Rattle.ss_store.specs.declared.coming.Fate.{Fate}
 use Rattle.ss_store.specs.declared.coming.Fate.TheVariants.{Saved, Gone}
-use Rattle.ss_store.specs.declared.trouble.Trouble.TheVariants.{Fault, Misfit}
-use Rattle.ss_store.specs.declared.trouble.Unmade.{Unmade}
-use Rattle.ss_store.specs.declared.trouble.Unmade.TheVariants as unmade
-use Rattle.ss_store.specs.Seen.{Seen, with_seen, kind_at, told}
+use Rattle.ss_population.specs.declared.trouble.Trouble.TheVariants.{Fault, Misfit}
+use Rattle.ss_population.specs.declared.trouble.Unmade.{Unmade}
+use Rattle.ss_population.specs.declared.trouble.Unmade.TheVariants as unmade
+use Rattle.ss_population.specs.Told.{told}
+use Rattle.ss_store.specs.Seen.{Seen, with_seen, kind_at}
 
 -- ## What comes next
 

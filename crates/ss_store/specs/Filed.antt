@@ -12,9 +12,10 @@ use Rattle.ss_meaning.specs.Store.{Store}
 use Rattle.ss_meaning.specs.Sets.{Filing as MeantFiling, ByRule, Foremost, Hindmost, Ahead, Behind, filed_by, recounted, set_at, member, owner_number, end_removed, from_or_after}
 use Rattle.ss_store.specs.declared.filing.Filing.{Filing}
 use Rattle.ss_store.specs.declared.filing.Filing.TheVariants.{ByDiscipline, First, Last, Before, After}
-use Rattle.ss_store.specs.declared.known.Membership.{Membership}
-use Rattle.ss_store.specs.declared.trouble.Trouble.{Trouble}
-use Rattle.ss_store.specs.Seen.{Seen, with_seen, set_in, told}
+use Rattle.ss_population.specs.declared.known.Membership.{Membership}
+use Rattle.ss_population.specs.declared.trouble.Trouble.{Trouble}
+use Rattle.ss_population.specs.Told.{told}
+use Rattle.ss_store.specs.Seen.{Seen, with_seen, set_in}
 
 -- where a member is filed, as the meaning tells it
 abbrev pub filing_meant : Filing → MeantFiling

@@ -8,11 +8,12 @@ use Rattle.ss_meaning.specs.Values.{Trouble as Meant, if_ok, turned, due, sure}
 use Rattle.ss_meaning.specs.Store.{Notices, Store, with_pending}
 use Rattle.ss_meaning.specs.Events.{Moment, AtTime, Later, Ranked, ranked, ties_of, not_past, prepared, filed_notice}
 use Rattle.ss_base.specs.Arithmetic.{plus_of}
-use Rattle.ss_store.specs.declared.trouble.Trouble.{Trouble}
-use Rattle.ss_store.specs.declared.trouble.Trouble.TheVariants.{Fault, Misfit}
-use Rattle.ss_store.specs.declared.trouble.Unmade.{Unmade}
-use Rattle.ss_store.specs.declared.trouble.Unmade.TheVariants as unmade
-use Rattle.ss_store.specs.Seen.{Seen, with_seen, told}
+use Rattle.ss_population.specs.declared.trouble.Trouble.{Trouble}
+use Rattle.ss_population.specs.declared.trouble.Trouble.TheVariants.{Fault, Misfit}
+use Rattle.ss_population.specs.declared.trouble.Unmade.{Unmade}
+use Rattle.ss_population.specs.declared.trouble.Unmade.TheVariants as unmade
+use Rattle.ss_population.specs.Told.{told}
+use Rattle.ss_store.specs.Seen.{Seen, with_seen}
 
 -- ## Operations in several steps
 

@@ -1,5 +1,5 @@
 -- What is seen of a scene, and what is said of an operation on it.
-use Rattle.std.specs.Prelude.{◌≡◌, ℕ, slice_get, List, [], map, length, ℤ, pos, Option, Some, None, Result, Ok, Err}
+use Rattle.std.specs.Prelude.{◌≡◌, ℕ, slice_get, List, [], ℤ, pos, Option, Some, None, Result, Ok, Err}
 use Rattle.std.specs.Option.{option_map}
 use Rattle.ss_base.specs.declared.fault.FaultKind.TheVariants.{Scheduled, CreatedTwice}
 use Rattle.ss_base.specs.declared.fault.Refused.{Refused}
@@ -11,9 +11,9 @@ use Rattle.ss_base.specs.Plain.{PlainClass, PlainLayout}
 use Rattle.ss_base.specs.declared.layout.Discipline.{Discipline}
 use Rattle.ss_base.specs.declared.value.Value.{Value}
 use Rattle.ss_base.specs.declared.value.Value.TheVariants.{Whole}
-use Rattle.ss_records.specs.State.{State, Record, modes_of, is_made, assigned, created_all, destroyed}
+use Rattle.ss_records.specs.State.{State, modes_of, is_made, assigned, created_all, destroyed}
 use Rattle.ss_events.specs.PendingList.{PendingList, is_pending, cancelled}
-use Rattle.ss_meaning.specs.Values.{Trouble as Meant, Fails, Misfit as IsMisfit, if_ok, turned, due, where_fit, unless_fault}
+use Rattle.ss_meaning.specs.Values.{Trouble as Meant, if_ok, turned, due, where_fit, unless_fault}
 use Rattle.ss_meaning.specs.Store.{Notices, Store, with_heap, with_pending}
 use Rattle.ss_meaning.specs.Histories.{noted}
 use Rattle.ss_meaning.specs.Entities.{class_at, field_at, is_single, is_permanent, made_count, with_all}
@@ -23,11 +23,11 @@ use Rattle.ss_records.specs.Sets.{next_in, previous_in, owner_of_member}
 use Rattle.ss_program.specs.declared.expression.MemberQuery.{MemberQuery}
 use Rattle.ss_program.specs.declared.expression.MemberQuery.TheVariants.{Predecessor, Successor, Membership}
 use Rattle.ss_program.specs.declared.sections.Subject.TheVariants.{OfAttribute}
-use Rattle.ss_store.specs.declared.known.Known.{Known}
-use Rattle.ss_store.specs.declared.trouble.Trouble.{Trouble}
-use Rattle.ss_store.specs.declared.trouble.Trouble.TheVariants.{Fault, Misfit}
-use Rattle.ss_store.specs.declared.trouble.Unmade.{Unmade}
-use Rattle.ss_store.specs.declared.trouble.Unmade.TheVariants as unmade
+use Rattle.ss_population.specs.Told.{told}
+use Rattle.ss_population.specs.declared.trouble.Trouble.{Trouble}
+use Rattle.ss_population.specs.declared.trouble.Trouble.TheVariants.{Fault, Misfit}
+use Rattle.ss_population.specs.declared.trouble.Unmade.{Unmade}
+use Rattle.ss_population.specs.declared.trouble.Unmade.TheVariants as unmade
 
 -- what a program says of each set and of each class of notices, the entities, the time, and the notices that are pending
 pub record Seen : Type 0 where
@@ -49,20 +49,6 @@ with_seen s e = record s {
     input = s.scene.input;
   };
 }
-
--- a trouble, as the meaning tells it, and an answer
-abbrev pub meant : Trouble → Meant
-meant (Fault kind) = Fails kind
-meant Misfit = IsMisfit
-
-abbrev pub told : {A : Type 0} → Result A Trouble → Result A Meant
-told (Ok a) = Ok a
-told (Err t) = Err (meant t)
-
--- the number of what was looked at
-abbrev pub numbered : Result Known Trouble → Result ℤ Trouble
-numbered (Ok k) = Ok k.number
-numbered (Err t) = Err t
 
 -- an operation looks: in each store with what is seen it has this answer
 abbrev pub Looks : {A : Type 0} → (Store → Result A Meant) → Seen → Result A Trouble → Type 0
@@ -97,14 +83,6 @@ abbrev pub settled : Result (Unit {0}) Refused → Result (Unit {0}) Unmade
 settled (Ok u) = Ok u
 settled (Err (refusals.Fault kind)) = Err (unmade.Fault kind)
 settled (Err refusals.Memory) = Err unmade.Memory
-
--- how many entities a permanent class has, where they are made
-abbrev pub count_of : Option (List Record) → Option ℤ
-count_of None = None
-count_of (Some rs) = Some (pos (length rs))
-
-abbrev pub counts_of : List (Option (List Record)) → List (Option ℤ)
-counts_of ps = map count_of ps
 
 -- the kind of a class, and the mode of a field
 abbrev pub kind_at : PlainLayout → ℕ → Option ClassKind

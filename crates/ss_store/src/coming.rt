@@ -9,11 +9,11 @@ ghost use Rattle.ss_store.specs.Seen.{with_seen};
 ghost use Rattle.ss_store.specs.Scheduled.{Finds, put_there};
 ghost use Rattle.ss_store.specs.Events.{Comes, Begins, Lets, First, Told, is_of};
 
-use crate::known::Known;
+use ss_population::known::Known;
 use crate::notices::NoticeClass;
 use crate::scene::Scene;
 use crate::scheduling::lacking;
-use crate::trouble::Unmade;
+use ss_population::trouble::Unmade;
 use ss_base::{ClassKind, Line, Value};
 
 /// An event that comes next: its notice by its number, the rank of its class, and what the program says of that: the

@@ -5,9 +5,9 @@ ghost use Rattle.ss_meaning.specs.Sets.{ByRule, Ahead, Behind, filed_by, filed_i
 ghost use Rattle.ss_store.specs.Seen.{Changes};
 ghost use Rattle.ss_store.specs.Filed.{Resettles, filing_meant, with_owner, filed_known};
 
-use crate::known::{Known, Membership, known_number};
+use ss_population::known::{Known, Membership, known_number};
 use crate::scene::Scene;
-use crate::trouble::{Trouble, or_trouble};
+use ss_population::trouble::{Trouble, or_trouble};
 use ss_base::Value;
 
 /// Where a member is filed.

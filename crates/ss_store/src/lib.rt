@@ -4,13 +4,12 @@
 pub mod coming;
 pub mod entities;
 pub mod filing;
-mod known;
 mod members;
 pub mod notices;
 mod pending;
-mod population;
 mod removing;
 pub mod scene;
 mod scheduling;
 mod sets;
-pub mod trouble;
+
+pub use ss_population::trouble;

@@ -5,13 +5,14 @@ ghost use Rattle.ss_records.specs.Sets.{joiner, owner};
 ghost use Rattle.ss_sets.specs.Disciplines.{member_test};
 ghost use Rattle.ss_meaning.specs.Sets.{member, known_owner, is_in, outset, beside, begun, coming, from_or_after, begun_at, or_gone, goes_on};
 ghost use Rattle.ss_meaning.specs.Values.{due, turned, where_fit};
-ghost use Rattle.ss_store.specs.Seen.{Looks, told, numbered, set_in};
+ghost use Rattle.ss_population.specs.Told.{told, numbered};
+ghost use Rattle.ss_store.specs.Seen.{Looks, set_in};
 ghost use Rattle.ss_store.specs.Filed.{both_known, paired, with_owner, tested, IsEarliest, begun_from};
 
-use crate::known::{Known, Membership, known_number};
+use ss_population::known::{Known, Membership, known_number};
 use crate::scene::Scene;
 use crate::sets::is_none;
-use crate::trouble::Trouble;
+use ss_population::trouble::Trouble;
 use ss_base::{FaultKind, Value};
 
 impl Scene {

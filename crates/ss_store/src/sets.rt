@@ -5,11 +5,12 @@ ghost use Rattle.ss_base.specs.declared.value.Value.TheVariants.{Whole};
 ghost use Rattle.ss_meaning.specs.Sets.{told_of_set, owner_number, of_set, of_member, is_none, is_empty};
 ghost use Rattle.ss_records.specs.Sets.{count_in};
 ghost use Rattle.ss_meaning.specs.Values.{due, turned, where_fit};
-ghost use Rattle.ss_store.specs.Seen.{Looks, told, numbered, set_in, told_of_member};
+ghost use Rattle.ss_population.specs.Told.{told, numbered};
+ghost use Rattle.ss_store.specs.Seen.{Looks, set_in, told_of_member};
 
-use crate::known::{Known, known_number};
+use ss_population::known::{Known, known_number};
 use crate::scene::Scene;
-use crate::trouble::{Trouble, number_of};
+use ss_population::trouble::{Trouble, number_of};
 use ss_base::{FaultKind, Owner, Value};
 use ss_program::expression::{MemberQuery, SetQuery};
 

@@ -7,7 +7,7 @@ use Rattle.ss_records.specs.State.{known_in, destroyed}
 use Rattle.ss_meaning.specs.Values.{if_ok, turned, due, where_fit, unless_fault, number_of}
 use Rattle.ss_meaning.specs.Store.{Store, with_heap}
 use Rattle.ss_meaning.specs.Entities.{class_at, is_single, entity, gone, without}
-use Rattle.ss_store.specs.declared.trouble.Trouble.{Trouble}
+use Rattle.ss_population.specs.declared.trouble.Trouble.{Trouble}
 use Rattle.ss_store.specs.Seen.{Seen, with_seen, Changes, gone_unless_pending}
 use Rattle.ss_store.proofs.Changing.{entity_number}
 use Rattle.ss_store.proofs.scene.Scene.destroy.Goals as goal

@@ -1,7 +1,7 @@
 use Rattle.std.proofs.Common.{rules, ◌≡◌, ℤ, Ok, Err, subst, to_z, of_z, w64}
 use Rattle.std.specs.Prelude.{Result as OkOr}
 use Rattle.ss_events.specs.SortKey.{SortKey}
-use Rattle.ss_store.specs.declared.trouble.Unmade.{Unmade}
+use Rattle.ss_population.specs.declared.trouble.Unmade.{Unmade}
 use Rattle.ss_store.specs.Scheduled.{Finds, key_meant}
 use Rattle.ss_store.proofs.Stepping.{not_filed, filed}
 use Rattle.ss_store.proofs.scene.Scene.file_pending.Goals as goal

@@ -1,6 +1,7 @@
 use Rattle.std.proofs.Common.{◌≡◌, Ok, Err, subst}
 use Rattle.ss_meaning.specs.Sets.{member, owner_number}
-use Rattle.ss_store.specs.Seen.{Seen, with_seen, meant}
+use Rattle.ss_population.specs.Told.{meant}
+use Rattle.ss_store.specs.Seen.{Seen, with_seen}
 use Rattle.ss_store.proofs.Belonging.{both_made}
 use Rattle.ss_store.proofs.scene.Scene.find_both.Goals as goal
 

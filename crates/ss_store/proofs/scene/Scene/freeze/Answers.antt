@@ -1,8 +1,9 @@
 use Rattle.std.proofs.Common.{Err, drop, sym, subst, ◌∙◌}
 use Rattle.std.proofs.lemmas.List.{drop_more}
 use Rattle.ss_meaning.specs.Events.{ties_of}
-use Rattle.ss_store.specs.declared.trouble.Unmade.{Unmade}
-use Rattle.ss_store.specs.Seen.{with_seen, meant}
+use Rattle.ss_population.specs.declared.trouble.Unmade.{Unmade}
+use Rattle.ss_population.specs.Told.{meant}
+use Rattle.ss_store.specs.Seen.{with_seen}
 use Rattle.ss_store.specs.Scheduled.{Finds, put_there}
 use Rattle.ss_store.proofs.Stepping.{finds_not, not_frozen}
 use Rattle.ss_store.proofs.scene.Scene.freeze.Goals as goal

@@ -3,8 +3,9 @@ use Rattle.ss_base.specs.declared.value.Value.{Value}
 use Rattle.ss_meaning.specs.Values.{turned, if_ok}
 use Rattle.ss_meaning.specs.Events.{made_notice, prepared}
 use Rattle.ss_meaning.specs.Store.{Store}
-use Rattle.ss_store.specs.declared.trouble.Unmade.{Unmade}
-use Rattle.ss_store.specs.Seen.{with_seen, told}
+use Rattle.ss_population.specs.declared.trouble.Unmade.{Unmade}
+use Rattle.ss_population.specs.Told.{told}
+use Rattle.ss_store.specs.Seen.{with_seen}
 use Rattle.ss_store.specs.Scheduled.{Forms}
 use Rattle.ss_store.proofs.Stepping.{forms_not}
 use Rattle.ss_store.proofs.scene.Scene.make_notice.Goals as goal

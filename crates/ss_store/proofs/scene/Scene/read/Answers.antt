@@ -4,8 +4,9 @@ use Rattle.ss_base.specs.declared.value.Value.TheVariants.{Whole}
 use Rattle.ss_meaning.specs.Entities.{attribute}
 use Rattle.ss_meaning.specs.Events.{attributes}
 use Rattle.ss_meaning.specs.Values.{turned}
-use Rattle.ss_store.specs.declared.trouble.Unmade.{Unmade}
-use Rattle.ss_store.specs.Seen.{with_seen, meant}
+use Rattle.ss_population.specs.declared.trouble.Unmade.{Unmade}
+use Rattle.ss_population.specs.Told.{meant}
+use Rattle.ss_store.specs.Seen.{with_seen}
 use Rattle.ss_store.specs.Scheduled.{Finds, put_there}
 use Rattle.ss_store.proofs.Stepping.{finds_not}
 use Rattle.ss_store.proofs.Taking.{not_read, read_on}

@@ -2,8 +2,9 @@ use Rattle.std.proofs.Common.{rules, ◌≡◌, ℤ, Ok, Err, ap, sym, subst, to
 use Rattle.ss_meaning.specs.Values.{if_ok}
 use Rattle.ss_meaning.specs.Store.{Store}
 use Rattle.ss_meaning.specs.Events.{prepared, filed_notice}
-use Rattle.ss_store.specs.declared.trouble.Unmade.{Unmade}
-use Rattle.ss_store.specs.Seen.{Grows, with_seen, told}
+use Rattle.ss_population.specs.declared.trouble.Unmade.{Unmade}
+use Rattle.ss_population.specs.Told.{told}
+use Rattle.ss_store.specs.Seen.{Grows, with_seen}
 use Rattle.ss_store.specs.Scheduled.{Goes, scheduled_anew}
 use Rattle.ss_store.proofs.Stepping.{goes_not, goes_on}
 use Rattle.ss_store.proofs.scene.Scene.schedule_anew.Goals as goal

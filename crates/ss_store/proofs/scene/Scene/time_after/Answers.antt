@@ -2,7 +2,8 @@ use Rattle.std.proofs.Common.{rules, ◌≡◌, ℤ, Ok, ap, ◌∙◌, subst, t
 use Rattle.ss_base.specs.Arithmetic.{plus_of}
 use Rattle.ss_meaning.specs.Values.{if_ok, due}
 use Rattle.ss_meaning.specs.Events.{not_past}
-use Rattle.ss_store.specs.Seen.{with_seen, told}
+use Rattle.ss_population.specs.Told.{told}
+use Rattle.ss_store.specs.Seen.{with_seen}
 use Rattle.ss_store.proofs.scene.Scene.time_after.Goals as goal
 
 pub returns-in-Ok : goal.returns-in-Ok

@@ -1,7 +1,8 @@
 use Rattle.std.proofs.Common.{rules, ◌≡◌, ℤ, Bool, Ok, ap, sym, ◌∙◌, subst, to_z, of_z, w64}
 use Rattle.ss_meaning.specs.Values.{if_ok, number_of}
 use Rattle.ss_meaning.specs.Events.{time_at, not_past}
-use Rattle.ss_store.specs.Seen.{with_seen, told}
+use Rattle.ss_population.specs.Told.{told}
+use Rattle.ss_store.specs.Seen.{with_seen}
 use Rattle.ss_store.specs.Scheduled.{moment_of, time_after}
 use Rattle.ss_store.proofs.scene.Scene.time_at.Goals as goal
 

@@ -1,0 +1,3 @@
+pub mod Counting
+pub mod Refiled
+pub mod Fitting
