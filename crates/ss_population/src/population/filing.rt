@@ -77,13 +77,7 @@ impl Population {
 
     /// Files x directly before y in the set of an owner. Faults: those of x (1 to 5), of y, of the owner, then 6
     /// where x is in some set of this name, then 7 where y is not in this one.
-    pub fn file_before(
-        &mut self,
-        set: usize,
-        o: i64,
-        x: i64,
-        y: i64,
-    ) -> Result<(), FaultKind>
+    pub fn file_before(&mut self, set: usize, o: i64, x: i64, y: i64) -> Result<(), FaultKind>
         requires set { set < length self.old.layout.sets }
         ensures { MatchResult result (λ _. filed_before self.old set o x y ≡ Ok self.new) (λ e. (filed_before self.old set o x y ≡ Err e) × (self.new ≡ self.old)) }
     {
