@@ -9,12 +9,12 @@ ghost use Rattle.ss_store.specs.Seen.{with_seen};
 ghost use Rattle.ss_store.specs.Scheduled.{Finds, put_there};
 ghost use Rattle.ss_store.specs.Events.{Comes, Begins, Lets, First, Told, is_of};
 
-use ss_population::known::Known;
 use crate::notices::NoticeClass;
 use crate::scene::Scene;
 use crate::scheduling::lacking;
-use ss_population::trouble::Unmade;
 use ss_base::{ClassKind, Line, Value};
+use ss_population::known::Known;
+use ss_population::trouble::Unmade;
 
 /// An event that comes next: its notice by its number, the rank of its class, and what the program says of that: the
 /// line of its routine, how many attributes that takes, and the global variable that a notice is saved in, if it is

@@ -10,10 +10,10 @@ ghost use Rattle.ss_meaning.specs.Places.{is_of_mode, assigned_attribute};
 ghost use Rattle.ss_population.specs.Told.{told, numbered};
 ghost use Rattle.ss_store.specs.Seen.{Looks, Changes, Makes, Grows, settled, count_open, number_made, created_all_known, class_in, kind_at, mode_at, assigned_field, gone_unless_pending, with_seen};
 
-use ss_population::known::Known;
 use crate::scene::Scene;
-use ss_population::trouble::{Trouble, Unmade, number_of};
 use ss_base::{ClassKind, FaultKind, Mode, Refused, Value};
+use ss_population::known::Known;
+use ss_population::trouble::{Trouble, Unmade, number_of};
 
 impl Scene {
     // The kind of a class, where the layout has it.

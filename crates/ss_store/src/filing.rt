@@ -5,10 +5,10 @@ ghost use Rattle.ss_meaning.specs.Sets.{ByRule, Ahead, Behind, filed_by, filed_i
 ghost use Rattle.ss_store.specs.Seen.{Changes};
 ghost use Rattle.ss_store.specs.Filed.{Resettles, filing_meant, with_owner, filed_known};
 
-use ss_population::known::{Known, Membership, known_number};
 use crate::scene::Scene;
-use ss_population::trouble::{Trouble, or_trouble};
 use ss_base::Value;
+use ss_population::known::{Known, Membership, known_number};
+use ss_population::trouble::{Trouble, or_trouble};
 
 /// Where a member is filed.
 #[derive(Clone, Copy, Debug)]

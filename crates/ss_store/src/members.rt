@@ -9,11 +9,11 @@ ghost use Rattle.ss_population.specs.Told.{told, numbered};
 ghost use Rattle.ss_store.specs.Seen.{Looks, set_in};
 ghost use Rattle.ss_store.specs.Filed.{both_known, paired, with_owner, tested, IsEarliest, begun_from};
 
-use ss_population::known::{Known, Membership, known_number};
 use crate::scene::Scene;
 use crate::sets::is_none;
-use ss_population::trouble::Trouble;
 use ss_base::{FaultKind, Value};
+use ss_population::known::{Known, Membership, known_number};
+use ss_population::trouble::Trouble;
 
 impl Scene {
     // A number as that of an entity that may be a member of a set.

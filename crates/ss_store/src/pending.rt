@@ -5,10 +5,10 @@ ghost use Rattle.ss_meaning.specs.Events.{clock, unscheduled};
 ghost use Rattle.ss_meaning.specs.Store.{Store as StoreSeen};
 ghost use Rattle.ss_store.specs.Seen.{Changes, cancelled_known, with_seen};
 
-use ss_population::known::Known;
 use crate::scene::Scene;
-use ss_population::trouble::Trouble;
 use ss_base::Value;
+use ss_population::known::Known;
+use ss_population::trouble::Trouble;
 
 impl Scene {
     /// TIME.V.

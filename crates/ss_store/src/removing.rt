@@ -5,10 +5,10 @@ ghost use Rattle.ss_meaning.specs.Sets.{removed_from, removed_at};
 ghost use Rattle.ss_store.specs.Seen.{Changes, Gains};
 ghost use Rattle.ss_store.specs.Filed.{Resettles, Gives, with_owner, out_of, removed_known, end_out, end_removed_known};
 
-use ss_population::known::{Known, Membership, known_number};
 use crate::scene::Scene;
-use ss_population::trouble::{Trouble, or_trouble};
 use ss_base::Value;
+use ss_population::known::{Known, Membership, known_number};
+use ss_population::trouble::{Trouble, or_trouble};
 use ss_program::statement::End;
 
 impl Scene {

@@ -6,9 +6,9 @@ ghost use Rattle.ss_records.specs.State.{first_state};
 ghost use Rattle.ss_events.specs.PendingList.{none_pending};
 
 use crate::notices::NoticeClass;
-use ss_population::population::Population;
 use ss_base::{Discipline, Layout};
 use ss_events::{Pending, TieShape};
+use ss_population::population::Population;
 use std::alloc::{AllocError, Global};
 use std::marker::Model;
 

@@ -6,12 +6,12 @@ ghost use Rattle.ss_store.specs.Seen.{Looks, Grows};
 ghost use Rattle.ss_store.specs.Scheduled.{Leads, Forms, Goes, Finds, put_there, lacking, moment_of, time_after, ranked_at, key_ranked, key_meant, scheduled_known, scheduled_anew};
 
 use crate::entities::settled;
-use ss_population::known::Known;
 use crate::notices::NoticeClass;
 use crate::scene::Scene;
-use ss_population::trouble::{Trouble, Unmade, number_of};
 use ss_base::{FaultKind, RankKey, Value, plus};
 use ss_events::{Key, Tie};
+use ss_population::known::Known;
+use ss_population::trouble::{Trouble, Unmade, number_of};
 use std::alloc::Global;
 
 impl Scene {

@@ -8,10 +8,10 @@ ghost use Rattle.ss_meaning.specs.Values.{due, turned, where_fit};
 ghost use Rattle.ss_population.specs.Told.{told, numbered};
 ghost use Rattle.ss_store.specs.Seen.{Looks, set_in, told_of_member};
 
-use ss_population::known::{Known, known_number};
 use crate::scene::Scene;
-use ss_population::trouble::{Trouble, number_of};
 use ss_base::{FaultKind, Owner, Value};
+use ss_population::known::{Known, known_number};
+use ss_population::trouble::{Trouble, number_of};
 use ss_program::expression::{MemberQuery, SetQuery};
 
 impl Scene {
