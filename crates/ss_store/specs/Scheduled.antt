@@ -1,10 +1,11 @@
 -- What scheduling does once the number of the notice is known, and what is said of operations in several steps.
-use Rattle.std.specs.Prelude.{◌≡◌, ℕ, Bool, true, false, List, ℤ, Option, Some, None, Result, Ok, Err, slice_get}
+use Rattle.std.specs.Prelude.{◌≡◌, ℕ, Bool, true, false, List, ℤ, int_lt, Option, Some, None, Result, Ok, Err, slice_get}
 use Rattle.std.specs.Option.{option_map}
+use Rattle.ss_base.specs.declared.fault.FaultKind.TheVariants.{PastTime}
 use Rattle.ss_base.specs.declared.value.Value.{Value}
 use Rattle.ss_events.specs.SortKey.{SortKey}
 use Rattle.ss_events.specs.PendingList.{scheduled}
-use Rattle.ss_meaning.specs.Values.{Trouble as Meant, if_ok, turned, due, sure}
+use Rattle.ss_meaning.specs.Values.{Trouble as Meant, if_ok, turned, due, sure, unless_fault}
 use Rattle.ss_meaning.specs.Store.{Notices, Store, with_pending}
 use Rattle.ss_meaning.specs.Events.{Moment, AtTime, Later, Ranked, ranked, ties_of, not_past, prepared, filed_notice}
 use Rattle.ss_base.specs.Arithmetic.{plus_of}
@@ -79,7 +80,7 @@ key_meant class x t s = key_ranked (ranked class s) class x t s
 
 -- what filing a notice does once its key and its number are known
 abbrev pub scheduled_known : SortKey → (number : ℤ) → Store → Result Store Meant
-scheduled_known key n s = turned (with_pending s) (due (scheduled key n s.scene.pending))
+scheduled_known key n s = unless_fault (int_lt key.time s.scene.time) PastTime (turned (with_pending s) (due (scheduled key n s.scene.pending)))
 
 -- what SCHEDULE THE does to a notice that is not pending
 abbrev pub scheduled_anew : (class : ℕ) → (x : Value) → List Value → (time : ℤ) → Store → Result Store Meant

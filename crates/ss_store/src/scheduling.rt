@@ -153,6 +153,9 @@ impl Scene {
     fn schedule_known(&mut self, key: Key, known: Known) -> Result<(), Unmade>
         ensures { Grows (scheduled_known key known.number) self.old self.new result }
     {
+        if key.time() < self.time {
+            return Err(Unmade::Fault(FaultKind::PastTime));
+        }
         settled(self.pending.schedule(key, known.number))
     }
 
@@ -176,8 +179,8 @@ impl Scene {
     }
 
     /// A notice is filed among those that are pending: for this time, by the rank of its class and the values that
-    /// the attributes which break ties have now. Faults: 1 to 4, then 11, then 14 after the last scheduling. Want of
-    /// memory changes nothing.
+    /// the attributes which break ties have now. Faults: 1 to 4, then 13 where the time is before TIME.V, then 11, then
+    /// 14 after the last scheduling. Want of memory changes nothing.
     pub fn file_notice(
         &mut self,
         alloc: Global,
@@ -230,8 +233,8 @@ impl Scene {
     }
 
     /// A notice that there is gets values for its first attributes and its TIME.A, and is filed, as SCHEDULE THE says.
-    /// Faults: 1 to 4, then 11, then 14 after the last scheduling. Where memory is wanting, it has its values and its
-    /// TIME.A, and is not filed.
+    /// Faults: 1 to 4, then 11, then 13 where the time is before TIME.V, then 14 after the last scheduling. Where memory
+    /// is wanting, it has its values and its TIME.A, and is not filed.
     pub fn reschedule(
         &mut self,
         alloc: Global,
