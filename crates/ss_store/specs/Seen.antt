@@ -1,7 +1,8 @@
 -- What is seen of a scene, and what is said of an operation on it.
 use Rattle.std.specs.Prelude.{◌≡◌, ℕ, slice_get, List, [], ℤ, pos, Option, Some, None, Result, Ok, Err}
 use Rattle.std.specs.Option.{option_map}
-use Rattle.ss_base.specs.declared.fault.FaultKind.TheVariants.{Scheduled, CreatedTwice}
+use Rattle.ss_base.specs.declared.fault.FaultKind.{FaultKind}
+use Rattle.ss_base.specs.declared.fault.FaultKind.TheVariants.{Scheduled, CreatedTwice, Overflow}
 use Rattle.ss_base.specs.declared.fault.Refused.{Refused}
 use Rattle.ss_base.specs.declared.fault.Refused.TheVariants as refusals
 use Rattle.ss_base.specs.declared.layout.ClassKind.{ClassKind}
@@ -14,38 +15,42 @@ use Rattle.ss_base.specs.declared.value.Value.TheVariants.{Whole}
 use Rattle.ss_records.specs.State.{State, modes_of, is_made, assigned, created_all, destroyed}
 use Rattle.ss_events.specs.PendingList.{PendingList, is_pending, cancelled}
 use Rattle.ss_meaning.specs.Values.{Trouble as Meant, if_ok, turned, due, where_fit, unless_fault}
-use Rattle.ss_meaning.specs.Store.{Notices, Store, with_heap, with_pending}
+use Rattle.ss_meaning.specs.Store.{Notices, Column, Store, with_heap, with_pending}
 use Rattle.ss_meaning.specs.Histories.{noted}
-use Rattle.ss_meaning.specs.Entities.{class_at, field_at, is_single, is_permanent, made_count, with_all}
+use Rattle.ss_meaning.specs.Entities.{class_at, field_at, is_single, is_permanent, made_count, with_all, with_none}
 use Rattle.ss_meaning.specs.Places.{is_of_mode}
 use Rattle.ss_meaning.specs.Sets.{is_one}
 use Rattle.ss_records.specs.Sets.{next_in, previous_in, owner_of_member}
 use Rattle.ss_program.specs.declared.expression.MemberQuery.{MemberQuery}
 use Rattle.ss_program.specs.declared.expression.MemberQuery.TheVariants.{Predecessor, Successor, Membership}
 use Rattle.ss_program.specs.declared.sections.Subject.TheVariants.{OfAttribute}
+use Rattle.ss_program.specs.declared.sections.Statistic.{Statistic}
 use Rattle.ss_population.specs.Told.{told}
 use Rattle.ss_population.specs.declared.trouble.Trouble.{Trouble}
 use Rattle.ss_population.specs.declared.trouble.Trouble.TheVariants.{Fault, Misfit}
 use Rattle.ss_population.specs.declared.trouble.Unmade.{Unmade}
 use Rattle.ss_population.specs.declared.trouble.Unmade.TheVariants as unmade
 
--- what a program says of each set and of each class of notices, the entities, the time, and the notices that are pending
+-- what a program says of each set, of each class of notices and of statistics, the entities, the time, the notices that are pending, and the histories of
+-- each statistic
 pub record Seen : Type 0 where
   pub disciplines : List Discipline
   pub notices : List Notices
+  pub statistics : List Statistic
   pub heap : State
   pub time : ℤ
   pub pending : PendingList
+  pub histories : List Column
 
--- a store with all of that, in a program without statistics
+-- a store with all of that
 abbrev pub with_seen : Store → Seen → Store
 with_seen s e = record s {
   scene = record {
-    setting = record { disciplines = e.disciplines; notices = e.notices; statistics = [] };
+    setting = record { disciplines = e.disciplines; notices = e.notices; statistics = e.statistics };
     heap = e.heap;
     time = e.time;
     pending = e.pending;
-    histories = [];
+    histories = e.histories;
     input = s.scene.input;
   };
 }
@@ -59,12 +64,26 @@ abbrev pub Changes : (Store → Result Store Meant) → (old new : Seen) → Res
 Changes f old new (Ok u) = (s : Store) → f (with_seen s old) ≡ Ok (with_seen s new)
 Changes f old new (Err t) = ((s : Store) → f (with_seen s old) ≡ told {A = Store} (Err t)) × (new ≡ old)
 
+-- what is seen stays as it was after a fault, unless that is of a history which is full: a value is noted last
+abbrev pub Stays : Trouble → (old new : Seen) → Type 0
+Stays t old new = (kind : FaultKind) → t ≡ Fault kind → (kind ≡ Overflow → ⊥) → new ≡ old
+
+-- an operation changes what is seen, and histories note it; or it comes to a trouble, and changes nothing where no history does
+abbrev pub Notes : (Store → Result Store Meant) → (old new : Seen) → Result (Unit {0}) Trouble → Type 0
+Notes f old new (Ok u) = (s : Store) → f (with_seen s old) ≡ Ok (with_seen s new)
+Notes f old new (Err t) = ((s : Store) → f (with_seen s old) ≡ told {A = Store} (Err t)) × Stays t old new
+
 -- the same of one that gives a value as well
 abbrev pub Gains : {A : Type 0} → (Store → Result (A × Store) Meant) → (old new : Seen) → Result A Trouble → Type 0
 Gains f old new (Ok a) = (s : Store) → f (with_seen s old) ≡ Ok (a, with_seen s new)
-Gains {A} f old new (Err t) = ((s : Store) → f (with_seen s old) ≡ told {A = A × Store} (Err t)) × (new ≡ old)
+Gains {A} f old new (Err t) = ((s : Store) → f (with_seen s old) ≡ told {A = A × Store} (Err t)) × Stays t old new
 
--- the same of one that needs memory, where want of it changes nothing
+-- an operation changes what is seen or comes to a trouble and changes nothing, in each store of which something holds
+abbrev pub ChangesWhere : (Store → Type 0) → (Store → Result Store Meant) → (old new : Seen) → Result (Unit {0}) Trouble → Type 0
+ChangesWhere P f old new (Ok u) = (s : Store) → P (with_seen s old) → f (with_seen s old) ≡ Ok (with_seen s new)
+ChangesWhere P f old new (Err t) = ((s : Store) → P (with_seen s old) → f (with_seen s old) ≡ told {A = Store} (Err t)) × (new ≡ old)
+
+-- an operation that needs memory changes what is seen and gives a value, or comes to a trouble and changes nothing; want of memory changes nothing
 abbrev pub Makes : {A : Type 0} → (Store → Result (A × Store) Meant) → (old new : Seen) → Result A Unmade → Type 0
 Makes f old new (Ok a) = (s : Store) → f (with_seen s old) ≡ Ok (a, with_seen s new)
 Makes {A} f old new (Err (unmade.Fault kind)) = ((s : Store) → f (with_seen s old) ≡ told {A = A × Store} (Err (Fault kind))) × (new ≡ old)
@@ -109,7 +128,7 @@ assigned_field class field n v s =
 abbrev pub gone_unless_pending : (class : ℕ) → (number : ℤ) → Store → Result Store Meant
 gone_unless_pending class n s =
     unless_fault (is_pending n s.scene.pending.entries) Scheduled
-    (where_fit (is_single (class_at class s)) (turned (with_heap s) (due (destroyed s.scene.heap class n))))
+    (where_fit (is_single (class_at class s)) (turned (with_none class n s) (due (destroyed s.scene.heap class n))))
 
 -- what CANCEL does once the number of the notice is known
 abbrev pub cancelled_known : (number : ℤ) → Store → Result Store Meant

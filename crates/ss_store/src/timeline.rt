@@ -1,0 +1,230 @@
+//! What passes in time: TIME.V, the notices that are pending, and the histories that statistics are taken of.
+
+ghost use Rattle.std.specs.Prelude.{◌≡◌, map, pos, Bool, slice_get, if◌then◌else◌, MatchResult, IfOk, OnOk};
+ghost use Rattle.std.specs.List.{list_any};
+ghost use Rattle.std.specs.Ordering.{int_eq};
+ghost use Rattle.ss_base.specs.declared.layout.Owner.TheVariants.{System, Class};
+ghost use Rattle.ss_events.specs.PendingList.{none_pending, is_pending, cancelled, next};
+ghost use Rattle.ss_histories.specs.Places.{is_about};
+ghost use Rattle.ss_histories.specs.Records.{HasRooms, is_up_to, renewed_where, figured};
+ghost use Rattle.ss_meaning.specs.Histories.{no_histories, starting, ending, history_of, folded, renewed};
+ghost use Rattle.ss_meaning.specs.Values.{if_ok};
+ghost use Rattle.ss_store.specs.Figures.{subject_in};
+ghost use Rattle.ss_store.specs.Times.{IsAt, Schedules, Noted, columns, passed_by};
+
+use ss_base::{FaultKind, Layout, Owner, Refused, Value};
+use ss_events::{Key, Pending, TieShape};
+use ss_histories::{Histories, Unnoted};
+use ss_population::trouble::Trouble;
+use ss_program::expression::Fold;
+use ss_program::sections::{Statistic, Subject};
+use std::alloc::{AllocError, Global};
+use std::marker::Model;
+
+/// TIME.V, the notices that are pending, and the histories. No notice is pending for a time that is past.
+#[derive(Drop)]
+pub(crate) struct Timeline {
+    time: i64,
+    pending: Pending,
+    histories: Histories,
+}
+
+impl Model for Timeline {
+    ghost use Rattle.ss_store.specs.Times.{Times, IsTimely};
+
+    ghost Value = { Times };
+
+    ghost view = { λ t. record { time = t.time; pending = t.pending.list; histories = t.histories } };
+
+    ghost invariant = { λ t. IsTimely t.time t.histories.latest t.pending.list.entries };
+}
+
+impl Timeline {
+    /// At the time 0, with nothing pending, ties of these shapes, and the histories of what the system has. The error
+    /// comes where memory was refused.
+    pub(crate) fn new(
+        alloc: Global,
+        layout: &Layout,
+        shapes: &[Vec<TieShape>],
+        statistics: &[Statistic],
+    ) -> Result<Timeline, AllocError>
+        ensures time { IfOk result (λ t. t.time ≡ pos 0) }
+        ensures pending { IfOk result (λ t. t.pending ≡ none_pending (map (λ ties. ties.items) shapes.now)) }
+        ensures statistics { IfOk result (λ t. t.histories.statistics ≡ statistics.now) }
+        ensures histories { IfOk result (λ t. columns t ≡ starting layout.now System (int_eq (pos 0)) (pos 0) statistics.now (no_histories statistics.now)) }
+    {
+        let pending = Pending::new(alloc, shapes)?;
+        let histories = system_started(alloc, layout, statistics)?;
+        Ok(Timeline {
+            time: 0,
+            pending,
+            histories,
+        })
+    }
+
+    /// TIME.V.
+    pub(crate) fn time(&self) -> i64
+        ensures { result ≡ self.now.time }
+    {
+        self.time
+    }
+
+    /// The time and the number of the notice that comes next, if one is pending.
+    pub(crate) fn least(&mut self) -> Option<(i64, i64)>
+        ensures next { result ≡ next self.old.pending }
+        ensures same { self.new ≡ self.old }
+    {
+        self.pending.least()
+    }
+
+    /// Takes out the notice that comes next, and TIME.V is its time.
+    pub(crate) fn pass(&mut self)
+        ensures { self.new ≡ passed_by (next self.old.pending) self.old }
+    {
+        match self.pending.take() {
+            Some((time, _)) => {
+                self.time = time;
+            }
+            None => {}
+        }
+    }
+
+    /// Whether a notice is pending.
+    pub(crate) fn is_scheduled(&self, notice: i64) -> bool
+        ensures { result ≡ is_pending notice self.now.pending.entries }
+    {
+        self.pending.is_scheduled(notice)
+    }
+
+    /// A notice is pending under a key, whose time is not past. Faults: 11, then 14 after the last scheduling.
+    pub(crate) fn schedule(&mut self, key: Key, notice: i64) -> Result<(), Refused>
+        ensures { Schedules key notice self.old self.new result }
+    {
+        if key.time() < self.time {
+            return Err(Refused::Memory);
+        }
+        self.pending.schedule(key, notice)
+    }
+
+    /// A notice is pending no longer. Faults: 12.
+    pub(crate) fn cancel(&mut self, notice: i64) -> Result<(), FaultKind>
+        ensures { MatchResult result (λ _. (cancelled notice self.old.pending ≡ Ok self.new.pending) × (self.new ≡ record self.old { pending = self.new.pending })) (λ e. (cancelled notice self.old.pending ≡ Err e) × (self.new ≡ self.old)) }
+    {
+        self.pending.cancel(notice)
+    }
+
+    /// Whether a statistic is about a subject.
+    pub(crate) fn watches(&self, subject: Subject) -> bool
+        ensures { result ≡ list_any (is_about subject) self.now.histories.statistics }
+    {
+        self.histories.watches(subject)
+    }
+
+    /// What a statistic is about.
+    pub(crate) fn subject(&self, statistic: usize) -> Option<Subject>
+        ensures { result ≡ subject_in self.now.histories.statistics statistic }
+    {
+        self.histories.subject(statistic)
+    }
+
+    /// Notes a value of a subject in each history of it that an entity has. Faults: 14 where one of them is full.
+    pub(crate) fn note(
+        &mut self,
+        subject: Subject,
+        entity: i64,
+        value: Value,
+    ) -> Result<(), Trouble>
+        ensures { Noted subject entity value self.old self.new result }
+    {
+        or_unnoted(self.histories.note(subject, entity, self.time, value))
+    }
+
+    /// Makes room for so many more histories of each statistic of what the entities of a class have. The error comes
+    /// where memory was refused.
+    pub(crate) fn reserve(
+        &mut self,
+        layout: &Layout,
+        class: usize,
+        count: i64,
+    ) -> Result<(), AllocError>
+        ensures same { self.new ≡ record self.old { histories = record self.old.histories { room = self.new.histories.room } } }
+        ensures room { OnOk result (HasRooms layout.now (Class class) count self.new.histories.statistics self.new.histories.room) }
+    {
+        self.histories.reserve(layout, Owner::Class(class), count)
+    }
+
+    /// Starts the histories of an entity of a class, as it comes into being.
+    pub(crate) fn start(&mut self, layout: &Layout, class: usize, entity: i64)
+        requires room { HasRooms layout.now (Class class) (pos 1) self.old.histories.statistics self.old.histories.room }
+        ensures started { columns self.new ≡ starting layout.now (Class class) (int_eq entity) self.old.time self.old.histories.statistics (columns self.old) }
+        ensures same { IsAt self.old self.new }
+    {
+        self.histories
+            .start(layout, Owner::Class(class), entity, self.time);
+    }
+
+    /// Starts the histories of the entities 1 to a number of a class.
+    pub(crate) fn start_all(&mut self, layout: &Layout, class: usize, count: i64)
+        requires room { HasRooms layout.now (Class class) count self.old.histories.statistics self.old.histories.room }
+        ensures started { columns self.new ≡ starting layout.now (Class class) (is_up_to count) self.old.time self.old.histories.statistics (columns self.old) }
+        ensures same { IsAt self.old self.new }
+    {
+        self.histories.start_all(layout, class, count, self.time);
+    }
+
+    /// Ends the histories of an entity of a class, as it goes.
+    pub(crate) fn end(&mut self, layout: &Layout, class: usize, entity: i64)
+        ensures ended { columns self.new ≡ ending layout.now class entity self.old.histories.statistics (columns self.old) }
+        ensures same { IsAt self.old self.new }
+    {
+        self.histories.end(layout, class, entity);
+    }
+
+    /// What is asked of the history of an entity in a statistic, if it has one. Faults: 14.
+    pub(crate) fn figure(
+        &self,
+        fold: Fold,
+        statistic: usize,
+        entity: i64,
+    ) -> Option<Result<i64, FaultKind>>
+        ensures { if_ok (history_of statistic entity (columns self.now)) (folded fold self.now.time) ≡ figured result }
+    {
+        self.histories.figure(fold, statistic, entity, self.time)
+    }
+
+    /// Starts the history of an entity in a statistic afresh, with the present value, if it has one: whether it has.
+    pub(crate) fn renew(&mut self, statistic: usize, entity: i64, present: i64) -> bool
+        ensures renewed { renewed statistic entity self.old.time present (columns self.old) ≡ renewed_where result (columns self.new) }
+        ensures unchanged { (result ≡ false) → self.new ≡ self.old }
+        ensures same { IsAt self.old self.new }
+    {
+        self.histories.renew(statistic, entity, self.time, present)
+    }
+}
+
+// The histories of what the system has, at the time 0. The error comes where memory was refused.
+fn system_started(
+    alloc: Global,
+    layout: &Layout,
+    statistics: &[Statistic],
+) -> Result<Histories, AllocError>
+    ensures statistics { IfOk result (λ h. h.statistics ≡ statistics.now) }
+    ensures columns { IfOk result (λ h. columns_of h.rows ≡ starting layout.now System (int_eq (pos 0)) (pos 0) statistics.now (no_histories statistics.now)) }
+    ensures latest { IfOk result (λ h. h.latest ≤ℤ pos 0) }
+{
+    let mut histories = Histories::new(alloc, statistics)?;
+    histories.reserve(layout, Owner::System, 1)?;
+    histories.start(layout, Owner::System, 0, 0);
+    Ok(histories)
+}
+
+// What noting a value comes to.
+fn or_unnoted(answer: Result<(), Unnoted>) -> Result<(), Trouble>
+    ensures { result ≡ or_unnoted answer }
+{
+    match answer {
+        Ok(()) => Ok(()),
+        Err(Unnoted::Full) => Err(Trouble::Fault(FaultKind::Overflow)),
+        Err(Unnoted::Misfit) => Err(Trouble::Misfit),
+    }
+}
