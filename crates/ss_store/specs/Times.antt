@@ -1,6 +1,8 @@
 -- What passes in time.
-use Rattle.std.specs.Prelude.{◌≡◌, ℕ, List, ℤ, pos, ◌≤ℤ◌, Option, Some, None, Result, Ok, Err}
+use Rattle.std.specs.Prelude.{◌≡◌, List, ℤ, pos, int_lt, ◌≤ℤ◌, Option, Some, None, Result, Ok, Err, if◌then◌else◌}
 use Rattle.std.specs.List.{All}
+use Rattle.ss_base.specs.declared.fault.FaultKind.{FaultKind}
+use Rattle.ss_base.specs.declared.fault.FaultKind.TheVariants.{PastTime, Overflow}
 use Rattle.ss_base.specs.declared.fault.Refused.{Refused}
 use Rattle.ss_base.specs.declared.fault.Refused.TheVariants.{Fault, Memory}
 use Rattle.ss_base.specs.declared.value.Value.{Value}
@@ -12,7 +14,10 @@ use Rattle.ss_histories.specs.Records.{Records, columns_of}
 use Rattle.ss_meaning.specs.Values.{Trouble as Meant}
 use Rattle.ss_meaning.specs.Store.{Column}
 use Rattle.ss_meaning.specs.Histories.{all_noting}
+use Rattle.ss_histories.specs.declared.unnoted.Unnoted.{Unnoted}
+use Rattle.ss_histories.specs.declared.unnoted.Unnoted.TheVariants as unnoted
 use Rattle.ss_population.specs.declared.trouble.Trouble.{Trouble}
+use Rattle.ss_population.specs.declared.trouble.Trouble.TheVariants as troubles
 use Rattle.ss_population.specs.Told.{told}
 
 -- the time, the notices that are pending, and the histories
@@ -42,13 +47,23 @@ abbrev pub passed_by : Option (ℤ × ℤ) → Times → Times
 passed_by None t = record t { pending = after_next t.pending }
 passed_by (Some n) t = record t { time = n.0; pending = after_next t.pending }
 
+-- the list after a notice is scheduled under a key, whose time is not past, or the fault
+abbrev pub placed : SortKey → (notice : ℤ) → Times → Result PendingList FaultKind
+placed key n t = if int_lt key.time t.time then Err PastTime else scheduled key n t.pending
+
 -- a notice is scheduled, or there is a fault or no memory, and nothing changes
 abbrev pub Schedules : SortKey → (notice : ℤ) → (old new : Times) → Result (Unit {0}) Refused → Type 0
-Schedules key n old new (Ok u) = (scheduled key n old.pending ≡ Ok new.pending) × (new ≡ record old { pending = new.pending })
-Schedules key n old new (Err (Fault kind)) = (scheduled key n old.pending ≡ Err kind) × (new ≡ old)
+Schedules key n old new (Ok u) = (placed key n old ≡ Ok new.pending) × (new ≡ record old { pending = new.pending })
+Schedules key n old new (Err (Fault kind)) = (placed key n old ≡ Err kind) × (new ≡ old)
 Schedules key n old new (Err Memory) = new ≡ old
 
 -- histories note a value, or they don't, and nothing changes
 abbrev pub Noted : Subject → (entity : ℤ) → Value → (old new : Times) → Result (Unit {0}) Trouble → Type 0
 Noted subject x v old new (Ok u) = (all_noting subject x old.time v old.histories.statistics (columns old) ≡ Ok (columns new)) × IsAt old new
 Noted subject x v old new (Err t) = (all_noting subject x old.time v old.histories.statistics (columns old) ≡ told {A = List Column} (Err t)) × (new ≡ old)
+
+-- what noting a value comes to
+abbrev pub or_unnoted : Result (Unit {0}) Unnoted → Result (Unit {0}) Trouble
+or_unnoted (Ok u) = Ok u
+or_unnoted (Err unnoted.Full) = Err (troubles.Fault Overflow)
+or_unnoted (Err unnoted.Misfit) = Err troubles.Misfit

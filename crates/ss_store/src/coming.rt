@@ -44,7 +44,7 @@ impl Scene {
         ensures value { (s : StoreSeen) → is_awaited (with_seen s self.old) ≡ result }
         ensures same { self.new ≡ self.old }
     {
-        self.pending.least().is_some()
+        self.timeline.least().is_some()
     }
 
     // Whether a number is a notice of a class.
@@ -82,13 +82,12 @@ impl Scene {
     pub fn next_event(&mut self) -> Option<Event>
         ensures { Comes self.old self.new result }
     {
-        match self.pending.least() {
+        match self.timeline.least() {
             None => None,
-            Some((time, number)) => match self.event(Known { number }) {
+            Some((_, number)) => match self.event(Known { number }) {
                 None => None,
                 Some(event) => {
-                    let _ = self.pending.take();
-                    self.time = time;
+                    self.timeline.pass();
                     Some(event)
                 }
             },

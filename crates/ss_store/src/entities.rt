@@ -8,7 +8,7 @@ ghost use Rattle.ss_meaning.specs.Store.{Store as StoreSeen};
 ghost use Rattle.ss_meaning.specs.Values.{where_fit, due};
 ghost use Rattle.ss_meaning.specs.Places.{is_of_mode, assigned_attribute};
 ghost use Rattle.ss_population.specs.Told.{told, numbered};
-ghost use Rattle.ss_store.specs.Seen.{Looks, Changes, Makes, Grows, settled, count_open, number_made, created_all_known, class_in, kind_at, mode_at, assigned_field, gone_unless_pending, with_seen};
+ghost use Rattle.ss_store.specs.Seen.{Looks, Changes, Notes, Makes, Grows, settled, count_open, number_made, created_all_known, class_in, kind_at, mode_at, assigned_field, gone_unless_pending, with_seen};
 
 use crate::scene::Scene;
 use ss_base::{ClassKind, FaultKind, Mode, Refused, Value};
@@ -115,7 +115,7 @@ impl Scene {
         }
     }
 
-    // Assigns a value to an attribute of an entity by its number, where it has the mode of the field.
+    // Assigns a value to an attribute of an entity by its number, where it has the mode of the field; histories note it.
     fn set_field(
         &mut self,
         class: u32,
@@ -123,7 +123,7 @@ impl Scene {
         known: Known,
         value: Value,
     ) -> Result<(), Trouble>
-        ensures { Changes (assigned_field class field known.number value) self.old self.new result }
+        ensures { Notes (assigned_field class field known.number value) self.old self.new result }
     {
         if !self.fits(class, field, &value) {
             return Err(Trouble::Misfit);
@@ -132,7 +132,7 @@ impl Scene {
             .population
             .set_value(class as usize, field, known.number, value)
         {
-            Ok(()) => Ok(()),
+            Ok(()) => self.note_attribute(class, field, known, value),
             Err(kind) => Err(Trouble::Fault(kind)),
         }
     }
@@ -145,13 +145,14 @@ impl Scene {
         x: Value,
         value: Value,
     ) -> Result<(), Trouble>
-        ensures { Changes (assigned_attribute class field x value) self.old self.new result }
+        ensures { Notes (assigned_attribute class field x value) self.old self.new result }
     {
         let known = self.find(class, x)?;
         self.set_field(class, field, known, value)
     }
 
-    /// Assigns a value to an attribute. Faults: 1 to 5.
+    /// Assigns a value to an attribute, which its histories note. Faults: 1 to 5; then 14 where one of them is full, and
+    /// the attribute is assigned the value.
     pub fn set_attribute(
         &mut self,
         class: u32,
@@ -159,7 +160,7 @@ impl Scene {
         x: Value,
         value: Value,
     ) -> Result<(), Trouble>
-        ensures { Changes (assigned_attribute class field x value) self.old self.new result }
+        ensures { Notes (assigned_attribute class field x value) self.old self.new result }
     {
         self.set_value_of(class, field as usize, x, value)
     }
@@ -174,21 +175,28 @@ impl Scene {
         }
     }
 
-    /// The number of a new entity of a class. Faults: 14 after the last number.
+    /// The number of a new entity of a class, whose histories start. Faults: 14 after the last number.
     pub fn create(&mut self, class: u32) -> Result<Value, Unmade>
         ensures { Makes (made_one class) self.old self.new result }
     {
         if !self.is_single(class) {
             return Err(Unmade::Misfit);
         }
+        if self.make_room(class, 1).is_err() {
+            return Err(Unmade::Memory);
+        }
         match self.population.create(class as usize) {
-            Ok(number) => Ok(Value::Whole(number)),
+            Ok(number) => {
+                self.timeline
+                    .start(self.population.layout(), class as usize, number);
+                Ok(Value::Whole(number))
+            }
             Err(Refused::Fault(kind)) => Err(Unmade::Fault(kind)),
             Err(Refused::Memory) => Err(Unmade::Memory),
         }
     }
 
-    /// An entity goes, whether or not it is pending. Faults: 1 to 4, then 9 and 10.
+    /// An entity goes, and its histories end, whether or not it is pending. Faults: 1 to 4, then 9 and 10.
     pub fn remove_entity(&mut self, class: u32, x: Value) -> Result<(), Trouble>
         ensures { Changes (gone class x) self.old self.new result }
     {
@@ -197,7 +205,11 @@ impl Scene {
             return Err(Trouble::Misfit);
         }
         match self.population.destroy(class as usize, number) {
-            Ok(()) => Ok(()),
+            Ok(()) => {
+                self.timeline
+                    .end(self.population.layout(), class as usize, number);
+                Ok(())
+            }
             Err(kind) => Err(Trouble::Fault(kind)),
         }
     }
@@ -217,19 +229,23 @@ impl Scene {
     fn destroy_known(&mut self, class: u32, known: Known) -> Result<(), Trouble>
         ensures { Changes (gone_unless_pending class known.number) self.old self.new result }
     {
-        if self.pending.is_scheduled(known.number) {
+        if self.timeline.is_scheduled(known.number) {
             return Err(Trouble::Fault(FaultKind::Scheduled));
         }
         if !self.is_single(class) {
             return Err(Trouble::Misfit);
         }
         match self.population.destroy(class as usize, known.number) {
-            Ok(()) => Ok(()),
+            Ok(()) => {
+                self.timeline
+                    .end(self.population.layout(), class as usize, known.number);
+                Ok(())
+            }
             Err(kind) => Err(Trouble::Fault(kind)),
         }
     }
 
-    /// An entity goes, as DESTROY says. Faults: 1 to 4, then 21, then 9 and 10.
+    /// An entity goes, and its histories end, as DESTROY says. Faults: 1 to 4, then 21, then 9 and 10.
     pub fn destroy(&mut self, class: u32, x: Value) -> Result<(), Trouble>
         ensures { Changes (without class x) self.old self.new result }
     {
@@ -270,14 +286,25 @@ impl Scene {
         Ok(self.made_count(class))
     }
 
-    /// All entities of a permanent class, so many. Faults: 18 where they are made, then 22 for a bad count.
+    /// All entities of a permanent class, so many, whose histories start. Faults: 18 where they are made, then 22 for a bad count.
     pub fn create_all(&mut self, class: u32, count: i64) -> Result<(), Unmade>
         ensures { Grows (created_all_known class count) self.old self.new result }
     {
         if !self.is_permanent(class) {
             return Err(Unmade::Misfit);
         }
-        settled(self.population.create_all(class as usize, count))
+        if self.make_room(class, count).is_err() {
+            return Err(Unmade::Memory);
+        }
+        match self.population.create_all(class as usize, count) {
+            Ok(()) => {
+                self.timeline
+                    .start_all(self.population.layout(), class as usize, count);
+                Ok(())
+            }
+            Err(Refused::Fault(kind)) => Err(Unmade::Fault(kind)),
+            Err(Refused::Memory) => Err(Unmade::Memory),
+        }
     }
 }
 

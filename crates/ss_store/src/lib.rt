@@ -1,4 +1,5 @@
-//! What a run works on beside its variables: the entities, their sets, the time and the notices that are pending.
+//! What a run works on beside its variables: the entities, their sets, the time, the notices that are pending, and the
+//! histories that statistics are taken of.
 #![tactic(auto)]
 
 pub mod coming;
@@ -11,5 +12,7 @@ mod removing;
 pub mod scene;
 mod scheduling;
 mod sets;
+mod statistics;
+mod timeline;
 
 pub use ss_population::trouble;

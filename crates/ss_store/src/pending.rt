@@ -1,4 +1,4 @@
-//! Time, and the notices that are pending.
+//! TIME.V, and the notices that are pending.
 
 ghost use Rattle.std.specs.Prelude.{◌≡◌};
 ghost use Rattle.ss_meaning.specs.Events.{clock, unscheduled};
@@ -15,14 +15,14 @@ impl Scene {
     pub fn clock(&self) -> Value
         ensures { (s : StoreSeen) → clock (with_seen s self.now) ≡ result }
     {
-        Value::Whole(self.time)
+        Value::Whole(self.timeline.time())
     }
 
     // A notice is pending no longer, by its number.
     fn cancel_known(&mut self, known: Known) -> Result<(), Trouble>
         ensures { Changes (cancelled_known known.number) self.old self.new result }
     {
-        match self.pending.cancel(known.number) {
+        match self.timeline.cancel(known.number) {
             Ok(()) => Ok(()),
             Err(kind) => Err(Trouble::Fault(kind)),
         }

@@ -19,7 +19,7 @@ impl Scene {
     fn not_past(&self, time: i64) -> Result<i64, Trouble>
         ensures { Looks (not_past time) self.now result }
     {
-        if time < self.time {
+        if time < self.timeline.time() {
             return Err(Trouble::Fault(FaultKind::PastTime));
         }
         Ok(time)
@@ -29,7 +29,7 @@ impl Scene {
     fn time_after(&self, units: i64) -> Result<i64, Trouble>
         ensures { Looks (time_after units) self.now result }
     {
-        match plus(self.time, units) {
+        match plus(self.timeline.time(), units) {
             Ok(time) => self.not_past(time),
             Err(kind) => Err(Trouble::Fault(kind)),
         }
@@ -72,8 +72,9 @@ impl Scene {
         }
     }
 
-    /// A new notice of a class, with values for its first attributes and its TIME.A. Faults: 14 after the last number.
-    /// Want of memory changes nothing; where the values do not fit, the notice is made.
+    /// A new notice of a class, with values for its first attributes and its TIME.A. Faults: 14 after the last number,
+    /// or where a history of an attribute is full. Want of memory changes nothing; where the values do not fit, the
+    /// notice is made.
     pub fn make_notice(&mut self, class: u32, given: &[Value], time: i64) -> Result<Value, Unmade>
         ensures { Forms (made_notice class given.now time) self.old self.new result }
     {
@@ -153,10 +154,7 @@ impl Scene {
     fn schedule_known(&mut self, key: Key, known: Known) -> Result<(), Unmade>
         ensures { Grows (scheduled_known key known.number) self.old self.new result }
     {
-        if key.time() < self.time {
-            return Err(Unmade::Fault(FaultKind::PastTime));
-        }
-        settled(self.pending.schedule(key, known.number))
+        settled(self.timeline.schedule(key, known.number))
     }
 
     // A notice is filed among those that are pending.
@@ -224,7 +222,7 @@ impl Scene {
         match self.find(class, *x) {
             Err(trouble) => Err(lacking(trouble)),
             Ok(known) => {
-                if self.pending.is_scheduled(known.number) {
+                if self.timeline.is_scheduled(known.number) {
                     return Err(Unmade::Fault(FaultKind::AlreadyScheduled));
                 }
                 self.schedule_anew(alloc, class, x, given, time)
@@ -233,8 +231,8 @@ impl Scene {
     }
 
     /// A notice that there is gets values for its first attributes and its TIME.A, and is filed, as SCHEDULE THE says.
-    /// Faults: 1 to 4, then 11, then 13 where the time is before TIME.V, then 14 after the last scheduling. Where memory
-    /// is wanting, it has its values and its TIME.A, and is not filed.
+    /// Faults: 1 to 4, then 11, then 14 where a history of an attribute is full, then 13 where the time is before TIME.V,
+    /// then 14 after the last scheduling. Where memory is wanting, it has its values and its TIME.A, and is not filed.
     pub fn reschedule(
         &mut self,
         alloc: Global,

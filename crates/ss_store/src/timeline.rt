@@ -1,16 +1,16 @@
 //! What passes in time: TIME.V, the notices that are pending, and the histories that statistics are taken of.
 
-ghost use Rattle.std.specs.Prelude.{◌≡◌, map, pos, Bool, slice_get, if◌then◌else◌, MatchResult, IfOk, OnOk};
+ghost use Rattle.std.specs.Prelude.{◌≡◌, ◌≤ℤ◌, map, pos, false, Ok, Err, MatchResult, IfOk, OnOk};
 ghost use Rattle.std.specs.List.{list_any};
 ghost use Rattle.std.specs.Ordering.{int_eq};
 ghost use Rattle.ss_base.specs.declared.layout.Owner.TheVariants.{System, Class};
 ghost use Rattle.ss_events.specs.PendingList.{none_pending, is_pending, cancelled, next};
 ghost use Rattle.ss_histories.specs.Places.{is_about};
-ghost use Rattle.ss_histories.specs.Records.{HasRooms, is_up_to, renewed_where, figured};
+ghost use Rattle.ss_histories.specs.Records.{HasRooms, is_up_to, renewed_where, figured, columns_of};
 ghost use Rattle.ss_meaning.specs.Histories.{no_histories, starting, ending, history_of, folded, renewed};
 ghost use Rattle.ss_meaning.specs.Values.{if_ok};
 ghost use Rattle.ss_store.specs.Figures.{subject_in};
-ghost use Rattle.ss_store.specs.Times.{IsAt, Schedules, Noted, columns, passed_by};
+ghost use Rattle.ss_store.specs.Times.{IsAt, Schedules, Noted, columns, passed_by, or_unnoted};
 
 use ss_base::{FaultKind, Layout, Owner, Refused, Value};
 use ss_events::{Key, Pending, TieShape};
@@ -96,12 +96,13 @@ impl Timeline {
         self.pending.is_scheduled(notice)
     }
 
-    /// A notice is pending under a key, whose time is not past. Faults: 11, then 14 after the last scheduling.
+    /// A notice is pending under a key. Faults: 13 where its time is before TIME.V, then 11, then 14 after the last
+    /// scheduling.
     pub(crate) fn schedule(&mut self, key: Key, notice: i64) -> Result<(), Refused>
         ensures { Schedules key notice self.old self.new result }
     {
         if key.time() < self.time {
-            return Err(Refused::Memory);
+            return Err(Refused::Fault(FaultKind::PastTime));
         }
         self.pending.schedule(key, notice)
     }
