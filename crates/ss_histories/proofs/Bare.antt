@@ -1,7 +1,8 @@
 -- Statistics that keep their histories as they were.
 use Rattle.std.proofs.Common.{◌≡◌, zero, suc, ℤ, List, [], ◌∷◌, map, get_or, All, sym, ap, subst, refl, arith}
 use Rattle.ss_program.specs.declared.sections.Statistic.{Statistic}
-use Rattle.ss_histories.specs.Records.{Recorded, Rows, column_of, IsUntil, rows_of, none_in}
+use Rattle.ss_meaning.specs.Histories.{no_histories}
+use Rattle.ss_histories.specs.Records.{Recorded, Rows, column_of, columns_of, IsUntil, rows_of, none_in}
 use Rattle.ss_histories.specs.Each.{Shown, shown, bare, KeptUntil}
 use Rattle.ss_histories.proofs.Columns.{head_of, tail_of, not_none, joined, none_is}
 
@@ -33,3 +34,9 @@ fresh_until latest ss [] e k d h = absurd (omega (arith, h))
 fresh_until latest [] (n ∷ ns) e k d h = absurd (not_none _ _ e)
 fresh_until latest (s ∷ ss) (n ∷ ns) e zero d h = empty_until latest n.rows (ap (head_of n.rows) e)
 fresh_until latest (s ∷ ss) (n ∷ ns) e (suc k) d h = fresh_until latest ss ns (ap tail_of e) k d (omega (arith, h))
+
+pub none_columns : (rows : List Rows) (ss : List Statistic) → rows ≡ map none_in ss → columns_of rows ≡ no_histories ss
+none_columns [] [] e = refl
+none_columns [] (s ∷ ss) e = absurd (not_none _ _ (sym e))
+none_columns (r ∷ rows) [] e = absurd (not_none _ _ e)
+none_columns (r ∷ rows) (s ∷ ss) e = joined _ _ _ _ (ap column_of (ap (head_of r) e)) (none_columns rows ss (ap tail_of e))

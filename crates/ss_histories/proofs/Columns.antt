@@ -1,16 +1,20 @@
 -- Histories until a moment, and lists of which one item is changed.
-use Rattle.std.proofs.Common.{◌≡◌, ℕ, zero, suc, Bool, true, false, ◌<◌, ◌≤◌, ◌+◌, ◌≤ℤ◌, ℤ, cond, List, [], ◌∷◌, ◌++◌, length, map, take, drop, Option, Some, None, slice_set, get_or, All, ◌∙◌, sym, ap, subst, int_eq, pos, refl, arith}
+use Rattle.std.proofs.Common.{◌≡◌, ℕ, zero, suc, Bool, true, false, ◌&&◌, ◌||◌, ◌<◌, ◌≤◌, ◌+◌, ◌≤ℤ◌, ◌+ℤ◌, int_le, ℤ, cond, List, [], ◌∷◌, ◌++◌, length, map, take, drop, Option, Some, None, slice_set, get_or, All, ◌∙◌, sym, ap, subst, int_eq, pos, refl, arith}
 use Rattle.std.proofs.lemmas.Int.{ints}
+use Rattle.std.proofs.lemmas.Bool.Decides.{Decides-int_eq}
+use Rattle.std.proofs.Math.Path.{fun_ext}
 use Rattle.std.proofs.lemmas.List.{append-nil}
 use Rattle.std.proofs.Math.Seq.{take-length}
 use Rattle.std.proofs.Math.ListN.{drop_of_length-le}
+use Rattle.ss_base.specs.declared.layout.Owner.{Owner}
+use Rattle.ss_base.specs.declared.layout.Layout.{Layout}
 use Rattle.ss_program.specs.declared.sections.Weighting.{Weighting}
 use Rattle.ss_program.specs.declared.sections.Weighting.TheVariants as weightings
 use Rattle.ss_stats.specs.History.{History, Tally, Accumulate, Change, last_of, last_moment, is_full, with_value, restarted}
 use Rattle.ss_meaning.specs.Store.{Column}
 use Rattle.ss_meaning.specs.Histories.{at_start, begun_in, ended_in}
-use Rattle.ss_histories.specs.Records.{IsUntil, noted_to, noted_value, noted_column, renewed_to, renewed_column}
-use Rattle.ss_histories.specs.Each.{changed_at}
+use Rattle.ss_histories.specs.Records.{Recorded, IsUntil, noted_to, noted_value, noted_column, renewed_to, renewed_column, statistics_of, rooms_of, HasRooms, is_up_to}
+use Rattle.ss_histories.specs.Each.{changed_at, HasRoom}
 
 -- ## Histories until a moment
 
@@ -71,6 +75,73 @@ until_renewed now value entity c u =
       | None ↦ λ e. u
       | Some h ↦ λ e. until_put now (int_eq entity) (restarted h now value) c (renewed_until h now value (u entity h e)) u
     ]) refl
+
+-- ## Histories of the entities 1 to a number
+
+not_both : true ≡ false → ⊥
+not_both e = cc
+
+one_less : (i x : ℤ) → (i +ℤ pos 1 ≡ x → ⊥) → int_le x (i +ℤ pos 1) ≡ int_le x i
+one_less i x n =
+    (elim (int_le x i) as (λ b. int_le x i ≡ b → int_le x (i +ℤ pos 1) ≡ b) [
+      | true ↦ λ q. grind (arith, ints)
+      | false ↦ λ q. grind (arith, ints)
+    ]) refl
+
+up_to_more : (i x : ℤ) → pos 0 ≤ℤ i → is_up_to (i +ℤ pos 1) x ≡ (int_eq (i +ℤ pos 1) x || is_up_to i x)
+up_to_more i x h =
+    (elim (int_eq (i +ℤ pos 1) x) as (λ b. int_eq (i +ℤ pos 1) x ≡ b → is_up_to (i +ℤ pos 1) x ≡ (b || is_up_to i x)) [
+      | true ↦ λ q.
+          let s : (i +ℤ pos 1) ≡ x = (Decides-int_eq _ _).0 q in
+          let a : int_le (pos 1) x ≡ true = grind (arith, ints) in
+          let r : int_le x (i +ℤ pos 1) ≡ true = grind (arith, ints) in rw (a, r) refl
+      | false ↦ λ q.
+          let n : (i +ℤ pos 1) ≡ x → ⊥ = λ s. not_both (sym ((Decides-int_eq _ _).1 s) ∙ q) in
+          ap (λ (b : Bool). int_le (pos 1) x && b) (one_less i x n)
+    ]) refl
+
+begun_cond : (a b : Bool) (h o : Option History) → cond a h (cond b h o) ≡ cond (a || b) h o
+begun_cond true b h o = refl
+begun_cond false b h o = refl
+
+pub begun_more : (i : ℤ) (h : History) (c d e : Column) → pos 0 ≤ℤ i → d ≡ begun_in (is_up_to i) h c → e ≡ begun_in (int_eq (i +ℤ pos 1)) h d → e ≡ begun_in (is_up_to (i +ℤ pos 1)) h c
+begun_more i h c d e l p q =
+    q ∙ ap (begun_in (int_eq (i +ℤ pos 1)) h) p ∙
+    fun_ext (λ x. begun_cond (int_eq (i +ℤ pos 1) x) (is_up_to i x) (Some h) (c x) ∙ ap (λ (b : Bool). cond b (Some h) (c x)) (sym (up_to_more i x l)))
+
+none_up_to : (i x : ℤ) → i ≤ℤ pos 0 → is_up_to i x ≡ false
+none_up_to i x l =
+    (elim (int_le (pos 1) x) as (λ b. int_le (pos 1) x ≡ b → (b && int_le x i) ≡ false) [
+      | true ↦ λ q. let r : int_le x i ≡ false = grind (arith, ints) in r
+      | false ↦ λ q. refl
+    ]) refl
+
+pub none_begun : (i : ℤ) (h : History) (c d : Column) → i ≤ℤ pos 0 → d ≡ c → d ≡ begun_in (is_up_to i) h c
+none_begun i h c d l e = e ∙ fun_ext (λ x. ap (λ (b : Bool). cond b (Some h) (c x)) (sym (none_up_to i x l)))
+
+-- the number up to which a count went
+pub counted : (i count : ℤ) (h : History) (c d : Column) → count ≤ℤ i → (pos 1 ≤ℤ count → i ≤ℤ count) → (count ≤ℤ pos 0 → i ≤ℤ pos 0) →
+    d ≡ begun_in (is_up_to i) h c → d ≡ begun_in (is_up_to count) h c
+counted i count h c d l m n e =
+    (elim (int_le (pos 1) count) as (λ b. int_le (pos 1) count ≡ b → d ≡ begun_in (is_up_to count) h c) [
+      | true ↦ λ q.
+          let one : pos 1 ≤ℤ count = grind (arith, ints) in
+          let same : i ≡ count = omega (arith, ints, l, m one) in subst (λ k. d ≡ begun_in (is_up_to k) h c) same e
+      | false ↦ λ q.
+          let none : count ≤ℤ pos 0 = grind (arith, ints) in
+          e ∙ fun_ext (λ x. ap (λ (b : Bool). cond b (Some h) (c x)) (none_up_to i x (n none) ∙ sym (none_up_to count x none)))
+    ]) refl
+
+-- ## Room
+
+pub rooms_there : (l : Layout) (whose : Owner) (count : ℤ) (ks : List Recorded) → All (HasRoom l whose count) ks → HasRooms l whose count (statistics_of ks) (rooms_of ks)
+rooms_there l whose count [] a = tt
+rooms_there l whose count (k ∷ ks) a = (a zero k (omega arith), rooms_there l whose count ks (λ j d h. a (suc j) d (omega (arith, h))))
+
+pub rooms_each : (l : Layout) (whose : Owner) (count : ℤ) (ks : List Recorded) → HasRooms l whose count (statistics_of ks) (rooms_of ks) → All (HasRoom l whose count) ks
+rooms_each l whose count [] r j d h = absurd (omega (arith, h))
+rooms_each l whose count (k ∷ ks) r zero d h = r.0
+rooms_each l whose count (k ∷ ks) r (suc j) d h = rooms_each l whose count ks r.1 j d (omega (arith, h))
 
 -- ## Lists of which an item is written
 

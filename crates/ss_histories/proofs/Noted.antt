@@ -1,23 +1,27 @@
 -- What becomes of the histories, as the meaning says it.
-use Rattle.std.proofs.Common.{◌≡◌, ℕ, zero, suc, ◌<◌, length, All, arith, Bool, true, false, ◌&&◌, ◌||◌, if◌then◌else◌, ℤ, List, [], ◌∷◌, map, fold, Option, Some, None, Result, Ok, Err, slice_get, ◌∙◌, sym, ap, subst, refl}
+use Rattle.std.proofs.Common.{◌≡◌, ℕ, zero, suc, ◌<◌, length, All, arith, Bool, true, false, ◌||◌, if◌then◌else◌, ℤ, List, [], ◌∷◌, map, fold, Option, Some, None, is_some, Result, Ok, Err, slice_get, ◌∙◌, sym, ap, subst, refl}
 use Rattle.std.specs.List.{list_any}
-use Rattle.std.specs.Option.{option_map}
+use Rattle.std.specs.Option.{option_map, option_or}
 use Rattle.ss_program.specs.declared.expression.Fold.{Fold}
 use Rattle.ss_program.specs.declared.expression.Fold.TheVariants.{Number, Sum, Maximum, Minimum}
 use Rattle.ss_base.specs.declared.fault.FaultKind.TheVariants.{Overflow}
-use Rattle.ss_base.specs.declared.value.Value.TheVariants.{Whole}
+use Rattle.ss_base.specs.declared.value.Value.{Value}
+use Rattle.ss_base.specs.declared.value.Value.TheVariants.{Whole, Text}
 use Rattle.ss_base.specs.declared.layout.Owner.{Owner}
 use Rattle.ss_base.specs.declared.layout.Owner.TheVariants.{Class}
 use Rattle.ss_base.specs.declared.layout.Layout.{Layout}
-use Rattle.ss_stats.specs.History.{History, is_full, with_value}
+use Rattle.ss_stats.specs.History.{History, is_full, with_value, restarted}
 use Rattle.ss_program.specs.declared.sections.Subject.{Subject}
 use Rattle.ss_program.specs.declared.sections.Statistic.{Statistic}
-use Rattle.ss_meaning.specs.Values.{Trouble, Fails, Misfit, if_ok, turned, due, sure, unless_fault}
+use Rattle.ss_meaning.specs.Values.{Trouble, Misfit, if_ok, turned, due, sure, unless_fault}
 use Rattle.ss_meaning.specs.Store.{Column}
-use Rattle.ss_meaning.specs.Histories.{starting, ending, noting_in, noting, all_noting, with_history, history_of, folded}
-use Rattle.ss_histories.specs.Places.{places, is_about}
-use Rattle.ss_histories.specs.Records.{Recorded, Rows, column_of, columns_of, statistics_of, rows_of, full_in, noted_to, noted_column, figure_of, figured}
-use Rattle.ss_histories.specs.Each.{Shown, shown, bare, begun_shown, ended_shown, noted_one, changed_at, full_at}
+use Rattle.ss_meaning.specs.Histories.{starting, ending, noting_in, all_noting, with_history, history_of, folded, renewed}
+use Rattle.ss_histories.specs.declared.unnoted.Unnoted.{Unnoted}
+use Rattle.ss_histories.specs.declared.unnoted.Unnoted.TheVariants.{Full}
+use Rattle.ss_histories.specs.declared.unnoted.Unnoted.TheVariants as unnoted
+use Rattle.ss_histories.specs.Places.{places, is_about, has_some}
+use Rattle.ss_histories.specs.Records.{Recorded, Rows, column_of, columns_of, statistics_of, rows_of, noted_to, renewed_to, figure_of, figured, why}
+use Rattle.ss_histories.specs.Each.{Shown, shown, bare, begun_shown, ended_shown, noted_by, renewed_one, changed_at, refused_in, refused_at, stops_at, first_at, has_at}
 use Rattle.ss_histories.proofs.Columns.{head_of, tail_of, not_none, joined}
 
 -- ## Statistics of which each is changed
@@ -27,6 +31,12 @@ same_statistics f s [] [] e = refl
 same_statistics f s [] (n ∷ ns) e = absurd (not_none _ _ e)
 same_statistics f s (k ∷ ks) [] e = absurd (not_none _ _ (sym e))
 same_statistics f s (k ∷ ks) (n ∷ ns) e = joined _ _ _ _ (ap (λ (z : Shown). z.0) (ap (head_of (shown n)) e) ∙ s (shown k)) (same_statistics f s ks ns (ap tail_of e))
+
+pub statistics_same : (ks ns : List Recorded) → map shown ns ≡ map shown ks → statistics_of ns ≡ statistics_of ks
+statistics_same [] [] e = refl
+statistics_same [] (n ∷ ns) e = absurd (not_none _ _ e)
+statistics_same (k ∷ ks) [] e = absurd (not_none _ _ (sym e))
+statistics_same (k ∷ ks) (n ∷ ns) e = joined _ _ _ _ (ap (λ (z : Shown). z.0) (ap (head_of (shown n)) e)) (statistics_same ks ns (ap tail_of e))
 
 pub started_is : (l : Layout) (whose : Owner) (here : ℤ → Bool) (now : ℤ) (ks ns : List Recorded) → map shown ns ≡ map (begun_shown l whose here now) (map shown ks) →
     columns_of (rows_of ns) ≡ starting l whose here now (statistics_of ks) (columns_of (rows_of ks))
@@ -63,91 +73,136 @@ pub places_of : {X Y : Type 0} → (g : X → Y) (test : Y → Bool) (xs : List 
 places_of g test [] = refl
 places_of g test (x ∷ xs) = ap (λ (ps : List ℕ). if test (g x) then 0 ∷ map suc ps else map suc ps) (places_of g test xs)
 
--- ## Whether a history that is to note a value is full
-
-abbrev pub blocked : Subject → (entity : ℤ) → Shown → Bool
-blocked s x z = is_about s z.0 && full_in (z.1 x)
-
-full_shifted : (x : ℤ) (z : Shown) (zs : List Shown) (js : List ℕ) → list_any (full_at x (z ∷ zs)) (map suc js) ≡ list_any (full_at x zs) js
-full_shifted x z zs [] = refl
-full_shifted x z zs (j ∷ js) = ap (λ (b : Bool). full_at x zs j || b) (full_shifted x z zs js)
-
-full_step : (x : ℤ) (b : Bool) (z : Shown) (zs : List Shown) (ps : List ℕ) →
-    list_any (full_at x (z ∷ zs)) (if b then 0 ∷ map suc ps else map suc ps) ≡ ((b && full_in (z.1 x)) || list_any (full_at x zs) ps)
-full_step x true z zs ps = ap (λ (b : Bool). full_in (z.1 x) || b) (full_shifted x z zs ps)
-full_step x false z zs ps = full_shifted x z zs ps
-
-pub full_places : (s : Subject) (x : ℤ) (zs : List Shown) → list_any (full_at x zs) (places (λ z. is_about s z.0) zs) ≡ list_any (blocked s x) zs
-full_places s x [] = refl
-full_places s x (z ∷ zs) =
-    full_step x (is_about s z.0) z zs (places (λ z. is_about s z.0) zs) ∙ ap (λ (b : Bool). blocked s x z || b) (full_places s x zs)
-
--- ## What noting comes to
+-- ## Why a number is not noted
 
 not_both : true ≡ false → ⊥
 not_both e = cc
 
-kept_or_full : (b : Bool) (x now v : ℤ) (h : History) (c : Column) → b ≡ false →
-    unless_fault b Overflow (Ok (with_history x (with_value h now v) c)) ≡ Ok (with_history x (if b then h else with_value h now v) c)
-kept_or_full true x now v h c e = absurd (not_both e)
-kept_or_full false x now v h c e = refl
+-- why a history takes no such value
+abbrev pub stops_in : Value → Option History → Option Unnoted
+stops_in (Whole z) o = refused_in o
+stops_in (Text t) o = Some unnoted.Misfit
 
-full_fails : (b : Bool) (c : Column) → b ≡ true → unless_fault b Overflow (Ok c) ≡ Err (Fails Overflow)
-full_fails true c e = refl
-full_fails false c e = absurd (not_both (sym e))
+abbrev pub stopped_by : Bool → Value → Option History → Option Unnoted
+stopped_by b v o = if b then stops_in v o else None
 
-taken : (b : Bool) (o : Option History) (x now v : ℤ) (c : Column) → (b && full_in o) ≡ false →
-    (if b then noting_in x now (Whole v) o c else Ok c) ≡ Ok (if b then noted_to x now v o c else c)
-taken true None x now v c e = refl
-taken true (Some h) x now v c e = kept_or_full (is_full h) x now v h c e
-taken false o x now v c e = refl
+abbrev pub stopped : Subject → (entity : ℤ) → Value → Shown → Option Unnoted
+stopped s x v z = stopped_by (is_about s z.0) v (z.1 x)
 
-refused : (b : Bool) (o : Option History) (x now v : ℤ) (c : Column) → (b && full_in o) ≡ true →
-    (if b then noting_in x now (Whole v) o c else Ok c) ≡ Err (Fails Overflow)
-refused true None x now v c e = absurd (not_both (sym e))
-refused true (Some h) x now v c e = full_fails (is_full h) (with_history x (with_value h now v) c) e
-refused false o x now v c e = absurd (not_both (sym e))
+abbrev pub first_stopped : Subject → (entity : ℤ) → Value → List Shown → Option Unnoted
+first_stopped s x v [] = None
+first_stopped s x v (z ∷ zs) = option_or (stopped s x v z) (first_stopped s x v zs)
 
-or_left : (a b : Bool) → (a || b) ≡ false → a ≡ false
-or_left true b e = e
-or_left false b e = refl
+stops_shifted : (x : ℤ) (v : Value) (z : Shown) (zs : List Shown) (js : List ℕ) → first_at (stops_at v x (z ∷ zs)) (map suc js) ≡ first_at (stops_at v x zs) js
+stops_shifted x v z zs [] = refl
+stops_shifted x (Whole n) z zs (j ∷ js) = ap (option_or (refused_at x zs j)) (stops_shifted x (Whole n) z zs js)
+stops_shifted x (Text t) z zs (j ∷ js) = refl
 
-or_right : (a b : Bool) → (a || b) ≡ false → b ≡ false
-or_right true b e = absurd (not_both e)
-or_right false b e = e
+stops_first : (x : ℤ) (v : Value) (z : Shown) (zs : List Shown) → stops_at v x (z ∷ zs) 0 ≡ stops_in v (z.1 x)
+stops_first x (Whole n) z zs = refl
+stops_first x (Text t) z zs = refl
 
-abbrev pub noted_where : Subject → (entity now value : ℤ) → Shown → Shown
-noted_where s x now v z = if is_about s z.0 then noted_one x now v z else z
+stops_step : (x : ℤ) (b : Bool) (v : Value) (z : Shown) (zs : List Shown) (ps : List ℕ) →
+    first_at (stops_at v x (z ∷ zs)) (if b then 0 ∷ map suc ps else map suc ps) ≡ option_or (stopped_by b v (z.1 x)) (first_at (stops_at v x zs) ps)
+stops_step x true v z zs ps =
+    ap (λ (o : Option Unnoted). option_or o (first_at (stops_at v x (z ∷ zs)) (map suc ps))) (stops_first x v z zs) ∙ ap (option_or (stops_in v (z.1 x))) (stops_shifted x v z zs ps)
+stops_step x false v z zs ps = stops_shifted x v z zs ps
 
-of_both : (b : Bool) (x now v : ℤ) (z : Shown) → (if b then noted_column x now v z.1 else z.1) ≡ (if b then noted_one x now v z else z).1
-of_both true x now v z = refl
+pub stops_places : (s : Subject) (x : ℤ) (v : Value) (zs : List Shown) → first_at (stops_at v x zs) (places (λ z. is_about s z.0) zs) ≡ first_stopped s x v zs
+stops_places s x v [] = refl
+stops_places s x v (z ∷ zs) =
+    stops_step x (is_about s z.0) v z zs (places (λ z. is_about s z.0) zs) ∙ ap (option_or (stopped s x v z)) (stops_places s x v zs)
+
+-- ## What noting comes to
+
+-- what is answered where there is a reason, and where there is none
+abbrev pub unless : {A : Type 0} → Option Unnoted → A → Result A Trouble
+unless None a = Ok a
+unless (Some e) a = Err (why e)
+
+kept_or_full : (b : Bool) (x now v : ℤ) (h : History) (c : Column) →
+    unless_fault b Overflow (Ok (with_history x (with_value h now v) c)) ≡ unless (if b then Some Full else None) (with_history x (if b then h else with_value h now v) c)
+kept_or_full true x now v h c = refl
+kept_or_full false x now v h c = refl
+
+abbrev noted_in : (entity now : ℤ) → Value → Option History → Column → Column
+noted_in x now (Whole v) o c = noted_to x now v o c
+noted_in x now (Text t) o c = c
+
+taken : (b : Bool) (o : Option History) (x now : ℤ) (v : Value) (c : Column) →
+    (if b then noting_in x now v o c else Ok c) ≡ unless (stopped_by b v o) (if b then noted_in x now v o c else c)
+taken true None x now (Whole v) c = refl
+taken true (Some h) x now (Whole v) c = kept_or_full (is_full h) x now v h c
+taken true None x now (Text t) c = refl
+taken true (Some h) x now (Text t) c = refl
+taken false o x now v c = refl
+
+both : {A : Type 0} → (o p : Option Unnoted) (d : A) (ds : List A) → if_ok (unless o d) (λ d. turned (λ ds. d ∷ ds) (unless p ds)) ≡ unless (option_or o p) (d ∷ ds)
+both None None d ds = refl
+both None (Some f) d ds = refl
+both (Some e) p d ds = refl
+
+abbrev pub noted_where : Subject → (entity now : ℤ) → Value → Shown → Shown
+noted_where s x now v z = if is_about s z.0 then noted_by x now v z else z
+
+of_both : (b : Bool) (x now : ℤ) (v : Value) (z : Shown) → (if b then noted_in x now v (z.1 x) z.1 else z.1) ≡ (if b then noted_by x now v z else z).1
+of_both true x now (Whole v) z = refl
+of_both true x now (Text t) z = refl
 of_both false x now v z = refl
 
-pub noted_is : (s : Subject) (x now v : ℤ) (ks : List Recorded) → list_any (blocked s x) (map shown ks) ≡ false →
-    all_noting s x now (Whole v) (statistics_of ks) (columns_of (rows_of ks)) ≡ Ok (map (λ (z : Shown). z.1) (map (noted_where s x now v) (map shown ks)))
-noted_is s x now v [] e = refl
-noted_is s x now v (k ∷ ks) e =
+pub noted_is : (s : Subject) (x now : ℤ) (v : Value) (ks : List Recorded) →
+    all_noting s x now v (statistics_of ks) (columns_of (rows_of ks)) ≡ unless (first_stopped s x v (map shown ks)) (map (λ (z : Shown). z.1) (map (noted_where s x now v) (map shown ks)))
+noted_is s x now v [] = refl
+noted_is s x now v (k ∷ ks) =
     let c = column_of k.rows in
     let b = is_about s k.statistic in
-    let rest = all_noting s x now (Whole v) (statistics_of ks) (columns_of (rows_of ks)) in
-    ap (λ (r : Result Column Trouble). if_ok r (λ d. turned (λ ds. d ∷ ds) rest)) (taken b (c x) x now v c (or_left _ _ e)) ∙
-    ap (λ (r : Result (List Column) Trouble). turned (λ ds. (if b then noted_column x now v c else c) ∷ ds) r) (noted_is s x now v ks (or_right (blocked s x (shown k)) _ e)) ∙
-    ap (λ (d : Column). Ok (d ∷ map (λ (z : Shown). z.1) (map (noted_where s x now v) (map shown ks)))) (of_both b x now v (shown k))
+    let d : Column = if b then noted_in x now v (c x) c else c in
+    let ds : List Column = map (λ (z : Shown). z.1) (map (noted_where s x now v) (map shown ks)) in
+    let rest = all_noting s x now v (statistics_of ks) (columns_of (rows_of ks)) in
+    ap (λ (r : Result Column Trouble). if_ok r (λ d. turned (λ ds. d ∷ ds) rest)) (taken b (c x) x now v c) ∙
+    ap (λ (r : Result (List Column) Trouble). if_ok (unless (stopped_by b v (c x)) d) (λ d. turned (λ ds. d ∷ ds) r)) (noted_is s x now v ks) ∙
+    both (stopped_by b v (c x)) (first_stopped s x v (map shown ks)) d ds ∙
+    ap (λ (d : Column). unless (first_stopped s x v (map shown (k ∷ ks))) (d ∷ ds)) (of_both b x now v (shown k))
 
-pub full_is : (s : Subject) (x now v : ℤ) (ks : List Recorded) → list_any (blocked s x) (map shown ks) ≡ true →
-    all_noting s x now (Whole v) (statistics_of ks) (columns_of (rows_of ks)) ≡ Err (Fails Overflow)
-full_is s x now v [] e = absurd (not_both (sym e))
-full_is s x now v (k ∷ ks) e =
-    let c = column_of k.rows in
-    let b = is_about s k.statistic in
-    let rest = all_noting s x now (Whole v) (statistics_of ks) (columns_of (rows_of ks)) in
-    (elim (blocked s x (shown k)) as (λ t. blocked s x (shown k) ≡ t → (t || list_any (blocked s x) (map shown ks)) ≡ true →
-    if_ok (if b then noting x now (Whole v) c else Ok c) (λ d. turned (λ ds. d ∷ ds) rest) ≡ Err (Fails Overflow)) [
-      | true ↦ λ q i. ap (λ (r : Result Column Trouble). if_ok r (λ d. turned (λ ds. d ∷ ds) rest)) (refused b (c x) x now v c q)
-      | false ↦ λ q i.
-          ap (λ (r : Result Column Trouble). if_ok r (λ d. turned (λ ds. d ∷ ds) rest)) (taken b (c x) x now v c q) ∙
-          ap (λ (r : Result (List Column) Trouble). turned (λ ds. (if b then noted_column x now v c else c) ∷ ds) r) (full_is s x now v ks i)
-    ]) refl e
+some_step : (b : Bool) (ps : List ℕ) → has_some (if b then 0 ∷ map suc ps else map suc ps) ≡ (b || has_some ps)
+some_step true ps = refl
+some_step false [] = refl
+some_step false (p ∷ ps) = refl
+
+pub some_about : {X : Type 0} → (test : X → Bool) (xs : List X) → has_some (places test xs) ≡ list_any test xs
+some_about test [] = refl
+some_about test (x ∷ xs) = some_step (test x) (places test xs) ∙ ap (λ (b : Bool). test x || b) (some_about test xs)
+
+-- ## What starting afresh comes to
+
+fresh_first : (x now v : ℤ) (o : Option History) (c : Column) (cs : List Column) → is_some o ≡ true →
+    turned (λ h. with_history x (restarted h now v) c ∷ cs) (sure o) ≡ Ok (renewed_to x now v o c ∷ cs)
+fresh_first x now v None c cs e = absurd (not_both (sym e))
+fresh_first x now v (Some h) c cs e = refl
+
+pub renewed_there : (x now v : ℤ) (zs : List Shown) (j : ℕ) → has_at x zs j ≡ true →
+    renewed j x now v (map (λ (z : Shown). z.1) zs) ≡ Ok (map (λ (z : Shown). z.1) (changed_at (renewed_one x now v) zs j))
+renewed_there x now v [] j e = absurd (not_both (sym e))
+renewed_there x now v (z ∷ zs) zero e = fresh_first x now v (z.1 x) z.1 (map (λ (z : Shown). z.1) zs) e
+renewed_there x now v (z ∷ zs) (suc j) e = ap (λ (r : Result (List Column) Trouble). turned (λ ds. z.1 ∷ ds) r) (renewed_there x now v zs j e)
+
+none_first : (x now v : ℤ) (o : Option History) (c : Column) (cs : List Column) → is_some o ≡ false →
+    turned (λ h. with_history x (restarted h now v) c ∷ cs) (sure o) ≡ Err Misfit
+none_first x now v None c cs e = refl
+none_first x now v (Some h) c cs e = absurd (not_both e)
+
+pub renewed_nowhere : (x now v : ℤ) (zs : List Shown) (j : ℕ) → has_at x zs j ≡ false → renewed j x now v (map (λ (z : Shown). z.1) zs) ≡ Err Misfit
+renewed_nowhere x now v [] j e = refl
+renewed_nowhere x now v (z ∷ zs) zero e = none_first x now v (z.1 x) z.1 (map (λ (z : Shown). z.1) zs) e
+renewed_nowhere x now v (z ∷ zs) (suc j) e = ap (λ (r : Result (List Column) Trouble). turned (λ ds. z.1 ∷ ds) r) (renewed_nowhere x now v zs j e)
+
+pub renewed_statistics : (x now v : ℤ) (j : ℕ) (ks ns : List Recorded) → map shown ns ≡ changed_at (renewed_one x now v) (map shown ks) j → statistics_of ns ≡ statistics_of ks
+renewed_statistics x now v j [] [] e = refl
+renewed_statistics x now v j [] (n ∷ ns) e = absurd (not_none _ _ e)
+renewed_statistics x now v zero (k ∷ ks) [] e = absurd (not_none _ _ (sym e))
+renewed_statistics x now v (suc j) (k ∷ ks) [] e = absurd (not_none _ _ (sym e))
+renewed_statistics x now v zero (k ∷ ks) (n ∷ ns) e = joined _ _ _ _ (ap (λ (z : Shown). z.0) (ap (head_of (shown n)) e)) (statistics_same ks ns (ap tail_of e))
+renewed_statistics x now v (suc j) (k ∷ ks) (n ∷ ns) e = joined _ _ _ _ (ap (λ (z : Shown). z.0) (ap (head_of (shown n)) e)) (renewed_statistics x now v j ks ns (ap tail_of e))
 
 -- ## What is seen of the statistics
 
@@ -192,21 +247,22 @@ pub within_known : (s : Subject) (ks : List Recorded) (about : List Statistic) (
 within_known s ks about ps a p =
     subst (λ (qs : List ℕ). All (λ j. j < length ks) qs) (sym (p ∙ ap (places (is_about s)) a ∙ places_of (λ (k : Recorded). k.statistic) (is_about s) ks)) (places_within (λ (k : Recorded). is_about s k.statistic) ks)
 
-pub full_known : (s : Subject) (x : ℤ) (ks : List Recorded) (about : List Statistic) (ps : List ℕ) (b : Bool) → about ≡ statistics_of ks → ps ≡ places (is_about s) about →
-    b ≡ list_any (full_at x (map shown ks)) ps → list_any (blocked s x) (map shown ks) ≡ b
-full_known s x ks about ps b a p e =
-    sym (e ∙ ap (list_any (full_at x (map shown ks))) (places_known s ks about ps a p) ∙ full_places s x (map shown ks))
+pub stops_known : (s : Subject) (x : ℤ) (v : Value) (ks : List Recorded) (about : List Statistic) (ps : List ℕ) (o : Option Unnoted) → about ≡ statistics_of ks → ps ≡ places (is_about s) about →
+    first_at (stops_at v x (map shown ks)) ps ≡ o → first_stopped s x v (map shown ks) ≡ o
+stops_known s x v ks about ps o a p e =
+    sym (stops_places s x v (map shown ks)) ∙ ap (first_at (stops_at v x (map shown ks))) (sym (places_known s ks about ps a p)) ∙ e
 
-pub noted_known : (s : Subject) (x now v : ℤ) (ks ns : List Recorded) (about : List Statistic) (ps : List ℕ) → about ≡ statistics_of ks → ps ≡ places (is_about s) about →
-    map shown ns ≡ fold (changed_at (noted_one x now v)) (map shown ks) ps → map shown ns ≡ map (noted_where s x now v) (map shown ks)
+pub noted_known : (s : Subject) (x now : ℤ) (v : Value) (ks ns : List Recorded) (about : List Statistic) (ps : List ℕ) → about ≡ statistics_of ks → ps ≡ places (is_about s) about →
+    map shown ns ≡ fold (changed_at (noted_by x now v)) (map shown ks) ps → map shown ns ≡ map (noted_where s x now v) (map shown ks)
 noted_known s x now v ks ns about ps a p e =
-    e ∙ ap (fold (changed_at (noted_one x now v)) (map shown ks)) (places_known s ks about ps a p) ∙ all_changed (noted_one x now v) (λ (z : Shown). is_about s z.0) (map shown ks)
+    e ∙ ap (fold (changed_at (noted_by x now v)) (map shown ks)) (places_known s ks about ps a p) ∙ all_changed (noted_by x now v) (λ (z : Shown). is_about s z.0) (map shown ks)
 
-where_same : (b : Bool) (x now v : ℤ) (z : Shown) → (if b then noted_one x now v z else z).0 ≡ z.0
-where_same true x now v z = refl
+where_same : (b : Bool) (x now : ℤ) (v : Value) (z : Shown) → (if b then noted_by x now v z else z).0 ≡ z.0
+where_same true x now (Whole v) z = refl
+where_same true x now (Text t) z = refl
 where_same false x now v z = refl
 
-pub noted_statistic : (s : Subject) (x now v : ℤ) (z : Shown) → (noted_where s x now v z).0 ≡ z.0
+pub noted_statistic : (s : Subject) (x now : ℤ) (v : Value) (z : Shown) → (noted_where s x now v z).0 ≡ z.0
 noted_statistic s x now v z = where_same (is_about s z.0) x now v z
 
 -- ## What is asked of a history

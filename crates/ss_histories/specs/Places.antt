@@ -1,5 +1,5 @@
 -- Where the statistics of a subject stand.
-use Rattle.std.specs.Prelude.{ℕ, suc, Bool, List, [], ◌∷◌, map, Option, Some, None, slice_get, if◌then◌else◌}
+use Rattle.std.specs.Prelude.{ℕ, suc, Bool, true, false, List, [], ◌∷◌, map, Option, Some, None, slice_get, if◌then◌else◌}
 use Rattle.ss_program.specs.declared.sections.Subject.{Subject}
 use Rattle.ss_program.specs.declared.sections.Subject.TheVariants.{OfVariable, OfAttribute, OfCount}
 use Rattle.ss_program.specs.declared.sections.Statistic.{Statistic}
@@ -35,3 +35,8 @@ abbrev pub found : Subject → (variables : List (List ℕ)) → (attributes : L
 found (OfVariable k) variables attributes sets = row_at variables k
 found (OfAttribute class field) variables attributes sets = cell_at attributes class field
 found (OfCount set) variables attributes sets = row_at sets set
+
+-- whether there is one
+abbrev pub has_some : List ℕ → Bool
+has_some [] = false
+has_some (j ∷ js) = true

@@ -1,17 +1,23 @@
 -- What is kept of the histories of all statistics.
-use Rattle.std.specs.Prelude.{◌≡◌, ℕ, Bool, true, false, List, [], map, ℤ, pos, ◌≤ℤ◌, Option, Some, None, Result, Ok, Err, if◌then◌else◌}
+use Rattle.std.specs.Prelude.{◌≡◌, ⊤, ℕ, Bool, true, false, ◌&&◌, IsTrue, List, [], ◌∷◌, map, ℤ, pos, ◌≤ℤ◌, int_le, Option, Some, None, Result, Ok, Err, if◌then◌else◌}
 use Rattle.std.specs.Ordering.{int_eq}
 use Rattle.std.specs.Map.{lookup}
 use Rattle.ss_base.specs.declared.fault.FaultKind.{FaultKind}
+use Rattle.ss_base.specs.declared.fault.FaultKind.TheVariants.{Overflow}
+use Rattle.ss_base.specs.declared.layout.Owner.{Owner}
+use Rattle.ss_base.specs.declared.layout.Layout.{Layout}
 use Rattle.ss_base.specs.declared.value.Value.{Value}
 use Rattle.ss_base.specs.declared.value.Value.TheVariants.{Whole}
 use Rattle.ss_program.specs.declared.expression.Fold.{Fold}
 use Rattle.ss_program.specs.declared.expression.Fold.TheVariants.{Number, Sum, Maximum, Minimum}
 use Rattle.ss_program.specs.declared.sections.Statistic.{Statistic}
 use Rattle.ss_stats.specs.History.{History, last_moment, number_of, sum_of, maximum_of, minimum_of, is_full, with_value, restarted}
-use Rattle.ss_meaning.specs.Values.{Trouble, Misfit, turned, due}
+use Rattle.ss_meaning.specs.Values.{Trouble, Fails, Misfit, turned, due}
 use Rattle.ss_meaning.specs.Store.{Column}
-use Rattle.ss_meaning.specs.Histories.{with_history}
+use Rattle.ss_meaning.specs.Histories.{with_history, home, same_owner}
+use Rattle.ss_histories.specs.declared.unnoted.Unnoted.{Unnoted}
+use Rattle.ss_histories.specs.declared.unnoted.Unnoted.TheVariants.{Full}
+use Rattle.ss_histories.specs.declared.unnoted.Unnoted.TheVariants as unnoted
 
 -- what is asked of a history, as a number
 abbrev pub figure_of : Fold → (now : ℤ) → History → Result ℤ FaultKind
@@ -41,11 +47,6 @@ pub record Recorded : Type 0 where
   pub rows : Rows
   pub room : ℕ
 
--- whether there is a history that takes no further value
-abbrev pub full_in : Option History → Bool
-full_in None = false
-full_in (Some h) = is_full h
-
 -- a history with one value more, unless it is full
 abbrev pub noted_value : (now value : ℤ) → History → History
 noted_value now z h = if is_full h then h else with_value h now z
@@ -68,18 +69,30 @@ renewed_column x now z c = renewed_to x now z (c x) c
 
 -- ## All statistics
 
--- the statistics, their histories by entity, and a moment that no history goes beyond
+-- whether a statistic is kept of what an owner has
+abbrev pub is_home : Layout → Owner → Statistic → Bool
+is_home l whose s = same_owner (home l s.subject) whose
+
+-- the statistics, their histories by entity, a moment that no history goes beyond, and how many more histories of each statistic there is room for
 pub record Records : Type 0 where
   pub statistics : List Statistic
   pub rows : List Rows
   pub latest : ℤ
+  pub room : List ℕ
+
+-- there is room for so many histories in each statistic that is kept of what an owner has
+abbrev pub HasRooms : Layout → Owner → (count : ℤ) → List Statistic → (room : List ℕ) → Type 0
+HasRooms l whose count [] room = ⊤
+HasRooms l whose count (s ∷ ss) [] = ⊥
+HasRooms l whose count (s ∷ ss) (m ∷ room) = (IsTrue (is_home l whose s) → count ≤ℤ pos m) × HasRooms l whose count ss room
+
+-- the entities 1 to a number
+abbrev pub is_up_to : (count : ℤ) → (entity : ℤ) → Bool
+is_up_to count x = int_le (pos 1) x && int_le x count
 
 -- none started yet
 abbrev pub none_in : Statistic → Rows
 none_in s = []
-
-abbrev pub none_yet : List Statistic → Records
-none_yet ss = record { statistics = ss; rows = map none_in ss; latest = pos 0 }
 
 -- what is asked of a statistic
 abbrev pub figured : Option (Result ℤ FaultKind) → Result Value Trouble
@@ -91,13 +104,16 @@ abbrev pub renewed_where : Bool → List Column → Result (List Column) Trouble
 renewed_where true cs = Ok cs
 renewed_where false cs = Err Misfit
 
--- what noting a text comes to: nothing changes where no history is there to note it
-abbrev pub unread : (noted : Bool) → List Column → Result (List Column) Trouble
-unread true cs = Err Misfit
-unread false cs = Ok cs
+-- why a value is not noted
+abbrev pub why : Unnoted → Trouble
+why Full = Fails Overflow
+why unnoted.Misfit = Misfit
 
 abbrev pub statistics_of : List Recorded → List Statistic
 statistics_of ks = map (λ k. k.statistic) ks
 
 abbrev pub rows_of : List Recorded → List Rows
 rows_of ks = map (λ k. k.rows) ks
+
+abbrev pub rooms_of : List Recorded → List ℕ
+rooms_of ks = map (λ k. k.room) ks

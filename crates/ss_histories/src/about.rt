@@ -3,6 +3,7 @@
 ghost use Rattle.std.specs.Prelude.{◌≡◌, ◌++◌, ◌∷◌, [], OnOk, IfOk, if◌then◌else◌};
 ghost use Rattle.ss_meaning.specs.Histories.{same_subject};
 ghost use Rattle.ss_program.specs.declared.sections.Subject.{Subject as TheSubject};
+ghost use Rattle.ss_program.specs.declared.sections.Subject.TheVariants.{OfAttribute};
 ghost use Rattle.ss_histories.specs.Places.{places, is_about, found};
 
 use crate::table::{Grid, Table};
@@ -40,6 +41,13 @@ impl Tables {
             }
             Subject::OfCount { set } => self.sets.at(set as usize),
         }
+    }
+
+    /// What stands under an attribute of a class.
+    fn at_attribute(&self, class: usize, field: usize) -> &[usize]
+        ensures { result.now ≡ found (OfAttribute class field) self.now.variables self.now.attributes self.now.sets }
+    {
+        self.attributes.at(class, field)
     }
 
     /// Puts one number more under a subject. The error comes where memory was refused.
@@ -92,6 +100,13 @@ impl About {
         ensures { result.now ≡ places (is_about subject) self.now }
     {
         self.tables.at(subject)
+    }
+
+    /// Where the statistics of an attribute of a class stand.
+    pub(crate) fn attribute_places(&self, class: usize, field: usize) -> &[usize]
+        ensures { result.now ≡ places (is_about (OfAttribute class field)) self.now }
+    {
+        self.tables.at_attribute(class, field)
     }
 }
 

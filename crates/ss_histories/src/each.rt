@@ -1,28 +1,55 @@
 //! What is done with each of some statistics.
 
-ghost use Rattle.std.specs.Prelude.{◌≡◌, ◌<◌, ◌≤◌, ◌≤ℤ◌, pos, map, fold, length, IfOk, OnErr, OnOk, IsTrue};
-ghost use Rattle.std.specs.List.{All, list_any};
+ghost use Rattle.std.specs.Prelude.{◌≡◌, ◌<◌, ◌≤ℤ◌, pos, map, fold, length, IfOk, OnOk, IsTrue, MatchResult, Some, None};
+ghost use Rattle.std.specs.List.{All};
 ghost use Rattle.std.specs.Ordering.{int_eq};
 ghost use Rattle.ss_meaning.specs.Histories.{same_owner, home};
-ghost use Rattle.ss_histories.specs.Each.{shown, bare, KeptUntil, is_home, HasRoom, begun_shown, ended_shown, noted_one, changed_at, full_at};
-ghost use Rattle.ss_histories.specs.Records.{statistics_of, rows_of, none_in};
+ghost use Rattle.ss_histories.specs.Each.{shown, bare, KeptUntil, HasRoom, begun_shown, ended_shown, noted_one, noted_by, renewed_one, changed_at, refused_at, stops_at, first_at, has_at};
+ghost use Rattle.ss_histories.specs.Places.{has_some};
+ghost use Rattle.ss_histories.specs.Records.{statistics_of, rows_of, none_in, is_home, is_up_to};
 
 use crate::kept::Kept;
-use ss_base::{Layout, Owner};
+use crate::unnoted::Unnoted;
+use ss_base::{Layout, Owner, Value};
 use ss_program::sections::{Statistic, Subject};
 use std::alloc::{AllocError, Global};
 
-/// Whether one of the histories of an entity in the statistics at some places is full.
-pub(crate) fn any_full(kept: &[Kept], places: &[usize], entity: i64, now: i64) -> bool
+/// The first reason why a history of an entity in the statistics at some places takes no number.
+pub(crate) fn first_refused(
+    kept: &[Kept],
+    places: &[usize],
+    entity: i64,
+    now: i64,
+) -> Option<Unnoted>
     requires within { All (λ j. j < length kept.now) places.now }
     requires until { All (KeptUntil now) kept.now }
-    ensures { result ≡ list_any (full_at entity (map shown kept.now)) places.now }
+    ensures { result ≡ first_at (refused_at entity (map shown kept.now)) places.now }
 {
-    let mut full = false;
+    let mut found = None;
     for place in places {
-        full = full || kept[*place].is_full(entity, now);
+        found = found.or(kept[*place].refused(entity, now));
     }
-    full
+    found
+}
+
+/// Whether the statistic at a place has a history of an entity.
+pub(crate) fn has_at(kept: &[Kept], place: usize, entity: i64) -> bool
+    ensures { result ≡ has_at entity (map shown kept.now) place }
+{
+    match kept.get(place) {
+        Some(kept) => kept.has(entity),
+        None => false,
+    }
+}
+
+/// Starts the history of an entity afresh in the statistic at a place, if it has one there, with the present value.
+pub(crate) fn renew_at(kept: &mut [Kept], place: usize, entity: i64, now: i64, present: i64)
+    requires there { IsTrue (has_at entity (map shown kept.old) place) }
+    requires until { All (KeptUntil now) kept.old }
+    ensures shown { map shown kept.new ≡ changed_at (renewed_one entity now present) (map shown kept.old) place }
+    ensures until { All (KeptUntil now) kept.new }
+{
+    kept[place].renew(entity, now, present);
 }
 
 /// Notes a value in the histories of an entity that aren't full in the statistics at some places.
@@ -34,6 +61,46 @@ pub(crate) fn note_each(kept: &mut [Kept], places: &[usize], entity: i64, now: i
 {
     for place in places {
         kept[*place].note(entity, now, value);
+    }
+}
+
+/// Whether there is a place.
+pub(crate) fn has_some(places: &[usize]) -> bool
+    ensures { result ≡ has_some places.now }
+{
+    match places {
+        [] => false,
+        [..] => true,
+    }
+}
+
+/// Notes a value in the histories of an entity in the statistics at some places. The error is the first reason why one of
+/// them doesn't note it; then nothing changes.
+pub(crate) fn note_all(
+    kept: &mut [Kept],
+    places: &[usize],
+    entity: i64,
+    now: i64,
+    value: Value,
+) -> Result<(), Unnoted>
+    requires within { All (λ j. j < length kept.old) places.now }
+    requires until { All (KeptUntil now) kept.old }
+    ensures noted { MatchResult result (λ _. (first_at (stops_at value entity (map shown kept.old)) places.now ≡ None) × (map shown kept.new ≡ fold (changed_at (noted_by entity now value)) (map shown kept.old) places.now)) (λ e. (first_at (stops_at value entity (map shown kept.old)) places.now ≡ Some e) × (kept.new ≡ kept.old)) }
+    ensures until { All (KeptUntil now) kept.new }
+{
+    match value {
+        Value::Whole(number) => match first_refused(kept, places, entity, now) {
+            Some(refused) => Err(refused),
+            None => {
+                note_each(kept, places, entity, now, number);
+                Ok(())
+            }
+        },
+        Value::Text(_) => if has_some(places) {
+            Err(Unnoted::Misfit)
+        } else {
+            Ok(())
+        },
     }
 }
 
@@ -70,33 +137,38 @@ fn is_home(layout: &Layout, whose: Owner, statistic: Statistic) -> bool
     same_owner(home(layout, statistic.subject), whose)
 }
 
-// Makes room for a history more in each statistic that is kept of what an owner has. The error comes where memory
-// was refused.
-fn reserve_each(kept: &mut [Kept], layout: &Layout, whose: Owner) -> Result<(), AllocError>
+/// Makes room for so many histories more in each statistic that is kept of what an owner has. No history changes. The
+/// error comes where memory was refused.
+pub(crate) fn reserve_each(
+    kept: &mut [Kept],
+    layout: &Layout,
+    whose: Owner,
+    count: i64,
+) -> Result<(), AllocError>
     ensures bare { map bare kept.new ≡ map bare kept.old }
-    ensures room { OnOk result (All (HasRoom layout.now whose 1) kept.new) }
+    ensures room { OnOk result (All (HasRoom layout.now whose count) kept.new) }
 {
     for place in 0..kept.len() {
-        reserve_one(&mut kept[place], layout, whose)?;
+        reserve_one(&mut kept[place], layout, whose, count)?;
     }
     Ok(())
 }
 
 // The same in one statistic.
-fn reserve_one(kept: &mut Kept, layout: &Layout, whose: Owner) -> Result<(), AllocError>
+fn reserve_one(kept: &mut Kept, layout: &Layout, whose: Owner, count: i64) -> Result<(), AllocError>
     ensures bare { bare kept.new ≡ bare kept.old }
-    ensures room { OnOk result (HasRoom layout.now whose 1 kept.new) }
+    ensures room { OnOk result (HasRoom layout.now whose count kept.new) }
 {
     if is_home(layout, whose, kept.statistic()) {
-        kept.reserve(1)?;
+        kept.reserve(count)?;
     }
     Ok(())
 }
 
-// Starts the history of an entity in each statistic that is kept of what an owner has.
-fn begin_each(kept: &mut [Kept], layout: &Layout, whose: Owner, entity: i64, now: i64)
+/// Starts the history of an entity in each statistic that is kept of what an owner has.
+pub(crate) fn begin_each(kept: &mut [Kept], layout: &Layout, whose: Owner, entity: i64, now: i64)
     requires now { pos 0 ≤ℤ now }
-    requires room { All (HasRoom layout.now whose 1) kept.old }
+    requires room { All (HasRoom layout.now whose (pos 1)) kept.old }
     requires until { All (KeptUntil now) kept.old }
     ensures shown { map shown kept.new ≡ map (begun_shown layout.now whose (int_eq entity) now) (map shown kept.old) }
     ensures until { All (KeptUntil now) kept.new }
@@ -106,36 +178,42 @@ fn begin_each(kept: &mut [Kept], layout: &Layout, whose: Owner, entity: i64, now
     }
 }
 
-/// Starts the history of an entity in each statistic that is kept of what an owner has. The error comes where memory was
-/// refused; then no history changed.
-pub(crate) fn start_each(
-    kept: &mut [Kept],
-    layout: &Layout,
-    whose: Owner,
-    entity: i64,
-    now: i64,
-) -> Result<(), AllocError>
-    requires now { pos 0 ≤ℤ now }
-    requires until { All (KeptUntil now) kept.old }
-    ensures shown { OnOk result (map shown kept.new ≡ map (begun_shown layout.now whose (int_eq entity) now) (map shown kept.old)) }
-    ensures bare { OnErr result (map bare kept.new ≡ map bare kept.old) }
-    ensures until { OnOk result (All (KeptUntil now) kept.new) }
-{
-    reserve_each(kept, layout, whose)?;
-    begin_each(kept, layout, whose, entity, now);
-    Ok(())
-}
-
-// Starts the history of an entity in one statistic, if that is kept of what an owner has.
+// The same in one statistic.
 fn begin_one(kept: &mut Kept, layout: &Layout, whose: Owner, entity: i64, now: i64)
     requires now { pos 0 ≤ℤ now }
-    requires room { HasRoom layout.now whose 1 kept.old }
+    requires room { HasRoom layout.now whose (pos 1) kept.old }
     requires until { KeptUntil now kept.old }
     ensures shown { shown kept.new ≡ begun_shown layout.now whose (int_eq entity) now (shown kept.old) }
     ensures until { KeptUntil now kept.new }
 {
     if is_home(layout, whose, kept.statistic()) {
         kept.begin(entity, now);
+    }
+}
+
+/// Starts the histories of the entities 1 to a number in each statistic that is kept of what an owner has.
+pub(crate) fn begin_all_each(kept: &mut [Kept], layout: &Layout, whose: Owner, count: i64, now: i64)
+    requires now { pos 0 ≤ℤ now }
+    requires room { All (HasRoom layout.now whose count) kept.old }
+    requires until { All (KeptUntil now) kept.old }
+    ensures shown { map shown kept.new ≡ map (begun_shown layout.now whose (is_up_to count) now) (map shown kept.old) }
+    ensures until { All (KeptUntil now) kept.new }
+{
+    for place in 0..kept.len() {
+        begin_all_one(&mut kept[place], layout, whose, count, now);
+    }
+}
+
+// The same in one statistic.
+fn begin_all_one(kept: &mut Kept, layout: &Layout, whose: Owner, count: i64, now: i64)
+    requires now { pos 0 ≤ℤ now }
+    requires room { HasRoom layout.now whose count kept.old }
+    requires until { KeptUntil now kept.old }
+    ensures shown { shown kept.new ≡ begun_shown layout.now whose (is_up_to count) now (shown kept.old) }
+    ensures until { KeptUntil now kept.new }
+{
+    if is_home(layout, whose, kept.statistic()) {
+        kept.begin_all(count, now);
     }
 }
 

@@ -1,17 +1,23 @@
 //! The histories of all statistics.
 
-ghost use Rattle.std.specs.Prelude.{◌≡◌, ◌≤ℤ◌, Ok, Err, IfOk, MatchResult, Bool};
+ghost use Rattle.std.specs.Prelude.{◌≡◌, ◌≤ℤ◌, pos, slice_get, Ok, Err, IfOk, OnOk, MatchResult};
+ghost use Rattle.std.specs.Bool.{IsFalse};
+ghost use Rattle.std.specs.List.{list_any};
+ghost use Rattle.std.specs.Option.{option_map};
 ghost use Rattle.std.specs.Ordering.{int_eq};
-ghost use Rattle.ss_base.specs.declared.value.Value.TheVariants.{Whole};
 ghost use Rattle.ss_base.specs.declared.layout.Owner.TheVariants.{Class};
-ghost use Rattle.ss_meaning.specs.Values.{Fails, if_ok};
-ghost use Rattle.ss_meaning.specs.Histories.{starting, ending, all_noting, history_of, folded};
-ghost use Rattle.ss_histories.specs.Records.{columns_of, none_yet, figured};
+ghost use Rattle.ss_program.specs.declared.sections.Statistic.{Statistic};
+ghost use Rattle.ss_program.specs.declared.sections.Subject.TheVariants.{OfAttribute};
+ghost use Rattle.ss_meaning.specs.Values.{if_ok};
+ghost use Rattle.ss_meaning.specs.Histories.{no_histories, starting, ending, all_noting, history_of, folded, renewed};
+ghost use Rattle.ss_histories.specs.Records.{columns_of, figured, HasRooms, is_up_to, why, renewed_where};
+ghost use Rattle.ss_histories.specs.Places.{is_about};
 
 use crate::about::About;
 use crate::each;
 use crate::kept::Kept;
-use ss_base::{FaultKind, Layout, Owner};
+use crate::unnoted::Unnoted;
+use ss_base::{FaultKind, Layout, Owner, Value};
 use ss_program::expression::Fold;
 use ss_program::sections::{Statistic, Subject};
 use std::alloc::{AllocError, Global};
@@ -19,9 +25,10 @@ use std::marker::Model;
 
 /// The histories of all statistics of a run, each of the entities that have one, kept as running totals.
 ///
-/// A contract sees the statistics, the histories (`columns_of` gives them as the meaning has them), and a moment,
-/// `latest`, that no history goes beyond. The time that is passed to a call may not lie before it. Memory is taken as
-/// histories start, and given back as they end; no other call takes any.
+/// A contract sees the statistics, the histories (`columns_of` gives them as the meaning has them), a moment, `latest`,
+/// that no history goes beyond, and how many histories more there is room for. The time that is passed to a call may not
+/// lie before `latest`. Memory is taken in `new` and in `reserve`, and given back as histories end; no other call takes
+/// any.
 #[derive(Drop)]
 pub struct Histories {
     kept: Vec<Kept>,
@@ -32,38 +39,67 @@ pub struct Histories {
 impl Model for Histories {
     ghost use Rattle.std.specs.Prelude.{◌≡◌, ◌≤ℤ◌, pos, map};
     ghost use Rattle.std.specs.List.{All};
-    ghost use Rattle.ss_histories.specs.Records.{Records, statistics_of, rows_of};
+    ghost use Rattle.ss_histories.specs.Records.{Records, statistics_of, rows_of, rooms_of};
     ghost use Rattle.ss_histories.specs.Each.{KeptUntil};
 
     ghost Value = { Records };
 
-    ghost view = { λ h. record { statistics = statistics_of h.kept.items; rows = rows_of h.kept.items; latest = h.latest } };
+    ghost view = { λ h. record { statistics = statistics_of h.kept.items; rows = rows_of h.kept.items; latest = h.latest; room = rooms_of h.kept.items } };
 
     ghost invariant = { λ h. (h.about ≡ statistics_of h.kept.items) × (pos 0 ≤ℤ h.latest) × All (KeptUntil h.latest) h.kept.items };
 }
 
 impl Histories {
+    /// No history of these statistics started yet. The error comes where memory was refused.
+    pub fn new(alloc: Global, statistics: &[Statistic]) -> Result<Histories, AllocError>
+        ensures statistics { IfOk result (λ h. h.statistics ≡ statistics.now) }
+        ensures none { IfOk result (λ h. columns_of h.rows ≡ no_histories statistics.now) }
+        ensures latest { IfOk result (λ h. h.latest ≡ pos 0) }
+    {
+        let about = About::new(alloc, statistics)?;
+        let kept = each::none_started(alloc, statistics)?;
+        Ok(Histories {
+            kept,
+            about,
+            latest: 0,
+        })
+    }
+
+    /// Makes room for so many more histories of each statistic of what the entities of a class have, or of what the
+    /// system has. No history changes. The error comes where memory was refused.
+    pub fn reserve(&mut self, layout: &Layout, whose: Owner, count: i64) -> Result<(), AllocError>
+        ensures statistics { self.new.statistics ≡ self.old.statistics }
+        ensures rows { self.new.rows ≡ self.old.rows }
+        ensures latest { self.new.latest ≡ self.old.latest }
+        ensures room { OnOk result (HasRooms layout.now whose count self.new.statistics self.new.room) }
+    {
+        each::reserve_each(&mut self.kept, layout, whose, count)
+    }
+
     /// Starts the histories of an entity of a class as it comes into being, or those of the system, which is 0, with the
-    /// value 0. The error comes where memory was refused; then everything is as it was.
-    pub fn start(
-        &mut self,
-        layout: &Layout,
-        whose: Owner,
-        entity: i64,
-        now: i64,
-    ) -> Result<(), AllocError>
-        requires { self.old.latest ≤ℤ now }
-        ensures started { MatchResult result (λ _. columns_of self.new.rows ≡ starting layout.now whose (int_eq entity) now self.old.statistics (columns_of self.old.rows)) (λ _. self.new ≡ self.old) }
+    /// value 0. `reserve` made room for them.
+    pub fn start(&mut self, layout: &Layout, whose: Owner, entity: i64, now: i64)
+        requires now { self.old.latest ≤ℤ now }
+        requires room { HasRooms layout.now whose (pos 1) self.old.statistics self.old.room }
+        ensures started { columns_of self.new.rows ≡ starting layout.now whose (int_eq entity) now self.old.statistics (columns_of self.old.rows) }
         ensures statistics { self.new.statistics ≡ self.old.statistics }
         ensures latest { self.new.latest ≤ℤ now }
     {
-        match each::start_each(&mut self.kept, layout, whose, entity, now) {
-            Ok(()) => {
-                self.latest = now;
-                Ok(())
-            }
-            Err(error) => Err(error),
-        }
+        each::begin_each(&mut self.kept, layout, whose, entity, now);
+        self.latest = now;
+    }
+
+    /// Starts the histories of the entities 1 to a number of a permanent class as they come into being, with the value 0.
+    /// `reserve` made room for them.
+    pub fn start_all(&mut self, layout: &Layout, class: usize, count: i64, now: i64)
+        requires now { self.old.latest ≤ℤ now }
+        requires room { HasRooms layout.now (Class class) count self.old.statistics self.old.room }
+        ensures started { columns_of self.new.rows ≡ starting layout.now (Class class) (is_up_to count) now self.old.statistics (columns_of self.old.rows) }
+        ensures statistics { self.new.statistics ≡ self.old.statistics }
+        ensures latest { self.new.latest ≤ℤ now }
+    {
+        each::begin_all_each(&mut self.kept, layout, Owner::Class(class), count, now);
+        self.latest = now;
     }
 
     /// Ends the histories of an entity of a class, as it goes.
@@ -81,17 +117,34 @@ impl Histories {
         );
     }
 
-    /// Notes a value of a subject, now, in each history of it that an entity has. Faults: 14 where one of them is full;
-    /// then everything is as it was.
+    /// Whether a statistic is kept of a subject.
+    pub fn watches(&self, subject: Subject) -> bool
+        ensures { result ≡ list_any (is_about subject) self.now.statistics }
+    {
+        !self.kept.is_empty() && each::has_some(self.about.places(subject))
+    }
+
+    /// The subject of a statistic, if there is one of that number.
+    pub fn subject(&self, statistic: usize) -> Option<Subject>
+        ensures { result ≡ option_map (λ (s : Statistic). s.subject) (slice_get self.now.statistics statistic) }
+    {
+        match self.kept.get(statistic) {
+            Some(kept) => Some(kept.statistic().subject),
+            None => None,
+        }
+    }
+
+    /// Notes a value of a subject of an entity, now, in each statistic of it. The error is the first in the order of the
+    /// statistics; where there is one, everything is as it was.
     pub fn note(
         &mut self,
         subject: Subject,
         entity: i64,
         now: i64,
-        value: i64,
-    ) -> Result<(), FaultKind>
+        value: Value,
+    ) -> Result<(), Unnoted>
         requires { self.old.latest ≤ℤ now }
-        ensures noted { MatchResult result (λ _. all_noting subject entity now (Whole value) self.old.statistics (columns_of self.old.rows) ≡ Ok (columns_of self.new.rows)) (λ e. (all_noting subject entity now (Whole value) self.old.statistics (columns_of self.old.rows) ≡ Err (Fails e)) × (self.new ≡ self.old)) }
+        ensures noted { MatchResult result (λ _. all_noting subject entity now value self.old.statistics (columns_of self.old.rows) ≡ Ok (columns_of self.new.rows)) (λ e. (all_noting subject entity now value self.old.statistics (columns_of self.old.rows) ≡ Err (why e)) × (self.new ≡ self.old)) }
         ensures statistics { self.new.statistics ≡ self.old.statistics }
         ensures latest { self.new.latest ≤ℤ now }
     {
@@ -99,12 +152,40 @@ impl Histories {
             return Ok(());
         }
         let places = self.about.places(subject);
-        if each::any_full(&self.kept, places, entity, now) {
-            return Err(FaultKind::Overflow);
+        match each::note_all(&mut self.kept, places, entity, now, value) {
+            Ok(()) => {
+                self.latest = now;
+                Ok(())
+            }
+            Err(unnoted) => Err(unnoted),
         }
-        each::note_each(&mut self.kept, places, entity, now, value);
-        self.latest = now;
-        Ok(())
+    }
+
+    /// The same of an attribute of a class.
+    pub fn note_attribute(
+        &mut self,
+        class: usize,
+        field: usize,
+        entity: i64,
+        now: i64,
+        value: Value,
+    ) -> Result<(), Unnoted>
+        requires { self.old.latest ≤ℤ now }
+        ensures noted { MatchResult result (λ _. all_noting (OfAttribute class field) entity now value self.old.statistics (columns_of self.old.rows) ≡ Ok (columns_of self.new.rows)) (λ e. (all_noting (OfAttribute class field) entity now value self.old.statistics (columns_of self.old.rows) ≡ Err (why e)) × (self.new ≡ self.old)) }
+        ensures statistics { self.new.statistics ≡ self.old.statistics }
+        ensures latest { self.new.latest ≤ℤ now }
+    {
+        if self.kept.is_empty() {
+            return Ok(());
+        }
+        let places = self.about.attribute_places(class, field);
+        match each::note_all(&mut self.kept, places, entity, now, value) {
+            Ok(()) => {
+                self.latest = now;
+                Ok(())
+            }
+            Err(unnoted) => Err(unnoted),
+        }
     }
 
     /// What is asked of the history of an entity in a statistic, if it has one. Faults: 14 for a sum of more than 64
@@ -125,16 +206,20 @@ impl Histories {
         }
     }
 
-    /// No history of these statistics started yet. The error comes where memory was refused.
-    pub fn new(alloc: Global, statistics: &[Statistic]) -> Result<Histories, AllocError>
-        ensures { IfOk result (λ h. h ≡ none_yet statistics.now) }
+    /// Starts the history of an entity in a statistic afresh, now, with the present value of its subject. It answers
+    /// whether there is such a history; where there is none, everything is as it was.
+    pub fn renew(&mut self, statistic: usize, entity: i64, now: i64, present: i64) -> bool
+        requires { self.old.latest ≤ℤ now }
+        ensures renewed { renewed statistic entity now present (columns_of self.old.rows) ≡ renewed_where result (columns_of self.new.rows) }
+        ensures same { IsFalse result → self.new ≡ self.old }
+        ensures statistics { self.new.statistics ≡ self.old.statistics }
+        ensures latest { self.new.latest ≤ℤ now }
     {
-        let about = About::new(alloc, statistics)?;
-        let kept = each::none_started(alloc, statistics)?;
-        Ok(Histories {
-            kept,
-            about,
-            latest: 0,
-        })
+        if !each::has_at(&self.kept, statistic, entity) {
+            return false;
+        }
+        each::renew_at(&mut self.kept, statistic, entity, now, present);
+        self.latest = now;
+        true
     }
 }

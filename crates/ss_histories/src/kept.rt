@@ -3,9 +3,11 @@
 ghost use Rattle.std.specs.Prelude.{◌≡◌, is_some, ◌+◌, ◌<◌, ◌≤◌, [], pos, ◌≤ℤ◌, OnOk};
 ghost use Rattle.std.specs.Ordering.{int_eq};
 ghost use Rattle.std.specs.Option.{option_map};
+ghost use Rattle.ss_histories.specs.Each.{refused_in};
 ghost use Rattle.ss_meaning.specs.Histories.{at_start, begun_in, ended_in};
-ghost use Rattle.ss_histories.specs.Records.{column_of, IsUntil, figure_of, full_in, noted_column, renewed_column};
+ghost use Rattle.ss_histories.specs.Records.{column_of, IsUntil, figure_of, noted_column, renewed_column, is_up_to};
 
+use crate::unnoted::Unnoted;
 use crate::watched::Watched;
 use indexmap::IndexMap;
 use ss_base::FaultKind;
@@ -49,12 +51,15 @@ impl Kept {
     }
 
     /// Makes room for so many histories more. The error comes where memory was refused.
-    pub(crate) fn reserve(&mut self, count: usize) -> Result<(), AllocError>
+    pub(crate) fn reserve(&mut self, count: i64) -> Result<(), AllocError>
         ensures statistic { self.new.statistic ≡ self.old.statistic }
         ensures rows { self.new.rows ≡ self.old.rows }
-        ensures room { OnOk result (count ≤ self.new.room) }
+        ensures room { OnOk result (count ≤ℤ pos self.new.room) }
     {
-        self.watched.reserve(count)
+        match usize::try_from(count) {
+            Ok(count) => self.watched.reserve(count),
+            Err(_) => Ok(()),
+        }
     }
 
     /// Starts the history of an entity.
@@ -67,6 +72,18 @@ impl Kept {
     {
         let started = Watched::start(self.statistic.weighting, now);
         let _ = self.watched.insert(entity, started);
+    }
+
+    /// Starts the histories of the entities 1 to a number.
+    pub(crate) fn begin_all(&mut self, count: i64, now: i64)
+        requires now { pos 0 ≤ℤ now }
+        requires room { count ≤ℤ pos self.old.room }
+        ensures statistic { self.new.statistic ≡ self.old.statistic }
+        ensures column { column_of self.new.rows ≡ begun_in (is_up_to count) (at_start self.old.statistic.weighting now) (column_of self.old.rows) }
+    {
+        for entity in 0..count {
+            self.begin(entity + 1, now);
+        }
     }
 
     /// Gives back what is kept of an entity.
@@ -84,14 +101,15 @@ impl Kept {
         self.watched.get(&entity).is_some()
     }
 
-    /// Whether the history of an entity takes no further value.
-    pub(crate) fn is_full(&self, entity: i64, now: i64) -> bool
+    /// Why the history of an entity takes no number.
+    pub(crate) fn refused(&self, entity: i64, now: i64) -> Option<Unnoted>
         requires { IsUntil now (column_of self.now.rows) }
-        ensures { result ≡ full_in (column_of self.now.rows entity) }
+        ensures { result ≡ refused_in (column_of self.now.rows entity) }
     {
         match self.watched.get(&entity) {
-            Some(watched) => watched.is_full(now),
-            None => false,
+            Some(watched) if watched.is_full(now) => Some(Unnoted::Full),
+            Some(_) => None,
+            None => Some(Unnoted::Misfit),
         }
     }
 

@@ -7,6 +7,8 @@ mod histories;
 mod kept;
 mod table;
 mod told;
+mod unnoted;
 mod watched;
 
 pub use histories::Histories;
+pub use unnoted::Unnoted;

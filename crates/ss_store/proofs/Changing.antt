@@ -4,12 +4,16 @@ use Rattle.std.specs.Prelude.{Result as OkOr}
 use Rattle.ss_meaning.specs.Values.{Trouble as Meant, if_ok, turned, where_fit}
 use Rattle.ss_meaning.specs.Store.{Store}
 use Rattle.ss_population.specs.declared.trouble.Trouble.{Trouble}
-use Rattle.ss_store.specs.Seen.{Seen, with_seen, Changes}
+use Rattle.ss_store.specs.Seen.{Seen, with_seen, Changes, Notes}
 
 -- a look at a number, and then a change
 pub found_changes : (look : Store → OkOr ℤ Meant) (f : ℤ → Store → OkOr Store Meant) (n : ℤ) (old new : Seen) (r : OkOr (Unit {0}) Trouble) → ((s : Store) → look (with_seen s old) ≡ Ok n) → Changes (f n) old new r → Changes (λ s. if_ok (look s) (λ n. f n s)) old new r
 found_changes look f n old new (Ok u) e h = λ s. ap (λ r. if_ok r (λ n. f n (with_seen s old))) (e s) ∙ h s
 found_changes look f n old new (Err t) e h = (λ s. ap (λ r. if_ok r (λ n. f n (with_seen s old))) (e s) ∙ h.0 s, h.1)
+
+pub found_notes : (look : Store → OkOr ℤ Meant) (f : ℤ → Store → OkOr Store Meant) (n : ℤ) (old new : Seen) (r : OkOr (Unit {0}) Trouble) → ((s : Store) → look (with_seen s old) ≡ Ok n) → Notes (f n) old new r → Notes (λ s. if_ok (look s) (λ n. f n s)) old new r
+found_notes look f n old new (Ok u) e h = λ s. ap (λ r. if_ok r (λ n. f n (with_seen s old))) (e s) ∙ h s
+found_notes look f n old new (Err t) e h = (λ s. ap (λ r. if_ok r (λ n. f n (with_seen s old))) (e s) ∙ h.0 s, h.1)
 
 -- a look that comes to a trouble
 pub troubled : (look : Store → OkOr ℤ Meant) (f : ℤ → Store → OkOr Store Meant) (t : Meant) (s : Store) → look s ≡ Err t → if_ok (look s) (λ n. f n s) ≡ Err t

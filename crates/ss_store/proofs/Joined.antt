@@ -9,8 +9,8 @@ use Rattle.ss_records.specs.Sets.{joiner, owner, member_class, put_in, put_besid
 use Rattle.ss_sets.specs.Disciplines.{put_ranked, filed}
 use Rattle.ss_meaning.specs.Values.{if_ok, due, sure, where_fit}
 use Rattle.ss_meaning.specs.Store.{Store}
-use Rattle.ss_meaning.specs.Sets.{Filing, ByRule, Foremost, Hindmost, Ahead, Behind, is_fit, member, filed_by, recounted}
-use Rattle.ss_store.specs.Filed.{filed_known, removed_known, tested}
+use Rattle.ss_meaning.specs.Sets.{Filing, ByRule, Foremost, Hindmost, Ahead, Behind, is_fit, member, filed_by}
+use Rattle.ss_store.specs.Filed.{out_of, tested}
 use Rattle.ss_store.proofs.Late.{if_ok_ok}
 use Rattle.ss_population.proofs.Refiled.{and_then_ok}
 use Rattle.ss_store.proofs.Recounting.{due_ok}
@@ -30,7 +30,7 @@ module _ (st h : State) (set : ℕ) (o x : ℤ) where
   ruled_joined Lifo e = put_joined (λ y l. y ∷ l) e
   ruled_joined (Ranked ks) e = put_joined (put_ranked st (member_class st.layout set) ks) e
 
-by_joined : (filing : Filing) (set : ℕ) (o x : ℤ) (s : Store) (h : State) → filed_by filing set o x s ≡ Ok h → (i : ℕ) × (joiner s.scene.heap set x ≡ Ok i)
+pub by_joined : (filing : Filing) (set : ℕ) (o x : ℤ) (s : Store) (h : State) → filed_by filing set o x s ≡ Ok h → (i : ℕ) × (joiner s.scene.heap set x ≡ Ok i)
 by_joined ByRule set o x s h e = ruled (slice_get s.scene.setting.disciplines set) e
   where
     fits : (d : Discipline) (b : Bool) → where_fit b (due (filed s.scene.heap d set o x)) ≡ Ok h → (i : ℕ) × (joiner s.scene.heap set x ≡ Ok i)
@@ -45,13 +45,8 @@ by_joined Hindmost set o x s h e = put_joined s.scene.heap h set o x (λ y l. l 
 by_joined (Ahead y) set o x s h e = let k = if_ok_ok (member set y s) (λ k. due (filed_before s.scene.heap set o x k)) h e in beside_joined s.scene.heap h set o x put_before k.0 k.2
 by_joined (Behind y) set o x s h e = let k = if_ok_ok (member set y s) (λ k. due (filed_after s.scene.heap set o x k)) h e in beside_joined s.scene.heap h set o x put_after k.0 k.2
 
-pub filing_joined : (filing : Filing) (set : ℕ) (o x : ℤ) (s t : Store) → filed_known filing set o x s ≡ Ok t → (i : ℕ) × (joiner s.scene.heap set x ≡ Ok i)
-filing_joined filing set o x s t e = let h = if_ok_ok (filed_by filing set o x s) (recounted set o s) t e in by_joined filing set o x s h.0 h.1
-
-pub removing_joined : (set : ℕ) (o x : ℤ) (s t : Store) → removed_known set o x s ≡ Ok t → (i : ℕ) × (joiner s.scene.heap set x ≡ Ok i)
-removing_joined set o x s t e =
-    let h = if_ok_ok (due (removed s.scene.heap set o x)) (recounted set o s) t e in
-    looked s.scene.heap set x (λ n. and_then (owner s.scene.heap set o) (λ m. taken_out s.scene.heap set m n)) h.0 h.1
+pub out_joined : (set : ℕ) (o x : ℤ) (s : Store) (h : State) → out_of set o x s ≡ Ok h → (i : ℕ) × (joiner s.scene.heap set x ≡ Ok i)
+out_joined set o x s h e = looked s.scene.heap set x (λ n. and_then (owner s.scene.heap set o) (λ m. taken_out s.scene.heap set m n)) h e
 
 pub test_joined : (set : ℕ) (o x : ℤ) (s : Store) (b : Bool) → tested set x o s ≡ Ok b → (i : ℕ) × (joiner s.scene.heap set x ≡ Ok i)
 test_joined set o x s b e =

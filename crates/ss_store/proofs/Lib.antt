@@ -1,6 +1,5 @@
 pub mod Changing
 pub mod Asking
-pub mod Creating
 pub mod Belonging
 pub mod Late
 pub mod Recounting
@@ -8,3 +7,8 @@ pub mod Fitting
 pub mod Joined
 pub mod Stepping
 pub mod Taking
+pub mod Timely
+pub mod Noting
+pub mod Rehoming
+pub mod Starting
+pub mod Figured

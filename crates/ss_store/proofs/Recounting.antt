@@ -1,61 +1,64 @@
--- N. of a set is counted again once its members changed. In a program without statistics, no history notes it.
-use Rattle.std.proofs.Common.{◌≡◌, ℕ, ℤ, Bool, true, false, Option, Some, None, Ok, Err, refl, ap, ◌∙◌, sym}
-use Rattle.std.specs.Prelude.{is_some, slice_get, Result as OkOr}
+-- N. of a set is counted again once its members changed, and noted.
+use Rattle.std.proofs.Common.{◌≡◌, ℕ, ◌<◌, ℤ, Bool, true, false, List, [], ◌∷◌, length, Option, Some, None, Ok, Err, refl, ap, ◌∙◌, sym, subst}
+use Rattle.std.specs.Prelude.{pos, ◌||◌, slice_get, MatchResult, Result as OkOr, if◌then◌else◌}
+use Rattle.std.specs.List.{list_any}
+use Rattle.ss_histories.specs.Places.{is_about}
+use Rattle.ss_histories.specs.Records.{columns_of}
 use Rattle.ss_base.specs.declared.fault.FaultKind.{FaultKind}
 use Rattle.ss_base.specs.declared.layout.Discipline.{Discipline}
 use Rattle.ss_base.specs.declared.value.Value.{Value}
 use Rattle.ss_base.specs.declared.value.Value.TheVariants.{Whole}
+use Rattle.ss_program.specs.declared.sections.Statistic.{Statistic}
 use Rattle.ss_program.specs.declared.sections.Subject.{Subject}
 use Rattle.ss_program.specs.declared.sections.Subject.TheVariants.{OfCount}
 use Rattle.ss_program.specs.declared.statement.End.{End}
 use Rattle.ss_program.specs.declared.statement.End.TheVariants as ends
 use Rattle.ss_records.specs.State.{State}
-use Rattle.ss_records.specs.Sets.{filed_first, filed_last, filed_before, filed_after, removed}
+use Rattle.ss_records.specs.Sets.{count_in, filed_first, filed_last, filed_before, filed_after, removed}
 use Rattle.ss_sets.specs.Disciplines.{filed}
 use Rattle.ss_meaning.specs.Values.{Trouble as Meant, if_ok, turned, due, sure, where_fit}
-use Rattle.ss_meaning.specs.Store.{Store, with_heap}
-use Rattle.ss_meaning.specs.Histories.{noted}
+use Rattle.ss_meaning.specs.Store.{Column, Store, with_histories}
+use Rattle.ss_meaning.specs.Histories.{same_subject, noting, all_noting, noted}
 use Rattle.ss_meaning.specs.Sets.{Filing, ByRule, Foremost, Hindmost, Ahead, Behind, is_fit, member, owner_number, filed_by, recounted, end_removed, removed_at}
 use Rattle.ss_population.specs.declared.trouble.Trouble.{Trouble}
-use Rattle.ss_store.specs.Seen.{Seen, with_seen, set_in, Changes, Gains}
-use Rattle.ss_store.specs.Filed.{Resettles, Gives, end_counted}
+use Rattle.ss_store.specs.Seen.{Seen, with_seen, Changes, Gains}
+use Rattle.ss_store.specs.Filed.{IsCountable, CountsWatched, recounted_now, end_counted}
 use Rattle.ss_store.proofs.Late.{if_ok_ok}
 use Rattle.ss_population.proofs.Refiled.{IsRefiled, counted, first_refiled, last_refiled, before_refiled, after_refiled, filed_refiled, out_refiled, first_out_refiled, last_out_refiled}
 
--- ## What is noted
+-- ## N. of the set is noted as it is afterwards
 
--- histories note N. of the set as it is afterwards
-pub recounts : (st h : State) (set : ℕ) (o : ℤ) → IsRefiled st set o h → (n : ℤ) × ((s : Store) → recounted set o s h ≡ noted (OfCount set) o (Whole n) (with_heap s h))
-recounts st h set o r = let n = counted st h set o r in (n.0, λ s. ap (λ q. if_ok (due q) (λ n. noted (OfCount set) o (Whole n) (with_heap s h))) n.1)
+-- what was filed or removed can be counted
+pub countable : (st t : State) (set : ℕ) (o : ℤ) → IsRefiled st set o t → set < length st.layout.sets → IsCountable t set o
+countable st t set o r w = (subst (λ (h : State). set < length h.layout.sets) (sym r.kept) w, counted st t set o r)
 
--- without statistics there is no history
-pub unnoted : (subject : Subject) (x : ℤ) (v : Value) (s : Store) (e : Seen) → noted subject x v (with_seen s e) ≡ Ok (with_seen s e)
-unnoted subject x v s e = refl
+-- other entities, and then N. of the set noted
+pub noted_after : (set : ℕ) (o : ℤ) (old mid : Seen) → mid ≡ record old { heap = mid.heap } → (s : Store) → recounted set o (with_seen s old) mid.heap ≡ recounted_now set o (with_seen s mid)
+noted_after set o old mid e s = ap (λ (e : Seen). recounted_now set o (with_seen s e)) (sym e)
 
-recounts_so : (e : Seen) (h : State) (set : ℕ) (o : ℤ) → IsRefiled e.heap set o h → (s : Store) → recounted set o (with_seen s e) h ≡ Ok (with_seen s (record e { heap = h }))
-recounts_so e h set o r s = let n = recounts e.heap h set o r in n.1 (with_seen s e) ∙ unnoted (OfCount set) o (Whole n.0) s (record e { heap = h })
+-- where no statistic is about a subject, it is all one which value is noted
+all_one : (subject : Subject) (x now : ℤ) (v w : Value) (ss : List Statistic) (cs : List Column) → list_any (is_about subject) ss ≡ false → all_noting subject x now v ss cs ≡ all_noting subject x now w ss cs
+all_one subject x now v w [] cs none = refl
+all_one subject x now v w (s ∷ ss) [] none = refl
+all_one subject x now v w (s ∷ ss) (c ∷ cs) none = by (same_subject s.subject subject) none (λ none. all_one subject x now v w ss cs none)
+  where
+    by : (b : Bool) → (b || list_any (is_about subject) ss) ≡ false → (list_any (is_about subject) ss ≡ false → all_noting subject x now v ss cs ≡ all_noting subject x now w ss cs) → if_ok (if b then noting x now v c else Ok c) (λ d. turned (λ ds. d ∷ ds) (all_noting subject x now v ss cs)) ≡ if_ok (if b then noting x now w c else Ok c) (λ d. turned (λ ds. d ∷ ds) (all_noting subject x now w ss cs))
+    by true none rest = absurd cc
+    by false none rest = ap (turned (λ ds. c ∷ ds)) (rest none)
 
--- ## Other entities, and N. of the set counted again
+pub unwatched : (e : Seen) (set : ℕ) (o : ℤ) → IsCountable e.heap set o → list_any (is_about (OfCount set)) e.statistics ≡ false → CountsWatched set o e (Ok (Whole (pos 0)))
+unwatched e set o c none = λ s.
+    ap (λ q. if_ok (due q) (λ n. noted (OfCount set) o (Whole n) (with_seen s e))) c.1.1
+    ∙ ap (turned (with_histories (with_seen s e))) (all_one (OfCount set) o e.time (Whole c.1.0) (Whole (pos 0)) e.statistics (columns_of e.histories) none)
 
-module _ (set : ℕ) (o : ℤ) where
-  pub resettled_changes : (f : Store → OkOr State Meant) (old new : Seen) (r : OkOr (Unit {0}) Trouble) → ((s : Store) (h : State) → f (with_seen s old) ≡ Ok h → IsRefiled old.heap set o h) → Resettles f old new r → Changes (λ s. if_ok (f s) (recounted set o s)) old new r
-  resettled_changes f old new (Ok u) refiled d = λ s.
-      ap (λ r. if_ok r (recounted set o (with_seen s old))) (d.0 s) ∙ recounts_so old new.heap set o (refiled s new.heap (d.0 s)) s ∙ ap (λ e. Ok (with_seen s e)) (sym d.1)
-  resettled_changes f old new (Err t) refiled d = (λ s. ap (λ r. if_ok r (recounted set o (with_seen s old))) (d.0 s), d.1)
+pub watched : (e : Seen) (set : ℕ) (o : ℤ) (r : OkOr ℤ FaultKind) → IsCountable e.heap set o → r ≡ count_in e.heap set o → MatchResult r (λ n. CountsWatched set o e (Ok (Whole n))) (λ k. ⊥)
+watched e set o (Ok n) c is = λ s. ap (λ q. if_ok (due q) (λ n. noted (OfCount set) o (Whole n) (with_seen s e))) (sym is)
+watched e set o (Err k) c is = absurd (let same : (let r : OkOr ℤ FaultKind = Err k in r ≡ Ok c.1.0) = is ∙ c.1.1 in cc)
 
-  pub given_gains : {A : Type 0} (f : Store → OkOr (A × State) Meant) (old new : Seen) (r : OkOr A Trouble) → ((s : Store) (a : A) (h : State) → f (with_seen s old) ≡ Ok (a, h) → IsRefiled old.heap set o h) → Gives f old new r → Gains (λ s. if_ok (f s) (λ p. turned (λ t. (p.0, t)) (recounted set o s p.1))) old new r
-  given_gains f old new (Ok a) refiled d = λ s.
-      ap (λ r. if_ok r (λ p. turned (λ t. (p.0, t)) (recounted set o (with_seen s old) p.1))) (d.0 s)
-      ∙ ap (turned (λ t. (a, t))) (recounts_so old new.heap set o (refiled s a new.heap (d.0 s)) s) ∙ ap (λ e. Ok (a, with_seen s e)) (sym d.1)
-  given_gains f old new (Err t) refiled d = (λ s. ap (λ r. if_ok r (λ p. turned (λ t. (p.0, t)) (recounted set o (with_seen s old) p.1))) (d.0 s), d.1)
-
-pub fits_gains : {A : Type 0} (set : ℕ) (f : Store → OkOr (A × Store) Meant) (old new : Seen) (r : OkOr A Trouble) → is_some (set_in old.heap.layout set) ≡ true → Gains f old new r → Gains (λ s. where_fit (is_some (set_in s.scene.heap.layout set)) (f s)) old new r
-fits_gains set f old new (Ok a) there d = λ s. ap (λ b. where_fit b (f (with_seen s old))) there ∙ d s
-fits_gains set f old new (Err t) there d = (λ s. ap (λ b. where_fit b (f (with_seen s old))) there ∙ d.0 s, d.1)
-
-pub gains_alike : {A : Type 0} (f g : Store → OkOr (A × Store) Meant) (old new : Seen) (r : OkOr A Trouble) → ((s : Store) → f (with_seen s old) ≡ g (with_seen s old)) → Gains g old new r → Gains f old new r
-gains_alike f g old new (Ok a) alike d = λ s. alike s ∙ d s
-gains_alike f g old new (Err t) alike d = (λ s. alike s ∙ d.0 s, d.1)
+-- what comes of noting it
+pub recounts : (old new : Seen) (set : ℕ) (o : ℤ) (v : Value) (r : OkOr (Unit {0}) Trouble) → CountsWatched set o old (Ok v) → Changes (noted (OfCount set) o v) old new r → Changes (recounted_now set o) old new r
+recounts old new set o v (Ok u) c h = λ s. c s ∙ h s
+recounts old new set o v (Err t) c h = (λ s. c s ∙ h.0 s, h.1)
 
 -- ## Which operations change members alone
 
@@ -112,3 +115,7 @@ end_is end set o s = sides (owner_number set o s)
     sides : (r : OkOr ℤ Meant) → if_ok {B = Value × Store} r (λ m. if_ok (due (end_removed end s.scene.heap set m)) (λ p. turned (λ t. (Whole p.0, t)) (recounted set m s p.1))) ≡ if_ok r (λ n. end_counted end set n s)
     sides (Ok n) = counted_alike (due (end_removed end s.scene.heap set n)) (recounted set n s)
     sides (Err t) = refl
+
+pub gains_alike : {A : Type 0} (f g : Store → OkOr (A × Store) Meant) (old new : Seen) (r : OkOr A Trouble) → ((s : Store) → f (with_seen s old) ≡ g (with_seen s old)) → Gains g old new r → Gains f old new r
+gains_alike f g old new (Ok a) alike d = λ s. alike s ∙ d s
+gains_alike f g old new (Err t) alike d = (λ s. alike s ∙ d.0 s, d.1)

@@ -1,13 +1,14 @@
 -- What is asked of statistics.
-use Rattle.std.specs.Prelude.{ℕ, List, Option, Some, None, Result, slice_get}
+use Rattle.std.specs.Prelude.{ℕ, List, ℤ, Option, Some, None, Result, slice_get}
 use Rattle.std.specs.Option.{option_map}
 use Rattle.ss_base.specs.declared.value.Value.{Value}
 use Rattle.ss_program.specs.declared.expression.Variable.TheVariants.{Global}
 use Rattle.ss_program.specs.declared.sections.Subject.{Subject}
 use Rattle.ss_program.specs.declared.sections.Subject.TheVariants.{OfVariable, OfAttribute, OfCount}
 use Rattle.ss_program.specs.declared.sections.Statistic.{Statistic}
-use Rattle.ss_meaning.specs.Values.{Trouble as Meant, sure}
-use Rattle.ss_meaning.specs.Store.{Store, fetched}
+use Rattle.ss_meaning.specs.Values.{Trouble as Meant, if_ok, turned, sure, number_of}
+use Rattle.ss_meaning.specs.Store.{Store, fetched, with_histories}
+use Rattle.ss_meaning.specs.Histories.{renewed}
 use Rattle.ss_meaning.specs.Statistics.{present}
 
 -- what a statistic is about
@@ -38,3 +39,10 @@ abbrev pub present_with : (held : Option Value) → Subject → Option Value →
 present_with held (OfVariable k) o s = sure held
 present_with held (OfAttribute class field) o s = present (OfAttribute class field) o s
 present_with held (OfCount set) o s = present (OfCount set) o s
+
+-- what RESET does once the number of the entity, and that of the present value, are known
+abbrev pub renewed_known : (statistic : ℕ) → (entity present : ℤ) → Store → Result Store Meant
+renewed_known j x z s = turned (with_histories s) (renewed j x s.scene.time z s.scene.histories)
+
+abbrev pub reset_of : (statistic : ℕ) → Subject → (entity : ℤ) → Option Value → (held : Option Value) → Store → Result Store Meant
+reset_of j t x o held s = if_ok (present_with held t o s) (λ v. if_ok (number_of v) (λ z. renewed_known j x z s))

@@ -1,17 +1,20 @@
 -- What filing, removing and going over members do once the numbers of the member and of the owner are known.
-use Rattle.std.specs.Prelude.{◌≡◌, ℕ, Bool, not, ℤ, Option, is_some, Result, Ok, Err}
+use Rattle.std.specs.Prelude.{◌≡◌, ℕ, ◌<◌, Bool, not, length, ℤ, Option, is_some, Result, Ok, Err}
 use Rattle.ss_base.specs.declared.fault.FaultKind.TheVariants.{NotFiled}
 use Rattle.ss_base.specs.declared.value.Value.{Value}
 use Rattle.ss_base.specs.declared.value.Value.TheVariants.{Whole}
 use Rattle.ss_records.specs.State.{State}
-use Rattle.ss_records.specs.Sets.{joiner, removed}
+use Rattle.ss_records.specs.Sets.{joiner, count_in, removed}
 use Rattle.ss_sets.specs.Disciplines.{member_test}
+use Rattle.ss_program.specs.declared.sections.Subject.TheVariants.{OfCount}
 use Rattle.ss_program.specs.declared.statement.End.{End}
+use Rattle.ss_meaning.specs.Histories.{noted}
 use Rattle.ss_meaning.specs.Values.{Trouble as Meant, if_ok, turned, due, where_fit, unless_fault}
 use Rattle.ss_meaning.specs.Store.{Store}
 use Rattle.ss_meaning.specs.Sets.{Filing as MeantFiling, ByRule, Foremost, Hindmost, Ahead, Behind, filed_by, recounted, set_at, member, owner_number, end_removed, from_or_after}
 use Rattle.ss_store.specs.declared.filing.Filing.{Filing}
 use Rattle.ss_store.specs.declared.filing.Filing.TheVariants.{ByDiscipline, First, Last, Before, After}
+use Rattle.ss_population.specs.declared.known.Known.{Known}
 use Rattle.ss_population.specs.declared.known.Membership.{Membership}
 use Rattle.ss_population.specs.declared.trouble.Trouble.{Trouble}
 use Rattle.ss_population.specs.Told.{told}
@@ -30,6 +33,29 @@ abbrev pub Resettles : (Store → Result State Meant) → (old new : Seen) → R
 Resettles f old new (Ok u) = ((s : Store) → f (with_seen s old) ≡ Ok new.heap) × (new ≡ record old { heap = new.heap })
 Resettles f old new (Err t) = ((s : Store) → f (with_seen s old) ≡ told {A = State} (Err t)) × (new ≡ old)
 
+-- N. of the set of an owner can be counted
+abbrev pub IsCountable : State → (set : ℕ) → (owner : ℤ) → Type 0
+IsCountable h set o = (set < length h.layout.sets) × ((n : ℤ) × (count_in h set o ≡ Ok n))
+
+-- a value that histories note as they would note N. of the set of an owner
+abbrev pub CountsWatched : (set : ℕ) → (owner : ℤ) → Seen → Result Value Trouble → Type 0
+CountsWatched set o e (Ok v) = (s : Store) → recounted set o (with_seen s e) e.heap ≡ noted (OfCount set) o v (with_seen s e)
+CountsWatched set o e (Err t) = ⊥
+
+-- N. of the set of an owner as it is now, which its histories note
+abbrev pub recounted_now : (set : ℕ) → (owner : ℤ) → Store → Result Store Meant
+recounted_now set o s = recounted set o s s.scene.heap
+
+-- what is done with the owner of a set, by its number
+abbrev pub with_owner : {B : Type 0} → (set : ℕ) → Option Value → (ℤ → Store → Result B Meant) → Store → Result B Meant
+with_owner set o go s = if_ok (owner_number set o s) (λ m. go m s)
+
+-- other entities by an operation with an owner, whose number is answered
+abbrev pub Rehomes : (set : ℕ) → Option Value → (ℤ → Store → Result State Meant) → (old new : Seen) → Result Known Trouble → Type 0
+Rehomes set o f old new (Ok k) =
+    ((s : Store) → (owner_number set o (with_seen s old) ≡ Ok k.number) × (f k.number (with_seen s old) ≡ Ok new.heap)) × (new ≡ record old { heap = new.heap })
+Rehomes set o f old new (Err t) = ((s : Store) → with_owner set o f (with_seen s old) ≡ told {A = State} (Err t)) × (new ≡ old)
+
 -- the numbers of the owner of a set and of an entity that may be a member of it
 abbrev pub both_known : (set : ℕ) → Value → Option Value → Store → Result (ℤ × ℤ) Meant
 both_known set x o s = if_ok (member set x s) (λ n. if_ok (owner_number set o s) (λ m. Ok (m, n)))
@@ -40,9 +66,6 @@ paired (Err t) = Err t
 
 -- ## What is done with the owner of a set and the number of an entity, which is looked at as the first thing that is done
 
-abbrev pub with_owner : {B : Type 0} → (set : ℕ) → Option Value → (ℤ → Store → Result B Meant) → Store → Result B Meant
-with_owner set o go s = if_ok (owner_number set o s) (λ m. go m s)
-
 -- the trouble that a look at a member comes to, or else one that came later
 abbrev pub IsEarliest : State → (set : ℕ) → (member : ℤ) → (later first : Trouble) → Type 0
 IsEarliest h set x later first =
@@ -52,16 +75,9 @@ IsEarliest h set x later first =
 abbrev pub tested : (set : ℕ) → (member owner : ℤ) → Store → Result Bool Meant
 tested set x o s = due (member_test s.scene.heap set o x)
 
--- filing
-abbrev pub filed_known : MeantFiling → (set : ℕ) → (owner member : ℤ) → Store → Result Store Meant
-filed_known filing set o x s = if_ok (filed_by filing set o x s) (recounted set o s)
-
 -- removing
 abbrev pub out_of : (set : ℕ) → (owner member : ℤ) → Store → Result State Meant
 out_of set o x s = due (removed s.scene.heap set o x)
-
-abbrev pub removed_known : (set : ℕ) → (owner member : ℤ) → Store → Result Store Meant
-removed_known set o x s = if_ok (out_of set o x s) (recounted set o s)
 
 -- the same of an operation that gives a value as well
 abbrev pub Gives : {A : Type 0} → (Store → Result (A × State) Meant) → (old new : Seen) → Result A Trouble → Type 0

@@ -12,10 +12,11 @@ use Rattle.ss_base.specs.Plain.{PlainClass, PlainLayout}
 use Rattle.ss_base.specs.declared.layout.Discipline.{Discipline}
 use Rattle.ss_base.specs.declared.value.Value.{Value}
 use Rattle.ss_base.specs.declared.value.Value.TheVariants.{Whole}
+use Rattle.ss_histories.specs.Records.{Rows, columns_of}
 use Rattle.ss_records.specs.State.{State, modes_of, is_made, assigned, created_all, destroyed}
 use Rattle.ss_events.specs.PendingList.{PendingList, is_pending, cancelled}
 use Rattle.ss_meaning.specs.Values.{Trouble as Meant, if_ok, turned, due, where_fit, unless_fault}
-use Rattle.ss_meaning.specs.Store.{Notices, Column, Store, with_heap, with_pending}
+use Rattle.ss_meaning.specs.Store.{Notices, Store, with_heap, with_pending}
 use Rattle.ss_meaning.specs.Histories.{noted}
 use Rattle.ss_meaning.specs.Entities.{class_at, field_at, is_single, is_permanent, made_count, with_all, with_none}
 use Rattle.ss_meaning.specs.Places.{is_of_mode}
@@ -40,9 +41,9 @@ pub record Seen : Type 0 where
   pub heap : State
   pub time : ℤ
   pub pending : PendingList
-  pub histories : List Column
+  pub histories : List Rows
 
--- a store with all of that
+-- a store with all of that, and the histories as the meaning has them
 abbrev pub with_seen : Store → Seen → Store
 with_seen s e = record s {
   scene = record {
@@ -50,7 +51,7 @@ with_seen s e = record s {
     heap = e.heap;
     time = e.time;
     pending = e.pending;
-    histories = e.histories;
+    histories = columns_of e.histories;
     input = s.scene.input;
   };
 }

@@ -182,7 +182,11 @@ impl Scene {
         if !self.is_single(class) {
             return Err(Unmade::Misfit);
         }
-        if self.make_room(class, 1).is_err() {
+        if self
+            .timeline
+            .reserve(self.population.layout(), class as usize, 1)
+            .is_err()
+        {
             return Err(Unmade::Memory);
         }
         match self.population.create(class as usize) {
@@ -293,13 +297,18 @@ impl Scene {
         if !self.is_permanent(class) {
             return Err(Unmade::Misfit);
         }
-        if self.make_room(class, count).is_err() {
+        if self
+            .timeline
+            .reserve(self.population.layout(), class as usize, count)
+            .is_err()
+        {
             return Err(Unmade::Memory);
         }
         match self.population.create_all(class as usize, count) {
             Ok(()) => {
+                let made = self.population.count(class as usize);
                 self.timeline
-                    .start_all(self.population.layout(), class as usize, count);
+                    .start_all(self.population.layout(), class as usize, made);
                 Ok(())
             }
             Err(Refused::Fault(kind)) => Err(Unmade::Fault(kind)),

@@ -1,9 +1,9 @@
 //! Filing members in sets.
 
-ghost use Rattle.std.specs.Prelude.{◌≡◌, ◌<◌, length};
+ghost use Rattle.std.specs.Prelude.{◌≡◌, ◌<◌, length, IfOk};
 ghost use Rattle.ss_meaning.specs.Sets.{ByRule, Ahead, Behind, filed_by, filed_in};
-ghost use Rattle.ss_store.specs.Seen.{Changes};
-ghost use Rattle.ss_store.specs.Filed.{Resettles, filing_meant, with_owner, filed_known};
+ghost use Rattle.ss_store.specs.Seen.{Notes};
+ghost use Rattle.ss_store.specs.Filed.{Resettles, Rehomes, IsCountable, filing_meant};
 
 use crate::scene::Scene;
 use ss_base::Value;
@@ -98,36 +98,33 @@ impl Scene {
         }
     }
 
-    // The same as a change of the whole scene, in which no history notes N. of the set.
-    fn file_known(&mut self, filing: Filing, set: u32, both: Membership) -> Result<(), Trouble>
-        requires set { set < length self.old.heap.layout.sets }
-        ensures { Changes (filed_known (filing_meant filing) set both.owner.number both.member.number) self.old self.new result }
-    {
-        self.place(filing, set, both)
-    }
-
-    // The same by the number of the member and what refers to the owner.
+    // The same by the number of the member and what refers to the owner, which is answered.
     fn file_member(
         &mut self,
         filing: Filing,
         set: u32,
         member: Known,
         owner: Option<Value>,
-    ) -> Result<(), Trouble>
-        ensures { Changes (with_owner set owner (λ o. filed_known (filing_meant filing) set o member.number)) self.old self.new result }
+    ) -> Result<Known, Trouble>
+        ensures value { Rehomes set owner (λ o. filed_by (filing_meant filing) set o member.number) self.old self.new result }
+        ensures counted { IfOk result (λ owner. IsCountable self.new.heap set owner.number) }
     {
         if !self.has_set(set) {
             return Err(Trouble::Misfit);
         }
         match self.owner(set, owner) {
-            Ok(owner) => self.file_known(filing, set, Membership { owner, member }),
+            Ok(owner) => match self.place(filing, set, Membership { owner, member }) {
+                Ok(()) => Ok(owner),
+                Err(trouble) => Err(trouble),
+            },
             Err(trouble) => Err(trouble),
         }
     }
 
-    /// Files an entity in the set of an owner, as FILE says. Faults: those of the entity (1 to 5), those of the member
-    /// beside which it is filed, those of the owner, then 6 where the entity is in some set of this name, then 7 where
-    /// the member beside which it is filed is not in this one.
+    /// Files an entity in the set of an owner, as FILE says, and histories note how many members that has. Faults: those
+    /// of the entity (1 to 5), those of the member beside which it is filed, those of the owner, then 6 where the entity
+    /// is in some set of this name, then 7 where the member beside which it is filed is not in this one; then 14 where a
+    /// history of N. is full, and the entity is filed.
     pub fn file(
         &mut self,
         filing: Filing,
@@ -135,12 +132,12 @@ impl Scene {
         owner: Option<Value>,
         x: Value,
     ) -> Result<(), Trouble>
-        ensures { Changes (filed_in (filing_meant filing) set x owner) self.old self.new result }
+        ensures { Notes (filed_in (filing_meant filing) set x owner) self.old self.new result }
     {
         match known_number(x) {
             Err(trouble) => Err(trouble),
             Ok(member) => match self.file_member(filing, set, member, owner) {
-                Ok(()) => Ok(()),
+                Ok(owner) => self.recount(set, owner),
                 Err(trouble) => Err(self.earliest(set, member, trouble)),
             },
         }

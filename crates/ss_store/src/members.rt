@@ -69,7 +69,7 @@ impl Scene {
     }
 
     // The owner of a set that a value refers to.
-    fn find_owner(&mut self, set: u32, owner: Option<Value>) -> Result<Known, Trouble>
+    pub(crate) fn find_owner(&mut self, set: u32, owner: Option<Value>) -> Result<Known, Trouble>
         ensures value { Looks (known_owner set owner) self.old (numbered result) }
         ensures same { self.new ≡ self.old }
     {

@@ -1,9 +1,9 @@
 //! Removing members from sets.
 
-ghost use Rattle.std.specs.Prelude.{◌≡◌, ◌<◌, length};
+ghost use Rattle.std.specs.Prelude.{◌≡◌, ◌<◌, length, IfOk};
 ghost use Rattle.ss_meaning.specs.Sets.{removed_from, removed_at};
-ghost use Rattle.ss_store.specs.Seen.{Changes, Gains};
-ghost use Rattle.ss_store.specs.Filed.{Resettles, Gives, with_owner, out_of, removed_known, end_out, end_removed_known};
+ghost use Rattle.ss_store.specs.Seen.{Notes, Gains};
+ghost use Rattle.ss_store.specs.Filed.{Resettles, Rehomes, Gives, IsCountable, out_of, end_out, end_removed_known};
 
 use crate::scene::Scene;
 use ss_base::Value;
@@ -23,41 +23,38 @@ impl Scene {
         )
     }
 
-    // The same as a change of the whole scene, in which no history notes N. of the set.
-    fn remove_known(&mut self, set: u32, both: Membership) -> Result<(), Trouble>
-        requires set { set < length self.old.heap.layout.sets }
-        ensures { Changes (removed_known set both.owner.number both.member.number) self.old self.new result }
-    {
-        self.take_out(set, both)
-    }
-
-    // The same by the number of the member and what refers to the owner.
+    // The same by the number of the member and what refers to the owner, which is answered.
     fn remove_member(
         &mut self,
         set: u32,
         member: Known,
         owner: Option<Value>,
-    ) -> Result<(), Trouble>
-        ensures { Changes (with_owner set owner (λ o. removed_known set o member.number)) self.old self.new result }
+    ) -> Result<Known, Trouble>
+        ensures value { Rehomes set owner (λ o. out_of set o member.number) self.old self.new result }
+        ensures counted { IfOk result (λ owner. IsCountable self.new.heap set owner.number) }
     {
         if !self.has_set(set) {
             return Err(Trouble::Misfit);
         }
         match self.owner(set, owner) {
-            Ok(owner) => self.remove_known(set, Membership { owner, member }),
+            Ok(owner) => match self.take_out(set, Membership { owner, member }) {
+                Ok(()) => Ok(owner),
+                Err(trouble) => Err(trouble),
+            },
             Err(trouble) => Err(trouble),
         }
     }
 
-    /// Takes an entity out of the set of an owner, as REMOVE says. Faults: those of the entity (1 to 5), those of the
-    /// owner, then 7 where the entity is not in this set.
+    /// Takes an entity out of the set of an owner, as REMOVE says, and histories note how many members that has. Faults:
+    /// those of the entity (1 to 5), those of the owner, then 7 where the entity is not in this set; then 14 where a
+    /// history of N. is full, and the entity is out.
     pub fn remove(&mut self, set: u32, owner: Option<Value>, x: Value) -> Result<(), Trouble>
-        ensures { Changes (removed_from set x owner) self.old self.new result }
+        ensures { Notes (removed_from set x owner) self.old self.new result }
     {
         match known_number(x) {
             Err(trouble) => Err(trouble),
             Ok(member) => match self.remove_member(set, member, owner) {
-                Ok(()) => Ok(()),
+                Ok(owner) => self.recount(set, owner),
                 Err(trouble) => Err(self.earliest(set, member, trouble)),
             },
         }
@@ -74,18 +71,25 @@ impl Scene {
         }
     }
 
-    // The same as a change of the whole scene, where the layout has the set; no history notes N. of the set.
+    // The same where the layout has the set, as a change of the whole scene: histories note N. of the set.
     fn remove_end_known(&mut self, end: End, set: u32, known: Known) -> Result<Value, Trouble>
         ensures { Gains (end_removed_known end set known.number) self.old self.new result }
     {
         if !self.has_set(set) {
             return Err(Trouble::Misfit);
         }
-        self.take_end(end, set, known)
+        match self.take_end(end, set, known) {
+            Ok(value) => match self.recount(set, known) {
+                Ok(()) => Ok(value),
+                Err(trouble) => Err(trouble),
+            },
+            Err(trouble) => Err(trouble),
+        }
     }
 
     /// Takes the member at an end out of the set of an owner, and answers it, as REMOVE FIRST and REMOVE LAST say.
-    /// Faults: 1 to 5, then 8 where there is none.
+    /// Histories note how many members are left. Faults: 1 to 5, then 8 where there is none; then 14 where a history of
+    /// N. is full, and the member is out.
     pub fn remove_end(&mut self, end: End, set: u32, owner: Option<Value>) -> Result<Value, Trouble>
         ensures { Gains (removed_at end set owner) self.old self.new result }
     {

@@ -6,6 +6,7 @@ ghost use Rattle.ss_records.specs.State.{first_state};
 ghost use Rattle.std.specs.Ordering.{int_eq};
 ghost use Rattle.ss_base.specs.declared.layout.Owner.TheVariants.{System};
 ghost use Rattle.ss_events.specs.PendingList.{none_pending};
+ghost use Rattle.ss_histories.specs.Records.{columns_of};
 ghost use Rattle.ss_meaning.specs.Histories.{no_histories, starting};
 
 use crate::notices::NoticeClass;
@@ -29,11 +30,10 @@ pub struct Scene {
 
 impl Model for Scene {
     ghost use Rattle.ss_store.specs.Seen.{Seen};
-    ghost use Rattle.ss_store.specs.Times.{columns};
 
     ghost Value = { Seen };
 
-    ghost view = { λ s. record { disciplines = s.disciplines.items; notices = s.notices.items; statistics = s.timeline.histories.statistics; heap = s.population; time = s.timeline.time; pending = s.timeline.pending; histories = columns s.timeline } };
+    ghost view = { λ s. record { disciplines = s.disciplines.items; notices = s.notices.items; statistics = s.timeline.histories.statistics; heap = s.population; time = s.timeline.time; pending = s.timeline.pending; histories = s.timeline.histories.rows } };
 }
 
 impl Scene {
@@ -50,7 +50,8 @@ impl Scene {
         statistics: &[Statistic],
     ) -> Result<Scene, AllocError>
         requires sound { IsTrue (is_sound layout) }
-        ensures { IfOk result (λ scene. scene ≡ record { disciplines = disciplines.items; notices = notices.items; statistics = statistics.now; heap = first_state layout; time = pos 0; pending = none_pending (map (λ ties. ties.items) shapes.now); histories = starting layout System (int_eq (pos 0)) (pos 0) statistics.now (no_histories statistics.now) }) }
+        ensures scene { IfOk result (λ scene. scene ≡ record { disciplines = disciplines.items; notices = notices.items; statistics = statistics.now; heap = first_state layout; time = pos 0; pending = none_pending (map (λ ties. ties.items) shapes.now); histories = scene.histories }) }
+        ensures histories { IfOk result (λ scene. columns_of scene.histories ≡ starting layout System (int_eq (pos 0)) (pos 0) statistics.now (no_histories statistics.now)) }
     {
         let population = Population::new(alloc, layout)?;
         let timeline = Timeline::new(alloc, population.layout(), shapes, statistics)?;

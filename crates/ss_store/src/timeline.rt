@@ -9,6 +9,7 @@ ghost use Rattle.ss_histories.specs.Places.{is_about};
 ghost use Rattle.ss_histories.specs.Records.{HasRooms, is_up_to, renewed_where, figured, columns_of};
 ghost use Rattle.ss_meaning.specs.Histories.{no_histories, starting, ending, history_of, folded, renewed};
 ghost use Rattle.ss_meaning.specs.Values.{if_ok};
+ghost use Rattle.ss_program.specs.declared.sections.Subject.TheVariants.{OfAttribute};
 ghost use Rattle.ss_store.specs.Figures.{subject_in};
 ghost use Rattle.ss_store.specs.Times.{IsAt, Schedules, Noted, columns, passed_by, or_unnoted};
 
@@ -138,6 +139,22 @@ impl Timeline {
         ensures { Noted subject entity value self.old self.new result }
     {
         or_unnoted(self.histories.note(subject, entity, self.time, value))
+    }
+
+    /// The same of an attribute.
+    pub(crate) fn note_attribute(
+        &mut self,
+        class: usize,
+        field: usize,
+        entity: i64,
+        value: Value,
+    ) -> Result<(), Trouble>
+        ensures { Noted (OfAttribute class field) entity value self.old self.new result }
+    {
+        or_unnoted(
+            self.histories
+                .note_attribute(class, field, entity, self.time, value),
+        )
     }
 
     /// Makes room for so many more histories of each statistic of what the entities of a class have. The error comes

@@ -1,4 +1,4 @@
-use Rattle.std.proofs.Common.{◌<◌, length, ◌∙◌, arith}
+use Rattle.std.proofs.Common.{◌<◌, length, to_z, of_z, w64, ◌∙◌, arith}
 use Rattle.std.proofs.Math.Seq.{map-set_same}
 use Rattle.ss_histories.specs.Each.{bare, HasRoom}
 use Rattle.ss_histories.proofs.Columns.{so_far}
@@ -14,5 +14,5 @@ loop-place-preserved c =
     let j = c.loop-place.place in
     let within : j < length ks = omega (arith, c.loop-place.auto.kept) in (
       map-set_same bare ks j c.reserve_one.new.kept _ c.reserve_one.ensures.bare ∙ c.loop-place.invariant.0,
-      so_far (HasRoom c.args.layout.now c.args.whose 1) ks j c.reserve_one.new.kept c.loop-place.invariant.1 c.in_ok-reserve_one.ensures.room within,
+      so_far (HasRoom c.args.layout.now c.args.whose (to_z w64 (of_z w64 c.args.count))) ks j c.reserve_one.new.kept c.loop-place.invariant.1 c.in_ok-reserve_one.ensures.room within,
     )

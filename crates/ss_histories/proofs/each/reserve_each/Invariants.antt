@@ -5,4 +5,4 @@ use Rattle.ss_histories.proofs.each.reserve_each.Given as goal
 
 abbrev pub invariant-loop-place : goal.invariant-loop-place
 invariant-loop-place l =
-    (map bare l.kept ≡ map bare l.initial.kept) × ((k : ℕ) (d : Recorded) → k < l.place → HasRoom l.layout l.whose 1 (get_or l.kept k d))
+    (map bare l.kept ≡ map bare l.initial.kept) × ((k : ℕ) (d : Recorded) → k < l.place → HasRoom l.layout l.whose l.count (get_or l.kept k d))

@@ -14,7 +14,7 @@ returns-in-Some c =
     let same_o : to_z w64 (of_z w64 o) ≡ o = search rules in
     let same_x : to_z w64 (of_z w64 x) ≡ x = search rules in
     let i = c.self.inside in
-    let e : Seen = record { disciplines = i.disciplines.items; notices = i.notices.items; heap = i.population; time = i.time; pending = i.pending.list } in
+    let e : Seen = record { disciplines = i.disciplines.items; notices = i.notices.items; statistics = i.timeline.histories.statistics; heap = i.population; time = i.timeline.time; pending = i.timeline.pending; histories = i.timeline.histories.rows } in
     let d = c.in-Some.discipline.now in
     let at = slice_get_read c.deref.result.now (length c.deref.result.now) c.args.set d refl c.in-Some.ensures.lookup.3.0 c.in-Some.ensures.lookup.1 in
     subst (λ (old : Seen). Resettles (filed_by ByRule c.args.set o x) old (record e { heap = c.file_if_fit.new.self }) c.file_if_fit.result) c.self.view_is

@@ -17,5 +17,5 @@ pub returns-in-Err : goal.returns-in-Err
 returns-in-Err c = (
   λ s. end_is c.args.end c.args.set c.args.owner (with_seen s c.args.self.now)
       ∙ ap (λ r. if_ok r (λ n. end_counted c.args.end c.args.set n (with_seen s c.args.self.now))) (c.in-Err.ensures s),
-  refl,
+  λ kind e ne. refl,
 )

@@ -2,7 +2,7 @@ use Rattle.std.proofs.Common.{◌≡◌, int_eq, arith, to_z, of_z, w64, sym, ap
 use Rattle.std.proofs.lemmas.Int.{ints}
 use Rattle.std.specs.Map.{lookup}
 use Rattle.ss_histories.specs.Records.{Recorded}
-use Rattle.ss_histories.proofs.kept.Kept.is_full.Goals as goal
+use Rattle.ss_histories.proofs.kept.Kept.refused.Goals as goal
 
 pub is_full-requires : goal.is_full-requires
 is_full-requires c =

@@ -1,0 +1,10 @@
+//! Why a value is not noted.
+
+/// Why a value is not noted.
+#[derive(Clone, Copy, PartialEq, Eq, Debug)]
+pub enum Unnoted {
+    /// A history takes no further value: the fault 14.
+    Full,
+    /// There is no history, or the value is a text. No value of a well-typed program comes to it.
+    Misfit,
+}

@@ -1,0 +1,233 @@
+//! Statistics: what histories note, what they say, and RESET.
+
+ghost use Rattle.std.specs.Prelude.{◌≡◌, pos};
+ghost use Rattle.ss_meaning.specs.Histories.{noted, figure_kept};
+ghost use Rattle.ss_meaning.specs.Statistics.{bearer, figure, reset};
+ghost use Rattle.ss_histories.specs.Records.{figured};
+ghost use Rattle.ss_population.specs.Told.{told, numbered};
+ghost use Rattle.ss_program.specs.declared.sections.Subject.TheVariants.{OfVariable, OfAttribute};
+ghost use Rattle.ss_store.specs.Figures.{subject_in, variable_in, variable_of, held_by, present_with, renewed_known, reset_of};
+ghost use Rattle.ss_store.specs.Filed.{IsCountable, CountsWatched, recounted_now};
+ghost use Rattle.ss_store.specs.Seen.{Looks, Changes, ChangesWhere};
+
+use crate::scene::Scene;
+use ss_base::{FaultKind, Value};
+use ss_population::known::{Known, known_number};
+use ss_population::trouble::Trouble;
+use ss_program::expression::{Fold, SetQuery};
+use ss_program::sections::Subject;
+
+impl Scene {
+    // Notes a value of a subject in its histories of an entity, by its number.
+    fn note(&mut self, subject: Subject, known: Known, value: Value) -> Result<(), Trouble>
+        ensures { Changes (noted subject known.number value) self.old self.new result }
+    {
+        self.timeline.note(subject, known.number, value)
+    }
+
+    // The same of an attribute.
+    pub(crate) fn note_attribute(
+        &mut self,
+        class: u32,
+        field: usize,
+        known: Known,
+        value: Value,
+    ) -> Result<(), Trouble>
+        ensures { Changes (noted (OfAttribute class field) known.number value) self.old self.new result }
+    {
+        self.timeline
+            .note_attribute(class as usize, field, known.number, value)
+    }
+
+    /// Notes the value that a global variable has now in its histories. Faults: 14 where one of them is full.
+    pub fn note_variable(&mut self, number: u32, value: Value) -> Result<(), Trouble>
+        ensures { Changes (noted (OfVariable number) (pos 0) value) self.old self.new result }
+    {
+        self.note(Subject::OfVariable { number }, Known { number: 0 }, value)
+    }
+
+    // Notes N. of the set of an owner, by its number, in its histories.
+    pub(crate) fn recount(&mut self, set: u32, owner: Known) -> Result<(), Trouble>
+        requires counted { IsCountable self.old.heap set owner.number }
+        ensures { Changes (recounted_now set owner.number) self.old self.new result }
+    {
+        match self.count_watched(set, owner) {
+            Ok(count) => self.note(Subject::OfCount { set }, owner, count),
+            Err(trouble) => Err(trouble),
+        }
+    }
+
+    // N. of the set of an owner, by its number, or something else where no statistic is about it.
+    fn count_watched(&mut self, set: u32, owner: Known) -> Result<Value, Trouble>
+        requires counted { IsCountable self.old.heap set owner.number }
+        ensures value { CountsWatched set owner.number self.old result }
+        ensures same { self.new ≡ self.old }
+    {
+        if !self.timeline.watches(Subject::OfCount { set }) {
+            return Ok(Value::Whole(0));
+        }
+        match self.population.member_count(set as usize, owner.number) {
+            Ok(count) => Ok(Value::Whole(count)),
+            Err(kind) => Err(Trouble::Fault(kind)),
+        }
+    }
+
+    // What a statistic is about.
+    fn subject(&self, statistic: u32) -> Option<Subject>
+        ensures { result ≡ subject_in self.now.statistics statistic }
+    {
+        self.timeline.subject(statistic as usize)
+    }
+
+    // The entity that has a subject, 0 for the system.
+    fn bearer(&mut self, subject: Subject, whose: &Option<Value>) -> Result<Known, Trouble>
+        ensures value { Looks (bearer subject whose.now) self.old (numbered result) }
+        ensures same { self.new ≡ self.old }
+    {
+        match subject {
+            Subject::OfVariable { .. } => match whose {
+                None => Ok(Known { number: 0 }),
+                Some(_) => Err(Trouble::Misfit),
+            },
+            Subject::OfAttribute { class, .. } => match whose {
+                None => Err(Trouble::Misfit),
+                Some(x) => self.find(class, *x),
+            },
+            Subject::OfCount { set } => self.find_owner(set, *whose),
+        }
+    }
+
+    // What is asked of the history of an entity in a statistic, by its number.
+    fn figure_kept(&self, fold: Fold, statistic: u32, known: Known) -> Result<Value, Trouble>
+        ensures { Looks (figure_kept fold statistic known.number) self.now result }
+    {
+        told_figure(
+            self.timeline
+                .figure(fold, statistic as usize, known.number),
+        )
+    }
+
+    /// What a statistic says: NUMBER, SUM, MAXIMUM or MINIMUM of its subject, of an entity if one has that. Faults: 1 to
+    /// 5, then 14 for a sum of more than 64 bits.
+    pub fn figure(
+        &mut self,
+        fold: Fold,
+        statistic: u32,
+        whose: Option<Value>,
+    ) -> Result<Value, Trouble>
+        ensures value { Looks (figure fold statistic whose) self.old result }
+        ensures same { self.new ≡ self.old }
+    {
+        match self.subject(statistic) {
+            None => Err(Trouble::Misfit),
+            Some(subject) => match self.bearer(subject, &whose) {
+                Err(trouble) => Err(trouble),
+                Ok(known) => self.figure_kept(fold, statistic, known),
+            },
+        }
+    }
+
+    /// The global variable that a statistic is about, if it is about one.
+    pub fn variable_of(&self, statistic: u32) -> Option<u32>
+        ensures { result ≡ variable_of self.now.statistics statistic }
+    {
+        variable_in(self.subject(statistic))
+    }
+
+    // The value that a subject has, where a variable holds this.
+    fn present(
+        &mut self,
+        subject: Subject,
+        whose: Option<Value>,
+        held: Option<Value>,
+    ) -> Result<Value, Trouble>
+        ensures value { Looks (present_with held subject whose) self.old result }
+        ensures same { self.new ≡ self.old }
+    {
+        match subject {
+            Subject::OfVariable { .. } => match held {
+                None => Err(Trouble::Misfit),
+                Some(value) => Ok(value),
+            },
+            Subject::OfAttribute { class, field } => match whose {
+                None => Err(Trouble::Misfit),
+                Some(x) => self.attribute(class, field, x),
+            },
+            Subject::OfCount { set } => self.of_set(SetQuery::MemberCount, set, whose),
+        }
+    }
+
+    // Starts the history of an entity in a statistic afresh, by its number, with the present value.
+    fn renew(&mut self, statistic: u32, known: Known, present: Known) -> Result<(), Trouble>
+        ensures { Changes (renewed_known statistic known.number present.number) self.old self.new result }
+    {
+        if self
+            .timeline
+            .renew(statistic as usize, known.number, present.number)
+        {
+            Ok(())
+        } else {
+            Err(Trouble::Misfit)
+        }
+    }
+
+    // The same with the present value of the statistic's subject.
+    fn reset_known(
+        &mut self,
+        statistic: u32,
+        subject: Subject,
+        known: Known,
+        whose: Option<Value>,
+        held: Option<Value>,
+    ) -> Result<(), Trouble>
+        ensures { Changes (reset_of statistic subject known.number whose held) self.old self.new result }
+    {
+        match self.present(subject, whose, held) {
+            Err(trouble) => Err(trouble),
+            Ok(value) => match known_number(value) {
+                Err(trouble) => Err(trouble),
+                Ok(present) => self.renew(statistic, known, present),
+            },
+        }
+    }
+
+    /// The history of a statistic starts afresh, with the value that its subject has, of an entity if one has that; a
+    /// global variable (`variable_of`) holds this value. Faults: 1 to 5. Nothing changes after a fault.
+    pub fn reset(
+        &mut self,
+        statistic: u32,
+        whose: Option<Value>,
+        held: Option<Value>,
+    ) -> Result<(), Trouble>
+        ensures { ChangesWhere (λ s. held_by statistic s ≡ held) (reset statistic whose) self.old self.new result }
+    {
+        match self.subject(statistic) {
+            None => Err(Trouble::Misfit),
+            Some(subject) => match self.bearer(subject, &whose) {
+                Err(trouble) => Err(trouble),
+                Ok(known) => self.reset_known(statistic, subject, known, whose, held),
+            },
+        }
+    }
+}
+
+// The global variable that a subject is.
+fn variable_in(subject: Option<Subject>) -> Option<u32>
+    ensures { result ≡ variable_in subject }
+{
+    match subject {
+        Some(Subject::OfVariable { number }) => Some(number),
+        _ => None,
+    }
+}
+
+// What was asked of a history, if there is one.
+fn told_figure(answer: Option<Result<i64, FaultKind>>) -> Result<Value, Trouble>
+    ensures { figured answer ≡ told result }
+{
+    match answer {
+        None => Err(Trouble::Misfit),
+        Some(Ok(number)) => Ok(Value::Whole(number)),
+        Some(Err(kind)) => Err(Trouble::Fault(kind)),
+    }
+}
