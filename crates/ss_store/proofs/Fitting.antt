@@ -1,17 +1,11 @@
 -- Filing by discipline: whether its keys are attributes of the members of a set.
-use Rattle.std.proofs.Common.{◌≡◌, ℕ, ◌<◌, Bool, length, Some, Ok, Err, Decides, refl, ap, ◌∙◌}
-use Rattle.std.specs.Prelude.{nat_lt, ℤ, slice_get, MatchResult, Result as OkOr}
-use Rattle.std.specs.List.{list_all}
-use Rattle.std.proofs.lemmas.Bool.Decides.{same_from_decides, Decides-by_and, Decides-ltb}
-use Rattle.ss_base.specs.Plain.{PlainLayout}
-use Rattle.ss_base.specs.declared.layout.RankKey.{RankKey}
+use Rattle.std.proofs.Common.{◌≡◌, ℕ, Some, Ok, Err, refl, ap, ◌∙◌}
+use Rattle.std.specs.Prelude.{ℤ, slice_get, MatchResult, Result as OkOr}
 use Rattle.ss_base.specs.declared.layout.Discipline.{Discipline}
-use Rattle.ss_base.specs.declared.layout.Discipline.TheVariants.{Fifo, Lifo, Ranked}
-use Rattle.ss_records.specs.State.{State, modes_of}
-use Rattle.ss_records.specs.Sets.{member_class}
-use Rattle.ss_sets.specs.Disciplines.{Fits, filed}
+use Rattle.ss_records.specs.State.{State}
+use Rattle.ss_sets.specs.Disciplines.{filed}
 use Rattle.ss_meaning.specs.Values.{if_ok, due, sure, where_fit}
-use Rattle.ss_meaning.specs.Sets.{ByRule, is_field, is_fit, filed_by}
+use Rattle.ss_meaning.specs.Sets.{ByRule, is_fit, filed_by}
 use Rattle.ss_population.specs.declared.trouble.Trouble.{Trouble}
 use Rattle.ss_population.specs.Told.{meant}
 use Rattle.ss_store.specs.Seen.{Seen}

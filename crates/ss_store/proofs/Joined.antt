@@ -5,7 +5,7 @@ use Rattle.ss_base.specs.declared.fault.FaultKind.{FaultKind}
 use Rattle.ss_base.specs.declared.layout.Discipline.{Discipline}
 use Rattle.ss_base.specs.declared.layout.Discipline.TheVariants.{Fifo, Lifo, Ranked}
 use Rattle.ss_records.specs.State.{State, members_of, contains, and_then}
-use Rattle.ss_records.specs.Sets.{joiner, owner, member_class, put_in, put_beside, put_before, put_after, taken_out, filed_before, filed_after, removed}
+use Rattle.ss_records.specs.Sets.{joiner, owner, member_class, put_in, put_beside, put_before, put_after, taken_out, filed_before, filed_after}
 use Rattle.ss_sets.specs.Disciplines.{put_ranked, filed}
 use Rattle.ss_meaning.specs.Values.{if_ok, due, sure, where_fit}
 use Rattle.ss_meaning.specs.Store.{Store}

@@ -1,5 +1,5 @@
 -- What histories note, and which faults come of it.
-use Rattle.std.proofs.Common.{◌≡◌, ℕ, ℤ, Bool, true, false, List, [], ◌∷◌, Option, Some, None, Ok, Err, refl, ap, ◌∙◌, sym, subst}
+use Rattle.std.proofs.Common.{◌≡◌, ℕ, ℤ, Bool, true, false, List, [], ◌∷◌, Option, Some, None, Ok, Err, ap, ◌∙◌, sym, subst}
 use Rattle.std.specs.Prelude.{Result as OkOr, if◌then◌else◌}
 use Rattle.ss_base.specs.declared.fault.FaultKind.{FaultKind}
 use Rattle.ss_base.specs.declared.fault.FaultKind.TheVariants.{Overflow}
@@ -10,13 +10,12 @@ use Rattle.ss_program.specs.declared.sections.Subject.TheVariants.{OfAttribute, 
 use Rattle.ss_program.specs.declared.sections.Statistic.{Statistic}
 use Rattle.ss_histories.specs.Records.{columns_of}
 use Rattle.ss_stats.specs.History.{History, is_full, with_value}
-use Rattle.ss_meaning.specs.Values.{Trouble as Meant, Fails, Misfit as IsMisfit, if_ok, turned, due, where_fit, unless_fault, number_of}
+use Rattle.ss_meaning.specs.Values.{Trouble as Meant, Fails, if_ok, turned, due, where_fit, unless_fault}
 use Rattle.ss_meaning.specs.Places.{is_of_mode}
 use Rattle.ss_meaning.specs.Store.{Column, Store, with_heap, with_histories}
 use Rattle.ss_records.specs.State.{assigned}
 use Rattle.ss_meaning.specs.Histories.{same_subject, with_history, noting_in, noting, all_noting, noted}
 use Rattle.ss_population.specs.declared.trouble.Trouble.{Trouble}
-use Rattle.ss_population.specs.declared.trouble.Trouble.TheVariants.{Fault, Misfit}
 use Rattle.ss_population.specs.Told.{told}
 use Rattle.ss_store.specs.Seen.{Seen, with_seen, Changes, Stays, Notes, mode_at, assigned_field}
 use Rattle.ss_store.specs.Filed.{IsCountable, recounted_now}

@@ -10,11 +10,10 @@ use Rattle.ss_meaning.specs.Store.{Store}
 use Rattle.ss_meaning.specs.Sets.{member, owner_number, recounted}
 use Rattle.ss_population.specs.declared.known.Known.{Known}
 use Rattle.ss_population.specs.declared.trouble.Trouble.{Trouble}
-use Rattle.ss_population.specs.Told.{told}
-use Rattle.ss_store.specs.Seen.{Seen, with_seen, set_in, Changes, Stays, Notes, Gains}
-use Rattle.ss_store.specs.Filed.{with_owner, IsCountable, IsEarliest, Rehomes, Resettles, Gives, recounted_now, end_out, end_counted, end_removed_known}
+use Rattle.ss_store.specs.Seen.{Seen, with_seen, set_in, Changes, Notes, Gains}
+use Rattle.ss_store.specs.Filed.{IsCountable, IsEarliest, Rehomes, Resettles, Gives, recounted_now, end_out, end_counted, end_removed_known}
 use Rattle.ss_store.proofs.Asking.{owned_there}
-use Rattle.ss_store.proofs.Late.{late_fine, late_trouble}
+use Rattle.ss_store.proofs.Late.{late_trouble}
 use Rattle.ss_store.proofs.Noting.{noted_changes, recounting_stays}
 use Rattle.ss_store.proofs.Recounting.{noted_after}
 

@@ -1,34 +1,26 @@
--- Histories that start and end with their entities.
-use Rattle.std.proofs.Common.{arith, ◌≡◌, ℕ, zero, suc, ◌+◌, ◌≤◌, ℤ, Bool, true, false, List, [], ◌∷◌, length, Option, Some, None, Ok, Err, refl, ap, ◌∙◌, sym, subst}
-use Rattle.std.specs.Prelude.{pos, negsuc, nat_le, nat_lt, ◌≤ℤ◌, slice_get, slice_set, replicate, IsTrue, Result as OkOr, if◌then◌else◌}
-use Rattle.std.specs.Ordering.{int_eq}
+-- Histories that start with their entities.
+use Rattle.std.proofs.Common.{arith, ◌≡◌, ℕ, zero, suc, ◌≤◌, ℤ, Bool, true, false, List, [], ◌∷◌, length, Option, Some, Ok, Err, refl, ap, ◌∙◌, sym, subst}
+use Rattle.std.specs.Prelude.{pos, negsuc, nat_le, ◌≤ℤ◌, slice_get, slice_set, replicate, Result as OkOr, if◌then◌else◌}
 use Rattle.std.proofs.lemmas.Int.{ints}
 use Rattle.ss_base.specs.declared.fault.FaultKind.{FaultKind}
-use Rattle.ss_base.specs.declared.fault.FaultKind.TheVariants.{CreatedTwice, BadCount, Overflow}
+use Rattle.ss_base.specs.declared.fault.FaultKind.TheVariants.{CreatedTwice, BadCount}
+use Rattle.ss_base.specs.declared.layout.Discipline.{Discipline}
 use Rattle.ss_base.specs.declared.layout.Layout.{Layout}
 use Rattle.ss_base.specs.declared.layout.Owner.{Owner}
 use Rattle.ss_base.specs.declared.layout.Owner.TheVariants.{Class}
-use Rattle.ss_base.specs.declared.value.Value.{Value}
-use Rattle.ss_base.specs.declared.value.Value.TheVariants.{Whole}
 use Rattle.ss_program.specs.declared.sections.Statistic.{Statistic}
-use Rattle.ss_records.specs.State.{State, Record, LAST_NUMBER, MOST_ENTITIES, first_record, is_made, with_made, with_created, made_many, created, created_all, destroyed, records_in}
-use Rattle.ss_histories.specs.Records.{columns_of, is_home, is_up_to, HasRooms}
-use Rattle.ss_meaning.specs.Values.{Trouble as Meant, turned, due, where_fit}
-use Rattle.ss_meaning.specs.Store.{Column, Store, with_heap, with_histories}
-use Rattle.ss_meaning.specs.Histories.{starting, ending}
-use Rattle.ss_meaning.specs.Entities.{is_single, is_permanent, with_new, with_all, with_none, made_one}
+use Rattle.ss_records.specs.State.{State, Record, MOST_ENTITIES, first_record, is_made, with_made, made_many, created_all, records_in}
+use Rattle.ss_histories.specs.Records.{columns_of, is_up_to, HasRooms}
+use Rattle.ss_meaning.specs.Values.{turned, due, where_fit}
+use Rattle.ss_events.specs.PendingList.{PendingList}
+use Rattle.ss_meaning.specs.Store.{Notices, Column, Store, with_heap, with_histories}
+use Rattle.ss_meaning.specs.Histories.{starting}
+use Rattle.ss_meaning.specs.Entities.{is_permanent, with_all}
 use Rattle.ss_population.proofs.Counting.{length_replicate}
 use Rattle.ss_store.specs.Seen.{Seen, with_seen, class_in, created_all_known}
+use Rattle.ss_store.specs.Times.{Times}
 
--- ## Entities that are made
-
--- the layout stays
-pub created_layout : (st h : State) (c : ℕ) (n : ℤ) → created st c ≡ Ok (n, h) → h.layout ≡ st.layout
-created_layout st h c n e = by (nat_lt (length st.records) LAST_NUMBER) e
-  where
-    by : (b : Bool) → (let r : OkOr (ℤ × State) FaultKind = (if b then Ok (pos (length st.records + 1), with_created st c) else Err Overflow) in r ≡ Ok (n, h)) → h.layout ≡ st.layout
-    by true e = let same : with_created st c ≡ h = cc in ap (λ (h : State). h.layout) (sym same)
-    by false e = absurd cc
+-- ## All entities of a class
 
 -- the layout stays, and there are at most as many as were asked for
 pub record IsAllMade (st h : State) (c : ℕ) (n : ℤ) : Type 0 where
@@ -71,20 +63,28 @@ module _ (old new : Seen) (h : State) (same : new ≡ record old { heap = h; his
   joined : (hs : List Column) (s : Store) → columns_of new.histories ≡ hs → with_histories (with_heap (with_seen s old) h) hs ≡ with_seen s new
   joined hs s e = ap (with_histories (with_heap (with_seen s old) h)) (sym e) ∙ ap (with_seen s) (sym same)
 
-  pub one_made : (class : ℕ) (n : ℤ) → is_single (class_in old.heap.layout class) ≡ true → created old.heap class ≡ Ok (n, h) → columns_of new.histories ≡ starting h.layout (Class class) (int_eq n) old.time old.statistics (columns_of old.histories) → (s : Store) → made_one class (with_seen s old) ≡ Ok (Whole n, with_seen s new)
-  one_made class n single made started s =
-      ap (λ b. where_fit b (turned (with_new class (with_seen s old)) (due (created old.heap class)))) single
-      ∙ ap (λ r. turned (with_new class (with_seen s old)) (due r)) made
-      ∙ ap (λ (t : Store). (let r : OkOr (Value × Store) Meant = Ok (Whole n, t) in r)) (joined _ s started)
-
   pub many_made : (class : ℕ) (n : ℤ) → is_permanent (class_in old.heap.layout class) ≡ true → created_all old.heap class n ≡ Ok h → columns_of new.histories ≡ starting h.layout (Class class) (is_up_to (pos (length (records_in (slice_get h.permanents class))))) old.time old.statistics (columns_of old.histories) → (s : Store) → created_all_known class n (with_seen s old) ≡ Ok (with_seen s new)
   many_made class n permanent made started s =
       ap (λ b. where_fit b (turned (with_all class (with_seen s old)) (due (created_all old.heap class n)))) permanent
       ∙ ap (λ r. turned (with_all class (with_seen s old)) (due r)) made
       ∙ ap Ok (joined _ s started)
 
-  pub one_gone : (class : ℕ) (n : ℤ) → is_single (class_in old.heap.layout class) ≡ true → destroyed old.heap class n ≡ Ok h → columns_of new.histories ≡ ending h.layout class n old.statistics (columns_of old.histories) → (s : Store) → where_fit (is_single (class_in old.heap.layout class)) (turned (with_none class n (with_seen s old)) (due (destroyed old.heap class n))) ≡ Ok (with_seen s new)
-  one_gone class n single went ended s =
-      ap (λ b. where_fit b (turned (with_none class n (with_seen s old)) (due (destroyed old.heap class n)))) single
-      ∙ ap (λ r. turned (with_none class n (with_seen s old)) (due r)) went
-      ∙ ap Ok (joined _ s ended)
+-- ## What is seen, by what passes in time
+
+abbrev pub seen_of : List Discipline → List Notices → State → Times → Seen
+seen_of ds ns h t = record {
+  disciplines = ds;
+  notices = ns;
+  statistics = t.histories.statistics;
+  heap = h;
+  time = t.time;
+  pending = t.pending;
+  histories = t.histories.rows;
+}
+
+-- only histories differ
+pub seen_moved : (ds : List Discipline) (ns : List Notices) (h : State) (t w : Times) → w.time ≡ t.time → w.pending ≡ t.pending → w.histories.statistics ≡ t.histories.statistics → seen_of ds ns h w ≡ record (seen_of ds ns h t) { histories = w.histories.rows }
+seen_moved ds ns h t w time pending statistics =
+    ap (λ (z : ℤ). record (seen_of ds ns h w) { time = z }) time
+    ∙ ap (λ (p : PendingList). record (seen_of ds ns h w) { time = t.time; pending = p }) pending
+    ∙ ap (λ (ss : List Statistic). record (seen_of ds ns h w) { statistics = ss; time = t.time; pending = t.pending }) statistics

@@ -1,5 +1,5 @@
 -- No notice is pending for a time that is past.
-use Rattle.std.proofs.Common.{arith, ◌≡◌, Bool, true, false, List, [], ◌∷◌, fold, Option, Some, None, Ok, Err, refl, subst, sym}
+use Rattle.std.proofs.Common.{arith, ◌≡◌, Bool, true, false, List, [], ◌∷◌, fold, Some, Ok, Err, refl, subst, sym}
 use Rattle.std.specs.Prelude.{ℤ, pos, ◌≤ℤ◌, ◌<ℤ◌, not, OnOk, OnErr, Result as OkOr, if◌then◌else◌}
 use Rattle.std.specs.Option.{option_map, option_map_or}
 use Rattle.std.specs.List.{All}

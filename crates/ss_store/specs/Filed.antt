@@ -11,7 +11,7 @@ use Rattle.ss_program.specs.declared.statement.End.{End}
 use Rattle.ss_meaning.specs.Histories.{noted}
 use Rattle.ss_meaning.specs.Values.{Trouble as Meant, if_ok, turned, due, where_fit, unless_fault}
 use Rattle.ss_meaning.specs.Store.{Store}
-use Rattle.ss_meaning.specs.Sets.{Filing as MeantFiling, ByRule, Foremost, Hindmost, Ahead, Behind, filed_by, recounted, set_at, member, owner_number, end_removed, from_or_after}
+use Rattle.ss_meaning.specs.Sets.{Filing as MeantFiling, ByRule, Foremost, Hindmost, Ahead, Behind, recounted, set_at, member, owner_number, end_removed, from_or_after}
 use Rattle.ss_store.specs.declared.filing.Filing.{Filing}
 use Rattle.ss_store.specs.declared.filing.Filing.TheVariants.{ByDiscipline, First, Last, Before, After}
 use Rattle.ss_population.specs.declared.known.Known.{Known}

@@ -1,5 +1,5 @@
 -- What is seen of a scene, and what is said of an operation on it.
-use Rattle.std.specs.Prelude.{◌≡◌, ℕ, slice_get, List, [], ℤ, pos, Option, Some, None, Result, Ok, Err}
+use Rattle.std.specs.Prelude.{◌≡◌, ℕ, slice_get, List, ℤ, pos, Option, Result, Ok, Err}
 use Rattle.std.specs.Option.{option_map}
 use Rattle.ss_base.specs.declared.fault.FaultKind.{FaultKind}
 use Rattle.ss_base.specs.declared.fault.FaultKind.TheVariants.{Scheduled, CreatedTwice, Overflow}

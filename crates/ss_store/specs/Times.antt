@@ -11,7 +11,6 @@ use Rattle.ss_events.specs.SortKey.{SortKey}
 use Rattle.ss_events.specs.declared.entry.Entry.{Entry}
 use Rattle.ss_events.specs.PendingList.{PendingList, scheduled, after_next}
 use Rattle.ss_histories.specs.Records.{Records, columns_of}
-use Rattle.ss_meaning.specs.Values.{Trouble as Meant}
 use Rattle.ss_meaning.specs.Store.{Column}
 use Rattle.ss_meaning.specs.Histories.{all_noting}
 use Rattle.ss_histories.specs.declared.unnoted.Unnoted.{Unnoted}

@@ -101,10 +101,7 @@ impl Scene {
     fn figure_kept(&self, fold: Fold, statistic: u32, known: Known) -> Result<Value, Trouble>
         ensures { Looks (figure_kept fold statistic known.number) self.now result }
     {
-        told_figure(
-            self.timeline
-                .figure(fold, statistic as usize, known.number),
-        )
+        told_figure(self.timeline.figure(fold, statistic as usize, known.number))
     }
 
     /// What a statistic says: NUMBER, SUM, MAXIMUM or MINIMUM of its subject, of an entity if one has that. Faults: 1 to

@@ -1,5 +1,5 @@
-use Rattle.std.proofs.Common.{rules, ◌<◌, length, refl, ap, ◌∙◌}
-use Rattle.ss_meaning.specs.Sets.{owner_number, filed_by}
+use Rattle.std.proofs.Common.{rules, ◌<◌, length, refl, ap}
+use Rattle.ss_meaning.specs.Sets.{filed_by}
 use Rattle.ss_meaning.specs.Values.{if_ok}
 use Rattle.ss_store.specs.Seen.{with_seen}
 use Rattle.ss_store.specs.Filed.{filing_meant}

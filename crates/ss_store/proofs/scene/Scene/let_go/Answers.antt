@@ -1,4 +1,4 @@
-use Rattle.std.proofs.Common.{rules, ◌≡◌, ℤ, Option, None, Err, ap, ◌∙◌, sym, subst, to_z, of_z, w64}
+use Rattle.std.proofs.Common.{rules, ◌≡◌, ℤ, None, Err, ap, ◌∙◌, sym, subst, to_z, of_z, w64}
 use Rattle.ss_base.specs.declared.value.Value.TheVariants.{Whole}
 use Rattle.ss_meaning.specs.Entities.{gone}
 use Rattle.ss_meaning.specs.Events.{saved_or_gone}

@@ -1,5 +1,4 @@
-use Rattle.std.proofs.Common.{rules, ◌<◌, length, refl, ap, ◌∙◌}
-use Rattle.ss_meaning.specs.Sets.{owner_number}
+use Rattle.std.proofs.Common.{rules, ◌<◌, length, refl, ap}
 use Rattle.ss_meaning.specs.Values.{if_ok}
 use Rattle.ss_store.specs.Seen.{with_seen}
 use Rattle.ss_store.specs.Filed.{out_of}
