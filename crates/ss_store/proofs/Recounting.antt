@@ -51,15 +51,6 @@ unwatched e set o c none = λ s.
     ap (λ q. if_ok (due q) (λ n. noted (OfCount set) o (Whole n) (with_seen s e))) c.1.1
     ∙ ap (turned (with_histories (with_seen s e))) (all_one (OfCount set) o e.time (Whole c.1.0) (Whole (pos 0)) e.statistics (columns_of e.histories) none)
 
-pub watched : (e : Seen) (set : ℕ) (o : ℤ) (r : OkOr ℤ FaultKind) → IsCountable e.heap set o → r ≡ count_in e.heap set o → MatchResult r (λ n. CountsWatched set o e (Ok (Whole n))) (λ k. ⊥)
-watched e set o (Ok n) c is = λ s. ap (λ q. if_ok (due q) (λ n. noted (OfCount set) o (Whole n) (with_seen s e))) (sym is)
-watched e set o (Err k) c is = absurd (let same : (let r : OkOr ℤ FaultKind = Err k in r ≡ Ok c.1.0) = is ∙ c.1.1 in cc)
-
--- what comes of noting it
-pub recounts : (old new : Seen) (set : ℕ) (o : ℤ) (v : Value) (r : OkOr (Unit {0}) Trouble) → CountsWatched set o old (Ok v) → Changes (noted (OfCount set) o v) old new r → Changes (recounted_now set o) old new r
-recounts old new set o v (Ok u) c h = λ s. c s ∙ h s
-recounts old new set o v (Err t) c h = (λ s. c s ∙ h.0 s, h.1)
-
 -- ## Which operations change members alone
 
 pub due_ok : {A : Type 0} (r : OkOr A FaultKind) (a : A) → due r ≡ Ok a → r ≡ Ok a

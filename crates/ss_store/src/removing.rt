@@ -2,8 +2,8 @@
 
 ghost use Rattle.std.specs.Prelude.{◌≡◌, ◌<◌, length, IfOk};
 ghost use Rattle.ss_meaning.specs.Sets.{removed_from, removed_at};
-ghost use Rattle.ss_store.specs.Seen.{Notes, Gains};
-ghost use Rattle.ss_store.specs.Filed.{Resettles, Rehomes, Gives, IsCountable, out_of, end_out, end_removed_known};
+ghost use Rattle.ss_store.specs.Seen.{Changes, Notes, Gains};
+ghost use Rattle.ss_store.specs.Filed.{Resettles, Rehomes, Gives, IsCountable, recounted_now, out_of, end_out, end_removed_known};
 
 use crate::scene::Scene;
 use ss_base::Value;
@@ -45,6 +45,14 @@ impl Scene {
         }
     }
 
+    // Notes N. of the set of an owner, by its number, once a member is out.
+    fn count_left(&mut self, set: u32, owner: Known) -> Result<(), Trouble>
+        requires counted { IsCountable self.old.heap set owner.number }
+        ensures { Changes (recounted_now set owner.number) self.old self.new result }
+    {
+        self.recount(set, owner)
+    }
+
     /// Takes an entity out of the set of an owner, as REMOVE says, and histories note how many members that has. Faults:
     /// those of the entity (1 to 5), those of the owner, then 7 where the entity is not in this set; then 14 where a
     /// history of N. is full, and the entity is out.
@@ -54,7 +62,7 @@ impl Scene {
         match known_number(x) {
             Err(trouble) => Err(trouble),
             Ok(member) => match self.remove_member(set, member, owner) {
-                Ok(owner) => self.recount(set, owner),
+                Ok(owner) => self.count_left(set, owner),
                 Err(trouble) => Err(self.earliest(set, member, trouble)),
             },
         }
@@ -79,7 +87,7 @@ impl Scene {
             return Err(Trouble::Misfit);
         }
         match self.take_end(end, set, known) {
-            Ok(value) => match self.recount(set, known) {
+            Ok(value) => match self.count_left(set, known) {
                 Ok(()) => Ok(value),
                 Err(trouble) => Err(trouble),
             },

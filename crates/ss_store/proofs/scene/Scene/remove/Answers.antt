@@ -9,7 +9,7 @@ pub returns-in-Ok-remove_member : goal.returns-in-Ok-remove_member
 returns-in-Ok-remove_member c =
     let e = c.args.self.now in let n = c.in-Ok.member.number in
     rehomed_notes c.args.set c.args.x c.args.owner e n (sym c.in-Ok.ensures) (λ n m s. out_of c.args.set m n s) (λ m s h d. out_joined c.args.set m n (with_seen s e) h d)
-    c.remove_member.new.self c.in-Ok-remove_member.owner c.in-Ok-remove_member.ensures.value c.recount.new.self c.recount.result c.in-Ok-remove_member.ensures.counted c.recount.ensures
+    c.remove_member.new.self c.in-Ok-remove_member.owner c.in-Ok-remove_member.ensures.value c.count_left.new.self c.count_left.result c.in-Ok-remove_member.ensures.counted c.count_left.ensures
 
 pub returns-in-Err-remove_member : goal.returns-in-Err-remove_member
 returns-in-Err-remove_member c =
