@@ -2,37 +2,24 @@
 
 ghost use Rattle.std.specs.Prelude.{◌≡◌, slice_get, map, IfOk};
 ghost use Rattle.ss_records.specs.State.{modes_of};
-ghost use Rattle.ss_meaning.specs.Meaning.{mode_or_number, tie_shape, tie_shapes, said_of};
+ghost use Rattle.ss_meaning.specs.Meaning.{tie_shapes, said_of};
 ghost use Rattle.ss_program.specs.View.{view_event, view_program};
 ghost use Rattle.ss_code.specs.Emitted.{said_by};
 
 use crate::code::Sayings;
 use crate::notices::NoticeClass;
-use ss_base::{Layout, Mode, RankKey, copied_disciplines};
+use ss_base::{Layout, Mode, copied_disciplines};
 use ss_events::TieShape;
 use ss_program::sections::{Event, Program};
 use std::alloc::{AllocError, Global};
 
-// The mode of a field; that of numbers for a field that is none.
-fn mode_of_field(layout: &Layout, class: u32, field: usize) -> Mode
-    ensures { result ≡ mode_or_number (slice_get (modes_of layout.now class) field) }
+// The mode of a field, where there is one.
+fn mode_of_field(layout: &Layout, class: u32, field: usize) -> Option<Mode>
+    ensures { result ≡ slice_get (modes_of layout.now class) field }
 {
     match layout.classes.get(class as usize) {
-        None => Mode::Integer,
-        Some(found) => match found.fields.get(field) {
-            None => Mode::Integer,
-            Some(mode) => *mode,
-        },
-    }
-}
-
-// What a tie of a class is.
-fn shape(layout: &Layout, class: u32, key: &RankKey) -> TieShape
-    ensures { result ≡ tie_shape layout.now class key.now }
-{
-    TieShape {
-        mode: mode_of_field(layout, class, key.field),
-        high: key.high,
+        None => None,
+        Some(found) => found.fields.get(field).copied(),
     }
 }
 
@@ -42,7 +29,12 @@ fn shapes(alloc: Global, layout: &Layout, event: &Event) -> Result<Vec<TieShape>
 {
     let mut made = Vec::new(alloc);
     for key in event.ties.as_slice() {
-        made.push(shape(layout, event.class, key))?;
+        if let Some(mode) = mode_of_field(layout, event.class, key.field) {
+            made.push(TieShape {
+                mode,
+                high: key.high,
+            })?;
+        }
     }
     Ok(made)
 }

@@ -4,14 +4,13 @@
 -- due and none was left, or it went wrong, which no well-typed program does. The meaning goes through the program's statements and knows
 -- no jump, no stack and no link. A statement is a part (Parts): it takes a world, which is the store, the report so far and the ticks that are
 -- left, and goes on with a value or is left. The store (Store) has the variables and, in the scene, everything else.
-use Rattle.std.specs.Prelude.{ℕ, zero, suc, ◌==◌, ◌++◌, List, [], map, length, pos, Option, Some, None, slice_get, if◌then◌else◌}
+use Rattle.std.specs.Prelude.{ℕ, zero, suc, ◌==◌, Bool, ◌++◌, List, [], ◌∷◌, map, length, pos, Option, Some, None, slice_get, if◌then◌else◌}
+use Rattle.std.specs.List.{flat_map}
 use Rattle.ss_base.specs.declared.line.Line.{Line}
 use Rattle.ss_base.specs.declared.fault.FaultKind.{FaultKind}
 use Rattle.ss_base.specs.declared.value.Value.{Value}
 use Rattle.ss_base.specs.declared.layout.Mode.{Mode}
-use Rattle.ss_base.specs.declared.layout.Mode.TheVariants.{Integer}
 use Rattle.ss_base.specs.declared.layout.Owner.TheVariants.{System}
-use Rattle.ss_base.specs.declared.layout.RankKey.{RankKey}
 use Rattle.ss_base.specs.declared.layout.Layout.{Layout}
 use Rattle.ss_records.specs.State.{first_state, modes_of}
 use Rattle.ss_events.specs.declared.key.TieShape.{TieShape}
@@ -110,16 +109,13 @@ said_of e = record { class = e.class; ties = e.ties; line = e.line; given = leng
 abbrev pub setting_of : Program → Setting
 setting_of p = record { disciplines = p.disciplines; notices = map said_of p.events; statistics = p.statistics }
 
--- the ties of a class as the event list takes them: a field that is none counts as a number
-abbrev pub mode_or_number : Option Mode → Mode
-mode_or_number None = Integer
-mode_or_number (Some mode) = mode
-
-abbrev pub tie_shape : Layout → ℕ → RankKey → TieShape
-tie_shape l class key = record { mode = mode_or_number (slice_get (modes_of l class) key.field); high = key.high }
+-- the ties of a class as the event list takes them: what is no attribute of the class ties nothing
+abbrev pub tie_shape : (high : Bool) → Option Mode → List TieShape
+tie_shape high None = []
+tie_shape high (Some mode) = (record { mode = mode; high = high }) ∷ []
 
 abbrev pub tie_shapes : Layout → Event → List TieShape
-tie_shapes l e = map (tie_shape l e.class) e.ties
+tie_shapes l e = flat_map (λ key. tie_shape key.high (slice_get (modes_of l e.class) key.field)) e.ties
 
 -- before MAIN: no entity, nothing pending, at the time 0
 abbrev pub first_scene : Program → List ℕ → Scene
