@@ -1,3 +1,6 @@
 pub mod Pieces
 pub mod Emitted
+pub mod Words
+pub mod Operands
+pub mod Details
 pub mod Listing
