@@ -105,21 +105,21 @@ fn pictured(alloc: Global, picture: &[u8]) -> Result<Picture, AllocError> {
     }
 }
 
-// The line that a picture of one field makes of a value, where memory may be refused: then the next try succeeds.
-fn filled(alloc: Global, picture: &Picture, value: Value) -> Result<Vec<u8>, AllocError> {
-    if picture.fields().len() != 1 {
+// The line that a picture makes of values, one for each field, where memory may be refused: then the next try succeeds.
+fn filled(alloc: Global, picture: &Picture, values: &[Value]) -> Result<Vec<u8>, AllocError> {
+    if picture.fields().len() != values.len() {
         return Err(AllocError);
     }
-    match picture.fill(alloc, &[value]) {
+    match picture.fill(alloc, values) {
         Ok(line) => Ok(line),
-        Err(_) => picture.fill(alloc, &[value]),
+        Err(_) => picture.fill(alloc, values),
     }
 }
 
 #[test]
 fn refused_memory_leaves_the_picture(rt: HostRuntime) -> Result<(), Fail> {
     let picture = pictured(rt.alloc(), b"A**")?;
-    let line = filled(rt.alloc(), &picture, Value::Whole(7))?;
+    let line = filled(rt.alloc(), &picture, &[Value::Whole(7)])?;
     assert!(rt; line.as_slice() == b"A 7".as_slice());
     assert!(rt; picture.fields() == [2].as_slice());
     Ok(())
