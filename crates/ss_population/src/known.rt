@@ -21,6 +21,7 @@ pub struct Membership {
 }
 
 /// The number that a value is.
+#[inline(always)]
 pub fn known_number(value: Value) -> Result<Known, Trouble>
     ensures { told (numbered result) ≡ number_meant value }
 {

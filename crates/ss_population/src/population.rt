@@ -43,6 +43,7 @@ impl Population {
         Ok(Population { heap, made })
     }
 
+    #[inline(always)]
     pub fn layout(&self) -> &Layout
         ensures { result.now ≡ self.now.layout }
     {
@@ -50,6 +51,7 @@ impl Population {
     }
 
     /// Whether a number is an entity of a class. Faults: 1 to 5.
+    #[inline(always)]
     pub fn known(&self, class: usize, n: i64) -> Result<(), FaultKind>
         requires class { class < length self.now.layout.classes }
         ensures { result ≡ known_in self.now class n }
@@ -58,6 +60,7 @@ impl Population {
     }
 
     /// The value of an attribute. Faults: 1 to 5.
+    #[inline(always)]
     pub fn value(&self, class: usize, field: usize, n: i64) -> Result<Value, FaultKind>
         requires class { class < length self.now.layout.classes }
         requires field { field < length (modes_of self.now.layout class) }
@@ -67,6 +70,7 @@ impl Population {
     }
 
     /// Assigns a value to an attribute. Faults: 1 to 5.
+    #[inline(always)]
     pub fn set_value(
         &mut self,
         class: usize,
@@ -82,6 +86,7 @@ impl Population {
     }
 
     /// TIME.A of a notice. Faults: 1 to 4.
+    #[inline(always)]
     pub fn time_a(&self, n: i64) -> Result<i64, FaultKind>
         ensures { result ≡ time_in self.now n }
     {
@@ -89,6 +94,7 @@ impl Population {
     }
 
     /// Sets TIME.A of a notice. Faults: 1 to 4.
+    #[inline(always)]
     pub fn set_time_a(&mut self, n: i64, t: i64) -> Result<(), FaultKind>
         ensures { MatchResult result (λ _. timed self.old n t ≡ Ok self.new) (λ e. (timed self.old n t ≡ Err e) × (self.new ≡ self.old)) }
     {
@@ -96,6 +102,7 @@ impl Population {
     }
 
     /// A new entity of a class whose entities come and go. Faults: 14 after the last number.
+    #[inline(always)]
     pub fn create(&mut self, class: usize) -> Result<i64, Refused>
         requires class { class < length self.old.layout.classes }
         requires kind { IsPermanent (kind_of self.old.layout class) → ⊥ }
@@ -120,6 +127,7 @@ impl Population {
     }
 
     /// An entity goes. Faults: 1 to 4, then 9 and 10.
+    #[inline(always)]
     pub fn destroy(&mut self, class: usize, n: i64) -> Result<(), FaultKind>
         requires class { class < length self.old.layout.classes }
         requires kind { IsPermanent (kind_of self.old.layout class) → ⊥ }
@@ -129,6 +137,7 @@ impl Population {
     }
 
     /// The first member of a set, 0 for none. Faults: 1 to 5.
+    #[inline(always)]
     pub fn first(&mut self, set: usize, o: i64) -> Result<i64, FaultKind>
         requires set { set < length self.old.layout.sets }
         ensures value { result ≡ first_in self.old set o }
@@ -138,6 +147,7 @@ impl Population {
     }
 
     /// The last member of a set, 0 for none. Faults: 1 to 5.
+    #[inline(always)]
     pub fn last(&mut self, set: usize, o: i64) -> Result<i64, FaultKind>
         requires set { set < length self.old.layout.sets }
         ensures value { result ≡ last_in self.old set o }
@@ -147,6 +157,7 @@ impl Population {
     }
 
     /// How many members a set has. Faults: 1 to 5.
+    #[inline(always)]
     pub fn member_count(&mut self, set: usize, o: i64) -> Result<i64, FaultKind>
         requires set { set < length self.old.layout.sets }
         ensures value { result ≡ count_in self.old set o }
@@ -156,6 +167,7 @@ impl Population {
     }
 
     /// The member behind another one, 0 for none. Faults: 1 to 5.
+    #[inline(always)]
     pub fn next(&mut self, set: usize, n: i64) -> Result<i64, FaultKind>
         requires set { set < length self.old.layout.sets }
         ensures value { result ≡ next_in self.old set n }
@@ -165,6 +177,7 @@ impl Population {
     }
 
     /// The member before another one, 0 for none. Faults: 1 to 5.
+    #[inline(always)]
     pub fn previous(&mut self, set: usize, n: i64) -> Result<i64, FaultKind>
         requires set { set < length self.old.layout.sets }
         ensures value { result ≡ previous_in self.old set n }
@@ -174,6 +187,7 @@ impl Population {
     }
 
     /// The owner in whose set an entity is, if it is in any. Faults: 1 to 5.
+    #[inline(always)]
     pub fn owner_in(&mut self, set: usize, n: i64) -> Result<Option<i64>, FaultKind>
         requires set { set < length self.old.layout.sets }
         ensures value { result ≡ owner_of_member self.old set n }
@@ -183,6 +197,7 @@ impl Population {
     }
 
     /// How many entities a permanent class has: 0 until they are made.
+    #[inline(always)]
     pub fn count(&self, class: usize) -> i64
         ensures { result ≡ pos (length (records_in (slice_get self.now.permanents class))) }
     {
@@ -193,6 +208,7 @@ impl Population {
     }
 
     /// Whether the entities of a permanent class are made.
+    #[inline(always)]
     pub fn is_made(&self, class: usize) -> bool
         ensures { result ≡ is_made self.now class }
     {

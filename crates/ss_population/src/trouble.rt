@@ -27,6 +27,7 @@ pub enum Unmade {
 }
 
 /// The number that a value is.
+#[inline(always)]
 pub fn number_of(value: Value) -> Result<i64, Trouble>
     ensures { told result ≡ number_meant value }
 {
@@ -37,6 +38,7 @@ pub fn number_of(value: Value) -> Result<i64, Trouble>
 }
 
 /// What a call that may come to a fault comes to.
+#[inline(always)]
 pub fn or_trouble(answer: Result<(), FaultKind>) -> Result<(), Trouble>
     ensures { told result ≡ due answer }
 {

@@ -20,10 +20,10 @@ if_ok_ok (Err t) f b e = absurd cc
 -- ## A look and what comes after it
 
 module _ {B : Type 0} (n : ℤ) (rest : ℤ → OkOr B Meant) where
-  look_fine : (b : Bool) (j : OkOr ℕ FaultKind) (i : ℕ) → b ≡ true → j ≡ Ok i → if_ok (where_fit b (turned (λ _. n) (due j))) rest ≡ rest n
+  look_fine : {C : Type 0} (b : Bool) (j : OkOr C FaultKind) (i : C) → b ≡ true → j ≡ Ok i → if_ok (where_fit b (turned (λ _. n) (due j))) rest ≡ rest n
   look_fine b j i there joined = ap (λ b. if_ok (where_fit b (turned (λ _. n) (due j))) rest) there ∙ ap (λ j. if_ok (turned (λ _. n) (due j)) rest) joined
 
-  look_first : (b : Bool) (j : OkOr ℕ FaultKind) (later first : Meant) → rest n ≡ (let r : OkOr B Meant = Err later in r) → if_ok (where_fit b (turned (λ _. n) (due j))) (λ _. (let r : OkOr ℤ Meant = Err later in r)) ≡ Err first → if_ok (where_fit b (turned (λ _. n) (due j))) rest ≡ (let r : OkOr B Meant = Err first in r)
+  pub look_first : {C : Type 0} (b : Bool) (j : OkOr C FaultKind) (later first : Meant) → rest n ≡ (let r : OkOr B Meant = Err later in r) → if_ok (where_fit b (turned (λ _. n) (due j))) (λ _. (let r : OkOr ℤ Meant = Err later in r)) ≡ Err first → if_ok (where_fit b (turned (λ _. n) (due j))) rest ≡ (let r : OkOr B Meant = Err first in r)
   look_first false j later first e d = let same : IsMisfit ≡ first = cc in ap (λ t. Err t) same
   look_first true (Ok i) later first e d = let same : later ≡ first = cc in e ∙ ap (λ t. Err t) same
   look_first true (Err k) later first e d = let same : Fails k ≡ first = cc in ap (λ t. Err t) same

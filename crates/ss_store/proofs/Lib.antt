@@ -2,6 +2,7 @@ pub mod Changing
 pub mod Asking
 pub mod Belonging
 pub mod Late
+pub mod Once
 pub mod Recounting
 pub mod Fitting
 pub mod Joined

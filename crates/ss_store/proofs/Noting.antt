@@ -10,15 +10,17 @@ use Rattle.ss_program.specs.declared.sections.Subject.TheVariants.{OfAttribute, 
 use Rattle.ss_program.specs.declared.sections.Statistic.{Statistic}
 use Rattle.ss_histories.specs.Records.{columns_of}
 use Rattle.ss_stats.specs.History.{History, is_full, with_value}
-use Rattle.ss_meaning.specs.Values.{Trouble as Meant, Fails, if_ok, turned, due, where_fit, unless_fault}
-use Rattle.ss_meaning.specs.Places.{is_of_mode}
+use Rattle.ss_meaning.specs.Values.{Trouble as Meant, Fails, if_ok, turned, due, unless_fault}
+use Rattle.ss_meaning.specs.Places.{is_of_mode, assigned_attribute}
 use Rattle.ss_meaning.specs.Store.{Column, Store, with_heap, with_histories}
 use Rattle.ss_records.specs.State.{assigned}
 use Rattle.ss_meaning.specs.Histories.{same_subject, with_history, noting_in, noting, all_noting, noted}
 use Rattle.ss_population.specs.declared.trouble.Trouble.{Trouble}
+use Rattle.ss_population.specs.declared.trouble.Trouble.TheVariants.{Fault}
 use Rattle.ss_population.specs.Told.{told}
-use Rattle.ss_store.specs.Seen.{Seen, with_seen, Changes, Stays, Notes, mode_at, assigned_field}
+use Rattle.ss_store.specs.Seen.{Seen, with_seen, Changes, Stays, Notes, mode_at}
 use Rattle.ss_store.specs.Filed.{IsCountable, recounted_now}
+use Rattle.ss_store.proofs.Once.{set_once}
 
 -- ## The one fault of noting
 
@@ -94,12 +96,16 @@ module _ (f : Store → OkOr Store Meant) (g : Store → OkOr Store Meant) (old 
   noted_changes (Ok u) stays h = λ s. at s ∙ h s
   noted_changes (Err t) stays h = (λ s. at s ∙ h.0 s, stays t h)
 
--- an attribute is assigned a value, which its histories note
-pub assigned_notes : (class field : ℕ) (n : ℤ) (v : Value) (old mid new : Seen) (r : OkOr (Unit {0}) Trouble) → is_of_mode v (mode_at old.heap.layout class field) ≡ true → assigned old.heap class field n v ≡ Ok mid.heap → mid ≡ record old { heap = mid.heap } → Changes (noted (OfAttribute class field) n v) mid new r → Notes (assigned_field class field n v) old new r
+-- an attribute of an entity that is there is assigned a value, which its histories note
+pub assigned_notes : (class field : ℕ) (n : ℤ) (v : Value) (old mid new : Seen) (r : OkOr (Unit {0}) Trouble) → is_of_mode v (mode_at old.heap.layout class field) ≡ true → assigned old.heap class field n v ≡ Ok mid.heap → mid ≡ record old { heap = mid.heap } → Changes (noted (OfAttribute class field) n v) mid new r → Notes (assigned_attribute class field (Whole n) v) old new r
 assigned_notes class field n v old mid new r fits done same h =
-    noted_changes (assigned_field class field n v) (noted (OfAttribute class field) n v) old mid new
+    noted_changes (assigned_attribute class field (Whole n) v) (noted (OfAttribute class field) n v) old mid new
     (λ s.
-    ap (λ b. where_fit b (if_ok (due (assigned old.heap class field n v)) (λ h. noted (OfAttribute class field) n v (with_heap (with_seen s old) h)))) fits
+    set_once old class field n v s fits
     ∙ ap (λ r. if_ok (due r) (λ h. noted (OfAttribute class field) n v (with_heap (with_seen s old) h))) done
     ∙ ap (λ (e : Seen). noted (OfAttribute class field) n v (with_seen s e)) (sym same))
     r (λ t h. noting_stays (OfAttribute class field) n v old mid new t h) h
+
+-- an attribute of one that is not there is not
+pub assigned_not : (class field : ℕ) (n : ℤ) (v : Value) (e : Seen) (k : FaultKind) (s : Store) → is_of_mode v (mode_at e.heap.layout class field) ≡ true → assigned e.heap class field n v ≡ Err k → assigned_attribute class field (Whole n) v (with_seen s e) ≡ told {A = Store} (Err (Fault k))
+assigned_not class field n v e k s fits miss = set_once e class field n v s fits ∙ ap (λ r. if_ok (due r) (λ h. noted (OfAttribute class field) n v (with_heap (with_seen s e) h))) miss

@@ -2,7 +2,7 @@
 use Rattle.std.specs.Prelude.{◌≡◌, ℕ, slice_get, List, ℤ, pos, Option, Result, Ok, Err}
 use Rattle.std.specs.Option.{option_map}
 use Rattle.ss_base.specs.declared.fault.FaultKind.{FaultKind}
-use Rattle.ss_base.specs.declared.fault.FaultKind.TheVariants.{Scheduled, CreatedTwice, Overflow}
+use Rattle.ss_base.specs.declared.fault.FaultKind.TheVariants.{CreatedTwice, Overflow}
 use Rattle.ss_base.specs.declared.fault.Refused.{Refused}
 use Rattle.ss_base.specs.declared.fault.Refused.TheVariants as refusals
 use Rattle.ss_base.specs.declared.layout.ClassKind.{ClassKind}
@@ -13,18 +13,15 @@ use Rattle.ss_base.specs.declared.layout.Discipline.{Discipline}
 use Rattle.ss_base.specs.declared.value.Value.{Value}
 use Rattle.ss_base.specs.declared.value.Value.TheVariants.{Whole}
 use Rattle.ss_histories.specs.Records.{Rows, columns_of}
-use Rattle.ss_records.specs.State.{State, modes_of, is_made, assigned, created_all, destroyed}
-use Rattle.ss_events.specs.PendingList.{PendingList, is_pending, cancelled}
+use Rattle.ss_records.specs.State.{State, modes_of, is_made, created_all}
+use Rattle.ss_events.specs.PendingList.{PendingList, cancelled}
 use Rattle.ss_meaning.specs.Values.{Trouble as Meant, if_ok, turned, due, where_fit, unless_fault}
-use Rattle.ss_meaning.specs.Store.{Notices, Store, with_heap, with_pending}
-use Rattle.ss_meaning.specs.Histories.{noted}
-use Rattle.ss_meaning.specs.Entities.{class_at, field_at, is_single, is_permanent, made_count, with_all, with_none}
-use Rattle.ss_meaning.specs.Places.{is_of_mode}
+use Rattle.ss_meaning.specs.Store.{Notices, Store, with_pending}
+use Rattle.ss_meaning.specs.Entities.{class_at, entity, is_permanent, made_count, with_all}
 use Rattle.ss_meaning.specs.Sets.{is_one}
 use Rattle.ss_records.specs.Sets.{next_in, previous_in, owner_of_member}
 use Rattle.ss_program.specs.declared.expression.MemberQuery.{MemberQuery}
 use Rattle.ss_program.specs.declared.expression.MemberQuery.TheVariants.{Predecessor, Successor, Membership}
-use Rattle.ss_program.specs.declared.sections.Subject.TheVariants.{OfAttribute}
 use Rattle.ss_program.specs.declared.sections.Statistic.{Statistic}
 use Rattle.ss_population.specs.Told.{told}
 use Rattle.ss_population.specs.declared.trouble.Trouble.{Trouble}
@@ -119,17 +116,9 @@ class_in l class = slice_get l.classes class
 abbrev pub set_in : PlainLayout → ℕ → Option SetLayout
 set_in l set = slice_get l.sets set
 
--- what an assignment does once the number of the entity is known
-abbrev pub assigned_field : (class field : ℕ) → (number : ℤ) → Value → Store → Result Store Meant
-assigned_field class field n v s =
-    where_fit (is_of_mode v (field_at class field s))
-    (if_ok (due (assigned s.scene.heap class field n v)) (λ h. noted (OfAttribute class field) n v (with_heap s h)))
-
--- what DESTROY does once the number of the entity is known
-abbrev pub gone_unless_pending : (class : ℕ) → (number : ℤ) → Store → Result Store Meant
-gone_unless_pending class n s =
-    unless_fault (is_pending n s.scene.pending.entries) Scheduled
-    (where_fit (is_single (class_at class s)) (turned (with_none class n s) (due (destroyed s.scene.heap class n))))
+-- the trouble that a look at an entity comes to, by its number, or else one that came later
+abbrev pub IsEarlier : (class : ℕ) → (number : ℤ) → Seen → (later first : Trouble) → Type 0
+IsEarlier class n e later first = (s : Store) → if_ok {B = ℤ} (entity class (Whole n) (with_seen s e)) (λ _. told (Err later)) ≡ told (Err first)
 
 -- what CANCEL does once the number of the notice is known
 abbrev pub cancelled_known : (number : ℤ) → Store → Result Store Meant

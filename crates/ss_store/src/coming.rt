@@ -48,6 +48,7 @@ impl Scene {
     }
 
     // Whether a number is a notice of a class.
+    #[inline(always)]
     fn is_of(&self, class: u32, known: Known) -> bool
         ensures { result ≡ is_of self.now.heap known.number class }
     {
@@ -58,6 +59,7 @@ impl Scene {
     }
 
     // The event of a notice, by its number, where its class is one of these.
+    #[inline(always)]
     fn event_among(&self, notices: &[NoticeClass], known: Known) -> Option<Event>
         ensures { First self.now.heap notices.now known.number result }
     {
@@ -71,6 +73,7 @@ impl Scene {
     }
 
     // The event of a notice, by its number.
+    #[inline(always)]
     fn event(&self, known: Known) -> Option<Event>
         ensures { Told self.now known.number result }
     {
@@ -95,6 +98,7 @@ impl Scene {
     }
 
     // The values of the first attributes of a notice, by its number.
+    #[inline(always)]
     fn read(
         &self,
         class: u32,
@@ -106,7 +110,7 @@ impl Scene {
     {
         values.clear();
         for field in 0..count {
-            match self.value_of(class, field, Value::Whole(known.number)) {
+            match self.field_value(class, field, known) {
                 Err(trouble) => return Err(lacking(trouble)),
                 Ok(value) => {
                     if values.push(value).is_err() {
@@ -119,6 +123,7 @@ impl Scene {
     }
 
     // What becomes of the notice of an event.
+    #[inline(always)]
     fn let_go(&mut self, event: Event) -> Result<Fate, Unmade>
         ensures { Lets event self.old self.new result }
     {

@@ -1,22 +1,22 @@
 //! Entities: references, attributes, how many of a class there are, creating and destroying.
 
-ghost use Rattle.std.specs.Prelude.{◌≡◌, is_some, pos};
-ghost use Rattle.ss_records.specs.State.{value_in};
-ghost use Rattle.ss_meaning.specs.Entities.{field_at, is_single, is_permanent, entity, attribute, time_of, made_count, made_one, gone, without};
+ghost use Rattle.std.specs.Prelude.{◌≡◌, pos};
+ghost use Rattle.ss_base.specs.declared.value.Value.TheVariants.{Whole};
+ghost use Rattle.ss_meaning.specs.Entities.{is_single, is_permanent, entity, attribute, time_of, made_count, made_one, gone, without};
 ghost use Rattle.ss_meaning.specs.Events.{with_time};
 ghost use Rattle.ss_meaning.specs.Store.{Store as StoreSeen};
-ghost use Rattle.ss_meaning.specs.Values.{where_fit, due};
 ghost use Rattle.ss_meaning.specs.Places.{is_of_mode, assigned_attribute};
-ghost use Rattle.ss_population.specs.Told.{told, numbered};
-ghost use Rattle.ss_store.specs.Seen.{Looks, Changes, Notes, Makes, Grows, settled, count_open, number_made, created_all_known, class_in, kind_at, mode_at, assigned_field, gone_unless_pending, with_seen};
+ghost use Rattle.ss_population.specs.Told.{numbered};
+ghost use Rattle.ss_store.specs.Seen.{Looks, Changes, Notes, Makes, Grows, IsEarlier, settled, count_open, number_made, created_all_known, class_in, kind_at, mode_at, with_seen};
 
 use crate::scene::Scene;
 use ss_base::{ClassKind, FaultKind, Mode, Refused, Value};
-use ss_population::known::Known;
+use ss_population::known::{Known, known_number};
 use ss_population::trouble::{Trouble, Unmade, number_of};
 
 impl Scene {
     // The kind of a class, where the layout has it.
+    #[inline(always)]
     pub(crate) fn kind(&self, class: u32) -> Option<ClassKind>
         ensures { result ≡ kind_at self.now.heap.layout class }
     {
@@ -27,6 +27,7 @@ impl Scene {
     }
 
     // The mode of a field, where the layout has it.
+    #[inline(always)]
     fn mode(&self, class: u32, field: usize) -> Option<Mode>
         ensures { result ≡ mode_at self.now.heap.layout class field }
     {
@@ -34,21 +35,43 @@ impl Scene {
         class.fields.get(field).copied()
     }
 
-    // The entity of a class that a value refers to.
-    pub(crate) fn find(&self, class: u32, x: Value) -> Result<Known, Trouble>
-        ensures { Looks (entity class x) self.now (numbered result) }
+    // A number as that of an entity of a class.
+    #[inline(always)]
+    fn find_known(&self, class: u32, known: Known) -> Result<Known, Trouble>
+        ensures { Looks (entity class (Whole known.number)) self.now (numbered result) }
     {
-        let number = number_of(x)?;
         if self.kind(class).is_none() {
             return Err(Trouble::Misfit);
         }
-        match self.population.known(class as usize, number) {
-            Ok(()) => Ok(Known { number }),
+        match self.population.known(class as usize, known.number) {
+            Ok(()) => Ok(known),
             Err(kind) => Err(Trouble::Fault(kind)),
         }
     }
 
+    // The entity of a class that a value refers to.
+    #[inline(always)]
+    pub(crate) fn find(&self, class: u32, x: Value) -> Result<Known, Trouble>
+        ensures { Looks (entity class x) self.now (numbered result) }
+    {
+        match known_number(x) {
+            Ok(known) => self.find_known(class, known),
+            Err(trouble) => Err(trouble),
+        }
+    }
+
+    // The trouble that a look at an entity comes to, by its number, or else one that came later.
+    fn earlier(&self, class: u32, known: Known, later: Trouble) -> Trouble
+        ensures { IsEarlier class known.number self.now later result }
+    {
+        match self.find_known(class, known) {
+            Ok(_) => later,
+            Err(earlier) => earlier,
+        }
+    }
+
     /// The number of an entity of a class that a value refers to. Faults: 1 to 5.
+    #[inline(always)]
     pub fn entity(&self, class: u32, x: Value) -> Result<i64, Trouble>
         ensures { Looks (entity class x) self.now result }
     {
@@ -58,12 +81,18 @@ impl Scene {
         }
     }
 
-    // The value of an attribute of an entity by its number, where the layout has the field.
-    fn field_value(&self, class: u32, field: usize, known: Known) -> Result<Value, Trouble>
-        ensures { (s : StoreSeen) → where_fit (is_some (field_at class field (with_seen s self.now))) (due (value_in self.now.heap class field known.number)) ≡ told result }
+    // The value of an attribute by its number in the class, of an entity by its number.
+    #[inline(always)]
+    pub(crate) fn field_value(
+        &self,
+        class: u32,
+        field: usize,
+        known: Known,
+    ) -> Result<Value, Trouble>
+        ensures { Looks (attribute class field (Whole known.number)) self.now result }
     {
         if self.mode(class, field).is_none() {
-            return Err(Trouble::Misfit);
+            return Err(self.earlier(class, known, Trouble::Misfit));
         }
         match self.population.value(class as usize, field, known.number) {
             Ok(value) => Ok(value),
@@ -72,14 +101,18 @@ impl Scene {
     }
 
     // The value of an attribute by its number in the class.
+    #[inline(always)]
     pub(crate) fn value_of(&self, class: u32, field: usize, x: Value) -> Result<Value, Trouble>
         ensures { Looks (attribute class field x) self.now result }
     {
-        let known = self.find(class, x)?;
-        self.field_value(class, field, known)
+        match known_number(x) {
+            Ok(known) => self.field_value(class, field, known),
+            Err(trouble) => Err(trouble),
+        }
     }
 
     /// The value of an attribute. Faults: 1 to 5.
+    #[inline(always)]
     pub fn attribute(&self, class: u32, field: u32, x: Value) -> Result<Value, Trouble>
         ensures { Looks (attribute class field x) self.now result }
     {
@@ -105,6 +138,7 @@ impl Scene {
     }
 
     // Whether a value has the mode of a field that the layout has.
+    #[inline(always)]
     fn fits(&self, class: u32, field: usize, value: &Value) -> bool
         ensures { result ≡ is_of_mode value.now (mode_at self.now.heap.layout class field) }
     {
@@ -115,7 +149,8 @@ impl Scene {
         }
     }
 
-    // Assigns a value to an attribute of an entity by its number, where it has the mode of the field; histories note it.
+    // Assigns a value to an attribute by its number in the class, of an entity by its number; histories note it.
+    #[inline(always)]
     fn set_field(
         &mut self,
         class: u32,
@@ -123,10 +158,10 @@ impl Scene {
         known: Known,
         value: Value,
     ) -> Result<(), Trouble>
-        ensures { Notes (assigned_field class field known.number value) self.old self.new result }
+        ensures { Notes (assigned_attribute class field (Whole known.number) value) self.old self.new result }
     {
         if !self.fits(class, field, &value) {
-            return Err(Trouble::Misfit);
+            return Err(self.earlier(class, known, Trouble::Misfit));
         }
         match self
             .population
@@ -138,6 +173,7 @@ impl Scene {
     }
 
     // Assigns a value to an attribute by its number in the class.
+    #[inline(always)]
     pub(crate) fn set_value_of(
         &mut self,
         class: u32,
@@ -147,12 +183,15 @@ impl Scene {
     ) -> Result<(), Trouble>
         ensures { Notes (assigned_attribute class field x value) self.old self.new result }
     {
-        let known = self.find(class, x)?;
-        self.set_field(class, field, known, value)
+        match known_number(x) {
+            Ok(known) => self.set_field(class, field, known, value),
+            Err(trouble) => Err(trouble),
+        }
     }
 
     /// Assigns a value to an attribute, which its histories note. Faults: 1 to 5; then 14 where one of them is full, and
     /// the attribute is assigned the value.
+    #[inline(always)]
     pub fn set_attribute(
         &mut self,
         class: u32,
@@ -166,6 +205,7 @@ impl Scene {
     }
 
     // Whether the entities of a class come and go one by one.
+    #[inline(always)]
     fn is_single(&self, class: u32) -> bool
         ensures { result ≡ is_single (class_in self.now.heap.layout class) }
     {
@@ -200,21 +240,31 @@ impl Scene {
         }
     }
 
-    /// An entity goes, and its histories end, whether or not it is pending. Faults: 1 to 4, then 9 and 10.
-    pub fn remove_entity(&mut self, class: u32, x: Value) -> Result<(), Trouble>
-        ensures { Changes (gone class x) self.old self.new result }
+    // An entity goes by its number, and its histories end, whether or not it is pending.
+    fn remove_known(&mut self, class: u32, known: Known) -> Result<(), Trouble>
+        ensures { Changes (gone class (Whole known.number)) self.old self.new result }
     {
-        let number = number_of(x)?;
         if !self.is_single(class) {
             return Err(Trouble::Misfit);
         }
-        match self.population.destroy(class as usize, number) {
+        match self.population.destroy(class as usize, known.number) {
             Ok(()) => {
                 self.timeline
-                    .end(self.population.layout(), class as usize, number);
+                    .end(self.population.layout(), class as usize, known.number);
                 Ok(())
             }
             Err(kind) => Err(Trouble::Fault(kind)),
+        }
+    }
+
+    /// An entity goes, and its histories end, whether or not it is pending. Faults: 1 to 4, then 9 and 10.
+    #[inline(always)]
+    pub fn remove_entity(&mut self, class: u32, x: Value) -> Result<(), Trouble>
+        ensures { Changes (gone class x) self.old self.new result }
+    {
+        match known_number(x) {
+            Ok(known) => self.remove_known(class, known),
+            Err(trouble) => Err(trouble),
         }
     }
 
@@ -231,33 +281,29 @@ impl Scene {
 
     // An entity goes by its number, unless it is pending.
     fn destroy_known(&mut self, class: u32, known: Known) -> Result<(), Trouble>
-        ensures { Changes (gone_unless_pending class known.number) self.old self.new result }
+        ensures { Changes (without class (Whole known.number)) self.old self.new result }
     {
         if self.timeline.is_scheduled(known.number) {
-            return Err(Trouble::Fault(FaultKind::Scheduled));
+            return Err(self.earlier(class, known, Trouble::Fault(FaultKind::Scheduled)));
         }
         if !self.is_single(class) {
-            return Err(Trouble::Misfit);
+            return Err(self.earlier(class, known, Trouble::Misfit));
         }
-        match self.population.destroy(class as usize, known.number) {
-            Ok(()) => {
-                self.timeline
-                    .end(self.population.layout(), class as usize, known.number);
-                Ok(())
-            }
-            Err(kind) => Err(Trouble::Fault(kind)),
-        }
+        self.remove_known(class, known)
     }
 
     /// An entity goes, and its histories end, as DESTROY says. Faults: 1 to 4, then 21, then 9 and 10.
     pub fn destroy(&mut self, class: u32, x: Value) -> Result<(), Trouble>
         ensures { Changes (without class x) self.old self.new result }
     {
-        let known = self.find(class, x)?;
-        self.destroy_known(class, known)
+        match known_number(x) {
+            Ok(known) => self.destroy_known(class, known),
+            Err(trouble) => Err(trouble),
+        }
     }
 
     // Whether the entities of a class are made all together.
+    #[inline(always)]
     fn is_permanent(&self, class: u32) -> bool
         ensures { result ≡ is_permanent (class_in self.now.heap.layout class) }
     {

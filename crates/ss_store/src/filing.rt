@@ -25,6 +25,7 @@ pub enum Filing {
 
 impl Scene {
     // Files a member by the discipline of the set, by the numbers of the member and of the owner.
+    #[inline(always)]
     fn file_by_discipline(&mut self, set: u32, both: Membership) -> Result<(), Trouble>
         requires set { set < length self.old.heap.layout.sets }
         ensures { Resettles (filed_by ByRule set both.owner.number both.member.number) self.old self.new result }
@@ -79,6 +80,7 @@ impl Scene {
     }
 
     // Files a member, by the numbers of the member and of the owner.
+    #[inline(always)]
     fn place(&mut self, filing: Filing, set: u32, both: Membership) -> Result<(), Trouble>
         requires set { set < length self.old.heap.layout.sets }
         ensures { Resettles (filed_by (filing_meant filing) set both.owner.number both.member.number) self.old self.new result }
@@ -99,6 +101,7 @@ impl Scene {
     }
 
     // The same by the number of the member and what refers to the owner, which is answered.
+    #[inline(always)]
     fn file_member(
         &mut self,
         filing: Filing,

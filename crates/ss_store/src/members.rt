@@ -17,6 +17,7 @@ use ss_population::trouble::Trouble;
 
 impl Scene {
     // A number as that of an entity that may be a member of a set.
+    #[inline(always)]
     fn look_member(&mut self, set: u32, known: Known) -> Result<Known, Trouble>
         ensures value { where_fit (is_some (set_in self.old.heap.layout set)) (turned (λ _. known.number) (due (joiner self.old.heap set known.number))) ≡ told (numbered result) }
         ensures there { IfOk result (λ _. set < length self.old.heap.layout.sets) }
@@ -32,6 +33,7 @@ impl Scene {
     }
 
     // The entity that a value refers to as one that may be a member of a set.
+    #[inline(always)]
     pub(crate) fn find_member(&mut self, set: u32, x: Value) -> Result<Known, Trouble>
         ensures value { Looks (member set x) self.old (numbered result) }
         ensures there { IfOk result (λ _. set < length self.old.heap.layout.sets) }
@@ -44,6 +46,7 @@ impl Scene {
     }
 
     /// The number of an entity that may be a member of a set. Faults: 1 to 5.
+    #[inline(always)]
     pub fn member(&mut self, set: u32, x: Value) -> Result<i64, Trouble>
         ensures value { Looks (member set x) self.old result }
         ensures same { self.new ≡ self.old }
@@ -55,6 +58,7 @@ impl Scene {
     }
 
     // A number as that of an owner of a set, where the layout has the set.
+    #[inline(always)]
     fn look_owner(&mut self, set: u32, known: Known) -> Result<Known, Trouble>
         ensures value { where_fit (is_some (set_in self.old.heap.layout set)) (turned (λ _. known.number) (due (owner self.old.heap set known.number))) ≡ told (numbered result) }
         ensures same { self.new ≡ self.old }
@@ -69,6 +73,7 @@ impl Scene {
     }
 
     // The owner of a set that a value refers to.
+    #[inline(always)]
     pub(crate) fn find_owner(&mut self, set: u32, owner: Option<Value>) -> Result<Known, Trouble>
         ensures value { Looks (known_owner set owner) self.old (numbered result) }
         ensures same { self.new ≡ self.old }
@@ -80,6 +85,7 @@ impl Scene {
     }
 
     /// The number of the owner of a set, 0 for the system. Faults: 1 to 5.
+    #[inline(always)]
     pub fn known_owner(&mut self, set: u32, owner: Option<Value>) -> Result<i64, Trouble>
         ensures value { Looks (known_owner set owner) self.old result }
         ensures same { self.new ≡ self.old }
@@ -111,6 +117,7 @@ impl Scene {
     }
 
     // Whether an entity is in the set of an owner, by their numbers.
+    #[inline(always)]
     fn is_in_known(&mut self, set: u32, both: Membership) -> Result<bool, Trouble>
         requires set { set < length self.old.heap.layout.sets }
         ensures value { due (member_test self.old.heap set both.owner.number both.member.number) ≡ told result }
@@ -126,6 +133,7 @@ impl Scene {
     }
 
     // The same, by the number of the entity and what refers to the owner.
+    #[inline(always)]
     fn test(&mut self, set: u32, member: Known, owner: Option<Value>) -> Result<bool, Trouble>
         ensures value { Looks (with_owner set owner (tested set member.number)) self.old result }
         ensures same { self.new ≡ self.old }
@@ -151,6 +159,7 @@ impl Scene {
     }
 
     /// Whether an entity is in the set of an owner. Faults: those of the entity (1 to 5), then those of the owner.
+    #[inline(always)]
     pub fn is_in(&mut self, set: u32, x: Value, owner: Option<Value>) -> Result<bool, Trouble>
         ensures value { Looks (is_in set x owner) self.old result }
         ensures same { self.new ≡ self.old }
@@ -165,6 +174,7 @@ impl Scene {
     }
 
     // The member of the set of an owner that comes first, by the owner's number, where the layout has the set.
+    #[inline(always)]
     fn outset(&mut self, reverse: bool, set: u32, known: Known) -> Result<i64, Trouble>
         ensures value { where_fit (is_some (set_in self.old.heap.layout set)) (due (outset reverse self.old.heap set known.number)) ≡ told result }
         ensures same { self.new ≡ self.old }
@@ -185,6 +195,7 @@ impl Scene {
 
     /// The member of the set of an owner with which a loop begins, 0 where there is none: the first, or in reverse
     /// the last. Faults: 1 to 5.
+    #[inline(always)]
     pub fn begun(&mut self, reverse: bool, set: u32, owner: Option<Value>) -> Result<i64, Trouble>
         ensures value { Looks (begun reverse set owner) self.old result }
         ensures same { self.new ≡ self.old }
@@ -196,6 +207,7 @@ impl Scene {
     }
 
     /// The member that comes after another one, or in reverse before it, 0 where there is none. Faults: 1 to 5.
+    #[inline(always)]
     pub fn coming(&mut self, reverse: bool, set: u32, x: i64) -> Result<i64, Trouble>
         ensures value { Looks (coming reverse set x) self.old result }
         ensures same { self.new ≡ self.old }
@@ -273,6 +285,7 @@ impl Scene {
 
     /// Whether a loop over the set of an owner goes on with a member that was fixed before: not where it was 0, which
     /// is none. Faults: 16 where it is gone since, or its owner is.
+    #[inline(always)]
     pub fn goes_on(&mut self, set: u32, x: i64, owner: Option<Value>) -> Result<bool, Trouble>
         ensures value { Looks (goes_on set x owner) self.old result }
         ensures same { self.new ≡ self.old }
@@ -285,6 +298,7 @@ impl Scene {
 }
 
 // A member that has to be there is gone where it is in the set no longer, or where looking comes to a fault.
+#[inline(always)]
 fn or_gone(answer: Result<bool, Trouble>) -> Result<bool, Trouble>
     ensures { or_gone (told answer) ≡ told result }
 {

@@ -46,6 +46,7 @@ impl NoticeClass {
     }
 
     /// The number of the class.
+    #[inline(always)]
     pub(crate) fn class(&self) -> u32
         ensures { result ≡ self.now.class }
     {
@@ -53,6 +54,7 @@ impl NoticeClass {
     }
 
     /// The attributes that break ties.
+    #[inline(always)]
     pub(crate) fn ties(&self) -> &[RankKey]
         ensures { result.now ≡ self.now.ties }
     {
@@ -60,6 +62,7 @@ impl NoticeClass {
     }
 
     /// The event of a notice of the class, which has this rank.
+    #[inline(always)]
     pub(crate) fn event(&self, rank: usize, notice: i64) -> Event
         ensures { result ≡ record { rank = rank; class = self.now.class; line = self.now.line; given = self.now.given; saved = self.now.saved; notice = notice } }
     {

@@ -12,6 +12,7 @@ use ss_population::trouble::Trouble;
 
 impl Scene {
     /// TIME.V.
+    #[inline(always)]
     pub fn clock(&self) -> Value
         ensures { (s : StoreSeen) → clock (with_seen s self.now) ≡ result }
     {

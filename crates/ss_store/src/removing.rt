@@ -13,6 +13,7 @@ use ss_program::statement::End;
 
 impl Scene {
     // Takes a member out of the set of an owner, by their numbers.
+    #[inline(always)]
     fn take_out(&mut self, set: u32, both: Membership) -> Result<(), Trouble>
         requires set { set < length self.old.heap.layout.sets }
         ensures { Resettles (out_of set both.owner.number both.member.number) self.old self.new result }
@@ -24,6 +25,7 @@ impl Scene {
     }
 
     // The same by the number of the member and what refers to the owner, which is answered.
+    #[inline(always)]
     fn remove_member(
         &mut self,
         set: u32,
@@ -61,6 +63,7 @@ impl Scene {
     }
 
     // Takes the member at an end out of the set of an owner, by the owner's number.
+    #[inline(always)]
     fn take_end(&mut self, end: End, set: u32, known: Known) -> Result<Value, Trouble>
         requires set { set < length self.old.heap.layout.sets }
         ensures { Gives (end_out end set known.number) self.old self.new result }
@@ -72,6 +75,7 @@ impl Scene {
     }
 
     // The same where the layout has the set, as a change of the whole scene: histories note N. of the set.
+    #[inline(always)]
     fn remove_end_known(&mut self, end: End, set: u32, known: Known) -> Result<Value, Trouble>
         ensures { Gains (end_removed_known end set known.number) self.old self.new result }
     {

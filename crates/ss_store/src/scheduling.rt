@@ -16,6 +16,7 @@ use std::alloc::Global;
 
 impl Scene {
     // A time that is not before TIME.V.
+    #[inline(always)]
     fn not_past(&self, time: i64) -> Result<i64, Trouble>
         ensures { Looks (not_past time) self.now result }
     {
@@ -26,6 +27,7 @@ impl Scene {
     }
 
     // The time so many units from now.
+    #[inline(always)]
     fn time_after(&self, units: i64) -> Result<i64, Trouble>
         ensures { Looks (time_after units) self.now result }
     {
@@ -53,6 +55,7 @@ impl Scene {
     }
 
     // Assigns values to the attributes of a notice, from the first on.
+    #[inline(always)]
     fn endow(&mut self, class: u32, x: &Value, given: &[Value]) -> Result<(), Trouble>
         ensures { Leads (endowed class 0 x.now given.now) self.old self.new result }
     {
@@ -63,6 +66,7 @@ impl Scene {
     }
 
     // Assigns values to the first attributes of a notice, and sets its TIME.A.
+    #[inline(always)]
     fn prepare(&mut self, class: u32, x: &Value, given: &[Value], time: i64) -> Result<(), Trouble>
         ensures { Leads (prepared class x.now given.now time) self.old self.new result }
     {
@@ -88,6 +92,7 @@ impl Scene {
     }
 
     // The values that attributes have now, as ties.
+    #[inline(always)]
     fn freeze(
         &self,
         class: u32,
@@ -118,6 +123,7 @@ impl Scene {
     }
 
     // The key of a notice whose class has this rank.
+    #[inline(always)]
     fn key_at(
         &self,
         alloc: Global,
@@ -141,6 +147,7 @@ impl Scene {
     }
 
     // The key of a notice.
+    #[inline(always)]
     fn key(&self, alloc: Global, class: u32, x: &Value, time: i64) -> Result<Key, Unmade>
         ensures { Finds (key_meant class x.now time) self.now result }
     {
@@ -151,6 +158,7 @@ impl Scene {
     }
 
     // A notice is filed under a key, by its number.
+    #[inline(always)]
     fn schedule_known(&mut self, key: Key, known: Known) -> Result<(), Unmade>
         ensures { Grows (scheduled_known key known.number) self.old self.new result }
     {
@@ -248,6 +256,7 @@ impl Scene {
 }
 
 // The place of a class among those of notices.
+#[inline(always)]
 fn rank_of(notices: &[NoticeClass], class: u32) -> Option<usize>
     ensures { ranked_from 0 notices.now class ≡ ranked_at notices.now result }
 {
@@ -260,6 +269,7 @@ fn rank_of(notices: &[NoticeClass], class: u32) -> Option<usize>
 }
 
 // A trouble where memory might have been wanting.
+#[inline(always)]
 pub(crate) fn lacking(trouble: Trouble) -> Unmade
     ensures { result ≡ lacking trouble }
 {

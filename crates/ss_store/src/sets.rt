@@ -16,6 +16,7 @@ use ss_program::expression::{MemberQuery, SetQuery};
 
 impl Scene {
     // Whether the layout has a set.
+    #[inline(always)]
     pub(crate) fn has_set(&self, set: u32) -> bool
         ensures value { result ≡ is_some (set_in self.now.heap.layout set) }
         ensures within { IsTrue result → set < length self.now.heap.layout.sets }
@@ -24,6 +25,7 @@ impl Scene {
     }
 
     // The owner of a set, 0 for the system, by who owns the sets of its name.
+    #[inline(always)]
     pub(crate) fn owner(&self, set: u32, owner: Option<Value>) -> Result<Known, Trouble>
         ensures { Looks (owner_number set owner) self.now (numbered result) }
     {
@@ -46,6 +48,7 @@ impl Scene {
     }
 
     // What is asked of the set of an owner by its number, where the layout has the set.
+    #[inline(always)]
     fn asked(&mut self, query: SetQuery, set: u32, known: Known) -> Result<Value, Trouble>
         ensures value { where_fit (is_some (set_in self.old.heap.layout set)) (turned Whole (due (told_of_set query self.old.heap set known.number))) ≡ told result }
         ensures same { self.new ≡ self.old }
@@ -81,6 +84,7 @@ impl Scene {
     }
 
     // Whether the set of an owner has no member, by the owner's number, where the layout has the set.
+    #[inline(always)]
     fn is_empty_known(&mut self, set: u32, known: Known) -> Result<bool, Trouble>
         ensures value { where_fit (is_some (set_in self.old.heap.layout set)) (turned is_none (due (count_in self.old.heap set known.number))) ≡ told result }
         ensures same { self.new ≡ self.old }
@@ -144,6 +148,7 @@ impl Scene {
 }
 
 // Whether a number is no member.
+#[inline(always)]
 pub(crate) fn is_none(number: i64) -> bool
     ensures { result ≡ is_none number }
 {
@@ -151,6 +156,7 @@ pub(crate) fn is_none(number: i64) -> bool
 }
 
 // A number that was asked for.
+#[inline(always)]
 fn told_number(answer: Result<i64, FaultKind>) -> Result<Value, Trouble>
     ensures { turned Whole (due answer) ≡ told result }
 {

@@ -27,6 +27,7 @@ impl Scene {
     }
 
     // Notes a value of a subject in its histories of an entity, by its number.
+    #[inline(always)]
     fn note(&mut self, subject: Subject, known: Known, value: Value) -> Result<(), Trouble>
         ensures { Changes (noted subject known.number value) self.old self.new result }
     {
@@ -34,6 +35,7 @@ impl Scene {
     }
 
     // The same of an attribute.
+    #[inline(always)]
     pub(crate) fn note_attribute(
         &mut self,
         class: u32,
@@ -55,7 +57,19 @@ impl Scene {
     }
 
     // Notes N. of the set of an owner, by its number, in its histories.
+    #[inline(always)]
     pub(crate) fn recount(&mut self, set: u32, owner: Known) -> Result<(), Trouble>
+        requires counted { IsCountable self.old.heap set owner.number }
+        ensures { Changes (recounted_now set owner.number) self.old self.new result }
+    {
+        if !self.has_statistics() {
+            return Ok(());
+        }
+        self.recount_watched(set, owner)
+    }
+
+    // The same where there are statistics.
+    fn recount_watched(&mut self, set: u32, owner: Known) -> Result<(), Trouble>
         requires counted { IsCountable self.old.heap set owner.number }
         ensures { Changes (recounted_now set owner.number) self.old self.new result }
     {

@@ -64,6 +64,7 @@ impl Timeline {
     }
 
     /// TIME.V.
+    #[inline(always)]
     pub(crate) fn time(&self) -> i64
         ensures { result ≡ self.now.time }
     {
@@ -91,6 +92,7 @@ impl Timeline {
     }
 
     /// Whether a notice is pending.
+    #[inline(always)]
     pub(crate) fn is_scheduled(&self, notice: i64) -> bool
         ensures { result ≡ is_pending notice self.now.pending.entries }
     {
@@ -138,6 +140,7 @@ impl Timeline {
     }
 
     /// Notes a value of a subject in each history of it that an entity has. Faults: 14 where one of them is full.
+    #[inline(always)]
     pub(crate) fn note(
         &mut self,
         subject: Subject,
@@ -146,10 +149,14 @@ impl Timeline {
     ) -> Result<(), Trouble>
         ensures { Noted subject entity value self.old self.new result }
     {
+        if !self.has_statistics() {
+            return Ok(());
+        }
         or_unnoted(self.histories.note(subject, entity, self.time, value))
     }
 
     /// The same of an attribute.
+    #[inline(always)]
     pub(crate) fn note_attribute(
         &mut self,
         class: usize,
@@ -159,6 +166,9 @@ impl Timeline {
     ) -> Result<(), Trouble>
         ensures { Noted (OfAttribute class field) entity value self.old self.new result }
     {
+        if !self.has_statistics() {
+            return Ok(());
+        }
         or_unnoted(
             self.histories
                 .note_attribute(class, field, entity, self.time, value),
@@ -167,6 +177,7 @@ impl Timeline {
 
     /// Makes room for so many more histories of each statistic of what the entities of a class have. The error comes
     /// where memory was refused.
+    #[inline(always)]
     pub(crate) fn reserve(
         &mut self,
         layout: &Layout,
@@ -176,17 +187,23 @@ impl Timeline {
         ensures same { self.new ≡ record self.old { histories = record self.old.histories { room = self.new.histories.room } } }
         ensures room { OnOk result (HasRooms layout.now (Class class) count self.new.histories.statistics self.new.histories.room) }
     {
+        if !self.has_statistics() {
+            return Ok(());
+        }
         self.histories.reserve(layout, Owner::Class(class), count)
     }
 
     /// Starts the histories of an entity of a class, as it comes into being.
+    #[inline(always)]
     pub(crate) fn start(&mut self, layout: &Layout, class: usize, entity: i64)
         requires room { HasRooms layout.now (Class class) (pos 1) self.old.histories.statistics self.old.histories.room }
         ensures started { columns self.new ≡ starting layout.now (Class class) (int_eq entity) self.old.time self.old.histories.statistics (columns self.old) }
         ensures same { IsAt self.old self.new }
     {
-        self.histories
-            .start(layout, Owner::Class(class), entity, self.time);
+        if self.has_statistics() {
+            self.histories
+                .start(layout, Owner::Class(class), entity, self.time);
+        }
     }
 
     /// Starts the histories of the entities 1 to a number of a class.
@@ -199,11 +216,14 @@ impl Timeline {
     }
 
     /// Ends the histories of an entity of a class, as it goes.
+    #[inline(always)]
     pub(crate) fn end(&mut self, layout: &Layout, class: usize, entity: i64)
         ensures ended { columns self.new ≡ ending layout.now class entity self.old.histories.statistics (columns self.old) }
         ensures same { IsAt self.old self.new }
     {
-        self.histories.end(layout, class, entity);
+        if self.has_statistics() {
+            self.histories.end(layout, class, entity);
+        }
     }
 
     /// What is asked of the history of an entity in a statistic, if it has one. Faults: 14.
@@ -245,6 +265,7 @@ fn system_started(
 }
 
 // What noting a value comes to.
+#[inline(always)]
 fn or_unnoted(answer: Result<(), Unnoted>) -> Result<(), Trouble>
     ensures { result ≡ or_unnoted answer }
 {

@@ -15,6 +15,7 @@ use ss_sets::{file, fits, is_in, remove_first, remove_last};
 
 impl Population {
     // Whether the keys of a discipline are attributes of the members of a set.
+    #[inline(always)]
     fn fits(&self, discipline: &Discipline, set: usize) -> bool
         requires set { set < length self.now.layout.sets }
         ensures value { result ≡ is_fit self.now.layout set discipline.now }
@@ -25,6 +26,7 @@ impl Population {
 
     /// Files x in the set of an owner by a discipline, where its keys are attributes of the members. Faults: as of
     /// `file`.
+    #[inline(always)]
     pub fn file_if_fit(
         &mut self,
         discipline: &Discipline,
@@ -43,6 +45,7 @@ impl Population {
 
     /// Files x in the set of an owner by a discipline. Faults: those of x (1 to 5), those of the owner, then 6 where x
     /// is in some set of this name.
+    #[inline(always)]
     pub fn file(
         &mut self,
         discipline: &Discipline,
@@ -59,6 +62,7 @@ impl Population {
 
     /// Files x as the first member of the set of an owner. Faults: those of x (1 to 5), those of the owner, then 6
     /// where x is in some set of this name.
+    #[inline(always)]
     pub fn file_first(&mut self, set: usize, o: i64, x: i64) -> Result<(), FaultKind>
         requires set { set < length self.old.layout.sets }
         ensures { MatchResult result (λ _. filed_first self.old set o x ≡ Ok self.new) (λ e. (filed_first self.old set o x ≡ Err e) × (self.new ≡ self.old)) }
@@ -68,6 +72,7 @@ impl Population {
 
     /// Files x as the last member of the set of an owner. Faults: those of x (1 to 5), those of the owner, then 6
     /// where x is in some set of this name.
+    #[inline(always)]
     pub fn file_last(&mut self, set: usize, o: i64, x: i64) -> Result<(), FaultKind>
         requires set { set < length self.old.layout.sets }
         ensures { MatchResult result (λ _. filed_last self.old set o x ≡ Ok self.new) (λ e. (filed_last self.old set o x ≡ Err e) × (self.new ≡ self.old)) }
@@ -77,6 +82,7 @@ impl Population {
 
     /// Files x directly before y in the set of an owner. Faults: those of x (1 to 5), of y, of the owner, then 6
     /// where x is in some set of this name, then 7 where y is not in this one.
+    #[inline(always)]
     pub fn file_before(&mut self, set: usize, o: i64, x: i64, y: i64) -> Result<(), FaultKind>
         requires set { set < length self.old.layout.sets }
         ensures { MatchResult result (λ _. filed_before self.old set o x y ≡ Ok self.new) (λ e. (filed_before self.old set o x y ≡ Err e) × (self.new ≡ self.old)) }
@@ -86,6 +92,7 @@ impl Population {
 
     /// Files x directly after y in the set of an owner. Faults: those of x (1 to 5), of y, of the owner, then 6
     /// where x is in some set of this name, then 7 where y is not in this one.
+    #[inline(always)]
     pub fn file_after(&mut self, set: usize, o: i64, x: i64, y: i64) -> Result<(), FaultKind>
         requires set { set < length self.old.layout.sets }
         ensures { MatchResult result (λ _. filed_after self.old set o x y ≡ Ok self.new) (λ e. (filed_after self.old set o x y ≡ Err e) × (self.new ≡ self.old)) }
@@ -95,6 +102,7 @@ impl Population {
 
     /// Takes x out of the set of an owner. Faults: those of x (1 to 5), those of the owner, then 7 where x is not in
     /// this set.
+    #[inline(always)]
     pub fn remove(&mut self, set: usize, o: i64, x: i64) -> Result<(), FaultKind>
         requires set { set < length self.old.layout.sets }
         ensures { MatchResult result (λ _. removed self.old set o x ≡ Ok self.new) (λ e. (removed self.old set o x ≡ Err e) × (self.new ≡ self.old)) }
@@ -103,6 +111,7 @@ impl Population {
     }
 
     // Takes the first member out of the set of an owner, and answers it. Faults: 1 to 5, then 8 where there is none.
+    #[inline(always)]
     fn remove_first(&mut self, set: usize, o: i64) -> Result<i64, FaultKind>
         requires set { set < length self.old.layout.sets }
         ensures { MatchResult result (λ x. first_removed self.old set o ≡ Ok (x, self.new)) (λ e. (first_removed self.old set o ≡ Err e) × (self.new ≡ self.old)) }
@@ -111,6 +120,7 @@ impl Population {
     }
 
     // Takes the last member out of the set of an owner, and answers it. Faults: 1 to 5, then 8 where there is none.
+    #[inline(always)]
     fn remove_last(&mut self, set: usize, o: i64) -> Result<i64, FaultKind>
         requires set { set < length self.old.layout.sets }
         ensures { MatchResult result (λ x. last_removed self.old set o ≡ Ok (x, self.new)) (λ e. (last_removed self.old set o ≡ Err e) × (self.new ≡ self.old)) }
@@ -120,6 +130,7 @@ impl Population {
 
     /// Takes the member at an end out of the set of an owner, and answers it. Faults: 1 to 5, then 8 where there is
     /// none.
+    #[inline(always)]
     pub fn remove_end(&mut self, end: End, set: usize, o: i64) -> Result<i64, FaultKind>
         requires set { set < length self.old.layout.sets }
         ensures { MatchResult result (λ x. end_removed end self.old set o ≡ Ok (x, self.new)) (λ e. (end_removed end self.old set o ≡ Err e) × (self.new ≡ self.old)) }
@@ -131,6 +142,7 @@ impl Population {
     }
 
     /// Whether x is in the set of an owner. Faults: those of x (1 to 5), then those of the owner.
+    #[inline(always)]
     pub fn is_in(&mut self, set: usize, o: i64, x: i64) -> Result<bool, FaultKind>
         requires set { set < length self.old.layout.sets }
         ensures value { result ≡ member_test self.old set o x }

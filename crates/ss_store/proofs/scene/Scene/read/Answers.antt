@@ -1,7 +1,6 @@
-use Rattle.std.proofs.Common.{arith, rules, ℤ, to_z, of_z, w64, Ok, ◌≡◌, suc, ◌-◌, ◌+◌, ◌++◌, ◌∷◌, [], List, Err, ap, sym, subst, ◌∙◌}
+use Rattle.std.proofs.Common.{arith, rules, ◌≡◌, suc, ◌-◌, ◌+◌, ◌++◌, ◌∷◌, [], List, Err, ap, sym, subst, ◌∙◌}
 use Rattle.ss_base.specs.declared.value.Value.{Value}
 use Rattle.ss_base.specs.declared.value.Value.TheVariants.{Whole}
-use Rattle.ss_meaning.specs.Entities.{attribute}
 use Rattle.ss_meaning.specs.Events.{attributes}
 use Rattle.ss_meaning.specs.Values.{turned}
 use Rattle.ss_population.specs.declared.trouble.Unmade.{Unmade}
@@ -15,23 +14,19 @@ use Rattle.ss_store.proofs.scene.Scene.read.Goals as goal
 pub returns-in-Err : goal.returns-in-Err
 returns-in-Err c =
     let class = c.args.class in let count = c.args.count in let field = c.loop-field.field in let x = Whole c.args.known.number in let e = c.args.self.now in
-    let n = c.args.known.number in
-    let same : to_z w64 (of_z w64 n) ≡ n = search rules in
     let vs = c.loop-field.values.items in
     let more : count - field ≡ suc (count - (field + 1)) = omega (arith, c.loop-field-test.true) in
     subst (λ (u : Unmade). Finds (attributes class 0 count x) e (put_there vs (Err u))) (sym c.lacking.ensures)
     (finds_not (attributes class 0 count x) e vs c.in-Err.trouble
     (λ s. c.loop-field.invariant s ∙ not_read class field x (with_seen s e) vs (count - field) (count - (field + 1)) (meant c.in-Err.trouble) more
-    (subst (λ (z : ℤ). attribute class field (Whole z) (with_seen s e) ≡ Err (meant c.in-Err.trouble)) same (c.in-Err.ensures s))))
+    (c.in-Err.ensures s)))
 
 pub loop-field-preserved : goal.loop-field-preserved
 loop-field-preserved c = λ s.
     let class = c.args.class in let count = c.args.count in let field = c.loop-field.field in let x = Whole c.args.known.number in let e = c.args.self.now in
-    let n = c.args.known.number in
-    let same : to_z w64 (of_z w64 n) ≡ n = search rules in
     let vs = c.loop-field.values.items in
     let more : count - field ≡ suc (count - (field + 1)) = omega (arith, c.loop-field-test.true) in
     let put : vs ++ c.in-Ok.value ∷ [] ≡ c.push.new.self.items = search rules in
     c.loop-field.invariant s ∙ read_on class field x (with_seen s e) vs (count - field) (count - (field + 1)) c.in-Ok.value more
-    (subst (λ (z : ℤ). attribute class field (Whole z) (with_seen s e) ≡ Ok c.in-Ok.value) same (c.in-Ok.ensures s))
+    (c.in-Ok.ensures s)
     ∙ ap (λ (us : List Value). turned (λ ws. us ++ ws) (attributes class (field + 1) (count - (field + 1)) x (with_seen s e))) put
