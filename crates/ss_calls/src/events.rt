@@ -243,16 +243,21 @@ fn times_then_ranks_then_ties(rt: HostRuntime) -> Result<(), Fail> {
     Ok(())
 }
 
-// Schedules notices at earlier and earlier times; a refusal for memory leaves the list as it was, and the next try succeeds.
+// Schedules notices at earlier and earlier times. Where memory is refused, for a key with its tie or for the list, the list
+// is as it was, and the next try succeeds.
 fn are_scheduled_in_spite_of_refusals(
     alloc: Global,
     pending: &mut Pending,
 ) -> Result<bool, Refused> {
     for notice in 1i64..101 {
         let before = pending.least();
-        let standing: Standing = (notice.wrapping_neg(), 0, &[]);
-        if schedule(alloc, pending, standing, notice).is_err() {
-            if pending.is_scheduled(notice) || pending.least() != before {
+        let ties = high(notice);
+        let standing: Standing = (notice.wrapping_neg(), 0, &ties);
+        if let Err(refused) = schedule(alloc, pending, standing, notice) {
+            if refused != Refused::Memory
+                || pending.is_scheduled(notice)
+                || pending.least() != before
+            {
                 return Ok(false);
             }
             schedule(alloc, pending, standing, notice)?;
@@ -263,9 +268,9 @@ fn are_scheduled_in_spite_of_refusals(
 
 #[test]
 fn refused_memory_leaves_the_list(rt: HostRuntime) -> Result<(), Fail> {
-    let mut pending = match listed(rt.alloc(), &[&PLAIN]) {
+    let mut pending = match listed(rt.alloc(), &[&HIGH_NUMBER]) {
         Ok(pending) => pending,
-        Err(_) => listed(rt.alloc(), &[&PLAIN])?,
+        Err(_) => listed(rt.alloc(), &[&HIGH_NUMBER])?,
     };
     assert_eq!(rt;
         are_scheduled_in_spite_of_refusals(rt.alloc(), &mut pending),

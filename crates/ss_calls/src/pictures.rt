@@ -97,6 +97,34 @@ fn texts(rt: HostRuntime) -> Result<(), Fail> {
     Ok(())
 }
 
+// A picture, where memory may be refused: then the next try succeeds.
+fn pictured(alloc: Global, picture: &[u8]) -> Result<Picture, AllocError> {
+    match Picture::of(alloc, picture) {
+        Ok(picture) => Ok(picture),
+        Err(_) => Picture::of(alloc, picture),
+    }
+}
+
+// The line that a picture makes of values, one for each field, where memory may be refused: then the next try succeeds.
+fn filled(alloc: Global, picture: &Picture, values: &[Value]) -> Result<Vec<u8>, AllocError> {
+    if picture.fields().len() != values.len() {
+        return Err(AllocError);
+    }
+    match picture.fill(alloc, values) {
+        Ok(line) => Ok(line),
+        Err(_) => picture.fill(alloc, values),
+    }
+}
+
+#[test]
+fn refused_memory_leaves_the_picture(rt: HostRuntime) -> Result<(), Fail> {
+    let picture = pictured(rt.alloc(), b"A**")?;
+    let line = filled(rt.alloc(), &picture, &[Value::Whole(7)])?;
+    assert!(rt; line.as_slice() == b"A 7".as_slice());
+    assert!(rt; picture.fields() == [2].as_slice());
+    Ok(())
+}
+
 // Whether a picture with this value, or with none, adds a line to make these bytes.
 fn adds(picture: &Picture, line: &mut Vec<u8>, value: Option<i64>, wanted: &[u8]) -> bool {
     if picture.fields().is_empty() {

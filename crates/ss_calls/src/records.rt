@@ -407,19 +407,21 @@ fn machines_own_and_join_sets(rt: HostRuntime) -> Result<(), Fail> {
     Ok(())
 }
 
-// Creates a job where memory may be refused: then nothing has changed, and the next try succeeds.
+// Creates a job where memory may be refused: then nothing has changed, the last in the pool neither, and the next try
+// succeeds.
 fn is_created(heap: &mut Heap, x: i64) -> bool {
     let (blocks, pages) = (heap.blocks(), heap.pages());
     create(heap, JOB) == Some(x)
         || known(heap, JOB, x) == Some(Err(FaultKind::NeverCreated))
             && (heap.blocks(), heap.pages()) == (blocks, pages)
+            && answer(heap, POOL, Ask::Last(0)) == Some(Ok(x.saturating_sub(1)))
             && create(heap, JOB) == Some(x)
 }
 
-// Whether 600 jobs are created, though memory may be refused in between.
+// Whether 600 jobs are created and filed, though memory may be refused in between. Filing takes none.
 fn are_created_in_spite(heap: &mut Heap) -> bool {
     for x in 1..601 {
-        if !is_created(heap, x) {
+        if !is_created(heap, x) || answer(heap, POOL, Ask::FileLast(0, x)) != Some(Ok(0)) {
             return false;
         }
     }
@@ -429,7 +431,10 @@ fn are_created_in_spite(heap: &mut Heap) -> bool {
 // Whether five machines are made, where memory may be refused: then nothing has changed, and the next try succeeds.
 fn are_made_in_spite(heap: &mut Heap) -> bool {
     if make(heap, 5) == Some(Err(Refused::Memory)) {
-        return is_no_machine(heap, 1) && heap.blocks() == 601 && make(heap, 5) == Some(Ok(()));
+        return is_no_machine(heap, 1)
+            && heap.blocks() == 601
+            && answer(heap, POOL, Ask::Count(0)) == Some(Ok(600))
+            && make(heap, 5) == Some(Ok(()));
     }
     true
 }
