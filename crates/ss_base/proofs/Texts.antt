@@ -4,8 +4,7 @@ use Rattle.std.proofs.lemmas.Bool.{ne_eqb, and_from, and_parts, le-leb, leb-true
 use Rattle.std.proofs.lemmas.List.{take_more, drop-replicate}
 use Rattle.std.specs.Prelude.{◌≢◌, ◌==◌, nat_le, replicate, Some, None}
 use Rattle.std.specs.List.{list_all}
-use Rattle.ss_base.specs.declared.alpha.TheConstants.{TEXT_LIMIT}
-use Rattle.ss_base.specs.Values.{is_text_byte, in_front, without_end_blanks, IsText, text_of}
+use Rattle.ss_base.specs.Values.{text_limit, is_text_byte, in_front, without_end_blanks, IsText, text_of}
 use Rattle.ss_base.specs.Room.{before_zero, padded, IsRoom}
 
 -- a blank at the end is dropped
@@ -62,38 +61,38 @@ before_zero-padded (suc b ∷ bs) k h =
     let p = and_parts (is_text_byte (suc b)) (list_all is_text_byte bs) h in ap (λ rest. suc b ∷ rest) (before_zero-padded bs k p.1)
 
 -- the room that a text of these bytes is laid into
-pub is_room-of : (bytes : List ℕ) → list_all is_text_byte bytes ≡ true → length (without_end_blanks bytes) ≤ TEXT_LIMIT → IsRoom (padded (without_end_blanks bytes))
+pub is_room-of : (bytes : List ℕ) → list_all is_text_byte bytes ≡ true → length (without_end_blanks bytes) ≤ text_limit → IsRoom (padded (without_end_blanks bytes))
 is_room-of bytes h k =
     let text = without_end_blanks bytes in
     let printable = without_end_blanks-printable bytes h in
-    let is = before_zero-padded text (TEXT_LIMIT - length text) printable in
+    let is = before_zero-padded text (text_limit - length text) printable in
     record {
       text = rw is (record { printable = printable; short = k; trimmed = without_end_blanks-again bytes });
       zeros = ap padded is;
     }
 
 -- a text that is copied into zeros has zeros behind it
-pub laid : (bytes text copied : List ℕ) → text ≡ without_end_blanks bytes → copied ≡ text → copied ++ drop (length text) (replicate TEXT_LIMIT 0) ≡ padded (without_end_blanks bytes)
-laid bytes text copied is same = rw (same, is, drop-replicate {X = ℕ} (length (without_end_blanks bytes)) TEXT_LIMIT 0) refl
+pub laid : (bytes text copied : List ℕ) → text ≡ without_end_blanks bytes → copied ≡ text → copied ++ drop (length text) (replicate text_limit 0) ≡ padded (without_end_blanks bytes)
+laid bytes text copied is same = rw (same, is, drop-replicate {X = ℕ} (length (without_end_blanks bytes)) text_limit 0) refl
 
-pub laid-room : (bytes text copied : List ℕ) → list_all is_text_byte bytes ≡ true → text ≡ without_end_blanks bytes → length text ≤ TEXT_LIMIT → copied ≡ text → IsRoom (copied ++ drop (length text) (replicate TEXT_LIMIT 0))
+pub laid-room : (bytes text copied : List ℕ) → list_all is_text_byte bytes ≡ true → text ≡ without_end_blanks bytes → length text ≤ text_limit → copied ≡ text → IsRoom (copied ++ drop (length text) (replicate text_limit 0))
 laid-room bytes text copied h is k same = rw (laid bytes text copied is same) (is_room-of bytes h (rw is at k))
 
-pub laid-value : (bytes text copied : List ℕ) → list_all is_text_byte bytes ≡ true → text ≡ without_end_blanks bytes → length text ≤ TEXT_LIMIT → copied ≡ text → Some (before_zero (copied ++ drop (length text) (replicate TEXT_LIMIT 0))) ≡ text_of bytes
+pub laid-value : (bytes text copied : List ℕ) → list_all is_text_byte bytes ≡ true → text ≡ without_end_blanks bytes → length text ≤ text_limit → copied ≡ text → Some (before_zero (copied ++ drop (length text) (replicate text_limit 0))) ≡ text_of bytes
 laid-value bytes text copied h is k same =
-    let e = before_zero-padded (without_end_blanks bytes) (TEXT_LIMIT - length (without_end_blanks bytes)) (without_end_blanks-printable bytes h) in
-    let small : nat_le (length (without_end_blanks bytes)) TEXT_LIMIT ≡ true = le-leb _ _ (rw is at k) in
+    let e = before_zero-padded (without_end_blanks bytes) (text_limit - length (without_end_blanks bytes)) (without_end_blanks-printable bytes h) in
+    let small : nat_le (length (without_end_blanks bytes)) text_limit ≡ true = le-leb _ _ (rw is at k) in
     rw (laid bytes text copied is same, e, h, small) refl
 
 -- a text stands for itself
 pub text_of-text : (text : List ℕ) → IsText text → text_of text ≡ Some text
 text_of-text text h =
-    let small : nat_le (length text) TEXT_LIMIT ≡ true = le-leb _ _ h.short in rw (h.trimmed, h.printable, small) refl
+    let small : nat_le (length text) text_limit ≡ true = le-leb _ _ h.short in rw (h.trimmed, h.printable, small) refl
 
 -- what bytes stand for is a text
 pub text_of-is_text : (bytes text : List ℕ) → text_of bytes ≡ Some text → IsText text
-text_of-is_text bytes text h = by_tests (list_all is_text_byte bytes) (nat_le (length (without_end_blanks bytes)) TEXT_LIMIT) refl refl where
-  by_tests : (p q : Bool) → list_all is_text_byte bytes ≡ p → nat_le (length (without_end_blanks bytes)) TEXT_LIMIT ≡ q → IsText text
+text_of-is_text bytes text h = by_tests (list_all is_text_byte bytes) (nat_le (length (without_end_blanks bytes)) text_limit) refl refl where
+  by_tests : (p q : Bool) → list_all is_text_byte bytes ≡ p → nat_le (length (without_end_blanks bytes)) text_limit ≡ q → IsText text
   by_tests true true e f =
       let same : Some (without_end_blanks bytes) ≡ Some text = rw (e, f) at h in
       let is : without_end_blanks bytes ≡ text = cc in

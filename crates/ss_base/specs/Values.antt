@@ -1,7 +1,10 @@
 -- What a text is: a few printable characters, with no blank at the end.
 use Rattle.std.specs.Prelude.{◌≡◌, ℕ, ◌≤◌, ◌==◌, Bool, ◌&&◌, nat_le, if◌then◌else◌, List, [], ◌∷◌, length, IsTrue, Option, Some, None}
 use Rattle.std.specs.List.{list_all}
-use Rattle.ss_base.specs.declared.alpha.TheConstants.{TEXT_LIMIT}
+
+-- the most characters of a text
+abbrev pub text_limit : ℕ
+text_limit = 8
 
 -- a byte that a text may hold: a printable character of ASCII or a blank
 abbrev pub is_text_byte : ℕ → Bool
@@ -20,12 +23,12 @@ without_end_blanks (b ∷ bs) = in_front b (without_end_blanks bs)
 -- a text: few enough bytes, each of them printable or a blank, the last no blank
 pub record IsText (bytes : List ℕ) : Type 0 where
   pub printable : IsTrue (list_all is_text_byte bytes)
-  pub short : length bytes ≤ TEXT_LIMIT
+  pub short : length bytes ≤ text_limit
   pub trimmed : without_end_blanks bytes ≡ bytes
 
 -- the text that bytes stand for, if they stand for one
 abbrev pub text_of : List ℕ → Option (List ℕ)
 text_of bytes =
-    if list_all is_text_byte bytes && nat_le (length (without_end_blanks bytes)) TEXT_LIMIT
+    if list_all is_text_byte bytes && nat_le (length (without_end_blanks bytes)) text_limit
     then Some (without_end_blanks bytes)
     else None
