@@ -9,12 +9,11 @@ use Rattle.std.proofs.lemmas.List.Elements.{All-cons, All-tail, recursion_from_A
 use Rattle.std.proofs.lemmas.Map.Keys.{IsDistinct-IsPermutation, IsDistinct-head, IsDistinct-tail, IsDistinct-cons}
 use Rattle.std.proofs.lemmas.Bool.{cases_lt, cases_Bool}
 use Rattle.ss_events.specs.declared.entry.Entry.{Entry}
-use Rattle.ss_events.specs.declared.entry.TheConstants.{MOST_SCHEDULINGS}
 use Rattle.ss_events.specs.HeapEntries.{HeapEntries, notices_of}
 use Rattle.ss_events.specs.Sifting.{IsLogarithmic}
 use Rattle.ss_events.specs.BinaryHeap.{IsHeap}
 use Rattle.ss_events.specs.Order.{comes_before}
-use Rattle.ss_events.specs.PendingList.{PendingList, is_pending, without, earlier, least, next, after_next}
+use Rattle.ss_events.specs.PendingList.{PendingList, scheduling_limit, is_pending, without, earlier, least, next, after_next}
 use Rattle.ss_events.specs.InOrder.{put, in_order, numbers_of, IsAgenda}
 use Rattle.ss_events.proofs.EntryOrder.{entries_rank, tied_numbers}
 use Rattle.ss_events.proofs.Heaps.{first}
@@ -145,7 +144,7 @@ module _ (old : List Entry) (count : ℕ) (a : IsAgenda old count) where
         sym (in_order-permutation (e ∷ old) new numbers_after p)
         ∙ put_last e (in_order old) (λ x m. omega (arith, at_member (λ y. y.number < count) old x a.numbered (member-in_order old x m)))
 
-    pub agenda-inserted : (new : List Entry) → IsHeap comes_before new → IsPermutation (e ∷ old) new → list_any (int_eq e.notice) (notices_of old) ≡ false → count < MOST_SCHEDULINGS → IsAgenda new (count + 1)
+    pub agenda-inserted : (new : List Entry) → IsHeap comes_before new → IsPermutation (e ∷ old) new → list_any (int_eq e.notice) (notices_of old) ≡ false → count < scheduling_limit → IsAgenda new (count + 1)
     agenda-inserted new h p fresh room = record {
       order = h;
       notices = IsDistinct-IsPermutation int_eq int_flips (notices_of (e ∷ old)) (notices_of new) (IsPermutation-map (λ x. x.notice) (e ∷ old) new p)

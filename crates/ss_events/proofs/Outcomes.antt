@@ -3,9 +3,8 @@ use Rattle.std.proofs.Common.{◌≡◌, ◌≢◌, ◌==◌, ℤ, Bool, true, f
 use Rattle.std.proofs.lemmas.Bool.Decides.{nat_tests}
 use Rattle.ss_base.specs.declared.fault.FaultKind.{FaultKind}
 use Rattle.ss_base.specs.declared.fault.FaultKind.TheVariants.{AlreadyScheduled, NotScheduled, Overflow}
-use Rattle.ss_events.specs.declared.entry.TheConstants.{MOST_SCHEDULINGS}
 use Rattle.ss_events.specs.SortKey.{SortKey}
-use Rattle.ss_events.specs.PendingList.{PendingList, is_pending, without, with_entry, scheduled, cancelled}
+use Rattle.ss_events.specs.PendingList.{PendingList, scheduling_limit, is_pending, without, with_entry, scheduled, cancelled}
 
 -- ---- schedule
 
@@ -15,18 +14,18 @@ module _ (key : SortKey) (notice : ℤ) (p : PendingList) where
 
   pub scheduled-pending : is_pending notice p.entries ≡ true → scheduled key notice p ≡ Err AlreadyScheduled
   unfolding choice
-  scheduled-pending t = ap (λ b. choice b (p.schedulings == MOST_SCHEDULINGS)) t
+  scheduled-pending t = ap (λ b. choice b (p.schedulings == scheduling_limit)) t
 
-  pub scheduled-full : is_pending notice p.entries ≡ false → p.schedulings ≡ MOST_SCHEDULINGS → scheduled key notice p ≡ Err Overflow
+  pub scheduled-full : is_pending notice p.entries ≡ false → p.schedulings ≡ scheduling_limit → scheduled key notice p ≡ Err Overflow
   unfolding choice
   scheduled-full t full =
-      let f : (p.schedulings == MOST_SCHEDULINGS) ≡ true = grind (arith, nat_tests) in
+      let f : (p.schedulings == scheduling_limit) ≡ true = grind (arith, nat_tests) in
       (λ i. choice (t i) (f i))
 
-  pub scheduled-room : is_pending notice p.entries ≡ false → p.schedulings ≢ MOST_SCHEDULINGS → scheduled key notice p ≡ Ok (with_entry key notice p)
+  pub scheduled-room : is_pending notice p.entries ≡ false → p.schedulings ≢ scheduling_limit → scheduled key notice p ≡ Ok (with_entry key notice p)
   unfolding choice
   scheduled-room t room =
-      let f : (p.schedulings == MOST_SCHEDULINGS) ≡ false = grind (arith, nat_tests) in
+      let f : (p.schedulings == scheduling_limit) ≡ false = grind (arith, nat_tests) in
       (λ i. choice (t i) (f i))
 
 -- ---- cancel

@@ -6,6 +6,7 @@ use Rattle.ss_events.specs.declared.entry.Entry.{Entry}
 use Rattle.ss_events.specs.HeapEntries.{notices_of}
 use Rattle.ss_events.specs.BinaryHeap.{IsHeap}
 use Rattle.ss_events.specs.Order.{comes_before}
+use Rattle.ss_events.specs.PendingList.{scheduling_limit}
 
 -- an entry put among entries in the order of scheduling
 abbrev pub put : Entry → List Entry → List Entry
@@ -27,4 +28,4 @@ pub record IsAgenda (entries : List Entry) (schedulings : ℕ) : Type 0 where
   pub notices : IsDistinct int_eq (notices_of entries)
   pub numbers : IsDistinct nat_eq (numbers_of entries)
   pub numbered : All (λ e. e.number < schedulings) entries
-  pub few : schedulings ≤ 4611686018427387903
+  pub few : schedulings ≤ scheduling_limit

@@ -48,11 +48,15 @@ least (e ∷ es) = Some (fold earlier e es)
 abbrev pub with_entry : SortKey → ℤ → PendingList → PendingList
 with_entry key notice p = record p { entries = p.entries ++ record { key = key; number = p.schedulings; notice = notice } ∷ []; schedulings = p.schedulings + 1 }
 
--- the list after a notice is scheduled under a key, or the fault: there are at most 2^62 - 1 schedulings
+-- the most schedulings: 2^62 - 1
+abbrev pub scheduling_limit : ℕ
+scheduling_limit = 4611686018427387903
+
+-- the list after a notice is scheduled under a key, or the fault
 abbrev pub scheduled : SortKey → ℤ → PendingList → Result PendingList FaultKind
 scheduled key notice p =
     if is_pending notice p.entries then Err AlreadyScheduled
-    else if p.schedulings == 4611686018427387903 then Err Overflow
+    else if p.schedulings == scheduling_limit then Err Overflow
     else Ok (with_entry key notice p)
 
 -- why it was refused: for the fault, or for memory where there is none

@@ -1,8 +1,7 @@
 use Rattle.std.proofs.Common.{◌≢◌, ◌+◌, ◌∷◌, ◌∙◌, List, map, ℤ, w64, int_eq, to_z, of_z, IsPermutation, is_ok, Ok, length, ap, refl, sym, subst, to_z-of_z, arith}
 use Rattle.std.proofs.lemmas.Result.{err_from_is_err_and}
 use Rattle.ss_events.specs.declared.entry.Entry.{Entry}
-use Rattle.ss_events.specs.declared.entry.TheConstants.{MOST_SCHEDULINGS}
-use Rattle.ss_events.specs.PendingList.{with_entry}
+use Rattle.ss_events.specs.PendingList.{scheduling_limit, with_entry}
 use Rattle.std.specs.List.{list_any}
 use Rattle.ss_events.specs.HeapEntries.{notices_of}
 use Rattle.ss_events.specs.Sifting.{IsLogarithmic}
@@ -29,7 +28,7 @@ returns-in_err-insert-clause-refused c =
     let p = c.args.self.now.list in
     let view = ap (λ v. v.list.entries) c.self.view_is in
     let known = found-pending c.self.inside.heap.entries p.entries view c.reset_counts.new.self.entries _ c.args.notice c.is_some.result (ap (λ h. h.entries) c.reset_counts.ensures) (to_z-of_z c.ranges.notice) (c.is_some.ensures ∙ c.find.ensures.found) in
-    let room : p.schedulings ≢ MOST_SCHEDULINGS = omega (arith, ap (λ v. v.list.schedulings) c.self.view_is) in
+    let room : p.schedulings ≢ scheduling_limit = omega (arith, ap (λ v. v.list.schedulings) c.self.view_is) in
     let refused = err_from_is_err_and c.from_residual.result c.from_residual.ensures.1 in
     rw (refused.1, refused.2) (ap is_ok (scheduled-room c.args.key c.args.notice p (sym known ∙ c.if-is_some.false) room))
 
@@ -59,7 +58,7 @@ returns-clause-ok c =
     let p = c.args.self.now.list in
     let view = ap (λ v. v.list.entries) c.self.view_is in
     let known = found-pending c.self.inside.heap.entries p.entries view c.reset_counts.new.self.entries _ c.args.notice c.is_some.result (ap (λ h. h.entries) c.reset_counts.ensures) (to_z-of_z c.ranges.notice) (c.is_some.ensures ∙ c.find.ensures.found) in
-    let room : p.schedulings ≢ MOST_SCHEDULINGS = omega (arith, ap (λ v. v.list.schedulings) c.self.view_is) in
+    let room : p.schedulings ≢ scheduling_limit = omega (arith, ap (λ v. v.list.schedulings) c.self.view_is) in
     let last = in_order-inserted c.self.inside.heap.entries c.self.inside.schedulings c.self.invariant (record { key = c.args.key; number = c.self.inside.schedulings; notice = c.args.notice }) refl c.insert.new.heap.entries (all c) in
     scheduled-room c.args.key c.args.notice p (sym known ∙ c.if-is_some.false) room
     ∙ ap (λ v. Ok (with_entry c.args.key c.args.notice v.list)) (sym c.self.view_is)
