@@ -10,8 +10,7 @@ use Rattle.std.proofs.lemmas.List.{drop-replicate, length-replicate}
 use Rattle.std.proofs.Math.Facts.{leb_yes}
 use mir.Syntax.{w64}
 use Rattle.ss_base.specs.declared.value.Value.TheVariants.{Text}
-use Rattle.ss_base.specs.declared.alpha.TheConstants.{TEXT_LIMIT}
-use Rattle.ss_base.specs.Values.{is_text_byte, text_of, IsText}
+use Rattle.ss_base.specs.Values.{text_limit, is_text_byte, text_of, IsText}
 use Rattle.ss_base.specs.Room.{before_zero, padded}
 use Rattle.ss_base.specs.declared.layout.Mode.TheVariants.{Alpha}
 use Rattle.ss_records.specs.Reading.{value_of}
@@ -37,19 +36,19 @@ bytes_small (b ∷ bs) k zero h = small_byte b (and_parts (is_text_byte b) (list
 bytes_small (b ∷ bs) k (suc i) h = bytes_small bs k i (and_parts (is_text_byte b) (list_all is_text_byte bs) h).1
 
 text_again : (t : List ℕ) → IsText t → text_of t ≡ Some t
-text_again t h = let small : nat_le (length t) TEXT_LIMIT ≡ true = le-leb (length t) TEXT_LIMIT h.short in rw (h.trimmed, h.printable, small) refl
+text_again t h = let small : nat_le (length t) text_limit ≡ true = le-leb (length t) text_limit h.short in rw (h.trimmed, h.printable, small) refl
 
 read_back : (t : List ℕ) (w : ℕ) → IsText t → length (padded t) ≡ 8 → w ≡ from_be_bytes w64 (padded t) → value_of Alpha w ≡ Text t
 read_back t w h l e =
-    let is : to_be_bytes w64 w ≡ padded t = be_bytes_8 (padded t) w l (λ i. bytes_small t (TEXT_LIMIT - length t) i h.printable) e in
-    ap (λ bs. Text (unwrap_or (text_of (before_zero bs)) [])) is ∙ ap (λ bs. Text (unwrap_or (text_of bs) [])) (before_zero-padded t (TEXT_LIMIT - length t) h.printable) ∙ ap (λ o. Text (unwrap_or o [])) (text_again t h)
+    let is : to_be_bytes w64 w ≡ padded t = be_bytes_8 (padded t) w l (λ i. bytes_small t (text_limit - length t) i h.printable) e in
+    ap (λ bs. Text (unwrap_or (text_of (before_zero bs)) [])) is ∙ ap (λ bs. Text (unwrap_or (text_of bs) [])) (before_zero-padded t (text_limit - length t) h.printable) ∙ ap (λ o. Text (unwrap_or o [])) (text_again t h)
 
-pad_length : (t : List ℕ) → length t ≤ TEXT_LIMIT → length (padded t) ≡ 8
-pad_length t h = omega (arith, h, length-append t (replicate (TEXT_LIMIT - length t) 0), length-replicate {A = ℕ} (TEXT_LIMIT - length t) 0)
+pad_length : (t : List ℕ) → length t ≤ text_limit → length (padded t) ≡ 8
+pad_length t h = omega (arith, h, length-append t (replicate (text_limit - length t) 0), length-replicate {A = ℕ} (text_limit - length t) 0)
 
 -- the word of a text that was copied into zeros
 pub text_read : (t bytes copied : List ℕ) (w : ℕ) → IsText t → bytes ≡ t → copied ≡ bytes
-    → w ≡ from_be_bytes w64 (copied ++ drop (length bytes) (replicate TEXT_LIMIT 0)) → value_of Alpha w ≡ Text t
+    → w ≡ from_be_bytes w64 (copied ++ drop (length bytes) (replicate text_limit 0)) → value_of Alpha w ≡ Text t
 text_read t bytes copied w h is same e =
-    let room : copied ++ drop (length bytes) (replicate TEXT_LIMIT 0) ≡ padded t = rw (same, is, drop-replicate {X = ℕ} (length t) TEXT_LIMIT 0) refl in
+    let room : copied ++ drop (length bytes) (replicate text_limit 0) ≡ padded t = rw (same, is, drop-replicate {X = ℕ} (length t) text_limit 0) refl in
     read_back t w h (pad_length t h.short) (e ∙ ap (from_be_bytes w64) room)
