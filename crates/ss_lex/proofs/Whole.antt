@@ -3,11 +3,10 @@ use Rattle.std.proofs.Common.{◌≡◌, ◌≢◌, ℕ, ◌+◌, ◌≤◌, Boo
 use Rattle.std.specs.Prelude.{if◌then◌else◌}
 use Rattle.std.specs.List.{list_all}
 use Rattle.std.proofs.lemmas.Bool.Decides.{nat_tests}
-use Rattle.ss_lex.specs.declared.text.TheConstants.{SOURCE_LIMIT}
 use Rattle.ss_lex.specs.declared.token.Token.{Token}
 use Rattle.ss_lex.specs.declared.error.LexError.{LexError}
 use Rattle.ss_lex.specs.declared.error.LexError.TheVariants as errors
-use Rattle.ss_lex.specs.Lines.{is_character, first_foreign, lines_of}
+use Rattle.ss_lex.specs.Lines.{source_limit, is_character, first_foreign, lines_of}
 use Rattle.ss_lex.specs.Listings.{Listing}
 use Rattle.ss_lex.specs.Tokens.{AreTokens, AreTokensOf}
 use Rattle.ss_lex.specs.Refusals.{IsRefused, IsRefusedIn}
@@ -36,8 +35,8 @@ all_characters line (b ∷ bs) e =
 pub one_list : (text : List ℕ) (a b : List Token) → AreTokens text a → AreTokens text b → a ≡ b
 one_list text a b s t = one_list_of (lines_of text) 0 [] 0 1 a b s.lines t.lines
 
-short : (text : List ℕ) (tokens : List Token) → AreTokens text tokens → nat_lt SOURCE_LIMIT (length text) ≡ false
-short text tokens s = let le : length text ≤ SOURCE_LIMIT = s.short in grind (arith, nat_tests)
+short : (text : List ℕ) (tokens : List Token) → AreTokens text tokens → nat_lt source_limit (length text) ≡ false
+short text tokens s = let le : length text ≤ source_limit = s.short in grind (arith, nat_tests)
 
 pub none_refused : (text : List ℕ) (tokens : List Token) (refusal : LexError) → AreTokens text tokens → IsRefused text refusal → ⊥
 none_refused text tokens refusal s r =
@@ -47,7 +46,7 @@ none_refused text tokens refusal s r =
     none_refused_of (lines_of text) 0 [] 0 1 tokens refusal s.lines in_lines
 
 pub one_refusal : (text : List ℕ) (e f : LexError) → IsRefused text e → IsRefused text f → e ≡ f
-one_refusal text e f r s = long (nat_lt SOURCE_LIMIT (length text)) r s
+one_refusal text e f r s = long (nat_lt source_limit (length text)) r s
   where
     foreign : (o : Option ℕ) → MatchOption o (IsRefusedIn (lines_of text) 0 [] 0 1 e) (λ line. e ≡ errors.NotAscii (record { 0 = line })) → MatchOption o (IsRefusedIn (lines_of text) 0 [] 0 1 f) (λ line. f ≡ errors.NotAscii (record { 0 = line })) → e ≡ f
     foreign None r s = one_refusal_of (lines_of text) 0 [] 0 1 e f r s
@@ -60,24 +59,24 @@ one_refusal text e f r s = long (nat_lt SOURCE_LIMIT (length text)) r s
 
 -- ---- what the code finds
 
-pub found : (text : List ℕ) (tokens : List Token) → length text ≤ SOURCE_LIMIT → first_foreign 1 text ≡ None → AreTokensOf (lines_of text) 0 [] 0 1 tokens → AreTokens text tokens
+pub found : (text : List ℕ) (tokens : List Token) → length text ≤ source_limit → first_foreign 1 text ≡ None → AreTokensOf (lines_of text) 0 [] 0 1 tokens → AreTokens text tokens
 found text tokens le n s = record { short = le; characters = none_foreign 1 text n; lines = s }
 
 pub some_answer : (text : List ℕ) → ((tokens : List Token) × AreTokens text tokens) ⊎ ((refusal : LexError) × IsRefused text refusal)
-some_answer text = long (nat_lt SOURCE_LIMIT (length text)) refl
+some_answer text = long (nat_lt source_limit (length text)) refl
   where
-    in_lines : length text ≤ SOURCE_LIMIT → nat_lt SOURCE_LIMIT (length text) ≡ false → first_foreign 1 text ≡ None → ((tokens : List Token) × AreTokens text tokens) ⊎ ((refusal : LexError) × IsRefused text refusal)
+    in_lines : length text ≤ source_limit → nat_lt source_limit (length text) ≡ false → first_foreign 1 text ≡ None → ((tokens : List Token) × AreTokens text tokens) ⊎ ((refusal : LexError) × IsRefused text refusal)
     in_lines le t n =
         elim (answered (lines_of text) 0 [] 0 1 (omega arith)) [
           | inl s ↦ inl (s.0, found text s.0 le n s.1)
           | inr r ↦ inr (r.0, rw (t, n) r.1)
         ]
 
-    foreign : (o : Option ℕ) → first_foreign 1 text ≡ o → length text ≤ SOURCE_LIMIT → nat_lt SOURCE_LIMIT (length text) ≡ false → ((tokens : List Token) × AreTokens text tokens) ⊎ ((refusal : LexError) × IsRefused text refusal)
+    foreign : (o : Option ℕ) → first_foreign 1 text ≡ o → length text ≤ source_limit → nat_lt source_limit (length text) ≡ false → ((tokens : List Token) × AreTokens text tokens) ⊎ ((refusal : LexError) × IsRefused text refusal)
     foreign None n le t = in_lines le t n
     foreign (Some line) n le t = inr (errors.NotAscii (record { 0 = line }), rw (t, n) refl)
 
-    long : (t : Bool) → nat_lt SOURCE_LIMIT (length text) ≡ t → ((tokens : List Token) × AreTokens text tokens) ⊎ ((refusal : LexError) × IsRefused text refusal)
+    long : (t : Bool) → nat_lt source_limit (length text) ≡ t → ((tokens : List Token) × AreTokens text tokens) ⊎ ((refusal : LexError) × IsRefused text refusal)
     long true t = inr (errors.TooLong (record { 0 = 0 }), rw t refl)
     long false t = foreign (first_foreign 1 text) refl (grind (arith, nat_tests)) t
 

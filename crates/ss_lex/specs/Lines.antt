@@ -2,6 +2,10 @@
 use Rattle.std.specs.Prelude.{ℕ, ◌+◌, Bool, ◌||◌, ◌==◌, List, [], ◌∷◌, Option, Some, None, if◌then◌else◌}
 use Rattle.ss_base.specs.Values.{is_text_byte}
 
+-- the most bytes of a text
+abbrev pub source_limit : ℕ
+source_limit = 1048576
+
 -- a byte that a text may hold: a printable character or a blank, a tab, a line feed, a carriage return
 abbrev pub is_character : ℕ → Bool
 is_character b = is_text_byte b || (b == 9 || (b == 10 || b == 13))

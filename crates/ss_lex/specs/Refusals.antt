@@ -1,7 +1,6 @@
 -- Why a text has no tokens, and the line in which that shows first.
 use Rattle.std.specs.Prelude.{◌≡◌, ℕ, zero, suc, ◌+◌, Bool, false, ◌||◌, List, [], ◌∷◌, ◌++◌, length, nat_lt, MatchBool, Option, Some, None, MatchOption, if◌then◌else◌}
 use Rattle.std.specs.Option.{option_or}
-use Rattle.ss_lex.specs.declared.text.TheConstants.{SOURCE_LIMIT}
 use Rattle.ss_lex.specs.declared.token.Token.{Token}
 use Rattle.ss_lex.specs.declared.meaning.Meaning.{Meaning}
 use Rattle.ss_lex.specs.declared.meaning.Meaning.TheVariants as meanings
@@ -9,7 +8,7 @@ use Rattle.ss_lex.specs.declared.meaning.Fault.{Fault}
 use Rattle.ss_lex.specs.declared.meaning.Fault.TheVariants as faults
 use Rattle.ss_lex.specs.declared.error.LexError.{LexError}
 use Rattle.ss_lex.specs.declared.error.LexError.TheVariants as errors
-use Rattle.ss_lex.specs.Lines.{first_foreign, lines_of}
+use Rattle.ss_lex.specs.Lines.{source_limit, first_foreign, lines_of}
 use Rattle.ss_lex.specs.Pieces.{Piece, IsCut, meaning, first_fault}
 use Rattle.ss_lex.specs.Tokens.{is_trigger, tokens_of, called_by, picture_at}
 
@@ -64,7 +63,7 @@ IsRefusedIn (l ∷ ls) zero before start line refusal =
 -- The text is refused so: as too long, else for its first foreign byte, else for what is wrong first in its lines.
 abbrev pub IsRefused : List ℕ → LexError → Type 0
 IsRefused text refusal =
-    MatchBool (nat_lt SOURCE_LIMIT (length text))
+    MatchBool (nat_lt source_limit (length text))
     (refusal ≡ errors.TooLong (record { 0 = 0 }))
     (MatchOption (first_foreign 1 text)
     (IsRefusedIn (lines_of text) 0 [] 0 1 refusal)

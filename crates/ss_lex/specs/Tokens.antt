@@ -1,7 +1,6 @@
 -- When a list of tokens is that of a text.
 use Rattle.std.specs.Prelude.{◌≡◌, ℕ, zero, suc, ◌+◌, ◌≤◌, Bool, true, false, ◌||◌, IsTrue, List, [], ◌∷◌, ◌++◌, length, None, unsigned_abs, if◌then◌else◌}
 use Rattle.std.specs.List.{list_any, list_all}
-use Rattle.ss_lex.specs.declared.text.TheConstants.{SOURCE_LIMIT}
 use Rattle.ss_lex.specs.declared.word.Word.{Word}
 use Rattle.ss_lex.specs.declared.word.Word.TheVariants as words
 use Rattle.ss_lex.specs.declared.token.TokenKind.{TokenKind}
@@ -9,7 +8,7 @@ use Rattle.ss_lex.specs.declared.token.TokenKind.TheVariants as kinds
 use Rattle.ss_lex.specs.declared.token.Token.{Token}
 use Rattle.ss_lex.specs.declared.meaning.Meaning.{Meaning}
 use Rattle.ss_lex.specs.declared.meaning.Meaning.TheVariants as meanings
-use Rattle.ss_lex.specs.Lines.{is_character, lines_of, picture_of}
+use Rattle.ss_lex.specs.Lines.{source_limit, is_character, lines_of, picture_of}
 use Rattle.ss_lex.specs.Pieces.{Piece, spelled, IsCut, meaning, first_fault}
 
 -- a token of this line, whose spelling begins at this place and is so long
@@ -115,6 +114,6 @@ AreTokensOf (l ∷ ls) zero before start line tokens =
 
 -- these are the tokens of the text
 pub record AreTokens (text : List ℕ) (tokens : List Token) : Type 0 where
-  pub short : length text ≤ SOURCE_LIMIT
+  pub short : length text ≤ source_limit
   pub characters : IsTrue (list_all is_character text)
   pub lines : AreTokensOf (lines_of text) 0 [] 0 1 tokens

@@ -3,8 +3,7 @@ use Rattle.std.specs.Prelude.{ℕ, ◌+◌, ◌*◌, ◌-◌, Bool, ◌||◌, �
 use Rattle.std.specs.Char.{is_ascii_alphabetic}
 use Rattle.std.specs.List.{list_any}
 use Rattle.std.specs.Str.{bytes_eq}
-use Rattle.ss_lex.specs.Names.{in_capitals}
-use Rattle.ss_lex.specs.declared.name.TheConstants.{NAME_LIMIT}
+use Rattle.ss_lex.specs.Names.{name_limit, in_capitals}
 use Rattle.ss_lex.specs.declared.word.Word.{Word}
 use Rattle.ss_lex.specs.declared.word.Word.TheVariants as words
 use Rattle.ss_lex.specs.declared.token.TokenKind.{TokenKind}
@@ -172,7 +171,7 @@ word_or_name (Some word) spelling = kinds.Word word
 -- what a word with a letter means
 abbrev pub name_meaning : List ℕ → Meaning
 name_meaning w =
-    if nat_lt NAME_LIMIT (length w) then meanings.Fault NameTooLong
+    if nat_lt name_limit (length w) then meanings.Fault NameTooLong
     else meanings.Token (word_or_name (found_in reserved (in_capitals w)) (in_capitals w)) (length w)
 
 -- the number that digits behind a number spell

@@ -2,9 +2,8 @@
 
 ghost use Rattle.std.specs.Prelude.{◌≡◌, ◌≤◌, ◌<◌, ◌+◌, ◌∷◌, length, None, Some, MatchResult};
 ghost use Rattle.std.specs.List.{prefix_len};
-ghost use Rattle.ss_lex.specs.Lines.{is_character, first_foreign, lines_of};
+ghost use Rattle.ss_lex.specs.Lines.{source_limit, is_character, first_foreign, lines_of};
 ghost use Rattle.ss_lex.specs.Reading.{is_in_line, foreign_refusal};
-ghost use Rattle.ss_lex.specs.declared.text.TheConstants.{SOURCE_LIMIT};
 
 use crate::error::LexError;
 use crate::pieces::tail;
@@ -18,7 +17,7 @@ fn is_character(b: u8) -> bool
 
 /// That each byte is one that a text may hold. `NotAscii` in the line of the first that is not.
 pub fn check_characters(text: &[u8]) -> Result<(), LexError>
-    requires { length text.now ≤ SOURCE_LIMIT }
+    requires { length text.now ≤ source_limit }
     ensures { MatchResult result (λ _. first_foreign 1 text.now ≡ None)
         (λ e. foreign_refusal (first_foreign 1 text.now) ≡ Some e) }
 {
@@ -36,7 +35,7 @@ pub fn check_characters(text: &[u8]) -> Result<(), LexError>
 
 /// How many lines the text has.
 pub fn line_count(text: &[u8]) -> u32
-    requires { length text.now ≤ SOURCE_LIMIT }
+    requires { length text.now ≤ source_limit }
     ensures { result ≡ length (lines_of text.now) }
 {
     let mut ended = 0;

@@ -2,7 +2,7 @@
 
 ghost use Rattle.std.specs.Prelude.{◌≡◌, ◌≢◌, ◌≤◌, ◌<◌, ◌+◌, ◌^◌, List, [], length, IfOk, IfErr};
 ghost use Rattle.ss_lex.specs.declared.token.Token.{Token};
-ghost use Rattle.ss_lex.specs.Lines.{lines_of};
+ghost use Rattle.ss_lex.specs.Lines.{source_limit, lines_of};
 ghost use Rattle.ss_lex.specs.Tokens.{AreTokens, AreTokensOf};
 ghost use Rattle.ss_lex.specs.Refusals.{IsRefused, IsRefusedIn};
 ghost use Rattle.ss_lex.specs.Reading.{IsLineRead, IsLineRefused};
@@ -43,7 +43,7 @@ fn read_line(
 
 /// The tokens of the lines of a text, which has so many.
 fn read_lines(alloc: Global, text: &[u8], count: u32) -> Result<Collected, LexError>
-    requires short { length text.now ≤ SOURCE_LIMIT }
+    requires short { length text.now ≤ source_limit }
     requires counted { count ≡ length (lines_of text.now) }
     ensures ok { IfOk result (AreTokensOf (lines_of text.now) 0 [] 0 1) }
     ensures err { IfErr result (λ e. e ≢ LexError.Memory → IsRefusedIn (lines_of text.now) 0 [] 0 1 e) }
