@@ -7,8 +7,7 @@ use Rattle.std.proofs.lemmas.List.{map-append}
 use Rattle.std.proofs.lemmas.List.Sums.{fold-append}
 use Rattle.ss_stats.specs.declared.totals.Weighing.{Weighing}
 use Rattle.ss_stats.specs.declared.totals.Weighing.TheVariants.{Once, ByTime}
-use Rattle.ss_stats.specs.declared.totals.TheConstants.{TALLY_LIMIT}
-use Rattle.ss_stats.specs.History.{History, Tally, Accumulate, Change, last_of, last_moment, weighed_sum, exact_sum_of, maximum_of, minimum_of, note_outcome, with_value, restarted}
+use Rattle.ss_stats.specs.History.{History, Tally, Accumulate, Change, tally_limit, last_of, last_moment, weighed_sum, exact_sum_of, maximum_of, minimum_of, note_outcome, with_value, restarted}
 use Rattle.ss_stats.specs.Summary.{Summary, StandsFor, weighing_of, last_given}
 
 -- ---- which kind of history
@@ -68,10 +67,10 @@ pub once_sum : (h : History) (number now : ℤ) → weighing_of h ≡ Once numbe
 once_sum (Tally values) number now e = refl
 once_sum (Accumulate start changes) number now e = absurd (not_both _ _ _ _ (sym e))
 
-pub once_outcome : (h : History) (number : ℤ) → weighing_of h ≡ Once number → number <ℤ TALLY_LIMIT → note_outcome h ≡ Ok tt
+pub once_outcome : (h : History) (number : ℤ) → weighing_of h ≡ Once number → number <ℤ pos tally_limit → note_outcome h ≡ Ok tt
 once_outcome (Tally values) number e less =
     let n : pos (length values) ≡ number = once_is _ _ e in
-    let f : int_le TALLY_LIMIT (pos (length values)) ≡ false = grind (arith, ints) in rw f refl
+    let f : int_le (pos tally_limit) (pos (length values)) ≡ false = grind (arith, ints) in rw f refl
 once_outcome (Accumulate start changes) number e less = refl
 
 pub once_restarted : (h : History) (number now value : ℤ) → weighing_of h ≡ Once number → restarted h now value ≡ Tally []

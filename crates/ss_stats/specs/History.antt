@@ -1,5 +1,5 @@
 -- The history of a variable, and the statistics that are taken of it.
-use Rattle.std.specs.Prelude.{Bool, false, if◌then◌else◌, List, [], ◌∷◌, ◌++◌, length, map, ℤ, pos, ◌+ℤ◌, ◌-ℤ◌, ◌*ℤ◌, int_le, ⊤, Result, Ok, Err}
+use Rattle.std.specs.Prelude.{Bool, false, if◌then◌else◌, ℕ, List, [], ◌∷◌, ◌++◌, length, map, ℤ, pos, ◌+ℤ◌, ◌-ℤ◌, ◌*ℤ◌, int_le, ⊤, Result, Ok, Err}
 use Rattle.std.specs.Int.{int_max, int_min}
 use Rattle.std.specs.List.{fold}
 use Rattle.ss_base.specs.declared.fault.FaultKind.{FaultKind}
@@ -73,9 +73,13 @@ minimum_of history = least (values_of history)
 
 -- ---- what becomes of a history
 
--- a tally that holds 2^62 - 1 values takes no more
+-- the most values of a tally: 2^62 - 1
+abbrev pub tally_limit : ℕ
+tally_limit = 4611686018427387903
+
+-- a tally that holds the most values takes no more
 abbrev pub is_full : History → Bool
-is_full (Tally values) = int_le (pos 4611686018427387903) (pos (length values))
+is_full (Tally values) = int_le (pos tally_limit) (pos (length values))
 is_full (Accumulate start changes) = false
 
 -- what the variable's next value is answered by: an overflow where the history is full

@@ -2,7 +2,7 @@
 use Rattle.std.specs.Prelude.{◌≡◌, ◌^◌, length, ℤ, pos, neg_ℤ, ◌-ℤ◌, ◌*ℤ◌, ◌≤ℤ◌}
 use Rattle.ss_stats.specs.declared.totals.Weighing.{Weighing}
 use Rattle.ss_stats.specs.declared.totals.Weighing.TheVariants.{Once, ByTime}
-use Rattle.ss_stats.specs.History.{History, Tally, Accumulate, last_of, last_moment, exact_sum_of, maximum_of, minimum_of}
+use Rattle.ss_stats.specs.History.{History, Tally, Accumulate, tally_limit, last_of, last_moment, exact_sum_of, maximum_of, minimum_of}
 
 -- what is kept of a history, all of it as of its last moment
 pub record Summary : Type 0 where
@@ -50,7 +50,7 @@ times_until (ByTime start since value) now = now -ℤ start
 
 -- a tally holds no more values than its limit; moments are from 0 on, the start first
 abbrev pub IsWeighing : Weighing → Type 0
-IsWeighing (Once number) = (pos 0 ≤ℤ number) × (number ≤ℤ pos 4611686018427387903)
+IsWeighing (Once number) = (pos 0 ≤ℤ number) × (number ≤ℤ pos tally_limit)
 IsWeighing (ByTime start since value) = (pos 0 ≤ℤ start) × (start ≤ℤ since)
 
 -- why the sum stays within 128 bits: a value is from -2^63 to 2^63, and is added less than 2^63 times, so that the
