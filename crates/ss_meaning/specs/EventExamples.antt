@@ -8,8 +8,8 @@ use Rattle.ss_base.specs.declared.layout.Discipline.TheVariants.{Fifo}
 use Rattle.ss_base.specs.Arithmetic.{in_64_bits, plus_of}
 use Rattle.ss_records.specs.State.{LAST_NUMBER}
 use Rattle.ss_events.specs.Order.{comes_before}
-use Rattle.ss_events.specs.declared.entry.TheConstants.{MOST_SCHEDULINGS}
-use Rattle.ss_stats.specs.declared.totals.TheConstants.{TALLY_LIMIT}
+use Rattle.ss_events.specs.PendingList.{scheduling_limit}
+use Rattle.ss_stats.specs.History.{tally_limit}
 use Rattle.ss_picture.specs.Numerals.{numeral}
 use Rattle.ss_picture.specs.Pictures.{widths, filled}
 use Rattle.ss_program.specs.declared.expression.Fold.TheVariants.{Number, Sum, Maximum, Minimum}
@@ -191,8 +191,8 @@ an_accumulated_set = refl
 pub most_creations : LAST_NUMBER ≡ 2 ^ 62 - 1
 most_creations = refl
 
-pub most_schedulings : MOST_SCHEDULINGS ≡ 2 ^ 62 - 1
+pub most_schedulings : scheduling_limit ≡ 2 ^ 62 - 1
 most_schedulings = refl
 
-pub most_values : TALLY_LIMIT ≡ pos (2 ^ 62 - 1)
+pub most_values : tally_limit ≡ 2 ^ 62 - 1
 most_values = refl

@@ -20,10 +20,9 @@ use Rattle.ss_base.specs.Layout.{mode_of}
 use Rattle.ss_base.specs.Arithmetic.{plus_of}
 use Rattle.ss_records.specs.State.{Record, State, kind_of, kind_in, and_then, issued_record, of_notice, is_notice, notice, timed}
 use Rattle.ss_events.specs.declared.entry.Entry.{Entry}
-use Rattle.ss_events.specs.declared.entry.TheConstants.{MOST_SCHEDULINGS}
 use Rattle.ss_events.specs.SortKey.{SortKey}
 use Rattle.ss_events.specs.Order.{comes_before}
-use Rattle.ss_events.specs.PendingList.{PendingList, is_pending, without, earlier, least, with_entry, scheduled, cancelled}
+use Rattle.ss_events.specs.PendingList.{PendingList, scheduling_limit, is_pending, without, earlier, least, with_entry, scheduled, cancelled}
 use Rattle.ss_program.specs.declared.expression.Variable.TheVariants.{Global}
 use Rattle.ss_program.specs.Program.{Event, Program}
 use Rattle.ss_program.specs.WellTyped.{WellTyped, field_mode, fields_of, kind_of as kind_said, comes_alone, GoodKeys, GoodEvent, IsPlain}
@@ -218,7 +217,7 @@ module _ (p : Program) (typed : WellTyped p) (ms : List Mode) where
   is_notice_here c n s q f l = (c, subst (λ k. LivesAs k s.scene.heap c n) (kind_here c s q f) l, kind_here c s q f)
 
   scheduled_sane : (key : SortKey) (n : ℤ) (s : Store) → Fits p ms s → IsNotice s.scene.heap n → Sane (λ (q : PendingList). Every (λ (e : Entry). IsNotice s.scene.heap e.notice) q.entries) (scheduled key n s.scene.pending)
-  scheduled_sane key n s f h = by (is_pending n s.scene.pending.entries) (s.scene.pending.schedulings == MOST_SCHEDULINGS)
+  scheduled_sane key n s f h = by (is_pending n s.scene.pending.entries) (s.scene.pending.schedulings == scheduling_limit)
     where
       by : (b c : Bool) → Sane (λ (q : PendingList). Every (λ (e : Entry). IsNotice s.scene.heap e.notice) q.entries) (if b then Err faults.AlreadyScheduled else if c then Err faults.Overflow else Ok (with_entry key n s.scene.pending))
       by true c = tt
