@@ -1,3 +1,4 @@
 pub mod Pieces
 pub mod Emitted
+pub mod Limits
 pub mod Listing

@@ -6,6 +6,7 @@ ghost use Rattle.ss_program.specs.Nodes.{nodes};
 ghost use Rattle.ss_program.specs.View.{view_routine, view_event, view_program};
 ghost use Rattle.ss_program.specs.WellTyped.{WellTyped};
 ghost use Rattle.ss_machine_code.specs.Running.{Behaves, Lands};
+ghost use Rattle.ss_code.specs.Limits.{instruction_limit, small_program};
 ghost use Rattle.ss_machine_code.specs.Translation.{code_of, sections_code, sections_pictures, routine_bodies, event_bodies, routine_entry, event_entry, routine_entries, event_entries};
 
 use crate::code::Code;
@@ -97,9 +98,9 @@ fn made(alloc: Global, program: &Program) -> Result<Code, CodeError>
     ensures code { IfOk result (λ code. code ≡ code_of (view_program program.now)) }
     ensures behaves { IfOk result (λ code. Behaves (view_program program.now) code) }
     ensures lands { IfOk result (λ code. Lands code) }
-    ensures limit { IfOk result (λ code. length code.instructions ≤ 1048576) }
-    ensures too_long { result ≡ Err CodeError.CodeTooLong → 1048576 < length (code_of (view_program program.now)).instructions }
-    ensures small { nodes (view_program program.now) ≤ 16384 → result ≡ Err CodeError.CodeTooLong → ⊥ }
+    ensures limit { IfOk result (λ code. length code.instructions ≤ instruction_limit) }
+    ensures too_long { result ≡ Err CodeError.CodeTooLong → instruction_limit < length (code_of (view_program program.now)).instructions }
+    ensures small { nodes (view_program program.now) ≤ small_program → result ≡ Err CodeError.CodeTooLong → ⊥ }
 {
     laws();
     let mut instructions = Vec::new(alloc);
@@ -147,9 +148,9 @@ pub fn generate(alloc: Global, checked: &Checked) -> Result<Code, CodeError>
     ensures code { IfOk result (λ code. code ≡ code_of (view_program (program_in checked.now))) }
     ensures behaves { IfOk result (λ code. Behaves (view_program (program_in checked.now)) code) }
     ensures lands { IfOk result (λ code. Lands code) }
-    ensures limit { IfOk result (λ code. length code.instructions ≤ 1048576) }
-    ensures too_long { result ≡ Err CodeError.CodeTooLong → 1048576 < length (code_of (view_program (program_in checked.now))).instructions }
-    ensures small { nodes (view_program (program_in checked.now)) ≤ 16384 → result ≡ Err CodeError.CodeTooLong → ⊥ }
+    ensures limit { IfOk result (λ code. length code.instructions ≤ instruction_limit) }
+    ensures too_long { result ≡ Err CodeError.CodeTooLong → instruction_limit < length (code_of (view_program (program_in checked.now))).instructions }
+    ensures small { nodes (view_program (program_in checked.now)) ≤ small_program → result ≡ Err CodeError.CodeTooLong → ⊥ }
 {
     made(alloc, checked.program())
 }
