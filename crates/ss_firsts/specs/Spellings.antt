@@ -1,11 +1,14 @@
 -- How a spelling lies in its bytes.
 use Rattle.std.specs.Prelude.{◌≡◌, ℕ, Bool, nat_le, ◌-◌, List, ◌++◌, length, take, replicate, nat_lt, Option, Some, None, if◌then◌else◌}
 use Rattle.std.specs.List.{list_all}
-use Rattle.ss_firsts.specs.declared.spelling.TheConstants.{SPELLING_LIMIT}
+
+-- the most characters of a spelling: a letter, a period and a name
+abbrev pub spelling_limit : ℕ
+spelling_limit = 34
 
 -- a spelling with zeros behind it, as many as fill its room
 abbrev pub padded : List ℕ → List ℕ
-padded bytes = bytes ++ replicate (SPELLING_LIMIT - length bytes) 0
+padded bytes = bytes ++ replicate (spelling_limit - length bytes) 0
 
 -- what is true of the bytes and the length of every spelling
 pub record IsRoom (room : List ℕ) (len : ℕ) : Type 0 where
@@ -14,8 +17,8 @@ pub record IsRoom (room : List ℕ) (len : ℕ) : Type 0 where
 
 -- the spelling of these bytes, if they are few enough
 abbrev pub spelling_of : List ℕ → Option (List ℕ)
-spelling_of bytes = if nat_lt SPELLING_LIMIT (length bytes) then None else Some bytes
+spelling_of bytes = if nat_lt spelling_limit (length bytes) then None else Some bytes
 
 -- whether names are short enough to be spellings
 abbrev pub are_short : List (List ℕ) → Bool
-are_short names = list_all (λ name. nat_le (length name) SPELLING_LIMIT) names
+are_short names = list_all (λ name. nat_le (length name) spelling_limit) names

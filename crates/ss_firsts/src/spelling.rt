@@ -40,7 +40,7 @@ impl Model for Spelling {
 
 impl Spelling {
     ghost use Rattle.std.specs.Prelude.{◌≡◌, ◌≤◌, ◌∷◌, length};
-    ghost use Rattle.ss_firsts.specs.Spellings.{spelling_of};
+    ghost use Rattle.ss_firsts.specs.Spellings.{spelling_limit, spelling_of};
 
     /// The spelling of these bytes. None where they are more than `SPELLING_LIMIT`.
     pub fn of(bytes: &[u8]) -> Option<Spelling>
@@ -82,7 +82,7 @@ impl Spelling {
     /// Its bytes.
     pub fn bytes(&self) -> &[u8]
         ensures value { result.now ≡ self.now }
-        ensures short { length self.now ≤ SPELLING_LIMIT }
+        ensures short { length self.now ≤ spelling_limit }
     {
         &self.room[..self.len]
     }
