@@ -21,6 +21,7 @@ use Rattle.ss_program.specs.Program.{Program}
 use Rattle.ss_program.specs.Nodes as resolved
 use Rattle.ss_code.specs.declared.error.CodeError.{CodeError}
 use Rattle.ss_code.specs.declared.error.CodeError.TheVariants as generating
+use Rattle.ss_code.specs.Limits.{instruction_limit, small_program}
 use Rattle.ss_machine_code.specs.Translation.{code_of}
 use Rattle.ss_engine.specs.Refusals.{refusal_of_lexer, refusal_of_parser, refusal_of_tables, refusal_of_checker, refusal_of_generator}
 use Rattle.ss_engine.specs.Accepting.{IsTreeOf, IsProgramOf, RefusedFor}
@@ -65,9 +66,9 @@ checker_refused text tree r d (checking.StartPlace line) h = record { tree = tre
 checker_refused text tree r d (checking.Unknown line) h = record { tree = tree; read = r; declared = d; broken = h }
 checker_refused text tree r d checking.Memory h = tt
 
-larger : (n m : ℕ) → n ≤ m → (n ≤ 16384 → ⊥) → 16384 < m
+larger : (n m : ℕ) → n ≤ m → (n ≤ small_program → ⊥) → small_program < m
 larger n m k h = omega (arith, k, h)
 
-pub generator_refused : (text : List ℕ) (p : Program) (m : IsProgramOf text p) → resolved.nodes p ≤ tree.nodes m.tree → (e : CodeError) → (resolved.nodes p ≤ 16384 → e ≡ generating.CodeTooLong → ⊥) → (e ≡ generating.CodeTooLong → 1048576 < length (code_of p).instructions) → RefusedFor text (refusal_of_generator e)
+pub generator_refused : (text : List ℕ) (p : Program) (m : IsProgramOf text p) → resolved.nodes p ≤ tree.nodes m.tree → (e : CodeError) → (resolved.nodes p ≤ small_program → e ≡ generating.CodeTooLong → ⊥) → (e ≡ generating.CodeTooLong → instruction_limit < length (code_of p).instructions) → RefusedFor text (refusal_of_generator e)
 generator_refused text p m k generating.CodeTooLong h l = record { program = p; meant = m; large = larger (resolved.nodes p) (tree.nodes m.tree) k (λ small. h small refl); long = l refl }
 generator_refused text p m k generating.Memory h l = tt

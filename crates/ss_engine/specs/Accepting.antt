@@ -21,6 +21,7 @@ use Rattle.ss_program.specs.Program.{Program}
 use Rattle.ss_machine_code.specs.Machine.{Code}
 use Rattle.ss_machine_code.specs.Running.{Behaves}
 use Rattle.ss_machine_code.specs.Translation.{code_of}
+use Rattle.ss_code.specs.Limits.{instruction_limit, small_program}
 use Rattle.ss_engine.specs.declared.refusal.Refusal.{Refusal}
 use Rattle.ss_engine.specs.declared.refusal.Refusal.TheVariants.{TooLong, NotAscii, BadNumber, OpenText, AlphaTooLong, PictureCut, NameTooLong, Syntax, TooDeep, Twice, RealMode, UnknownClass, UnknownSet, NoOwner, NoMember, RankKey, TallyTwice, TooMany, TieKey, NoMain, NoEventRoutine, Mode, Arguments, Subscript, NotAssignable, Fields, StartPlace, Unknown, CodeTooLong, Memory}
 
@@ -82,8 +83,8 @@ pub record IsIllFormed (text : List ℕ) (rule : UseRule) (line : Line) : Type 0
 pub record IsLarge (text : List ℕ) : Type 0 where
   pub program : Program
   pub meant : IsProgramOf text program
-  pub large : 16384 < nodes meant.tree
-  pub long : 1048576 < length (code_of program).instructions
+  pub large : small_program < nodes meant.tree
+  pub long : instruction_limit < length (code_of program).instructions
 
 -- when a text is refused so; want of memory says nothing of the text
 abbrev pub RefusedFor : List ℕ → Refusal → Type 0
