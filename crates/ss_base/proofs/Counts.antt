@@ -1,7 +1,6 @@
 -- Counts of failures that rise.
 use Rattle.std.proofs.Common.{ℕ, ◌+◌, ◌≤◌, arith}
-use Rattle.std.specs.Prelude.{Err}
-use Rattle.ss_base.specs.Failures.{count_after_read, count_after_write, HasRisenBy, HasRisen}
+use Rattle.ss_base.specs.Failures.{HasRisenBy}
 
 -- a count that stays has risen by nothing
 pub risen-same : (count : ℕ) → HasRisenBy 0 count count
@@ -14,10 +13,3 @@ risen-trans j k first second third p q = omega arith
 -- a count that has risen by more has risen by less
 pub risen-less : (j k old new : ℕ) → j ≤ k → HasRisenBy k old new → HasRisenBy j old new
 risen-less j k old new h p = omega arith
-
--- an error is counted, and so is a write of no byte
-pub read_error-risen : {E : Type 0} (error : E) (count : ℕ) → HasRisen count (count_after_read (Err error) count)
-read_error-risen error count = omega arith
-
-pub write_error-risen : {E : Type 0} (error : E) (count : ℕ) → HasRisen count (count_after_write (Err error) count)
-write_error-risen error count = omega arith

@@ -9,15 +9,20 @@ last_count = 2 ^ 64 - 1
 abbrev pub raised : ℕ → ℕ → ℕ
 raised count more = min (count + more) last_count
 
--- the count after a read: one more where it answered an error
-abbrev pub count_after_read : {E : Type 0} → Result ℕ E → ℕ → ℕ
-count_after_read (Ok _) count = count
-count_after_read (Err _) count = raised count 1
+-- how many calls answered an error, after one more call
+abbrev pub errors_after : {A E : Type 0} → Result A E → ℕ → ℕ
+errors_after (Ok _) count = count
+errors_after (Err _) count = raised count 1
 
 -- the count after a write: one more where it answered an error or took no byte
 abbrev pub count_after_write : {E : Type 0} → Result ℕ E → ℕ → ℕ
 count_after_write (Ok taken) count = if taken == 0 then raised count 1 else count
 count_after_write (Err _) count = raised count 1
+
+-- how many writes in a row took no byte, after one more write
+abbrev pub idle_after : {E : Type 0} → Result ℕ E → ℕ → ℕ
+idle_after (Ok taken) idle = if taken == 0 then raised idle 1 else 0
+idle_after (Err _) idle = 0
 
 -- a count has risen by at least so many, or stands at the last count
 abbrev pub HasRisenBy : ℕ → ℕ → ℕ → Type 0

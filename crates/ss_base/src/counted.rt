@@ -1,18 +1,22 @@
-ghost use Rattle.std.specs.Prelude.{◌≡◌, Ok};
+ghost use Rattle.std.specs.Prelude.{◌≡◌, Ok, Some, option_map};
 ghost use Rattle.std.specs.Io.{ReadsAtMost, WritesAtMost};
 ghost use Rattle.std.specs.Io.KnownBytes.{ReadConsumes, WriteAppends};
-ghost use Rattle.ss_base.specs.Failures.{count_after_read, count_after_write};
-ghost use Rattle.ss_base.specs.Counted.{counted_inner, counted_faults};
+ghost use Rattle.ss_base.specs.Failures.{errors_after, idle_after, count_after_write};
+ghost use Rattle.ss_base.specs.Counted.{counted_inner, counted_faults, counted_errors, counted_idle};
 
 use crate::faulty::{Faulty, FaultyRead, FaultyWrite};
 use std::io;
 use std::io::{Read, Write};
 
 /// A reader or a writer of the library whose failures are counted.
+///
+/// Each call is one call of the one inside, with the whole buffer, and answers what that answered.
 #[derive(Drop)]
 pub struct Counted<T> {
     inner: T,
     faults: u64,
+    errors: u64,
+    idle: u64,
 }
 
 impl<T> Counted<T> {
@@ -20,8 +24,15 @@ impl<T> Counted<T> {
     pub fn new(inner: T) -> Counted<T>
         ensures inner { counted_inner result ≡ inner }
         ensures faults { counted_faults result ≡ 0 }
+        ensures errors { counted_errors result ≡ 0 }
+        ensures idle { counted_idle result ≡ 0 }
     {
-        Counted { inner, faults: 0 }
+        Counted {
+            inner,
+            faults: 0,
+            errors: 0,
+            idle: 0,
+        }
     }
 
     /// The reader or the writer, as it stands.
@@ -40,7 +51,6 @@ impl<T> Faulty for Counted<T> {
     }
 }
 
-/// Each read is that of the reader inside.
 impl<T: Read> FaultyRead for Counted<T> {
     ghost remaining = { λ c. T.remaining (counted_inner c) };
 
@@ -53,14 +63,26 @@ impl<T: Read> FaultyRead for Counted<T> {
     }
 }
 
-/// Each write is that of the writer inside.
 impl<T: Write> FaultyWrite for Counted<T> {
     ghost contents = { λ c. T.contents (counted_inner c) };
 
+    ghost errors = { λ c. Some (counted_errors c) };
+
+    ghost idle = { λ c. Some (counted_idle c) };
+
     fn write_some(&mut self, buf: &[u8]) -> io::Result<usize> {
         let answer = self.inner.write(buf);
-        if !matches!(answer, Ok(taken) if taken > 0) {
-            self.faults = self.faults.saturating_add(1);
+        match &answer {
+            Ok(0) => {
+                self.faults = self.faults.saturating_add(1);
+                self.idle = self.idle.saturating_add(1);
+            }
+            Ok(_) => self.idle = 0,
+            Err(_) => {
+                self.faults = self.faults.saturating_add(1);
+                self.errors = self.errors.saturating_add(1);
+                self.idle = 0;
+            }
         }
         answer
     }

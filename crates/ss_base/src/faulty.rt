@@ -1,7 +1,7 @@
-ghost use Rattle.std.specs.Prelude.{◌≡◌, ℕ, List, Option, None};
+ghost use Rattle.std.specs.Prelude.{◌≡◌, ℕ, List, Option, None, option_map};
 ghost use Rattle.std.specs.Io.{ReadsAtMost, WritesAtMost};
 ghost use Rattle.std.specs.Io.KnownBytes.{ReadConsumes, WriteAppends};
-ghost use Rattle.ss_base.specs.Failures.{count_after_read, count_after_write};
+ghost use Rattle.ss_base.specs.Failures.{errors_after, idle_after, count_after_write};
 
 use std::io;
 
@@ -27,7 +27,7 @@ pub trait FaultyRead: Faulty {
     fn read_some(&mut self, buf: &mut [u8]) -> io::Result<usize>
         ensures bound { ReadsAtMost result buf.new }
         ensures bytes { ReadConsumes (remaining self.old) (remaining self.new) result buf.new }
-        ensures counted { Self.faults self.new ≡ count_after_read result (Self.faults self.old) };
+        ensures counted { Self.faults self.new ≡ errors_after result (Self.faults self.old) };
 }
 
 /// A writer of bytes that counts its failures.
@@ -35,10 +35,18 @@ pub trait FaultyWrite: Faulty {
     /// The bytes that it took, where it tells them.
     ghost contents: { Self → Option (List ℕ) } = { λ _. None };
 
+    /// How many of its writes answered an error, where it tells that.
+    ghost errors: { Self → Option ℕ } = { λ _. None };
+
+    /// How many writes in a row took no byte up to now, where it tells that.
+    ghost idle: { Self → Option ℕ } = { λ _. None };
+
     /// Takes some bytes from the front of `buf`, and answers how many. After an error it took none.
     /// The count of failures rises at an error, and wherever it took no byte, of an empty `buf` too.
     fn write_some(&mut self, buf: &[u8]) -> io::Result<usize>
         ensures bound { WritesAtMost result buf.now }
         ensures bytes { WriteAppends (contents self.old) (contents self.new) result buf.now }
-        ensures counted { Self.faults self.new ≡ count_after_write result (Self.faults self.old) };
+        ensures counted { Self.faults self.new ≡ count_after_write result (Self.faults self.old) }
+        ensures told { errors self.new ≡ option_map (errors_after result) (errors self.old) }
+        ensures in_a_row { idle self.new ≡ option_map (idle_after result) (idle self.old) };
 }

@@ -1,8 +1,8 @@
-ghost use Rattle.std.specs.Prelude.{◌≡◌, ◌+◌, ◌++◌, length, take, drop, Some, IfOk, unwrap_or};
+ghost use Rattle.std.specs.Prelude.{◌≡◌, ◌+◌, ◌++◌, length, take, drop, Some, IfOk, unwrap_or, option_map};
 ghost use Rattle.std.specs.Result.{result_ok};
 ghost use Rattle.std.specs.Io.{ReadsAtMost, WritesAtMost};
 ghost use Rattle.std.specs.Io.KnownBytes.{ReadConsumes, WriteAppends};
-ghost use Rattle.ss_base.specs.Failures.{count_after_read, count_after_write};
+ghost use Rattle.ss_base.specs.Failures.{errors_after, idle_after, count_after_write};
 ghost use Rattle.ss_base.specs.Plan.{after_call};
 
 use crate::faulty::{Faulty, FaultyRead, FaultyWrite};
@@ -64,7 +64,7 @@ impl FaultyRead for MemoryRead {
     fn read_some(&mut self, buf: &mut [u8]) -> io::Result<usize>
         ensures bound { ReadsAtMost result buf.new }
         ensures bytes { ReadConsumes (Some self.old.remaining) (Some self.new.remaining) result buf.new }
-        ensures counted { self.new.faults ≡ count_after_read result self.old.faults }
+        ensures counted { self.new.faults ≡ errors_after result self.old.faults }
         ensures answer { result_ok result ≡ bytes_given self.old (length buf.old) }
         ensures copied { IfOk result (λ n. buf.new ≡ take n self.old.remaining ++ drop n buf.old) }
         ensures passed { self.new.passed ≡ self.old.passed + unwrap_or (result_ok result) 0 }
@@ -103,6 +103,8 @@ pub struct MemoryWrite {
     trouble: Trouble,
     progress: Progress,
     faults: u64,
+    errors: u64,
+    idle: u64,
 }
 
 impl Model for MemoryWrite {
@@ -111,7 +113,7 @@ impl Model for MemoryWrite {
 
     ghost Value = { Writing };
 
-    ghost view = { λ w. record { bytes = w.bytes.items; room = w.room; trouble = w.trouble; progress = w.progress; faults = w.faults } };
+    ghost view = { λ w. record { bytes = w.bytes.items; room = w.room; trouble = w.trouble; progress = w.progress; faults = w.faults; errors = w.errors; idle = w.idle } };
 
     ghost invariant = { λ w. (length w.bytes.items ≤ w.room) × (w.room ≤ vec_capacity w.bytes) };
 }
@@ -135,6 +137,8 @@ impl MemoryWrite {
             trouble,
             progress: Progress::new(plan),
             faults: 0,
+            errors: 0,
+            idle: 0,
         })
     }
 
@@ -159,10 +163,16 @@ impl FaultyWrite for MemoryWrite {
 
     ghost contents = { λ w. Some w.bytes };
 
+    ghost errors = { λ w. Some w.errors };
+
+    ghost idle = { λ w. Some w.idle };
+
     fn write_some(&mut self, buf: &[u8]) -> io::Result<usize>
         ensures bound { WritesAtMost result buf.now }
         ensures bytes { WriteAppends (Some self.old.bytes) (Some self.new.bytes) result buf.now }
         ensures counted { self.new.faults ≡ count_after_write result self.old.faults }
+        ensures told { Some self.new.errors ≡ option_map (errors_after result) (Some self.old.errors) }
+        ensures in_a_row { Some self.new.idle ≡ option_map (idle_after result) (Some self.old.idle) }
         ensures answer { result_ok result ≡ bytes_taken self.old (length buf.now) }
         ensures progress { self.new.progress ≡ after_call self.old.progress (length self.old.bytes) }
         ensures room { self.new.room ≡ self.old.room }
@@ -175,11 +185,16 @@ impl FaultyWrite for MemoryWrite {
             (None, Trouble::NoByte) => 0,
             (None, Trouble::Error) => {
                 self.faults = self.faults.saturating_add(1);
+                self.errors = self.errors.saturating_add(1);
+                self.idle = 0;
                 return Err(io::Error::from(ErrorKind::Other));
             }
         };
         if count == 0 {
             self.faults = self.faults.saturating_add(1);
+            self.idle = self.idle.saturating_add(1);
+        } else {
+            self.idle = 0;
         }
         self.bytes.extend_from_slice(&buf[..count]).unwrap();
         Ok(count)
