@@ -4,7 +4,11 @@
 #[cfg(test)]
 mod base;
 #[cfg(test)]
+mod counted;
+#[cfg(test)]
 mod events;
+#[cfg(test)]
+mod input;
 #[cfg(test)]
 mod lexer;
 #[cfg(test)]

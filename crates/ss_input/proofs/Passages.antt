@@ -7,7 +7,7 @@ use Rattle.ss_input.specs.Blocks.{BlockSeen, Looks, Unread, first_of}
 use Rattle.ss_input.specs.Sources.{Gives, Passes, Passed, GapPassed, WordPassed, StandsBefore}
 use Rattle.ss_input.specs.Words.{is_separator, is_word_byte}
 
-some_first : (x : ℕ) (l : List ℕ) → Some x ≡ first_of l → l ≡ x ∷ drop 1 l
+pub some_first : (x : ℕ) (l : List ℕ) → Some x ≡ first_of l → l ≡ x ∷ drop 1 l
 some_first x [] e = absurd cc
 some_first x (y ∷ l) e = cc
 

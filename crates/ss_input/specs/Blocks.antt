@@ -1,7 +1,11 @@
 -- What is seen of a block of input.
-use Rattle.std.specs.Prelude.{◌≡◌, ℕ, Bool, true, false, List, [], ◌∷◌, ◌++◌, Option, Some, None, refl}
+use Rattle.std.specs.Prelude.{◌≡◌, ◌≤◌, ℕ, length, Bool, true, false, List, [], ◌∷◌, ◌++◌, Option, Some, None, refl}
 use Rattle.std.specs.Coded.{Coded, code_by, coded×, coded_list, coded_ℕ, coded_bool}
 use Rattle.std.specs.Io.KnownBytes.{IsAtEnd, Consumes, Keeps}
+
+-- the most bytes that a reader is asked for at a time
+abbrev pub block_limit : ℕ
+block_limit = 4096
 
 -- a reader, the bytes that it gave and that are still to be looked at, and whether it gave an end
 pub record BlockSeen (R : Type 0) : Type 0 where
@@ -24,6 +28,7 @@ pub record Fills {R : Type 0} (remaining : R → Option (List ℕ)) (old new : B
   pub consumed : Consumes (remaining old.reader) (remaining new.reader) new.left
   pub at_end : new.left ≡ [] → new.ended ≡ true
   pub not_ended : (new.left ≡ [] → ⊥) → new.ended ≡ false
+  pub few : length new.left ≤ block_limit
 
 -- a reader that answered an error: it gave nothing, and all is as it was
 pub record Unread {R : Type 0} (remaining : R → Option (List ℕ)) (old new : BlockSeen R) : Type 0 where
@@ -39,6 +44,7 @@ pub record Looks {R : Type 0} (remaining : R → Option (List ℕ)) (old new : B
   pub after_end : old.ended ≡ true → (got ≡ []) × (new.ended ≡ true)
   pub byte_is : byte ≡ first_of new.left
   pub at_end : byte ≡ None → new.ended ≡ true
+  pub few : length got ≤ block_limit
 
 -- where a block has met the end of its reader, that reader has nothing left, if it tells
 abbrev pub KnowsEnd : {R : Type 0} → (R → Option (List ℕ)) → BlockSeen R → Type 0

@@ -2,7 +2,9 @@
 use Rattle.std.specs.Prelude.{◌≡◌, ℕ, ◌≤◌, true, false, List, [], ◌++◌, length, Option, Some, None, Result, Ok, Err}
 use Rattle.std.specs.List.{list_all}
 use Rattle.std.specs.Io.KnownBytes.{Consumes}
+use Rattle.ss_base.specs.Failures.{raised}
 use Rattle.ss_input.specs.declared.source.Missed.{Missed}
+use Rattle.ss_input.specs.declared.source.Missed.TheVariants.{Fault, Input}
 use Rattle.ss_input.specs.declared.source.Source.{Source}
 use Rattle.ss_input.specs.Blocks.{BlockSeen}
 use Rattle.ss_input.specs.Sources.{GapPassed, StandsBefore}
@@ -70,3 +72,9 @@ pub record Finds {R : Type 0} (remaining : R → Option (List ℕ)) (old new : S
 abbrev pub missed_of : {A : Type 0} → Result A Missed → Option Missed
 missed_of (Ok value) = None
 missed_of (Err missed) = Some missed
+
+-- how often the reader failed, after a call: once more where it answered an error, after which it is not asked again
+abbrev pub failures_after : {A : Type 0} → Result A Missed → ℕ → ℕ
+failures_after (Ok value) count = count
+failures_after (Err (Fault kind)) count = count
+failures_after (Err Input) count = raised count 1

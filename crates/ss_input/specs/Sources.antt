@@ -1,5 +1,5 @@
 -- What is seen of a source of input data, and what a call of it reads.
-use Rattle.std.specs.Prelude.{◌≡◌, ℕ, ◌+◌, Bool, true, List, [], ◌∷◌, ◌++◌, length, Option}
+use Rattle.std.specs.Prelude.{◌≡◌, ◌≢◌, ◌⊎◌, ℕ, ◌+◌, Bool, true, List, [], ◌∷◌, ◌++◌, length, if◌then◌else◌, Option}
 use Rattle.std.specs.List.{list_all}
 use Rattle.std.specs.Io.KnownBytes.{Consumes}
 use Rattle.ss_input.specs.Blocks.{BlockSeen}
@@ -37,3 +37,23 @@ GapPassed remaining old new before count =
 -- the bytes of a word were passed
 abbrev pub WordPassed : {R : Type 0} → (R → Option (List ℕ)) → BlockSeen R → BlockSeen R → List ℕ → Type 0
 WordPassed remaining old new bytes = Passes remaining old new bytes × (list_all is_word_byte bytes ≡ true)
+
+-- what stands behind the first bytes that pass a test
+abbrev pub behind : (ℕ → Bool) → List ℕ → List ℕ
+behind passes [] = []
+behind passes (b ∷ bs) = if passes b then behind passes bs else b ∷ bs
+
+-- whether a block tells without its reader what stands behind bytes that pass a test: a byte behind them is at hand, or
+-- the reader has given its end
+abbrev pub Suffices : {R : Type 0} → (ℕ → Bool) → BlockSeen R → Type 0
+Suffices passes block = (block.ended ≡ true) ⊎ (behind passes block.left ≢ [])
+
+-- some such bytes at hand were passed, and the reader was not asked
+pub record Unasked {R : Type 0} (passes : ℕ → Bool) (old new : BlockSeen R) : Type 0 where
+  pub reader : new.reader ≡ old.reader
+  pub ended : new.ended ≡ old.ended
+  pub same : behind passes new.left ≡ behind passes old.left
+
+-- whether a block tells without its reader where the next word ends
+abbrev pub HasWord : {R : Type 0} → BlockSeen R → Type 0
+HasWord block = (block.ended ≡ true) ⊎ (behind is_word_byte (behind is_separator block.left) ≢ [])

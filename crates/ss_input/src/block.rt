@@ -1,8 +1,8 @@
 //! Input, a block at a time.
 
-ghost use Rattle.std.specs.Prelude.{◌≡◌, ◌<◌, [], false, length, drop, IfOk, OnOk, OnErr};
+ghost use Rattle.std.specs.Prelude.{◌≡◌, ◌≢◌, ◌<◌, [], true, false, length, drop, IfOk, OnOk, OnErr};
 ghost use Rattle.std.specs.Io.KnownBytes.{Keeps};
-ghost use Rattle.ss_base.specs.Failures.{HasRisen, HasRisenBy};
+ghost use Rattle.ss_base.specs.Failures.{errors_after};
 ghost use Rattle.ss_input.specs.Blocks.{KnowsEnd, Looks, Fills, Unread, first_of};
 
 use ss_base::FaultyRead;
@@ -29,7 +29,7 @@ pub struct Block<R> {
 
 impl<R> Model for Block<R> {
     ghost use Rattle.std.specs.Prelude.{◌≤◌, drop, take};
-    ghost use Rattle.ss_input.specs.Blocks.{BlockSeen, block_code};
+    ghost use Rattle.ss_input.specs.Blocks.{BlockSeen, block_code, block_limit};
 
     ghost Value = { BlockSeen R };
 
@@ -37,7 +37,7 @@ impl<R> Model for Block<R> {
 
     ghost view = { λ b. record { reader = b.reader; left = drop b.next (take b.end b.room); ended = b.ended } };
 
-    ghost invariant = { λ b. (b.next ≤ b.end) × (b.end ≤ 4096) };
+    ghost invariant = { λ b. (b.next ≤ b.end) × (b.end ≤ block_limit) };
 }
 
 impl<R> Block<R> {
@@ -85,13 +85,15 @@ impl<R> Block<R> {
 }
 
 impl<R: FaultyRead> Block<R> {
-    /// The next byte, which stays; None at the end. The error comes where the reader answered one;
-    /// then nothing was read.
+    /// The next byte, which stays; None at the end. The reader is asked at most once, and only where
+    /// no byte is at hand and it gave no end. The error comes where it answered one; then nothing was
+    /// read.
     pub fn peek(&mut self) -> Result<Option<u8>, ReadFailed>
         ensures ok { IfOk result (λ byte. Looks R.remaining self.old self.new byte) }
-        ensures err { OnErr result (HasRisen (R.faults self.old.reader) (R.faults self.new.reader)) }
+        ensures at_hand { self.old.left ≢ [] → self.new ≡ self.old }
+        ensures after_end { self.old.ended ≡ true → self.new ≡ self.old }
         ensures unread { OnErr result (Unread R.remaining self.old self.new) }
-        ensures never_falls { HasRisenBy 0 (R.faults self.old.reader) (R.faults self.new.reader) }
+        ensures counted { R.faults self.new.reader ≡ errors_after result (R.faults self.old.reader) }
         ensures end { KnowsEnd R.remaining self.old → KnowsEnd R.remaining self.new }
     {
         if let Some(byte) = self.first() {
@@ -109,9 +111,8 @@ impl<R: FaultyRead> Block<R> {
         requires empty { self.old.left ≡ [] }
         requires not_ended { self.old.ended ≡ false }
         ensures ok { OnOk result (Fills R.remaining self.old self.new) }
-        ensures failed { OnErr result (HasRisen (R.faults self.old.reader) (R.faults self.new.reader)) }
         ensures unread { OnErr result (Unread R.remaining self.old self.new) }
-        ensures never_falls { HasRisenBy 0 (R.faults self.old.reader) (R.faults self.new.reader) }
+        ensures counted { R.faults self.new.reader ≡ errors_after result (R.faults self.old.reader) }
         ensures end { KnowsEnd R.remaining self.old → KnowsEnd R.remaining self.new }
     {
         match self.reader.read_some(&mut self.room) {

@@ -7,9 +7,9 @@ ghost use Rattle.ss_base.specs.declared.layout.Mode.TheVariants.{Integer, Alpha 
 ghost use Rattle.ss_base.specs.Failures.{HasRisen, HasRisenBy};
 ghost use Rattle.ss_input.specs.declared.source.Missed.{Missed as MissedSeen};
 ghost use Rattle.ss_input.specs.Blocks.{KnowsEnd};
-ghost use Rattle.ss_input.specs.Sources.{Gives, GapPassed, StandsBefore};
-ghost use Rattle.ss_input.specs.Inputs.{source_block, source_gap, source_missed, source_reader, IsFresh, Reads, Finds, Reaches, missed_of};
-ghost use Rattle.ss_input.specs.Words.{is_word_byte, is_ended, next_word, value_given};
+ghost use Rattle.ss_input.specs.Sources.{Gives, GapPassed, StandsBefore, Suffices, Unasked, HasWord};
+ghost use Rattle.ss_input.specs.Inputs.{source_block, source_gap, source_missed, source_reader, IsFresh, Reads, Finds, Reaches, missed_of, failures_after};
+ghost use Rattle.ss_input.specs.Words.{is_separator, is_word_byte, is_ended, next_word, value_given};
 
 use crate::block::{Block, ReadFailed};
 use crate::number::number_read;
@@ -86,10 +86,10 @@ impl<R: FaultyRead> Source<R> {
     fn reach_word(&mut self) -> Result<(), Missed>
         ensures ok { OnOk result (Reaches R.remaining self.old self.new) }
         ensures fault { (kind : FaultSeen) → result ≡ Err (Missed.Fault kind) → (kind ≡ FaultKind.BadData) × GapPassed R.remaining (source_block self.old) (source_block self.new) (source_gap self.old) 1048577 }
-        ensures input { result ≡ Err Missed.Input → HasRisen (R.faults (source_reader self.old)) (R.faults (source_reader self.new)) }
         ensures gives { result ≡ Err Missed.Input → Gives R.remaining (source_block self.old) (source_block self.new) }
         ensures missed { source_missed self.new ≡ source_missed self.old }
-        ensures never_falls { HasRisenBy 0 (R.faults (source_reader self.old)) (R.faults (source_reader self.new)) }
+        ensures counted { R.faults (source_reader self.new) ≡ failures_after result (R.faults (source_reader self.old)) }
+        ensures unasked { Suffices is_separator (source_block self.old) → Unasked is_separator (source_block self.old) (source_block self.new) }
         ensures end { KnowsEnd R.remaining (source_block self.old) → KnowsEnd R.remaining (source_block self.new) }
     {
         match pass_gap(&mut self.block, self.gap.count) {
@@ -107,10 +107,10 @@ impl<R: FaultyRead> Source<R> {
         ensures ok { IfOk result (λ count. count ≤ WORD_LIMIT) }
         ensures read { (count : ℕ) → result ≡ Ok count → Reads R.remaining self.old self.new (λ input rest. next_word input ≡ Ok (record { value = take count word.new; rest = rest })) }
         ensures fault { (kind : FaultSeen) → result ≡ Err (Missed.Fault kind) → Finds R.remaining self.old self.new (λ input. next_word input ≡ Err kind) }
-        ensures input { result ≡ Err Missed.Input → HasRisen (R.faults (source_reader self.old)) (R.faults (source_reader self.new)) }
         ensures gives { result ≡ Err Missed.Input → Gives R.remaining (source_block self.old) (source_block self.new) }
         ensures missed { source_missed self.new ≡ source_missed self.old }
-        ensures never_falls { HasRisenBy 0 (R.faults (source_reader self.old)) (R.faults (source_reader self.new)) }
+        ensures counted { R.faults (source_reader self.new) ≡ failures_after result (R.faults (source_reader self.old)) }
+        ensures unasked { HasWord (source_block self.old) → source_reader self.new ≡ source_reader self.old }
         ensures end { KnowsEnd R.remaining (source_block self.old) → KnowsEnd R.remaining (source_block self.new) }
     {
         self.reach_word()?;
@@ -131,10 +131,10 @@ impl<R: FaultyRead> Source<R> {
     fn read_integer(&mut self) -> Result<i64, Missed>
         ensures read { (number : ℤ) → result ≡ Ok number → Reads R.remaining self.old self.new (λ input rest. value_given Integer input ≡ Ok (record { value = Whole number; rest = rest })) }
         ensures fault { (kind : FaultSeen) → result ≡ Err (Missed.Fault kind) → Finds R.remaining self.old self.new (λ input. value_given Integer input ≡ Err kind) }
-        ensures input { result ≡ Err Missed.Input → HasRisen (R.faults (source_reader self.old)) (R.faults (source_reader self.new)) }
         ensures gives { result ≡ Err Missed.Input → Gives R.remaining (source_block self.old) (source_block self.new) }
         ensures missed { source_missed self.new ≡ source_missed self.old }
-        ensures never_falls { HasRisenBy 0 (R.faults (source_reader self.old)) (R.faults (source_reader self.new)) }
+        ensures counted { R.faults (source_reader self.new) ≡ failures_after result (R.faults (source_reader self.old)) }
+        ensures unasked { HasWord (source_block self.old) → source_reader self.new ≡ source_reader self.old }
         ensures end { KnowsEnd R.remaining (source_block self.old) → KnowsEnd R.remaining (source_block self.new) }
     {
         let mut word = [0; WORD_LIMIT];
@@ -149,10 +149,10 @@ impl<R: FaultyRead> Source<R> {
     fn read_alpha(&mut self) -> Result<Alpha, Missed>
         ensures read { (text : List ℕ) → result ≡ Ok text → Reads R.remaining self.old self.new (λ input rest. value_given AlphaMode input ≡ Ok (record { value = Text text; rest = rest })) }
         ensures fault { (kind : FaultSeen) → result ≡ Err (Missed.Fault kind) → Finds R.remaining self.old self.new (λ input. value_given AlphaMode input ≡ Err kind) }
-        ensures input { result ≡ Err Missed.Input → HasRisen (R.faults (source_reader self.old)) (R.faults (source_reader self.new)) }
         ensures gives { result ≡ Err Missed.Input → Gives R.remaining (source_block self.old) (source_block self.new) }
         ensures missed { source_missed self.new ≡ source_missed self.old }
-        ensures never_falls { HasRisenBy 0 (R.faults (source_reader self.old)) (R.faults (source_reader self.new)) }
+        ensures counted { R.faults (source_reader self.new) ≡ failures_after result (R.faults (source_reader self.old)) }
+        ensures unasked { HasWord (source_block self.old) → source_reader self.new ≡ source_reader self.old }
         ensures end { KnowsEnd R.remaining (source_block self.old) → KnowsEnd R.remaining (source_block self.new) }
     {
         let mut word = [0; WORD_LIMIT];
@@ -179,8 +179,9 @@ impl<R: FaultyRead> Source<R> {
     /// The whole number that the next word is: an optional sign and digits, within 64 bits.
     ///
     /// `Missed::Fault` with END OF DATA where no word is left, and with BAD DATA for any other word, one
-    /// of more than 64 bytes, or more than 1,048,576 separators before it; `Missed::Input` where the
-    /// reader answered an error. After a `Missed` every call answers the same and reads nothing.
+    /// of more than 64 bytes, or more than 1,048,576 separators before it; `Missed::Input` just where the
+    /// reader answered an error, which is not asked again. The reader is not asked at all where the bytes
+    /// at hand tell where the word ends. After a `Missed` every call answers the same and reads nothing.
     pub fn integer(&mut self) -> Result<i64, Missed>
         ensures again { (missed : MissedSeen) → source_missed self.old ≡ Some missed → (result ≡ Err missed) × (self.new ≡ self.old) }
         ensures read { (number : ℤ) → result ≡ Ok number → Reads R.remaining self.old self.new (λ input rest. value_given Integer input ≡ Ok (record { value = Whole number; rest = rest })) }
@@ -188,7 +189,9 @@ impl<R: FaultyRead> Source<R> {
         ensures input { source_missed self.old ≡ None → result ≡ Err Missed.Input → HasRisen (R.faults (source_reader self.old)) (R.faults (source_reader self.new)) }
         ensures lost { source_missed self.old ≡ None → result ≡ Err Missed.Input → Finds R.remaining self.old self.new (λ input. Unit {0}) }
         ensures missed { source_missed self.old ≡ None → source_missed self.new ≡ missed_of result }
+        ensures counted { source_missed self.old ≡ None → R.faults (source_reader self.new) ≡ failures_after result (R.faults (source_reader self.old)) }
         ensures never_falls { HasRisenBy 0 (R.faults (source_reader self.old)) (R.faults (source_reader self.new)) }
+        ensures unasked { HasWord (source_block self.old) → source_reader self.new ≡ source_reader self.old }
         ensures end { KnowsEnd R.remaining (source_block self.old) → KnowsEnd R.remaining (source_block self.new) }
     {
         if let Some(missed) = self.missed {
@@ -201,8 +204,9 @@ impl<R: FaultyRead> Source<R> {
     /// The text that the next word is: 1 to 8 bytes from 33 to 126.
     ///
     /// `Missed::Fault` with END OF DATA where no word is left, and with BAD DATA for any other word, one
-    /// of more than 64 bytes, or more than 1,048,576 separators before it; `Missed::Input` where the
-    /// reader answered an error. After a `Missed` every call answers the same and reads nothing.
+    /// of more than 64 bytes, or more than 1,048,576 separators before it; `Missed::Input` just where the
+    /// reader answered an error, which is not asked again. The reader is not asked at all where the bytes
+    /// at hand tell where the word ends. After a `Missed` every call answers the same and reads nothing.
     pub fn alpha(&mut self) -> Result<Alpha, Missed>
         ensures again { (missed : MissedSeen) → source_missed self.old ≡ Some missed → (result ≡ Err missed) × (self.new ≡ self.old) }
         ensures read { (text : List ℕ) → result ≡ Ok text → Reads R.remaining self.old self.new (λ input rest. value_given AlphaMode input ≡ Ok (record { value = Text text; rest = rest })) }
@@ -210,7 +214,9 @@ impl<R: FaultyRead> Source<R> {
         ensures input { source_missed self.old ≡ None → result ≡ Err Missed.Input → HasRisen (R.faults (source_reader self.old)) (R.faults (source_reader self.new)) }
         ensures lost { source_missed self.old ≡ None → result ≡ Err Missed.Input → Finds R.remaining self.old self.new (λ input. Unit {0}) }
         ensures missed { source_missed self.old ≡ None → source_missed self.new ≡ missed_of result }
+        ensures counted { source_missed self.old ≡ None → R.faults (source_reader self.new) ≡ failures_after result (R.faults (source_reader self.old)) }
         ensures never_falls { HasRisenBy 0 (R.faults (source_reader self.old)) (R.faults (source_reader self.new)) }
+        ensures unasked { HasWord (source_block self.old) → source_reader self.new ≡ source_reader self.old }
         ensures end { KnowsEnd R.remaining (source_block self.old) → KnowsEnd R.remaining (source_block self.new) }
     {
         if let Some(missed) = self.missed {
@@ -224,10 +230,10 @@ impl<R: FaultyRead> Source<R> {
     fn find_end(&mut self) -> Result<bool, Missed>
         ensures read { (ended : Bool) → result ≡ Ok ended → Reads R.remaining self.old self.new (λ input rest. (rest ≡ input) × (is_ended input ≡ Ok ended)) }
         ensures fault { (kind : FaultSeen) → result ≡ Err (Missed.Fault kind) → Finds R.remaining self.old self.new (λ input. is_ended input ≡ Err kind) }
-        ensures input { result ≡ Err Missed.Input → HasRisen (R.faults (source_reader self.old)) (R.faults (source_reader self.new)) }
         ensures gives { result ≡ Err Missed.Input → Gives R.remaining (source_block self.old) (source_block self.new) }
         ensures missed { source_missed self.new ≡ source_missed self.old }
-        ensures never_falls { HasRisenBy 0 (R.faults (source_reader self.old)) (R.faults (source_reader self.new)) }
+        ensures counted { R.faults (source_reader self.new) ≡ failures_after result (R.faults (source_reader self.old)) }
+        ensures unasked { Suffices is_separator (source_block self.old) → Unasked is_separator (source_block self.old) (source_block self.new) }
         ensures end { KnowsEnd R.remaining (source_block self.old) → KnowsEnd R.remaining (source_block self.new) }
     {
         self.reach_word()?;
@@ -238,7 +244,8 @@ impl<R: FaultyRead> Source<R> {
     ///
     /// Nothing is taken: the next call stands before the same word, behind the same separators.
     /// `Missed::Fault` with BAD DATA where more than 1,048,576 separators come before it; `Missed::Input`
-    /// where the reader answered an error. After a `Missed` every call answers the same and reads
+    /// just where the reader answered an error, which is not asked again. The reader is not asked at all
+    /// where a byte of the word is at hand. After a `Missed` every call answers the same and reads
     /// nothing.
     pub fn ended(&mut self) -> Result<bool, Missed>
         ensures again { (missed : MissedSeen) → source_missed self.old ≡ Some missed → (result ≡ Err missed) × (self.new ≡ self.old) }
@@ -247,7 +254,9 @@ impl<R: FaultyRead> Source<R> {
         ensures input { source_missed self.old ≡ None → result ≡ Err Missed.Input → HasRisen (R.faults (source_reader self.old)) (R.faults (source_reader self.new)) }
         ensures lost { source_missed self.old ≡ None → result ≡ Err Missed.Input → Finds R.remaining self.old self.new (λ input. Unit {0}) }
         ensures missed { source_missed self.old ≡ None → source_missed self.new ≡ missed_of result }
+        ensures counted { source_missed self.old ≡ None → R.faults (source_reader self.new) ≡ failures_after result (R.faults (source_reader self.old)) }
         ensures never_falls { HasRisenBy 0 (R.faults (source_reader self.old)) (R.faults (source_reader self.new)) }
+        ensures unasked { Suffices is_separator (source_block self.old) → source_reader self.new ≡ source_reader self.old }
         ensures end { KnowsEnd R.remaining (source_block self.old) → KnowsEnd R.remaining (source_block self.new) }
     {
         if let Some(missed) = self.missed {

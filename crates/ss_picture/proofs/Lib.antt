@@ -3,3 +3,4 @@ pub mod Pieces
 pub mod Maximal
 pub mod Scan
 pub mod Sent
+pub mod Idle

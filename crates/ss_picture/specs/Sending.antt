@@ -1,8 +1,9 @@
 -- What is seen of a sink, and what a call of it sends.
-use Rattle.std.specs.Prelude.{◌≡◌, ℕ, ◌+◌, ◌-◌, ◌^◌, ◌<◌, min, List, length, take, refl}
+use Rattle.std.specs.Prelude.{◌≡◌, ℕ, zero, suc, ◌+◌, ◌-◌, ◌^◌, ◌<◌, min, List, length, take, option_map, refl}
 use Rattle.std.specs.declared.option.Option.{Option}
 use Rattle.std.specs.Coded.{Coded, code_by, coded×, coded_ℕ}
 use Rattle.std.specs.Io.KnownBytes.{Appends}
+use Rattle.ss_base.specs.Failures.{raised}
 
 -- a sink: its writer as it stands, and how many bytes went out to it
 pub record SinkState (W : Type 0) : Type 0 where
@@ -28,3 +29,22 @@ pub record SendsFirst {W : Type 0} (contents : W → Option (List ℕ)) (old new
   pub count : ℕ
   pub not_all : count < length bytes
   pub sends : Sends contents old new (take count bytes)
+
+-- how many writes in a row may take no byte before a sink gives up
+abbrev pub stall_limit : ℕ
+stall_limit = 1000
+
+-- a count, so many higher where it is told
+abbrev pub told_more : ℕ → Option ℕ → Option ℕ
+told_more more told = option_map (λ count. raised count more) told
+
+-- of the writes in a row that took no byte before a call, those that still count once it has sent so many bytes
+abbrev pub idle_before : ℕ → ℕ → ℕ
+idle_before zero idle = idle
+idle_before (suc sent) idle = 0
+
+-- the first of these bytes went out, and then the writer took no byte in just as many writes in a row as the limit
+pub record Stalls {W : Type 0} (contents : W → Option (List ℕ)) (idle : W → Option ℕ) (old new : SinkState W) (bytes : List ℕ) : Type 0 where
+  pub count : ℕ
+  pub sends : Sends contents old new (take count bytes)
+  pub in_a_row : idle new.writer ≡ told_more stall_limit (option_map (idle_before count) (idle old.writer))

@@ -1,6 +1,6 @@
-ghost use Rattle.std.specs.Prelude.{◌≡◌, ◌<◌, ◌≤◌, length, take, [], IsOk, IfOk, OnOk, OnErr, IsErrOf};
+ghost use Rattle.std.specs.Prelude.{◌≡◌, ◌<◌, ◌≤◌, length, take, [], IsOk, IfOk, OnOk, OnErr, IsErrOf, option_map};
 ghost use Rattle.std.specs.Io.KnownBytes.{Appends, Keeps};
-ghost use Rattle.ss_picture.specs.Sending.{Sends, SendsFirst};
+ghost use Rattle.ss_picture.specs.Sending.{Sends, SendsFirst, Stalls, stall_limit, told_more};
 ghost use Rattle.ss_base.specs.Failures.{HasRisen, HasRisenBy};
 
 use ss_base::FaultyWrite;
@@ -54,15 +54,21 @@ impl<W: FaultyWrite> Sink<W> {
 
     /// Sends these bytes, in order, in as many writes as it takes; for no byte there is no write.
     ///
-    /// After an error the first of the bytes were sent, but not all. `Failed` comes where the
-    /// writer answered an error, `Stalled` where it took no byte in `STALL_LIMIT` writes in a row.
+    /// After an error the first of the bytes were sent, but not all. `Failed` comes just where the
+    /// writer answered an error, which is not asked again; `Stalled` where it took no byte in
+    /// `STALL_LIMIT` writes in a row.
     pub fn write(&mut self, bytes: &[u8]) -> Result<(), SinkError>
         ensures ok { OnOk result (Sends W.contents self.old self.new bytes.now) }
         ensures err { OnErr result (SendsFirst W.contents self.old self.new bytes.now) }
         ensures failed { IsErrOf result SinkError.Failed
             → HasRisen (W.faults self.old.writer) (W.faults self.new.writer) }
         ensures stalled { IsErrOf result SinkError.Stalled
-            → HasRisenBy 1000 (W.faults self.old.writer) (W.faults self.new.writer) }
+            → HasRisenBy stall_limit (W.faults self.old.writer) (W.faults self.new.writer) }
+        ensures unfailed { OnOk result (W.errors self.new.writer ≡ W.errors self.old.writer) }
+        ensures once { IsErrOf result SinkError.Failed
+            → W.errors self.new.writer ≡ told_more 1 (W.errors self.old.writer) }
+        ensures no_error { IsErrOf result SinkError.Stalled → W.errors self.new.writer ≡ W.errors self.old.writer }
+        ensures in_a_row { IsErrOf result SinkError.Stalled → Stalls W.contents W.idle self.old self.new bytes.now }
         ensures never_falls { HasRisenBy 0 (W.faults self.old.writer) (W.faults self.new.writer) }
         ensures no_byte { bytes.now ≡ [] → (IsOk result) × (self.new ≡ self.old) }
     {
@@ -99,7 +105,13 @@ fn send_some<W: FaultyWrite>(writer: &mut W, bytes: &[u8]) -> Result<usize, Sink
     ensures err { OnErr result (Keeps (W.contents writer.old) (W.contents writer.new)) }
     ensures failed { IsErrOf result SinkError.Failed → HasRisen (W.faults writer.old) (W.faults writer.new) }
     ensures stalled { IsErrOf result SinkError.Stalled
-        → HasRisenBy 1000 (W.faults writer.old) (W.faults writer.new) }
+        → HasRisenBy stall_limit (W.faults writer.old) (W.faults writer.new) }
+    ensures unfailed { OnOk result (W.errors writer.new ≡ W.errors writer.old) }
+    ensures once { IsErrOf result SinkError.Failed → W.errors writer.new ≡ told_more 1 (W.errors writer.old) }
+    ensures no_error { IsErrOf result SinkError.Stalled → W.errors writer.new ≡ W.errors writer.old }
+    ensures taken { OnOk result (W.idle writer.new ≡ option_map (λ _. 0) (W.idle writer.old)) }
+    ensures in_a_row { IsErrOf result SinkError.Stalled
+        → W.idle writer.new ≡ told_more stall_limit (W.idle writer.old) }
     ensures never_falls { HasRisenBy 0 (W.faults writer.old) (W.faults writer.new) }
 {
     for attempt in 0..STALL_LIMIT {

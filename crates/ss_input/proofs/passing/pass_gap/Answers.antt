@@ -1,6 +1,7 @@
 use Rattle.std.proofs.Common.{rules, arith, ◌≡◌, ◌+◌, [], subst, ◌∙◌}
 use Rattle.ss_input.specs.Sources.{Passes, GapPassed, StandsBefore}
-use Rattle.ss_input.specs.Words.{is_word_byte}
+use Rattle.ss_input.specs.Words.{is_separator, is_word_byte}
+use Rattle.ss_input.proofs.Asked.{unasked_then}
 use Rattle.ss_input.proofs.Passages.{gap_more, gap_stays}
 use Rattle.ss_input.proofs.passing.pass_gap.Goals as goal
 
@@ -15,7 +16,8 @@ pub loop-count-preserved : goal.loop-count-preserved
 loop-count-preserved g c = record {
   passed = gap_more g.R.FaultyRead.remaining c.args.block.now c.loop-count.block c.pass_separator.new.block c.args.before c.loop-count.count c.loop-count.invariant.passed (search rules);
   end = λ h. c.pass_separator.ensures.end (c.loop-count.invariant.end h);
-  risen = search rules;
+  unfailed = search rules;
+  unasked = unasked_then is_separator c.args.block.now c.loop-count.block c.pass_separator.new.block c.loop-count.invariant.unasked c.pass_separator.ensures.unasked;
 }
 
 pub returns-then-branch-clause-too_many : goal.returns-then-branch-clause-too_many

@@ -1,9 +1,11 @@
 use Rattle.std.proofs.Common.{rules, arith, length, take, ◌≡◌, ◌<◌, ◌∷◌, ◌++◌, [], true, refl, subst, ◌∙◌}
 use Rattle.std.proofs.lemmas.List.{length-append}
+use Rattle.std.proofs.lemmas.Result.{err_from_is_err_and}
 use Rattle.std.proofs.lemmas.List.Folds.{list_all-append}
 use Rattle.ss_input.specs.Sources.{Passes, WordPassed, StandsBefore}
 use Rattle.ss_input.specs.Words.{is_separator, is_word_byte}
-use Rattle.ss_input.proofs.Passages.{word_more, word_stays, passes_then}
+use Rattle.ss_input.proofs.Asked.{unasked_then}
+use Rattle.ss_input.proofs.Passages.{word_more, word_stays, passes_then, gives_behind}
 use Rattle.ss_input.proofs.passing.pass_word.Goals as goal
 
 pub loop-count-preserved : goal.loop-count-preserved
@@ -14,7 +16,8 @@ loop-count-preserved g c =
       passed = word_more g.R.FaultyRead.remaining c.args.block.now c.loop-count.block c.pass_word_byte.new.block c.loop-count.word c.loop-count.count c.in-Some.byte lt c.loop-count.invariant.passed one;
       size = search rules;
       end = λ h. c.pass_word_byte.ensures.end (c.loop-count.invariant.end h);
-      risen = search rules;
+      unfailed = search rules;
+      unasked = unasked_then is_word_byte c.args.block.now c.loop-count.block c.pass_word_byte.new.block c.loop-count.invariant.unasked c.pass_word_byte.ensures.unasked;
     }
 
 pub returns-in-None-clause-passed : goal.returns-in-None-clause-passed
@@ -42,3 +45,8 @@ returns-in-None-2-clause-passed g c count e =
     let none : Passes g.R.FaultyRead.remaining c.loop-count.block c.pass_word_byte-2.new.block [] × StandsBefore is_separator c.pass_word_byte-2.new.block = search rules in
     let passed = word_stays g.R.FaultyRead.remaining c.args.block.now c.loop-count.block c.pass_word_byte-2.new.block (take c.loop-count.count c.loop-count.word) c.loop-count.invariant.passed none.0 in
     (subst (λ n. WordPassed g.R.FaultyRead.remaining c.args.block.now c.pass_word_byte-2.new.block (take n c.loop-count.word)) (at_end ∙ same) passed, omega (arith, same), none.1)
+
+pub returns-in_err-pass_word_byte-clause-gives : goal.returns-in_err-pass_word_byte-clause-gives
+returns-in_err-pass_word_byte-clause-gives g c =
+    let e = err_from_is_err_and c.from_residual-in_err-pass_word_byte.result c.from_residual-in_err-pass_word_byte.ensures.1 in
+    rw e.1 (gives_behind g.R.FaultyRead.remaining c.args.block.now c.loop-count.block c.pass_word_byte-2.new.block (take c.loop-count.count c.loop-count.word) c.loop-count.invariant.passed.0 c.in_err-pass_word_byte.ensures.unread)

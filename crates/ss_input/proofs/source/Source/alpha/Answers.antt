@@ -1,7 +1,10 @@
-use Rattle.std.proofs.Common.{◌≡◌, Ok, Err, ◌∙◌, sym}
+use Rattle.std.proofs.Common.{◌≡◌, Ok, Err, ◌∙◌, sym, ap}
 use Rattle.ss_base.specs.declared.layout.Mode.TheVariants.{Alpha}
 use Rattle.ss_base.specs.declared.value.Value.TheVariants.{Text}
+use Rattle.ss_input.specs.Blocks.{BlockSeen}
+use Rattle.ss_input.specs.Inputs.{failures_after}
 use Rattle.ss_input.specs.Words.{value_given}
+use Rattle.ss_input.proofs.Failures.{never_falls, failed_once}
 use Rattle.ss_input.proofs.Reached.{reads_moved, finds_moved, nothing_found}
 use Rattle.ss_input.proofs.source.Source.alpha.Goals as goal
 
@@ -16,3 +19,22 @@ returns-clause-fault g c none kind e =
 pub returns-clause-lost : goal.returns-clause-lost
 returns-clause-lost g c none e =
     nothing_found g.R.FaultyRead.remaining c.args.self.now c.read_alpha-answer.new.self c.remember.new.self (sym c.remember.ensures.block) (c.read_alpha-answer.ensures.gives (sym c.remember.ensures.same ∙ e))
+
+pub returns-clause-input : goal.returns-clause-input
+returns-clause-input g c none e =
+    failed_once c.read_alpha-answer.result _ _ (sym c.remember.ensures.same ∙ e)
+    (ap (λ (b : BlockSeen g.row.R.Denot). g.R.Faulty.faults b.reader) c.remember.ensures.block ∙ c.read_alpha-answer.ensures.counted)
+
+pub returns-clause-counted : goal.returns-clause-counted
+returns-clause-counted g c none =
+    ap (λ (b : BlockSeen g.row.R.Denot). g.R.Faulty.faults b.reader) c.remember.ensures.block ∙ c.read_alpha-answer.ensures.counted
+    ∙ ap (λ a. failures_after a (g.R.Faulty.faults c.args.self.now.block.reader)) (sym c.remember.ensures.same)
+
+pub returns-clause-never_falls : goal.returns-clause-never_falls
+returns-clause-never_falls g c =
+    never_falls c.read_alpha-answer.result _ _
+    (ap (λ (b : BlockSeen g.row.R.Denot). g.R.Faulty.faults b.reader) c.remember.ensures.block ∙ c.read_alpha-answer.ensures.counted)
+
+pub returns-clause-unasked : goal.returns-clause-unasked
+returns-clause-unasked g c has =
+    ap (λ (b : BlockSeen g.row.R.Denot). b.reader) c.remember.ensures.block ∙ c.read_alpha-answer.ensures.unasked has

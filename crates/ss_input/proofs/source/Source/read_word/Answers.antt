@@ -6,6 +6,7 @@ use Rattle.ss_input.specs.Blocks.{first_of}
 use Rattle.ss_input.specs.Words.{next_word, word_at}
 use Rattle.ss_input.specs.Inputs.{Reaches, Reads, Finds, source_block}
 use Rattle.ss_input.proofs.Reached.{too_many_found, none_found, word_found, too_long_found, finds_so}
+use Rattle.ss_input.proofs.Asked.{gap_unasked, word_unasked}
 use Rattle.ss_input.proofs.Passages.{gives_then}
 use Rattle.ss_input.proofs.source.Source.read_word.Goals as goal
 
@@ -51,3 +52,24 @@ pub returns-in-Err-clause-gives : goal.returns-in-Err-clause-gives
 returns-in-Err-clause-gives g c e =
     let reached : Reaches g.R.FaultyRead.remaining c.args.self.now c.reach_word.new.self = search rules in
     gives_then g.R.FaultyRead.remaining (source_block c.args.self.now) (source_block c.reach_word.new.self) c.pass_word.new.block reached.passed.bytes reached.passed.passes c.in-Err.ensures.gives
+
+pub returns-in_err-reach_word-clause-unasked : goal.returns-in_err-reach_word-clause-unasked
+returns-in_err-reach_word-clause-unasked g c = gap_unasked (source_block c.args.self.now) (source_block c.reach_word.new.self) c.reach_word.ensures.unasked
+
+pub returns-then-is_none-clause-unasked : goal.returns-then-is_none-clause-unasked
+returns-then-is_none-clause-unasked g c = gap_unasked (source_block c.args.self.now) (source_block c.reach_word.new.self) c.reach_word.ensures.unasked
+
+pub returns-in-Ok-Some-clause-unasked : goal.returns-in-Ok-Some-clause-unasked
+returns-in-Ok-Some-clause-unasked g c =
+    let reached : Reaches g.R.FaultyRead.remaining c.args.self.now c.reach_word.new.self = search rules in
+    word_unasked (source_block c.args.self.now) (source_block c.reach_word.new.self) c.pass_word.new.block c.reach_word.ensures.unasked reached.next c.pass_word.ensures.unasked
+
+pub returns-in-Ok-None-clause-unasked : goal.returns-in-Ok-None-clause-unasked
+returns-in-Ok-None-clause-unasked g c =
+    let reached : Reaches g.R.FaultyRead.remaining c.args.self.now c.reach_word.new.self = search rules in
+    word_unasked (source_block c.args.self.now) (source_block c.reach_word.new.self) c.pass_word.new.block c.reach_word.ensures.unasked reached.next c.pass_word.ensures.unasked
+
+pub returns-in-Err-clause-unasked : goal.returns-in-Err-clause-unasked
+returns-in-Err-clause-unasked g c =
+    let reached : Reaches g.R.FaultyRead.remaining c.args.self.now c.reach_word.new.self = search rules in
+    word_unasked (source_block c.args.self.now) (source_block c.reach_word.new.self) c.pass_word.new.block c.reach_word.ensures.unasked reached.next c.pass_word.ensures.unasked

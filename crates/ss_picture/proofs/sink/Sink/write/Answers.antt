@@ -1,6 +1,7 @@
-use Rattle.std.proofs.Common.{◌≡◌, length, refl, ap, arith}
+use Rattle.std.proofs.Common.{◌≡◌, ◌∙◌, length, refl, ap, arith}
 use Rattle.std.proofs.lemmas.List.{length-drop, take_rest}
 use Rattle.ss_picture.proofs.Sent.{sends_nothing, sends_more}
+use Rattle.ss_picture.proofs.Idle.{idle-unsent, idle-sent}
 use Rattle.ss_picture.proofs.sink.Sink.write.Goals as goal
 
 pub loop-at-init : goal.loop-at-init
@@ -9,6 +10,8 @@ loop-at-init g c = record {
   sends = sends_nothing g.W.FaultyWrite.contents (record { writer = c.self.inside.writer; sent = c.self.inside.sent }) c.self.invariant;
   untouched = λ _. refl;
   small = c.self.invariant;
+  unfailed = refl;
+  idle = idle-unsent _;
   risen = omega arith;
 }
 
@@ -23,6 +26,8 @@ loop-at-preserved g c =
           rest_is taken.1 c.in_ok-count.ensures.ok c.saturating_add-self-inside.ensures;
       untouched = λ none. absurd (omega (arith, none, taken));
       small = c.saturating_add-self-inside.type_inv;
+      unfailed = c.in_ok-count.ensures.unfailed ∙ c.loop-at.invariant.unfailed;
+      idle = idle-sent _ _ _ c.loop-at.at c.in_ok-count.count taken.0 c.loop-at.invariant.idle c.in_ok-count.ensures.taken;
       risen = omega (arith, c.loop-at.invariant.risen, c.send_some.ensures.never_falls);
     }
 
