@@ -1,6 +1,7 @@
 ghost use Rattle.std.specs.Prelude.{◌≡◌, IfOk, OnOk, OnErr, All, IsTrue, ◌↔◌};
 
-use crate::key::{Key, Tie};
+use crate::entry::Key;
+use crate::key::Tie;
 use crate::pending::Pending;
 use ss_base::{FaultKind, Refused};
 use std::alloc::{AllocError, Global};

@@ -1,31 +1,104 @@
-ghost use Rattle.std.specs.Prelude.{◌≡◌};
+//! Keys and entries.
+//!
+//! Nothing but this module reads a key, and none of its functions hands an entry out. So two keys are compared and an
+//! entry is put into a place only by `Heap`, which counts it.
+ghost use Rattle.std.specs.Prelude.{◌≡◌, IfOk, IsTrue, ◌↔◌, map};
+ghost use Rattle.ss_events.specs.PendingList.{FitsClass};
 
-use crate::key::Key;
+mod heap;
+mod order;
+
+pub use heap::Heap;
+
+use crate::key::{Tie, TieShape, fits_class};
+use std::alloc::{AllocError, Global};
+use std::marker::Model;
 
 /// The most schedulings that an event list takes.
 pub const MOST_SCHEDULINGS: u64 = 4_611_686_018_427_387_903;
 
-/// A pending notice with its key and its place in the order of scheduling.
+/// Where a notice stands among others: its time in units, the rank of its class, and its ties.
+///
+/// The values are those at the moment when the key is made. A contract sees the record of the three.
 #[derive(Drop, Debug)]
-pub struct Entry {
-    pub key: Key,
-    /// How many schedulings came before this one.
-    pub number: u64,
-    pub notice: i64,
+pub struct Key {
+    time: i64,
+    rank: usize,
+    ties: Vec<Tie>,
+}
+
+impl Model for Key {
+    ghost use Rattle.ss_events.specs.SortKey.{SortKey};
+
+    ghost Value = { SortKey };
+
+    ghost view = { λ key. record { time = key.time; rank = key.rank; ties = key.ties.items } };
+}
+
+impl Key {
+    /// The key of a notice at this time, of the class of this rank, with these ties in turn.
+    pub fn of(alloc: Global, time: i64, rank: usize, ties: &[Tie]) -> Result<Key, AllocError>
+        ensures { IfOk result (λ key. key ≡ record { time = time; rank = rank; ties = ties.now }) }
+    {
+        let ties = Vec::from_slice(alloc, ties)?;
+        Ok(Key { time, rank, ties })
+    }
+
+    /// The same with ties that the key takes over, without memory of its own.
+    pub fn with_ties(time: i64, rank: usize, ties: Vec<Tie>) -> Key
+        ensures { result ≡ record { time = time; rank = rank; ties = ties.items } }
+    {
+        Key { time, rank, ties }
+    }
+
+    /// Whether the rank is that of one of these classes, and the ties have the shapes of that class.
+    pub(crate) fn fits(&self, classes: &[Vec<TieShape>]) -> bool
+        ensures { IsTrue result ↔ FitsClass (map (λ shapes. shapes.items) classes.now) self.now }
+    {
+        fits_class(classes, self.rank, &self.ties)
+    }
+
+    fn time(&self) -> i64
+        ensures { result ≡ self.now.time }
+    {
+        self.time
+    }
+
+    fn rank(&self) -> usize
+        ensures { result ≡ self.now.rank }
+    {
+        self.rank
+    }
+
+    fn ties(&self) -> &[Tie]
+        ensures { result.now ≡ self.now.ties }
+    {
+        &self.ties
+    }
+}
+
+// A pending notice with its key and its place in the order of scheduling.
+#[derive(Drop, Debug)]
+struct Entry {
+    key: Key,
+    // How many schedulings came before this one.
+    number: u64,
+    notice: i64,
+}
+
+impl Model for Entry {
+    ghost use Rattle.ss_events.specs.PendingNotice.{PendingNotice};
+
+    ghost Value = { PendingNotice };
+
+    ghost view = { λ e. record { key = e.key; number = e.number; notice = e.notice } };
 }
 
 impl Entry {
-    /// The time of the event.
-    pub fn time(&self) -> i64
-        ensures { result ≡ self.now.key.time }
+    // The time of the event, and the notice.
+    fn event(&self) -> (i64, i64)
+        ensures { result ≡ (self.now.key.time, self.now.notice) }
     {
-        self.key.time()
-    }
-
-    /// The notice.
-    pub fn notice(&self) -> i64
-        ensures { result ≡ self.now.notice }
-    {
-        self.notice
+        (self.key.time(), self.notice)
     }
 }

@@ -1,9 +1,8 @@
-ghost use Rattle.std.specs.Prelude.{◌≡◌, IfOk};
+// The values that break ties, and what each class has of them.
+ghost use Rattle.std.specs.Prelude.{◌≡◌, ◌↔◌, IsTrue, Some, map, slice_get};
 ghost use Rattle.ss_events.specs.Shape.{shape_of};
 
 use ss_base::{Mode, Value};
-use std::alloc::{AllocError, Global};
-use std::marker::Model;
 
 /// A value that breaks ties between notices of one class at one time.
 #[derive(Clone, Copy, Debug)]
@@ -32,58 +31,27 @@ impl Tie {
     }
 }
 
-/// Where a notice stands among others: its time in units, the rank of its class, and its ties.
-///
-/// The values are those at the moment when the key is made. A contract sees the record of the three.
-#[derive(Drop, Debug)]
-pub struct Key {
-    time: i64,
-    rank: usize,
-    ties: Vec<Tie>,
+// Whether a rank is that of one of these classes, and the ties have the shapes of that class.
+pub(crate) fn fits_class(classes: &[Vec<TieShape>], rank: usize, ties: &[Tie]) -> bool
+    ensures { IsTrue result ↔ (slice_get (map (λ shapes. shapes.items) classes.now) rank ≡ Some (map shape_of ties.now)) }
+{
+    let Some(shapes) = classes.get(rank) else {
+        return false;
+    };
+    have_shapes(ties, shapes)
 }
 
-impl Model for Key {
-    ghost use Rattle.ss_events.specs.SortKey.{SortKey};
-
-    ghost Value = { SortKey };
-
-    ghost view = { λ key. record { time = key.time; rank = key.rank; ties = key.ties.items } };
-}
-
-impl Key {
-    /// The key of a notice at this time, of the class of this rank, with these ties in turn.
-    pub fn of(alloc: Global, time: i64, rank: usize, ties: &[Tie]) -> Result<Key, AllocError>
-        ensures { IfOk result (λ key. key ≡ record { time = time; rank = rank; ties = ties.now }) }
-    {
-        let ties = Vec::from_slice(alloc, ties)?;
-        Ok(Key { time, rank, ties })
+// Whether ties have these shapes in turn.
+fn have_shapes(ties: &[Tie], shapes: &[TieShape]) -> bool
+    ensures { IsTrue result ↔ (shapes.now ≡ map shape_of ties.now) }
+{
+    if ties.len() != shapes.len() {
+        return false;
     }
-
-    /// The same with ties that the key takes over, without memory of its own.
-    pub fn with_ties(time: i64, rank: usize, ties: Vec<Tie>) -> Key
-        ensures { result ≡ record { time = time; rank = rank; ties = ties.items } }
-    {
-        Key { time, rank, ties }
+    for (i, tie) in ties.iter().enumerate() {
+        if tie.shape() != shapes[i] {
+            return false;
+        }
     }
-
-    /// The time, in units.
-    pub fn time(&self) -> i64
-        ensures { result ≡ self.now.time }
-    {
-        self.time
-    }
-
-    /// The rank of the class.
-    pub fn rank(&self) -> usize
-        ensures { result ≡ self.now.rank }
-    {
-        self.rank
-    }
-
-    /// The ties in turn.
-    pub fn ties(&self) -> &[Tie]
-        ensures { result.now ≡ self.now.ties }
-    {
-        &self.ties
-    }
+    true
 }

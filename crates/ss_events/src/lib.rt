@@ -3,16 +3,14 @@
 
 mod calls;
 mod entry;
-mod heap;
 mod key;
 mod laws;
-mod order;
 mod pending;
 mod places;
 mod sift;
 
 pub use calls::{Answer, Call};
-pub use entry::MOST_SCHEDULINGS;
-pub use key::{Key, Tie, TieShape};
+pub use entry::{Key, MOST_SCHEDULINGS};
+pub use key::{Tie, TieShape};
 pub use laws::{least_comes_first, order_is_total};
 pub use pending::Pending;

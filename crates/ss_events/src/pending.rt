@@ -1,9 +1,8 @@
 ghost use Rattle.std.specs.Prelude.{◌≡◌, ℕ, ◌+◌, ◌*◌, ◌<◌, ◌≤◌, IfOk, IfErr, OnOk, OnErr, Ok, Err, Some, slice_get, length, map, IsTrue, ◌↔◌};
 ghost use Rattle.ss_events.specs.Shape.{shape_of};
 
-use crate::entry::{Entry, MOST_SCHEDULINGS};
-use crate::heap::Heap;
-use crate::key::{Key, Tie, TieShape};
+use crate::entry::{Heap, Key, MOST_SCHEDULINGS};
+use crate::key::{self, Tie, TieShape};
 use crate::sift::{insert, take_out};
 use ss_base::{FaultKind, Refused};
 use std::alloc::{AllocError, Global};
@@ -53,17 +52,14 @@ impl Pending {
     pub fn fits(&self, key: &Key) -> bool
         ensures { IsTrue result ↔ FitsClass self.now.list.classes key.now }
     {
-        self.fits_class(key.rank(), key.ties())
+        key.fits(&self.classes)
     }
 
     // Whether a rank is that of a class, and these ties have the shapes of that class.
     pub(crate) fn fits_class(&self, rank: usize, ties: &[Tie]) -> bool
         ensures { IsTrue result ↔ (slice_get self.now.list.classes rank ≡ Some (map shape_of ties.now)) }
     {
-        let Some(shapes) = self.classes.get(rank) else {
-            return false;
-        };
-        have_shapes(ties, shapes)
+        key::fits_class(&self.classes, rank, ties)
     }
 
     /// Schedules a notice under a key. Refused where the notice is pending (`AlreadyScheduled`), then where there were
@@ -86,14 +82,7 @@ impl Pending {
             return Err(Refused::Fault(FaultKind::Overflow));
         }
         let number = self.schedulings;
-        insert(
-            &mut self.heap,
-            Entry {
-                key,
-                number,
-                notice,
-            },
-        )?;
+        insert(&mut self.heap, key, number, notice)?;
         self.schedulings += 1;
         Ok(())
     }
@@ -111,7 +100,7 @@ impl Pending {
         let Some(at) = self.heap.find(notice) else {
             return Err(FaultKind::NotScheduled);
         };
-        let _entry = take_out(&mut self.heap, at);
+        let _event = take_out(&mut self.heap, at);
         Ok(())
     }
 
@@ -126,8 +115,7 @@ impl Pending {
         if self.heap.len() == 0 {
             return None;
         }
-        let entry = self.heap.at(0);
-        Some((entry.time(), entry.notice()))
+        Some(self.heap.first())
     }
 
     /// Takes out what comes next, where a notice is pending, and answers its time and the notice.
@@ -142,8 +130,7 @@ impl Pending {
         if self.heap.len() == 0 {
             return None;
         }
-        let entry = take_out(&mut self.heap, 0);
-        Some((entry.time(), entry.notice()))
+        Some(take_out(&mut self.heap, 0))
     }
 
     /// Whether a notice is pending.
@@ -177,19 +164,4 @@ fn copied(alloc: Global, classes: &[Vec<TieShape>]) -> Result<Vec<Vec<TieShape>>
         copies.push(Vec::from_slice(alloc, shapes)?)?;
     }
     Ok(copies)
-}
-
-// Whether ties have these shapes in turn.
-fn have_shapes(ties: &[Tie], shapes: &[TieShape]) -> bool
-    ensures { IsTrue result ↔ (shapes.now ≡ map shape_of ties.now) }
-{
-    if ties.len() != shapes.len() {
-        return false;
-    }
-    for (i, tie) in ties.iter().enumerate() {
-        if tie.shape() != shapes[i] {
-            return false;
-        }
-    }
-    true
 }

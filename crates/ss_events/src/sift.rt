@@ -1,6 +1,6 @@
 // How entries go into a heap in order and come out of it.
-ghost use Rattle.std.specs.Prelude.{false, slice_index_or, ◌∷◌, OnOk, OnErr, ℕ, ◌≡◌, ◌<◌, ◌≤◌, ◌+◌, ◌*◌, ◌^◌, length, MatchOption, is_some, if◌then◌else◌};
-ghost use Rattle.ss_events.specs.HeapEntries.{notices_of};
+ghost use Rattle.std.specs.Prelude.{false, ◌∷◌, OnOk, OnErr, ℕ, ◌≡◌, ◌<◌, ◌≤◌, ◌+◌, ◌*◌, ◌^◌, length, MatchOption, is_some, if◌then◌else◌};
+ghost use Rattle.ss_events.specs.HeapEntries.{notices_of, TakesOut};
 ghost use Rattle.std.specs.Ordering.{int_eq};
 ghost use Rattle.std.specs.List.{list_any};
 ghost use Rattle.std.specs.List.Sorted.{IsPermutation};
@@ -8,16 +8,15 @@ ghost use Rattle.ss_events.specs.BinaryHeap.{IsHeap, IsFirstChild};
 ghost use Rattle.ss_events.specs.Order.{comes_before};
 ghost use Rattle.ss_events.specs.Sifting.{Raises, CostsToRaise, Lowers, CostsToLower, Mends, CostsToMend, IsLogarithmic};
 
-use crate::entry::Entry;
-use crate::heap::Heap;
+use crate::entry::{Heap, Key};
 use std::alloc::AllocError;
 
-/// Puts an entry into a heap in order. Counts anew.
-pub fn insert(heap: &mut Heap, entry: Entry) -> Result<(), AllocError>
+/// Puts an entry of a notice into a heap in order. Counts anew.
+pub fn insert(heap: &mut Heap, key: Key, number: u64, notice: i64) -> Result<(), AllocError>
     requires order { IsHeap comes_before heap.old.entries }
-    requires fresh { list_any (int_eq entry.notice) (notices_of heap.old.entries) ≡ false }
+    requires fresh { list_any (int_eq notice) (notices_of heap.old.entries) ≡ false }
     ensures order { IsHeap comes_before heap.new.entries }
-    ensures ok { OnOk result (IsPermutation (entry ∷ heap.old.entries) heap.new.entries) }
+    ensures ok { OnOk result (IsPermutation (record { key = key; number = number; notice = notice } ∷ heap.old.entries) heap.new.entries) }
     ensures err { OnErr result (heap.new.entries ≡ heap.old.entries) }
     ensures work { IsLogarithmic (length heap.old.entries) heap.new }
     ensures moved { OnOk result (0 < heap.new.moves) }
@@ -25,26 +24,25 @@ pub fn insert(heap: &mut Heap, entry: Entry) -> Result<(), AllocError>
 {
     heap.reset_counts();
     let place = heap.len();
-    heap.push(entry)?;
+    heap.push(key, number, notice)?;
     raise(heap, place);
     Ok(())
 }
 
-/// Takes the entry out of a place of a heap in order. Counts anew.
-pub fn take_out(heap: &mut Heap, at: usize) -> Entry
+/// Takes the entry out of a place of a heap in order, and answers its time and its notice. Counts anew.
+pub fn take_out(heap: &mut Heap, at: usize) -> (i64, i64)
     requires order { IsHeap comes_before heap.old.entries }
     requires within { at < length heap.old.entries }
     ensures order { IsHeap comes_before heap.new.entries }
-    ensures value { result ≡ slice_index_or heap.old.entries at result }
-    ensures entries { IsPermutation heap.old.entries (result ∷ heap.new.entries) }
+    ensures taken { TakesOut heap.old.entries heap.new.entries at result }
     ensures work { IsLogarithmic (length heap.old.entries) heap.new }
 {
     heap.reset_counts();
-    let entry = heap.remove(at);
+    let event = heap.remove(at);
     if at < heap.len() {
         mend(heap, at);
     }
-    entry
+    event
 }
 
 // Puts the entry at a place of a heap in order.

@@ -13,27 +13,27 @@ returns-in_default-clause-refused c =
     cancelled-none c.args.notice p (sym known)
 
 -- the entry that went and the others are those of the heap
-all : (c : goal.After-drop-entry) → IsPermutation c.self.inside.heap.entries (c.take_out-entry.result ∷ c.take_out-entry.new.heap.entries)
-all c = subst (λ (es : List Entry). IsPermutation es (c.take_out-entry.result ∷ c.take_out-entry.new.heap.entries)) (ap (λ h. h.entries) c.reset_counts.ensures) c.take_out-entry.ensures.entries
+all : (c : goal.After-take_out-event) → IsPermutation c.self.inside.heap.entries (c.take_out-event.ensures.taken.entry ∷ c.take_out-event.new.heap.entries)
+all c = subst (λ (es : List Entry). IsPermutation es (c.take_out-event.ensures.taken.entry ∷ c.take_out-event.new.heap.entries)) (ap (λ h. h.entries) c.reset_counts.ensures) c.take_out-event.ensures.taken.rest
 
 -- it is pending
-pending : (c : goal.After-drop-entry) → is_pending c.args.notice c.args.self.now.list.entries ≡ true
+pending : (c : goal.After-take_out-event) → is_pending c.args.notice c.args.self.now.list.entries ≡ true
 pending c = sym (found-pending c.self.inside.heap.entries c.args.self.now.list.entries (ap (λ v. v.list.entries) c.self.view_is) c.reset_counts.new.self.entries _ c.args.notice true (ap (λ h. h.entries) c.reset_counts.ensures) (to_z-of_z c.ranges.notice) c.in-Some.ensures.found)
 
 pub invariant_of-self-2 : goal.invariant_of-self-2
-invariant_of-self-2 c = agenda-taken c.self.inside.heap.entries c.self.inside.schedulings c.self.invariant c.take_out-entry.result c.take_out-entry.new.heap.entries (all c) c.take_out-entry.ensures.order
+invariant_of-self-2 c = agenda-taken c.self.inside.heap.entries c.self.inside.schedulings c.self.invariant c.take_out-event.ensures.taken.entry c.take_out-event.new.heap.entries (all c) c.take_out-event.ensures.order
 
 pub returns-clause-ok : goal.returns-clause-ok
 returns-clause-ok c =
-    let entry = c.take_out-entry.result in
-    let its = found-at c.reset_counts.new.self.entries _ c.args.notice c.in-Some.at entry (to_z-of_z c.ranges.notice) c.in-Some.ensures.place c.take_out-entry.ensures.value in
-    let rest = in_order-taken c.self.inside.heap.entries c.self.inside.schedulings c.self.invariant entry c.take_out-entry.new.heap.entries (all c) c.args.notice its in
+    let entry = c.take_out-event.ensures.taken.entry in
+    let its = found-at c.reset_counts.new.self.entries _ c.args.notice c.in-Some.at entry (to_z-of_z c.ranges.notice) c.in-Some.ensures.place c.take_out-event.ensures.taken.there in
+    let rest = in_order-taken c.self.inside.heap.entries c.self.inside.schedulings c.self.invariant entry c.take_out-event.new.heap.entries (all c) c.args.notice its in
     cancelled-pending c.args.notice c.args.self.now.list (pending c)
     ∙ ap (λ v. Ok (record v.list { entries = without c.args.notice v.list.entries })) (sym c.self.view_is)
     ∙ ap (λ es. Ok (record { entries = es; schedulings = c.self.inside.schedulings; classes = map (λ shapes. shapes.items) c.self.inside.classes.items })) (sym rest)
 
-work : (c : goal.After-drop-entry) → IsLogarithmic (length c.args.self.now.list.entries) c.take_out-entry.new.heap
-work c = work_of c.self.inside.heap.entries c.args.self.now.list.entries (ap (λ v. v.list.entries) c.self.view_is) c.reset_counts.new.self.entries c.take_out-entry.new.heap (ap (λ h. h.entries) c.reset_counts.ensures) c.take_out-entry.ensures.work
+work : (c : goal.After-take_out-event) → IsLogarithmic (length c.args.self.now.list.entries) c.take_out-event.new.heap
+work c = work_of c.self.inside.heap.entries c.args.self.now.list.entries (ap (λ v. v.list.entries) c.self.view_is) c.reset_counts.new.self.entries c.take_out-event.new.heap (ap (λ h. h.entries) c.reset_counts.ensures) c.take_out-event.ensures.work
 
 pub returns-clause-comparisons : goal.returns-clause-comparisons
 returns-clause-comparisons c = (work c).comparisons

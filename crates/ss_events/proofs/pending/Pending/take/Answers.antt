@@ -1,4 +1,4 @@
-use Rattle.std.proofs.Common.{◌<◌, ◌∷◌, ◌∙◌, List, Some, length, map, get_or, ap, subst, sym, to_z-of_z, w64, arith, IsPermutation}
+use Rattle.std.proofs.Common.{◌<◌, ◌∷◌, ◌∙◌, List, Some, length, map, get_or, ap, subst, sym, arith, IsPermutation}
 use Rattle.std.specs.Cmp.{int_eq_equiv}
 use Rattle.ss_events.specs.declared.entry.Entry.{Entry}
 use Rattle.ss_events.specs.PendingList.{without}
@@ -18,35 +18,34 @@ returns-then-len-eq0-clause-rest c =
 
 pub invariant_of-self-2 : goal.invariant_of-self-2
 invariant_of-self-2 c =
-    let entry = c.take_out-entry.result in
-    let all = subst (λ (es : List Entry). IsPermutation es (entry ∷ c.take_out-entry.new.heap.entries)) (ap (λ h. h.entries) c.reset_counts.ensures) c.take_out-entry.ensures.entries in
-    agenda-taken c.self.inside.heap.entries c.self.inside.schedulings c.self.invariant entry c.take_out-entry.new.heap.entries all c.take_out-entry.ensures.order
+    let taken = c.take_out.ensures.taken in
+    let all = subst (λ (es : List Entry). IsPermutation es (taken.entry ∷ c.take_out.new.heap.entries)) (ap (λ h. h.entries) c.reset_counts.ensures) taken.rest in
+    agenda-taken c.self.inside.heap.entries c.self.inside.schedulings c.self.invariant taken.entry c.take_out.new.heap.entries all c.take_out.ensures.order
 
 pub returns-clause-next : goal.returns-clause-next
 returns-clause-next c =
     let anew = c.reset_counts.ensures in
-    let entry = c.take_out-entry.result in
+    let taken = c.take_out.ensures.taken in
     let some : 0 < length c.self.inside.heap.entries = omega (arith, ap (λ h. length h.entries) anew) in
-    let first = c.take_out-entry.ensures.value ∙ ap (λ h. get_or h.entries 0 entry) anew in
-    let time = to_z-of_z {w = w64} (record { sfits = c.time.type_inv }) ∙ c.time.ensures in
-    let notice = to_z-of_z {w = w64} (record { sfits = c.notice.type_inv }) ∙ c.notice.ensures in
-    (λ i. Some (time i, notice i))
-    ∙ sym (next-first c.self.inside.heap.entries c.args.self.now.list (ap (λ v. v.list.entries) c.self.view_is) c.self.inside.schedulings c.self.invariant entry some first)
+    let first = taken.there ∙ ap (λ h. get_or h.entries 0 taken.entry) anew in
+    ap Some taken.is
+    ∙ sym (next-first c.self.inside.heap.entries c.args.self.now.list (ap (λ v. v.list.entries) c.self.view_is) c.self.inside.schedulings c.self.invariant taken.entry some first)
 
 pub returns-clause-rest : goal.returns-clause-rest
 returns-clause-rest c =
     let anew = c.reset_counts.ensures in
-    let entry = c.take_out-entry.result in
+    let taken = c.take_out.ensures.taken in
+    let entry = taken.entry in
     let some : 0 < length c.self.inside.heap.entries = omega (arith, ap (λ h. length h.entries) anew) in
-    let first = c.take_out-entry.ensures.value ∙ ap (λ h. get_or h.entries 0 entry) anew in
-    let all = subst (λ (es : List Entry). IsPermutation es (entry ∷ c.take_out-entry.new.heap.entries)) (ap (λ h. h.entries) anew) c.take_out-entry.ensures.entries in
-    let rest = in_order-taken c.self.inside.heap.entries c.self.inside.schedulings c.self.invariant entry c.take_out-entry.new.heap.entries all entry.notice (int_eq_equiv.refl entry.notice) in
+    let first = taken.there ∙ ap (λ h. get_or h.entries 0 entry) anew in
+    let all = subst (λ (es : List Entry). IsPermutation es (entry ∷ c.take_out.new.heap.entries)) (ap (λ h. h.entries) anew) taken.rest in
+    let rest = in_order-taken c.self.inside.heap.entries c.self.inside.schedulings c.self.invariant entry c.take_out.new.heap.entries all entry.notice (int_eq_equiv.refl entry.notice) in
     ap (λ es. record { entries = es; schedulings = c.self.inside.schedulings; classes = map (λ shapes. shapes.items) c.self.inside.classes.items }) rest
     ∙ ap (λ v. record v.list { entries = without entry.notice v.list.entries }) c.self.view_is
     ∙ sym (after_next-first c.self.inside.heap.entries c.args.self.now.list (ap (λ v. v.list.entries) c.self.view_is) c.self.inside.schedulings c.self.invariant entry some first)
 
-work : (c : goal.After-drop-entry) → IsLogarithmic (length c.args.self.now.list.entries) c.take_out-entry.new.heap
-work c = work_of c.self.inside.heap.entries c.args.self.now.list.entries (ap (λ v. v.list.entries) c.self.view_is) c.reset_counts.new.self.entries c.take_out-entry.new.heap (ap (λ h. h.entries) c.reset_counts.ensures) c.take_out-entry.ensures.work
+work : (c : goal.After-take_out) → IsLogarithmic (length c.args.self.now.list.entries) c.take_out.new.heap
+work c = work_of c.self.inside.heap.entries c.args.self.now.list.entries (ap (λ v. v.list.entries) c.self.view_is) c.reset_counts.new.self.entries c.take_out.new.heap (ap (λ h. h.entries) c.reset_counts.ensures) c.take_out.ensures.work
 
 pub returns-clause-comparisons : goal.returns-clause-comparisons
 returns-clause-comparisons c = (work c).comparisons

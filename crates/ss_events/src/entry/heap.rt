@@ -3,11 +3,11 @@ ghost use Rattle.std.specs.Prelude.{false, pos, ℕ, ◌≡◌, ◌<◌, ◌+◌
 ghost use Rattle.std.specs.Ordering.{int_eq};
 ghost use Rattle.std.specs.List.{swap_remove, list_any};
 ghost use Rattle.ss_events.specs.declared.entry.Entry.{Entry};
-ghost use Rattle.ss_events.specs.HeapEntries.{notices_of};
+ghost use Rattle.ss_events.specs.HeapEntries.{notices_of, event_of, Removes};
 ghost use Rattle.ss_events.specs.Order.{comes_before};
 
-use crate::entry::Entry;
-use crate::order::comes_before;
+use super::order::comes_before;
+use super::{Entry, Key};
 use crate::places::Places;
 use std::alloc::{AllocError, Global};
 use std::marker::Model;
@@ -80,12 +80,12 @@ impl Heap {
         self.places.find(notice)
     }
 
-    /// The entry at a place.
-    pub fn at(&self, place: usize) -> &Entry
-        requires { place < length self.now.entries }
-        ensures { slice_get self.now.entries place ≡ Some result.now }
+    /// The time and the notice of the entry in the first place.
+    pub fn first(&self) -> (i64, i64)
+        requires { 0 < length self.now.entries }
+        ensures { (d : Entry) → result ≡ event_of (slice_index_or self.now.entries 0 d) }
     {
-        &self.entries[place]
+        self.entries[0].event()
     }
 
     /// Whether the entry at place `a` comes out before that at `b`. Counts a comparison.
@@ -112,15 +112,20 @@ impl Heap {
         self.places.swap(a, b);
     }
 
-    /// Puts an entry into the next place. Counts a move.
-    pub fn push(&mut self, entry: Entry) -> Result<(), AllocError>
-        requires fresh { list_any (int_eq entry.notice) (notices_of self.old.entries) ≡ false }
+    /// Puts an entry of a notice into the next place. Counts a move.
+    pub fn push(&mut self, key: Key, number: u64, notice: i64) -> Result<(), AllocError>
+        requires fresh { list_any (int_eq notice) (notices_of self.old.entries) ≡ false }
         requires countable { self.old.moves + 1 < 2 ^ 64 }
-        ensures ok { OnOk result (self.new ≡ record self.old { entries = self.old.entries ++ entry ∷ []; moves = self.old.moves + 1 }) }
+        ensures ok { OnOk result (self.new ≡ record self.old { entries = self.old.entries ++ record { key = key; number = number; notice = notice } ∷ []; moves = self.old.moves + 1 }) }
         ensures err { OnErr result (self.new ≡ self.old) }
     {
         self.entries.reserve(1)?;
-        self.places.push(entry.notice)?;
+        self.places.push(notice)?;
+        let entry = Entry {
+            key,
+            number,
+            notice,
+        };
         if self.entries.push(entry).is_err() {
             unreachable!();
         }
@@ -128,18 +133,19 @@ impl Heap {
         Ok(())
     }
 
-    /// Takes the entry out of a place, into which the last one moves. Counts that move.
-    pub fn remove(&mut self, at: usize) -> Entry
+    /// Takes the entry out of a place, into which the last one moves, and answers its time and its notice. Counts that
+    /// move.
+    pub fn remove(&mut self, at: usize) -> (i64, i64)
         requires within { at < length self.old.entries }
         requires countable { self.old.moves + 1 < 2 ^ 64 }
-        ensures value { result ≡ slice_index_or self.old.entries at result }
-        ensures entries { self.new.entries ≡ swap_remove self.old.entries at result }
+        ensures removed { Removes self.old.entries self.new.entries at result }
         ensures comparisons { self.new.comparisons ≡ self.old.comparisons }
         ensures moves { self.new.moves ≡ (if at + 1 == length self.old.entries then self.old.moves else self.old.moves + 1) }
     {
         let last = self.entries.len() - 1;
         self.moves += u64::from(at != last);
         self.places.remove(at);
-        self.entries.swap_remove(at)
+        let entry = self.entries.swap_remove(at);
+        entry.event()
     }
 }

@@ -3,8 +3,8 @@ ghost use Rattle.std.specs.Prelude.{◌≡◌};
 ghost use Rattle.ss_events.specs.Order.{tie_order, key_order, entry_order, comes_before};
 ghost use Rattle.std.specs.Cmp.Lexicographic.{slice_cmp};
 
-use crate::entry::Entry;
-use crate::key::{Key, Tie};
+use super::{Entry, Key};
+use crate::key::Tie;
 use std::cmp::Ordering;
 
 fn tie_order(a: &Tie, b: &Tie) -> Ordering
@@ -47,9 +47,9 @@ fn key_order(a: &Key, b: &Key) -> Ordering
         .then_with(|| ties_order(a.ties(), b.ties()))
 }
 
-/// Whether `a` comes out before `b`.
+// Whether `a` comes out before `b`.
 #[tactic(auto, unfolding(crate::specs::Order::comes_before))]
-pub fn comes_before(a: &Entry, b: &Entry) -> bool
+pub(super) fn comes_before(a: &Entry, b: &Entry) -> bool
     ensures { result ≡ comes_before a.now b.now }
 {
     key_order(&a.key, &b.key)

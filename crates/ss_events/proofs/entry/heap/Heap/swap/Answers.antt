@@ -1,7 +1,7 @@
 use Rattle.std.proofs.Common.{◌∙◌, ap, sym, swap}
 use Rattle.indexmap.proofs.ReorderLemmas.{map-swap}
 use Rattle.ss_events.specs.HeapEntries.{notices_of}
-use Rattle.ss_events.proofs.heap.Heap.swap.Goals as goal
+use Rattle.ss_events.proofs.entry.heap.Heap.swap.Goals as goal
 
 pub invariant_of-self : goal.invariant_of-self
 invariant_of-self c =

@@ -3,7 +3,7 @@ use Rattle.std.specs.declared.cmp.Ordering.TheVariants.{Less}
 use Rattle.std.specs.Cmp.Lexicographic.{slice_cmp}
 use Rattle.ss_events.specs.Order.{tie_order}
 use Rattle.ss_events.specs.declared.key.Tie.{Tie}
-use Rattle.ss_events.proofs.order.ties_order.Goals as goal
+use Rattle.ss_events.proofs.entry.order.ties_order.Goals as goal
 
 -- no ties come before some
 none_first : (n : ℕ) (ys : List Tie) → n < length ys → slice_cmp tie_order [] (drop n ys) ≡ Less

@@ -1,7 +1,7 @@
 use Rattle.std.proofs.Common.{◌≡◌, drop}
 use Rattle.std.specs.Cmp.Lexicographic.{slice_cmp}
 use Rattle.ss_events.specs.Order.{tie_order}
-use Rattle.ss_events.proofs.order.ties_order.Given as goal
+use Rattle.ss_events.proofs.entry.order.ties_order.Given as goal
 
 -- the ties so far are alike
 abbrev pub invariant-loop-i : goal.invariant-loop-i

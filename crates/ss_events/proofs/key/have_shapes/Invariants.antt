@@ -1,6 +1,6 @@
 use Rattle.std.proofs.Common.{◌≡◌, map, take}
 use Rattle.ss_events.specs.Shape.{shape_of}
-use Rattle.ss_events.proofs.pending.have_shapes.Given as goal
+use Rattle.ss_events.proofs.key.have_shapes.Given as goal
 
 -- the ties so far have their shapes
 abbrev pub invariant-loop-i : goal.invariant-loop-i
