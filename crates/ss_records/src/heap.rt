@@ -1,10 +1,11 @@
 ghost use Rattle.std.specs.Prelude.{◌≡◌, ◌+◌, ◌<◌, ◌≤◌, length, IsTrue, MatchResult, Ok, Err, Some, IsOk, slice_get, ⊤};
 ghost use Rattle.ss_base.specs.Layout.{mode_of, is_sound};
 ghost use Rattle.ss_records.specs.State.{State, first_state, known_in, known_notice_in, kind_of, modes_of, value_in, time_in, created, created_all, destroyed, assigned, timed, RefusedFor, living_numbers, living_records};
-ghost use Rattle.ss_records.specs.Sets.{first_in, last_in, count_in, next_in, previous_in, owner_of_member, filed_first, filed_last, filed_before, filed_after, removed, Apart};
+ghost use Rattle.ss_records.specs.Sets.{member_class, first_in, last_in, count_in, next_in, previous_in, owner_of_member, filed_first, filed_last, filed_before, filed_after, removed, Apart};
 ghost use Rattle.ss_records.specs.Kept.{IsPermanent};
 
 use crate::records::Records;
+use crate::sets::Member;
 use ss_base::{FaultKind, Layout, Refused, Value};
 use std::alloc::{AllocError, Global};
 use std::marker::Model;
@@ -153,7 +154,7 @@ impl Heap {
         requires set { set < length self.old.state.layout.sets }
         ensures value { result ≡ first_in self.old.state set o }
         ensures same { self.new.state ≡ self.old.state }
-        ensures touches { (self.new.touches ≤ 2) × (IsOk result → 1 ≤ self.new.touches) × (self.new.total ≡ self.old.total + self.new.touches) }
+        ensures touches { (self.new.touches ≤ 1) × (IsOk result → 1 ≤ self.new.touches) × (self.new.total ≡ self.old.total + self.new.touches) }
     {
         self.records.start();
         self.records.first(set, o)
@@ -164,7 +165,7 @@ impl Heap {
         requires set { set < length self.old.state.layout.sets }
         ensures value { result ≡ last_in self.old.state set o }
         ensures same { self.new.state ≡ self.old.state }
-        ensures touches { (self.new.touches ≤ 2) × (IsOk result → 1 ≤ self.new.touches) × (self.new.total ≡ self.old.total + self.new.touches) }
+        ensures touches { (self.new.touches ≤ 1) × (IsOk result → 1 ≤ self.new.touches) × (self.new.total ≡ self.old.total + self.new.touches) }
     {
         self.records.start();
         self.records.last(set, o)
@@ -175,7 +176,7 @@ impl Heap {
         requires set { set < length self.old.state.layout.sets }
         ensures value { result ≡ count_in self.old.state set o }
         ensures same { self.new.state ≡ self.old.state }
-        ensures touches { (self.new.touches ≤ 2) × (IsOk result → 1 ≤ self.new.touches) × (self.new.total ≡ self.old.total + self.new.touches) }
+        ensures touches { (self.new.touches ≤ 1) × (IsOk result → 1 ≤ self.new.touches) × (self.new.total ≡ self.old.total + self.new.touches) }
     {
         self.records.start();
         self.records.count(set, o)
@@ -186,10 +187,23 @@ impl Heap {
         requires set { set < length self.old.state.layout.sets }
         ensures value { result ≡ next_in self.old.state set x }
         ensures same { self.new.state ≡ self.old.state }
-        ensures touches { (self.new.touches ≤ 2) × (IsOk result → 1 ≤ self.new.touches) × (self.new.total ≡ self.old.total + self.new.touches) }
+        ensures touches { (self.new.touches ≤ 1) × (IsOk result → 1 ≤ self.new.touches) × (self.new.total ≡ self.old.total + self.new.touches) }
     {
         self.records.start();
         self.records.next(set, x)
+    }
+
+    /// The value of an attribute of x, of the class of the members of a set, and the member that follows x in its set,
+    /// 0 where there is none or x is in no set: a value and a `next` with one look for x. Faults: 1 to 5.
+    pub fn member(&mut self, set: usize, field: usize, x: i64) -> Result<Member, FaultKind>
+        requires set { set < length self.old.state.layout.sets }
+        requires field { field < length (modes_of self.old.state.layout (member_class self.old.state.layout set)) }
+        ensures found { MatchResult result (λ m. (value_in self.old.state (member_class self.old.state.layout set) field x ≡ Ok m.value) × (next_in self.old.state set x ≡ Ok m.next)) (λ e. next_in self.old.state set x ≡ Err e) }
+        ensures same { self.new.state ≡ self.old.state }
+        ensures touches { (self.new.touches ≤ 1) × (IsOk result → 1 ≤ self.new.touches) × (self.new.total ≡ self.old.total + self.new.touches) }
+    {
+        self.records.start();
+        self.records.member(set, field, x)
     }
 
     /// The member that precedes x in its set, 0 where there is none or x is in no set. Faults: 1 to 5.
@@ -197,7 +211,7 @@ impl Heap {
         requires set { set < length self.old.state.layout.sets }
         ensures value { result ≡ previous_in self.old.state set x }
         ensures same { self.new.state ≡ self.old.state }
-        ensures touches { (self.new.touches ≤ 2) × (IsOk result → 1 ≤ self.new.touches) × (self.new.total ≡ self.old.total + self.new.touches) }
+        ensures touches { (self.new.touches ≤ 1) × (IsOk result → 1 ≤ self.new.touches) × (self.new.total ≡ self.old.total + self.new.touches) }
     {
         self.records.start();
         self.records.previous(set, x)

@@ -24,3 +24,4 @@ pub use commands::{
     filing_leaves_the_records, other_calls_leave_the_sets,
 };
 pub use heap::Heap;
+pub use sets::Member;

@@ -1,13 +1,23 @@
 // The sets: their ends, the neighbours of a member, and its owner.
 ghost use Rattle.std.specs.Prelude.{◌≡◌, ℕ, ◌+◌, ◌^◌, ◌<◌, ◌≤◌, length, MatchResult, IsOk, Ok, Err};
-ghost use Rattle.ss_records.specs.State.{State, is_filed};
-ghost use Rattle.ss_records.specs.Sets.{joiner, owner, first_in, last_in, count_in, next_in, previous_in, owner_of_member, Apart};
+ghost use Rattle.ss_records.specs.State.{State, is_filed, modes_of, value_in};
+ghost use Rattle.ss_records.specs.Sets.{joiner, owner, member_class, first_in, last_in, count_in, next_in, previous_in, owner_of_member, Apart};
 ghost use Rattle.ss_records.specs.Parts.{IsKept, state, Owns, Joins};
 
 use crate::links::Entry;
 use crate::records::Records;
-use crate::shape::NUMBER;
-use ss_base::{FaultKind, Owner};
+use crate::shape::{NUMBER, VALUES};
+use crate::words;
+use ss_base::{FaultKind, Owner, Value};
+
+/// What is read of a member of a set at once.
+#[derive(Clone, Copy, Debug)]
+pub struct Member {
+    /// The value of one of its attributes.
+    pub value: Value,
+    /// The member that follows it, 0 where there is none.
+    pub next: i64,
+}
 
 impl Records {
     /// What holds of the sets.
@@ -144,6 +154,34 @@ impl Records {
                 let base = self.layout.member_base(s);
                 let next = self.blocks.follow(member.place, base);
                 Ok(other_than(next.number, member.number) as i64)
+            }
+            Err(fault) => Err(fault),
+        }
+    }
+
+    /// The value of an attribute of x and the member that follows it in its set, 0 where there is none: a touch.
+    pub(crate) fn member(&mut self, s: usize, field: usize, x: i64) -> Result<Member, FaultKind>
+        requires kept { IsKept self.old }
+        requires set { s < length self.old.layout.sets }
+        requires field { field < length (modes_of self.old.layout (member_class self.old.layout s)) }
+        requires touches { self.old.blocks.touches ≡ 0 }
+        ensures found { MatchResult result (λ m. (value_in (state self.old) (member_class self.old.layout s) field x ≡ Ok m.value) × (next_in (state self.old) s x ≡ Ok m.next)) (λ e. next_in (state self.old) s x ≡ Err e) }
+        ensures kept { IsKept self.new }
+        ensures same { state self.new ≡ state self.old }
+        ensures touches { (self.new.blocks.touches ≤ 1) × (IsOk result → 1 ≤ self.new.blocks.touches) × (self.new.blocks.total ≡ self.old.blocks.total + self.new.blocks.touches) }
+    {
+        let class = self.layout.member_class(s);
+        match self.find(class, x) {
+            Ok(place) => {
+                let number = self.blocks.number(place, NUMBER);
+                let mode = self.layout.mode(class, field);
+                let word = self.blocks.number(place, VALUES + field);
+                let base = self.layout.member_base(s);
+                let next = self.blocks.follow(place, base);
+                Ok(Member {
+                    value: words::value_in(mode, word),
+                    next: other_than(next.number, number) as i64,
+                })
             }
             Err(fault) => Err(fault),
         }

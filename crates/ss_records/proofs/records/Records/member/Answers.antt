@@ -1,0 +1,55 @@
+use Rattle.std.proofs.Common.{◌<◌, length, ap, sym, subst, ◌∙◌, Ok, pos, arith}
+use Rattle.std.proofs.lemmas.Int.{ints, to_z-of_z}
+use Rattle.ss_base.specs.declared.layout.SetLayout.{SetLayout}
+use Rattle.ss_records.specs.State.{and_then, modes_of, value_in}
+use Rattle.ss_records.specs.Sets.{member_in, companions, follower}
+use Rattle.ss_records.specs.Parts.{state, places}
+use Rattle.ss_records.proofs.Assigns.{value_number, is_value}
+use Rattle.ss_records.proofs.Looks.{next_leads, next_fits, next_is}
+use Rattle.ss_records.proofs.Owning.{has_number, joins_found, not_joiner, kind_is}
+use Rattle.ss_records.proofs.records.Records.member.Goals as goal
+
+pub number-number-requires : goal.number-number-requires
+number-number-requires c = has_number c.args.self.now c.requires.kept c.member_class-class.result _ c.in-Ok.place c.in-Ok.ensures.found
+
+pub mode-mode-requires-clause-field : goal.mode-mode-requires-clause-field
+mode-mode-requires-clause-field c =
+    let r = c.args.self.now in
+    let k = kind_is r.layout c.args.s (λ (t : SetLayout). t.member) c.member_class-class.result c.requires.set c.member_class-class.ensures.is in
+    subst (λ b. c.args.field < length (modes_of r.layout b)) (ap member_in k.1 ∙ k.2) c.requires.field
+
+pub number-word-requires : goal.number-word-requires
+number-word-requires c =
+    let r = c.args.self.now in let f = c.in-Ok.ensures.found in
+    value_number r.layout r.blocks.cells r.system.at (places r) r.notes.lists c.requires.kept f.index c.in-Ok.place f.entry c.member_class-class.result f.class _ f.is f.entity c.args.field c.mode-mode.result c.mode-mode.ensures
+
+pub follow-next-requires-clause-leads : goal.follow-next-requires-clause-leads
+follow-next-requires-clause-leads c =
+    let r = c.args.self.now in
+    let k = kind_is r.layout c.args.s (λ (t : SetLayout). t.member) c.member_class-class.result c.requires.set c.member_class-class.ensures.is in
+    let j = joins_found r c.requires.kept c.member_class-class.result _ c.in-Ok.place c.in-Ok.ensures.found c.number-number.result c.number-number.ensures c.args.s (ap member_in k.1 ∙ k.2) in
+    next_leads r c.requires.kept c.args.s c.requires.set (record { place = c.in-Ok.place; number = c.number-number.result }) j.0 c.member_base-base.result c.member_base-base.ensures.at
+
+pub overflow_cast-result : goal.overflow_cast-result
+overflow_cast-result c =
+    let r = c.args.self.now in
+    let k = kind_is r.layout c.args.s (λ (t : SetLayout). t.member) c.member_class-class.result c.requires.set c.member_class-class.ensures.is in
+    let j = joins_found r c.requires.kept c.member_class-class.result _ c.in-Ok.place c.in-Ok.ensures.found c.number-number.result c.number-number.ensures c.args.s (ap member_in k.1 ∙ k.2) in
+    let h = next_fits r c.requires.kept c.args.s c.requires.set (record { place = c.in-Ok.place; number = c.number-number.result }) j.0 c.member_base-base.result c.member_base-base.ensures.at c.follow-next.result c.follow-next.ensures.word c.follow-next.ensures.there c.other_than.result c.other_than.ensures.same c.other_than.ensures.other in
+    omega (arith, ints, h)
+
+pub returns-in-Ok-clause-found : goal.returns-in-Ok-clause-found
+returns-in-Ok-clause-found c =
+    let r = c.args.self.now in let fits = c.ranges.x in let f = simp to_z-of_z at c.in-Ok.ensures.found in
+    let k = kind_is r.layout c.args.s (λ (t : SetLayout). t.member) c.member_class-class.result c.requires.set c.member_class-class.ensures.is in
+    let e = ap member_in k.1 ∙ k.2 in
+    let j = joins_found r c.requires.kept c.member_class-class.result c.args.x c.in-Ok.place f c.number-number.result c.number-number.ensures c.args.s e in
+    let v = is_value r.layout r.blocks.cells r.system.at (places r) r.notes.lists c.requires.kept f.index c.in-Ok.place f.entry c.member_class-class.result f.class c.args.x f.is f.entity c.args.field c.mode-mode.result c.mode-mode.ensures c.number-word.result c.number-word.ensures in
+    let n = next_is r c.requires.kept c.args.s c.requires.set (record { place = c.in-Ok.place; number = c.number-number.result }) j.0 c.member_base-base.result c.member_base-base.ensures.at c.follow-next.result c.follow-next.ensures.word c.follow-next.ensures.there c.args.x c.other_than.result j.1 c.other_than.ensures.same c.other_than.ensures.other in
+    (ap (λ b. value_in (state r) b c.args.field c.args.x) e ∙ v ∙ ap Ok (sym c.value_in.ensures), sym n)
+
+pub returns-in-Err-clause-found : goal.returns-in-Err-clause-found
+returns-in-Err-clause-found c =
+    let r = c.args.self.now in let fits = c.ranges.x in let f = simp to_z-of_z at c.in-Err.ensures.found in
+    let k = kind_is r.layout c.args.s (λ (t : SetLayout). t.member) c.member_class-class.result c.requires.set c.member_class-class.ensures.is in
+    ap (λ z. and_then z (λ n. Ok (pos (follower n (companions r.notes.lists c.args.s n))))) (not_joiner (state r) c.args.s c.member_class-class.result c.args.x c.in-Err.fault (ap member_in k.1 ∙ k.2) f)
