@@ -1,12 +1,18 @@
 -- Walking along a set from member to member.
-use Rattle.std.proofs.Common.{◌≡◌, ℕ, Bool, zero, suc, ◌<◌, true, false, List, [], ◌∷◌, length, cond, ◌==◌, Some, None, Ok, Err, inl, inr, refl, sym, ap, subst, ◌∙◌}
+use Rattle.std.proofs.Common.{◌≡◌, ℕ, Bool, zero, suc, ◌<◌, true, false, List, [], ◌∷◌, length, cond, not, arith, ◌==◌, Some, None, Ok, Err, inl, inr, refl, sym, ap, subst, ◌∙◌}
 use Rattle.std.specs.Prelude.{ℤ, pos, Option, Result, IsOk}
 use Rattle.ss_base.specs.declared.fault.FaultKind.{FaultKind}
 use Rattle.ss_base.specs.declared.layout.RankKey.{RankKey}
-use Rattle.ss_records.specs.State.{State, and_then, members_of, number_in}
+use Rattle.std.specs.declared.cmp.Ordering.{Ordering}
+use Rattle.std.specs.Ordering.{match_ordering}
+use Rattle.ss_base.specs.Order.{value_cmp}
+use Rattle.ss_base.specs.declared.value.Value.{Value}
+use Rattle.ss_records.specs.State.{State, and_then, members_of, number_in, value_in, modes_of}
 use Rattle.ss_records.specs.Lists.{head0, In, NotIn, Distinct}
-use Rattle.ss_records.specs.Sets.{joiner, owner, follower, members_by, companions, first_in, next_in, Apart}
-use Rattle.ss_sets.specs.Disciplines.{ranks_after, passed, owned_by, owned}
+use Rattle.ss_records.specs.Sets.{joiner, owner, member_class, follower, members_by, companions, first_in, next_in, Apart}
+use Rattle.std.proofs.lemmas.List.Elements.{All-head, All-tail}
+use Rattle.ss_base.specs.declared.layout.Layout.{Layout}
+use Rattle.ss_sets.specs.Disciplines.{AreFields, value_of, value_or_zero, ranks_after, passed, owned_by, owned}
 use Rattle.ss_sets.specs.Walks.{first_after, as_member}
 use Rattle.ss_sets.proofs.Same.{same, differs, by_same}
 use Rattle.ss_sets.proofs.Members.{stopped}
@@ -135,7 +141,67 @@ not_found st s o e h = stopped (owner st s o) (λ n. pos (head0 (members_of st.l
 pub as_ranked : (b : Bool) (s st : State) (n class : ℕ) (ks : List RankKey) (v w x : ℤ) → b ≡ ranks_after s n ks v x → s ≡ st → n ≡ class → v ≡ w → ranks_after st class ks w x ≡ b
 as_ranked b s st n class ks v w x h a d e = sym (h ∙ ap (λ (t : State). ranks_after t n ks v x) a ∙ ap (λ k. ranks_after st k ks v x) d ∙ ap (λ (u : ℤ). ranks_after st class ks u x) e)
 
--- what the next look tells
-pub next_at : (s st : State) (set : ℕ) (v w n : ℤ) (r : Result (Option ℤ) FaultKind) → r ≡ and_then (next_in s set v) (λ z. Ok (as_member z)) → s ≡ st → v ≡ w → next_in st set w ≡ Ok n → r ≡ Ok (as_member n)
-next_at s st set v w n r h a e k =
-    h ∙ ap (λ (t : State). and_then (next_in t set v) (λ z. Ok (as_member z))) a ∙ ap (λ (u : ℤ). and_then (next_in st set u) (λ z. Ok (as_member z))) e ∙ ap (λ (q : Result ℤ FaultKind). and_then q (λ z. Ok (as_member z))) k
+-- a rank by the value of a first key, as it stands at first
+pub as_ranked_by : (b : Bool) (t s st : State) (set n : ℕ) (k : RankKey) (ks : List RankKey) (v w x : ℤ) (o : Ordering) (its own : Value) → b ≡ match_ordering o k.high (ranks_after t n ks v x) (not k.high) → o ≡ value_cmp its own → value_in s (member_class s.layout set) k.field v ≡ Ok its → own ≡ value_of st n k.field x → t ≡ s → s ≡ st → n ≡ member_class st.layout set → v ≡ w → ranks_after st (member_class st.layout set) (k ∷ ks) w x ≡ b
+as_ranked_by b t s st set n k ks v w x o its own h order its_is own_is a a2 d e =
+    let class = member_class st.layout set in
+    let there : value_in st class k.field v ≡ Ok its = subst (λ (u : State). value_in u (member_class u.layout set) k.field v ≡ Ok its) a2 its_is in
+    let first : value_of st class k.field w ≡ its = ap (λ (u : ℤ). value_of st class k.field u) (sym e) ∙ ap value_or_zero there in
+    let second : value_of st class k.field x ≡ own = sym (own_is ∙ ap (λ m. value_of st m k.field x) d) in
+    let others : ranks_after st class ks w x ≡ ranks_after t n ks v x = as_ranked _ t st n class ks v w x refl (a ∙ a2) d e in
+    ap (λ (u : Value). match_ordering (value_cmp u (value_of st class k.field x)) k.high (ranks_after st class ks w x) (not k.high)) first
+    ∙ ap (λ (u : Value). match_ordering (value_cmp its u) k.high (ranks_after st class ks w x) (not k.high)) second
+    ∙ ap (λ r. match_ordering (value_cmp its own) k.high r (not k.high)) others
+    ∙ ap (λ (q : Ordering). match_ordering q k.high (ranks_after t n ks v x) (not k.high)) (sym order)
+    ∙ sym h
+
+-- the number of the member behind the one that was read
+pub next_number : (s st : State) (set : ℕ) (v w n m : ℤ) → next_in s set v ≡ Ok n → s ≡ st → v ≡ w → next_in st set w ≡ Ok m → n ≡ m
+next_number s st set v w n m h a e k =
+    let q : Ok n ≡ Ok m = sym h ∙ ap (λ (t : State). next_in t set v) a ∙ ap (λ (u : ℤ). next_in st set u) e ∙ k in cc
+
+-- a member that is there is found
+pub never_lost : (s st : State) (set : ℕ) (v w m : ℤ) (e : FaultKind) → next_in s set v ≡ Err e → s ≡ st → v ≡ w → next_in st set w ≡ Ok m → ⊥
+never_lost s st set v w m e h a q k =
+    let z : Err e ≡ Ok m = sym h ∙ ap (λ (t : State). next_in t set v) a ∙ ap (λ (u : ℤ). next_in st set u) q ∙ k in cc
+
+-- without a key none ranks after
+pub none_after : (st : State) (c : ℕ) (ks : List RankKey) (x : ℤ) (l : List ℕ) → length ks ≡ 0 → first_after st c ks x l ≡ None
+none_after st c [] x [] h = refl
+none_after st c [] x (y ∷ ys) h = none_after st c [] x ys h
+none_after st c (k ∷ ks) x l h = absurd (omega arith)
+
+-- the first of some keys is a field, and so are the others
+pub first_field : (l : Layout) (set n : ℕ) (k : RankKey) (ks : List RankKey) → n ≡ member_class l set → AreFields l (member_class l set) (k ∷ ks) → k.field < length (modes_of l n)
+first_field l set n k ks e h = subst (λ m. k.field < length (modes_of l m)) (sym e) (All-head (λ (q : RankKey). q.field < length (modes_of l (member_class l set))) k ks h)
+
+pub other_fields : (l : Layout) (set n : ℕ) (k : RankKey) (ks : List RankKey) → n ≡ member_class l set → AreFields l (member_class l set) (k ∷ ks) → AreFields l n ks
+other_fields l set n k ks e h = subst (λ m. AreFields l m ks) (sym e) (All-tail (λ (q : RankKey). q.field < length (modes_of l (member_class l set))) k ks h)
+
+-- what a look at the member at hand told: which members stand from it on, its next one, and whether it ranks after x
+pub record Looked (st : State) (set : ℕ) (o x : ℤ) (ks : List RankKey) (member : Option ℤ) (y next : ℤ) (b : Bool) : Type 0 where
+  pub z : ℕ
+  pub zs : List ℕ
+  pub rest : onward member (owned st set o) ≡ z ∷ zs
+  pub is : y ≡ pos z
+  pub leads : as_member next ≡ leader zs
+  pub behind : onward (as_member next) (owned st set o) ≡ zs
+  pub ranks : ranks_after st (member_class st.layout set) ks (pos z) x ≡ b
+
+pub looked : (st : State) (A : Apart st) (set : ℕ) (inside : set < length st.layout.sets) (o x : ℤ) (k : RankKey) (ks : List RankKey) (member : Option ℤ) (y v : ℤ) → member ≡ Some y → member ≡ leader (onward member (owned st set o)) → v ≡ y
+    → (s t : State) → s ≡ st → t ≡ s → (n : ℕ) → n ≡ member_class st.layout set → (its own : Value) (next : ℤ) → value_in s (member_class s.layout set) k.field v ≡ Ok its → next_in s set v ≡ Ok next → own ≡ value_of st n k.field x
+    → (order : Ordering) (b : Bool) → order ≡ value_cmp its own → b ≡ match_ordering order k.high (ranks_after t n ks v x) (not k.high) → Looked st set o x (k ∷ ks) member y next b
+looked st A set inside o x k ks member y v is here hand s t same kept n class its own next value behind own_is order b ordered told =
+    let a = at_hand (owned st set o) member y is here in
+    let it = next_is st A set inside o a.0 a.1 a.4 in
+    let number = next_number s st set v (pos a.0) next (pos (head0 a.1)) behind same (hand ∙ a.3) it in
+    let leads = ap as_member number ∙ next_leads st A set inside o a.0 a.1 a.4 in
+    record {
+      z = a.0;
+      zs = a.1;
+      rest = a.2;
+      is = a.3;
+      leads = leads;
+      behind = ap (λ m. onward m (owned st set o)) leads ∙ rest_is st A set inside o a.0 a.1 a.4;
+      ranks = as_ranked_by b t s st set n k ks v (pos a.0) x order its own told ordered value own_is kept same class (hand ∙ a.3);
+    }

@@ -1,7 +1,8 @@
 // Filing by discipline.
-ghost use Rattle.std.specs.Prelude.{◌≡◌, ◌+◌, ◌*◌, ◌<◌, ◌≤◌, length, IsOk, MatchResult, Ok, Err};
+ghost use Rattle.std.specs.Prelude.{◌≡◌, ◌+◌, ◌<◌, ◌≤◌, ◌∷◌, not, length, IsOk, MatchResult, Ok, Err};
+ghost use Rattle.std.specs.Ordering.{match_ordering};
 ghost use Rattle.ss_records.specs.State.{and_then, modes_of};
-ghost use Rattle.ss_records.specs.Sets.{owner, member_class, first_in, next_in};
+ghost use Rattle.ss_records.specs.Sets.{owner, member_class, first_in};
 ghost use Rattle.ss_sets.specs.Disciplines.{value_of, ranks_after, passed, passed_by, owned, filed_ranked, filed, AreFields, Fits};
 ghost use Rattle.ss_sets.specs.Walks.{first_after, as_member, filed_at};
 
@@ -23,7 +24,7 @@ pub fn file(
     requires set { set < length heap.old.state.layout.sets }
     requires keys { Fits heap.old.state.layout set discipline.now }
     ensures done { MatchResult result (λ _. filed heap.old.state discipline.now set o x ≡ Ok heap.new.state) (λ e. (filed heap.old.state discipline.now set o x ≡ Err e) × (heap.new.state ≡ heap.old.state)) }
-    ensures touches { (heap.old.total ≤ heap.new.total) × (heap.new.total ≤ heap.old.total + 16 + 2 * passed_by heap.old.state discipline.now set o x) }
+    ensures touches { (heap.old.total ≤ heap.new.total) × (heap.new.total ≤ heap.old.total + 16 + passed_by heap.old.state discipline.now set o x) }
     ensures least { IsOk result → heap.old.total + 4 ≤ heap.new.total }
 {
     match discipline {
@@ -44,7 +45,7 @@ fn file_ranked(
     requires set { set < length heap.old.state.layout.sets }
     requires keys { AreFields heap.old.state.layout (member_class heap.old.state.layout set) keys.now }
     ensures done { MatchResult result (λ _. filed_ranked heap.old.state keys.now set o x ≡ Ok heap.new.state) (λ e. (filed_ranked heap.old.state keys.now set o x ≡ Err e) × (heap.new.state ≡ heap.old.state)) }
-    ensures touches { (heap.old.total ≤ heap.new.total) × (heap.new.total ≤ heap.old.total + 16 + 2 * passed heap.old.state (member_class heap.old.state.layout set) keys.now x (owned heap.old.state set o)) }
+    ensures touches { (heap.old.total ≤ heap.new.total) × (heap.new.total ≤ heap.old.total + 16 + passed heap.old.state (member_class heap.old.state.layout set) keys.now x (owned heap.old.state set o)) }
     ensures least { IsOk result → heap.old.total + 4 ≤ heap.new.total }
 {
     heap.sets_are_apart();
@@ -70,8 +71,8 @@ fn file_at(heap: &mut Heap, set: usize, o: i64, x: i64, place: Option<i64>) -> R
     }
 }
 
-// The first member that ranks strictly after x, if any: two touches for each member that x passes. Faults: those of
-// the owner.
+// The first member that ranks strictly after x, if any: a touch for each member that x passes. Faults: those of the
+// owner.
 fn first_after(
     heap: &mut Heap,
     keys: &[RankKey],
@@ -83,22 +84,50 @@ fn first_after(
     requires keys { AreFields heap.old.state.layout (member_class heap.old.state.layout set) keys.now }
     ensures found { MatchResult result (λ y. IsOk (owner heap.old.state set o) × (y ≡ first_after heap.old.state (member_class heap.old.state.layout set) keys.now x (owned heap.old.state set o))) (λ e. owner heap.old.state set o ≡ Err e) }
     ensures same { heap.new.state ≡ heap.old.state }
-    ensures touches { (heap.old.total ≤ heap.new.total) × (heap.new.total ≤ heap.old.total + 2 + 2 * passed heap.old.state (member_class heap.old.state.layout set) keys.now x (owned heap.old.state set o)) }
+    ensures touches { (heap.old.total ≤ heap.new.total) × (heap.new.total ≤ heap.old.total + 2 + passed heap.old.state (member_class heap.old.state.layout set) keys.now x (owned heap.old.state set o)) }
+{
+    match keys.split_first() {
+        Some((key, others)) => first_after_by(heap, *key, others, set, o, x),
+        None => match first_member(heap, set, o) {
+            Ok(_) => Ok(None),
+            Err(fault) => Err(fault),
+        },
+    }
+}
+
+// The same by a key that counts most and the others. The value of x for that key is read once, and that of each member
+// with the member behind it.
+fn first_after_by(
+    heap: &mut Heap,
+    key: RankKey,
+    others: &[RankKey],
+    set: usize,
+    o: i64,
+    x: i64,
+) -> Result<Option<i64>, FaultKind>
+    requires set { set < length heap.old.state.layout.sets }
+    requires keys { AreFields heap.old.state.layout (member_class heap.old.state.layout set) (key ∷ others.now) }
+    ensures found { MatchResult result (λ y. IsOk (owner heap.old.state set o) × (y ≡ first_after heap.old.state (member_class heap.old.state.layout set) (key ∷ others.now) x (owned heap.old.state set o))) (λ e. owner heap.old.state set o ≡ Err e) }
+    ensures same { heap.new.state ≡ heap.old.state }
+    ensures touches { (heap.old.total ≤ heap.new.total) × (heap.new.total ≤ heap.old.total + 2 + passed heap.old.state (member_class heap.old.state.layout set) (key ∷ others.now) x (owned heap.old.state set o)) }
 {
     heap.sets_are_apart();
     let class = class_of(heap, set);
+    let own = value(heap, class, key.field, x);
     let mut member = match first_member(heap, set, o) {
         Ok(first) => first,
         Err(fault) => return Err(fault),
     };
     while let Some(y) = member {
-        if ranks_after(heap, keys, class, y, x) {
-            return Ok(Some(y));
-        }
-        member = match next_member(heap, set, y) {
-            Ok(next) => next,
+        let its = match heap.member(set, key.field, y) {
+            Ok(its) => its,
             Err(fault) => return Err(fault),
         };
+        let order = its.value.cmp(&own);
+        if ranks_after_by(heap, order, key.high, others, class, y, x) {
+            return Ok(Some(y));
+        }
+        member = as_member(its.next);
     }
     Ok(None)
 }
@@ -117,23 +146,10 @@ fn first_member(heap: &mut Heap, set: usize, o: i64) -> Result<Option<i64>, Faul
     requires set { set < length heap.old.state.layout.sets }
     ensures first { result ≡ and_then (first_in heap.old.state set o) (λ y. Ok (as_member y)) }
     ensures same { heap.new.state ≡ heap.old.state }
-    ensures touches { (heap.old.total ≤ heap.new.total) × (heap.new.total ≤ heap.old.total + 2) }
+    ensures touches { (heap.old.total ≤ heap.new.total) × (heap.new.total ≤ heap.old.total + 1) }
 {
     match heap.first(set, o) {
         Ok(first) => Ok(as_member(first)),
-        Err(fault) => Err(fault),
-    }
-}
-
-// The member that follows y, if any.
-fn next_member(heap: &mut Heap, set: usize, y: i64) -> Result<Option<i64>, FaultKind>
-    requires set { set < length heap.old.state.layout.sets }
-    ensures next { result ≡ and_then (next_in heap.old.state set y) (λ z. Ok (as_member z)) }
-    ensures same { heap.new.state ≡ heap.old.state }
-    ensures touches { (heap.old.total ≤ heap.new.total) × (heap.new.total ≤ heap.old.total + 2) }
-{
-    match heap.next(set, y) {
-        Ok(next) => Ok(as_member(next)),
         Err(fault) => Err(fault),
     }
 }
@@ -143,6 +159,27 @@ fn as_member(number: i64) -> Option<i64>
     ensures { result ≡ as_member number }
 {
     if number == 0 { None } else { Some(number) }
+}
+
+// Whether y ranks strictly after x: by the order of the two in a key, high or low, and where they tie in it by the first
+// of the others in which they differ.
+fn ranks_after_by(
+    heap: &Heap,
+    order: Ordering,
+    high: bool,
+    others: &[RankKey],
+    class: usize,
+    y: i64,
+    x: i64,
+) -> bool
+    requires keys { AreFields heap.now.state.layout class others.now }
+    ensures { result ≡ match_ordering order high (ranks_after heap.now.state class others.now y x) (not high) }
+{
+    match order {
+        Ordering::Less => high,
+        Ordering::Greater => !high,
+        Ordering::Equal => ranks_after(heap, others, class, y, x),
+    }
 }
 
 // Whether y ranks strictly after x: by the first key in which they differ.
