@@ -8,9 +8,8 @@ ghost use Rattle.ss_events.specs.PendingList.{FitsClass};
 mod heap;
 mod order;
 
-pub use heap::Heap;
-
 use crate::key::{Tie, TieShape, fits_class};
+pub use heap::Heap;
 use std::alloc::{AllocError, Global};
 use std::marker::Model;
 

@@ -1,4 +1,4 @@
-use Rattle.std.proofs.Common.{rules, ◌≡◌, List, ◌∷◌, length, Ok, Err, sym, subst, w64, to_z, of_z, ℤ}
+use Rattle.std.proofs.Common.{rules, ◌≡◌, List, length, Ok, Err, sym, subst, w64, to_z, of_z, ℤ}
 use Rattle.std.specs.Prelude.{IsOk}
 use Rattle.ss_base.specs.declared.layout.RankKey.{RankKey}
 use Rattle.ss_records.specs.State.{and_then}

@@ -5,9 +5,9 @@ use Rattle.ss_base.specs.declared.layout.Layout.{Layout}
 use Rattle.ss_records.specs.State.{State, and_then, modes_of}
 use Rattle.ss_records.specs.Lists.{head0}
 use Rattle.ss_records.specs.Sets.{owner, first_in, member_class}
-use Rattle.ss_sets.specs.Disciplines.{ranks_after, passed, owned, AreFields}
+use Rattle.ss_sets.specs.Disciplines.{passed, owned, AreFields}
 use Rattle.ss_sets.specs.Walks.{first_after, as_member}
-use Rattle.ss_sets.proofs.Walking.{onward, leader, onward_all, first_leads, at_hand, next_is, next_leads, rest_is, stops, passes, found_first, not_found, Looked, looked, never_lost, first_field, other_fields}
+use Rattle.ss_sets.proofs.Walking.{onward, leader, onward_all, first_leads, at_hand, next_is, stops, passes, found_first, not_found, Looked, looked, never_lost, first_field, other_fields}
 use Rattle.ss_sets.proofs.ranking.first_after_by.Goals as goal
 
 pub value-own-requires : goal.value-own-requires
@@ -42,9 +42,9 @@ member-requires-clause-field c =
 
 pub ranks_after_by-requires : goal.ranks_after_by-requires
 ranks_after_by-requires c = record {
-    keys = subst (λ (l : Layout). AreFields l c.class_of-class.result c.args.others.now) (ap (λ (t : State). t.layout) (sym (c.in-Ok-member.ensures.same ∙ c.loop-member.invariant.same)))
-        (other_fields c.args.heap.now.state.layout c.args.set c.class_of-class.result c.args.key c.args.others.now c.class_of-class.ensures c.requires.keys);
-  }
+  keys = subst (λ (l : Layout). AreFields l c.class_of-class.result c.args.others.now) (ap (λ (t : State). t.layout) (sym (c.in-Ok-member.ensures.same ∙ c.loop-member.invariant.same)))
+      (other_fields c.args.heap.now.state.layout c.args.set c.class_of-class.result c.args.key c.args.others.now c.class_of-class.ensures c.requires.keys);
+}
 
 pub returns-then-ranks_after_by-clause-found : goal.returns-then-ranks_after_by-clause-found
 returns-then-ranks_after_by-clause-found c =
