@@ -6,6 +6,67 @@ use std::test::Fail;
 
 const ANSWER: &[u8] = b"MAIN\nPRINT 1 LINE WITH 6*7 THUS\nANSWER ***\nEND";
 
+const ANSWER_LISTING: &[u8] = b"0       push         6\n\
+1       push         7\n\
+2       calculate    times, line 2\n\
+3       print        pictures 0, values 1\n\
+4       leave\n";
+
+// The model that the manual lists, and its listing there.
+const BELL: &[u8] = b"PREAMBLE\n\
+NORMALLY, MODE IS INTEGER\n\
+EVENT NOTICES INCLUDE BELL\n\
+END\n\
+MAIN\n\
+FOR I = 1 TO 3 DO\n\
+IF I GT 1\n\
+CALL SHOW GIVING I * 10\n\
+ALWAYS\n\
+LOOP\n\
+SCHEDULE A BELL AT 5\n\
+START SIMULATION\n\
+END\n\
+ROUTINE SHOW GIVEN N\n\
+PRINT 1 LINE WITH N THUS\n\
+COUNT **\n\
+END\n\
+EVENT BELL\n\
+PRINT 1 LINE WITH \"TIME\", TIME.V THUS\n\
+**** *\n\
+END\n";
+
+const BELL_LISTING: &[u8] = b"0       push         1\n\
+1       push         3\n\
+2       push         1\n\
+3       begin        else to 14, line 6\n\
+4       take         local 0, line 6\n\
+5       fetch        local 0\n\
+6       push         1\n\
+7       compare      greater, else to 13\n\
+8       fetch        local 0\n\
+9       push         10\n\
+10      calculate    times, line 8\n\
+11      call         routine 0 at 24, given 1, yielding 0\n\
+12      jump         to 13\n\
+13      next         to 4\n\
+14      forget       values 3\n\
+15      push         5\n\
+16      when         at, line 11\n\
+17      make notice  class 0, given 0, line 11\n\
+18      name         global 0, line 11\n\
+19      file notice  class 0, line 11\n\
+20      await        else to 23\n\
+21      take event   to 27\n\
+22      next event   to 21\n\
+23      leave\n\
+24      fetch        local 0\n\
+25      print        pictures 0, values 1\n\
+26      leave\n\
+27      push         \"TIME\"\n\
+28      clock\n\
+29      print        pictures 1, values 2\n\
+30      leave\n";
+
 // Two numbers that are read, each printed.
 const TWO_WORDS: &[u8] =
     b"PREAMBLE NORMALLY, MODE IS INTEGER END\nMAIN\nREAD X PRINT 1 LINE WITH X THUS\n*\nREAD X PRINT 1 LINE WITH X THUS\n*\nEND";
@@ -13,18 +74,20 @@ const TWO_WORDS: &[u8] =
 const ENDED: Outcome = Outcome::Stopped(Stop::Ended, 0);
 
 #[test]
-fn a_line_for_each_instruction(rt: HostRuntime) -> Result<(), Fail> {
+fn the_listing_of_a_print(rt: HostRuntime) -> Result<(), Fail> {
     let alloc = rt.alloc();
     let model = compile(alloc, ANSWER).expect(&rt, "a model");
     let listing = model.listing(alloc)?;
-    assert!(rt; listing.starts_with(b"0 "));
-    let lines = listing.iter().filter(|byte| **byte == b'\n').count();
-    let numbered = listing
-        .split(|byte| *byte == b'\n')
-        .zip(b'0'..=b'9')
-        .filter(|(line, digit)| line.starts_with(&[*digit, b' ']))
-        .count();
-    assert_eq!(rt; lines, numbered);
+    assert!(rt; listing.as_slice() == ANSWER_LISTING);
+    Ok(())
+}
+
+#[test]
+fn the_listing_of_the_manual(rt: HostRuntime) -> Result<(), Fail> {
+    let alloc = rt.alloc();
+    let model = compile(alloc, BELL).expect(&rt, "a model");
+    let listing = model.listing(alloc)?;
+    assert!(rt; listing.as_slice() == BELL_LISTING);
     Ok(())
 }
 

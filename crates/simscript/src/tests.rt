@@ -248,7 +248,10 @@ fn help_and_listings_are_printed(rt: HostRuntime) {
     let runs: [(&[&str], &[u8]); 3] = [
         (&["simscript", "--help"], b"Compiles and runs models"),
         (&["simscript", "run", "--help"], b"Runs a model"),
-        (&["simscript", "list", "answer"], b"0 "),
+        (
+            &["simscript", "list", "answer"],
+            b"0       push         6\n1       push         7\n2       calculate    times, line 2\n3       print        pictures 0, values 1\n4       leave\n",
+        ),
     ];
     for (words, start) in runs {
         let mut output = Vec::new(rt.alloc());

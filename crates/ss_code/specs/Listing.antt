@@ -1,67 +1,21 @@
 -- The text that shows a list of instructions.
-use Rattle.std.specs.Prelude.{ℕ, ◌+◌, List, [], ◌∷◌, ◌++◌, codes, decimal}
+use Rattle.std.specs.Prelude.{ℕ, ◌+◌, List, [], ◌∷◌, ◌++◌, map, codes, decimal}
+use Rattle.ss_machine_code.specs.Machine.{Entry, Code}
 use Rattle.ss_machine_code.specs.declared.instruction.Instruction.{Instruction}
-use Rattle.ss_machine_code.specs.declared.instruction.Instruction.TheVariants as i
+use Rattle.ss_code.specs.declared.operand.Operand.{Operand}
+use Rattle.ss_code.specs.declared.operand.Operand.TheVariants.{To}
+use Rattle.ss_code.specs.Details.{padded, detail}
 
--- what an instruction is called
-abbrev pub name_of : Instruction → List ℕ
-name_of (i.Push value) = codes "push"
-name_of (i.Fetch variable) = codes "fetch"
-name_of (i.Calculate operator line) = codes "calculate"
-name_of (i.Signed sign line) = codes "signed"
-name_of (i.Absolute line) = codes "absolute"
-name_of (i.Attribute class field line) = codes "attribute"
-name_of (i.OfSet query set system line) = codes "of set"
-name_of (i.OfMember query set line) = codes "of member"
-name_of i.Clock = codes "clock"
-name_of (i.TimeOf line) = codes "time of"
-name_of (i.Figure fold statistic system line) = codes "figure"
-name_of (i.Compare relation skip) = codes "compare"
-name_of (i.TestData negated skip line) = codes "test data"
-name_of (i.TestEmpty negated set system skip line) = codes "test empty"
-name_of (i.TestMember negated set system skip line) = codes "test member"
-name_of (i.Jump skip) = codes "jump"
-name_of (i.LookEntity class line) = codes "look entity"
-name_of (i.LookMember set line) = codes "look member"
-name_of (i.LookOwner set system line) = codes "look owner"
-name_of (i.Assign place line) = codes "assign"
-name_of (i.Change sign place line) = codes "change"
-name_of (i.Give place line) = codes "give"
-name_of (i.Read mode line) = codes "read"
-name_of (i.Print lines items) = codes "print"
-name_of (i.Skip line) = codes "skip"
-name_of i.Turn = codes "turn"
-name_of (i.Repeat back) = codes "repeat"
-name_of (i.Begin skip line) = codes "begin"
-name_of (i.BeginClass class skip line) = codes "begin class"
-name_of (i.Take variable line) = codes "take"
-name_of (i.Next back) = codes "next"
-name_of (i.BeginSet reverse set system skip line) = codes "begin set"
-name_of (i.BeginAt reverse after set system skip line) = codes "begin at"
-name_of (i.TakeMember variable reverse set line) = codes "take member"
-name_of (i.NextMember set system back line) = codes "next member"
-name_of (i.Forget count) = codes "forget"
-name_of (i.Call routine given yielding) = codes "call"
-name_of i.Leave = codes "leave"
-name_of i.Halt = codes "halt"
-name_of (i.Create class line) = codes "create"
-name_of (i.CreateAll counted line) = codes "create all"
-name_of (i.Destroy class line) = codes "destroy"
-name_of (i.File filing set system line) = codes "file"
-name_of (i.Remove set system line) = codes "remove"
-name_of (i.RemoveEnd side set system line) = codes "remove end"
-name_of (i.When later line) = codes "when"
-name_of (i.MakeNotice class given line) = codes "make notice"
-name_of (i.Name place line) = codes "name"
-name_of (i.FileNotice class line) = codes "file notice"
-name_of (i.Reschedule class given line) = codes "reschedule"
-name_of (i.Cancel class line) = codes "cancel"
-name_of (i.Await skip) = codes "await"
-name_of i.TakeEvent = codes "take event"
-name_of (i.NextEvent back) = codes "next event"
-name_of (i.Reset statistic system line) = codes "reset"
+-- where the routine of an event begins
+abbrev pub beginning : Entry → Operand
+beginning e = To e.place
 
--- a line for each instruction, the first of them with this number: the number, a blank, and what the instruction is called
-abbrev pub listed : ℕ → List Instruction → List ℕ
-listed place [] = []
-listed place (instruction ∷ rest) = decimal place ++ codes " " ++ name_of instruction ++ codes "\n" ++ listed (place + 1) rest
+-- a line for each instruction, the first of them with this number: the number, a blank, and the instruction
+abbrev pub listed : List Entry → (events : List Operand) → (place : ℕ) → List Instruction → List ℕ
+listed routines events place [] = []
+listed routines events place (instruction ∷ rest) =
+    padded 7 (decimal place) ++ (codes " " ++ (detail routines events place instruction ++ (codes "\n" ++ listed routines events (place + 1) rest)))
+
+-- the listing of a program's code
+abbrev pub listing_of : Code → List ℕ
+listing_of code = listed code.routines (map beginning code.events) 0 code.instructions

@@ -1,7 +1,7 @@
 //! The code of a program.
 
 ghost use Rattle.std.specs.Prelude.{◌≡◌, ◌<◌, ◌^◌, length, map, slice_get, IfOk};
-ghost use Rattle.ss_code.specs.Listing.{listed};
+ghost use Rattle.ss_code.specs.Listing.{listing_of};
 ghost use Rattle.ss_code.specs.Emitted.{IsCode};
 
 use crate::entry::Entry;
@@ -178,11 +178,11 @@ impl Code {
         &self.locals
     }
 
-    /// A line for each instruction, which begins with its number from 0 and a blank. The error comes
+    /// A line for each instruction: its number from 0, a blank, what it is called, and what it works on. The error comes
     /// where memory was refused.
     pub fn listing(&self, alloc: Global) -> Result<Vec<u8>, AllocError>
-        ensures { IfOk result (λ text. text.items ≡ listed 0 self.now.instructions) }
+        ensures { IfOk result (λ text. text.items ≡ listing_of self.now) }
     {
-        listing(alloc, &self.instructions)
+        listing(alloc, &self.routines, &self.events, &self.instructions)
     }
 }

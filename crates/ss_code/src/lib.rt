@@ -4,6 +4,7 @@
 mod backward;
 pub mod code;
 mod conditions;
+mod detail;
 mod emit;
 pub mod entry;
 pub mod error;
@@ -13,7 +14,9 @@ pub mod lines;
 mod listing;
 mod loops;
 pub mod notices;
+mod operand;
 mod places;
 mod sayings;
 mod sets;
 mod statements;
+mod words;

@@ -1,7 +1,7 @@
 //! What may be run.
 
 ghost use Rattle.std.specs.Prelude.{◌≡◌, IfOk};
-ghost use Rattle.ss_code.specs.Listing.{listed};
+ghost use Rattle.ss_code.specs.Listing.{listing_of};
 
 use ss_code::code::Code;
 use std::alloc::{AllocError, Global};
@@ -35,10 +35,10 @@ impl Model {
         self.code
     }
 
-    /// A line for each instruction of its code, which begins with its number from 0 and a blank. The
+    /// A line for each instruction of its code: its number from 0, a blank, what it is called, and what it works on. The
     /// error comes where memory was refused.
     pub fn listing(&self, alloc: Global) -> Result<Vec<u8>, AllocError>
-        ensures { IfOk result (λ text. text.items ≡ listed 0 self.now.instructions) }
+        ensures { IfOk result (λ text. text.items ≡ listing_of self.now) }
     {
         self.code.listing(alloc)
     }
