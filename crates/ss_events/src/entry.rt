@@ -2,7 +2,7 @@
 //!
 //! Nothing but this module reads a key, and none of its functions hands an entry out. So two keys are compared and an
 //! entry is put into a place only by `Heap`, which counts it.
-ghost use Rattle.std.specs.Prelude.{◌≡◌, IfOk, IsTrue, ◌↔◌, map};
+ghost use Rattle.std.specs.Prelude.{◌≡◌, IfOk, IsTrue, ◌↔◌, int_lt, map};
 ghost use Rattle.ss_events.specs.PendingList.{FitsClass};
 
 mod heap;
@@ -55,6 +55,13 @@ impl Key {
         ensures { IsTrue result ↔ FitsClass (map (λ shapes. shapes.items) classes.now) self.now }
     {
         fits_class(classes, self.rank, &self.ties)
+    }
+
+    /// Whether the time lies before a moment.
+    pub fn is_before(&self, moment: i64) -> bool
+        ensures { result ≡ int_lt self.now.time moment }
+    {
+        self.time < moment
     }
 
     fn time(&self) -> i64

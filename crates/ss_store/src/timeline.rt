@@ -104,7 +104,7 @@ impl Timeline {
     pub(crate) fn schedule(&mut self, key: Key, notice: i64) -> Result<(), Refused>
         ensures { Schedules key notice self.old self.new result }
     {
-        if key.time() < self.time {
+        if key.is_before(self.time) {
             return Err(Refused::Fault(FaultKind::PastTime));
         }
         self.pending.schedule(key, notice)
