@@ -46,7 +46,7 @@ impl Model for Names {
 }
 
 /// A global or a derived name, by its place in the table.
-#[derive(Clone, Copy, PartialEq, Eq, Debug)]
+#[derive(Clone, Copy)]
 pub struct NameId(pub usize);
 
 // What is numbered, and what names stand for.

@@ -19,7 +19,7 @@ use ss_population::trouble::Unmade;
 /// An event that comes next: its notice by its number, the rank of its class, and what the program says of that: the
 /// line of its routine, how many attributes that takes, and the global variable that a notice is saved in, if it is
 /// saved.
-#[derive(Clone, Copy, Debug)]
+#[derive(Clone, Copy)]
 pub struct Event {
     pub rank: usize,
     pub class: u32,
@@ -30,7 +30,7 @@ pub struct Event {
 }
 
 /// What becomes of the notice of an event that begins.
-#[derive(Clone, Copy, Debug)]
+#[derive(Clone, Copy)]
 pub enum Fate {
     /// It is there, and is still to be assigned to this global variable.
     Saved(u32),
