@@ -5,19 +5,7 @@
 //! standard output; how the run ended, where it didn't simply end, is told on standard error.
 #![tactic(auto)]
 
-#[cfg(test)]
-mod engine_tests;
-mod files;
-mod misuse;
-mod order;
-mod program;
-#[cfg(test)]
-mod tests;
-mod trouble;
-mod words;
-
-use files::Disk;
-use program::{Streams, perform};
+use ss_command::{Disk, Streams, perform};
 use std::env;
 use std::io::ErrorKind;
 use std::process::ExitCode;

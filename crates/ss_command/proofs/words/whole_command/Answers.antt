@@ -1,8 +1,8 @@
 use Rattle.std.proofs.Common.{rules, ◌≡◌, ◌∙◌, ap, codes}
 use Rattle.std.proofs.lemmas.Result.{IfOk-weaker}
 use Rattle.clap.specs.Words.{App, app_of, new_app, with_subcommand}
-use Rattle.simscript.specs.CommandLine.{check_words, list_words, run_words}
-use Rattle.simscript.proofs.words.whole_command.Goals as goal
+use Rattle.ss_command.specs.CommandLine.{check_words, list_words, run_words}
+use Rattle.ss_command.proofs.words.whole_command.Goals as goal
 
 -- a command with one more command in it, by what both are
 with_added : (a b old new : App) → a ≡ with_subcommand old b.top → old ≡ new → (words : App) → b ≡ words → a ≡ with_subcommand new words.top

@@ -1,8 +1,5 @@
-use crate::files::FileStore;
-use crate::order::Order;
-use crate::program::{Streams, perform, tell};
-use crate::trouble::Trouble;
 use ss_base::{FaultKind, Line};
+use ss_command::{FileStore, Order, Streams, Trouble, perform, tell};
 use ss_engine::{Outcome, Refusal, Stop};
 use std::io;
 use std::io::{ErrorKind, Read, Write};

@@ -1,7 +1,7 @@
 //! The program over any files and streams.
 ghost use Rattle.std.specs.Prelude.{◌≡◌, ◌⊎◌};
 ghost use Rattle.ss_engine.specs.Outcomes.{status_of};
-ghost use Rattle.simscript.specs.Statuses.{ended_status, trouble_status};
+ghost use Rattle.ss_command.specs.Statuses.{ended_status, trouble_status};
 
 use crate::files::FileStore;
 use crate::misuse::Misuse;
@@ -161,7 +161,7 @@ fn print<O: Write + Drop>(mut output: O, bytes: &[u8]) -> Result<Outcome, Troubl
 
 /// Tells how an order ended, and answers the exit status: that of the outcome or of what stopped the
 /// program, or that of memory where the line that tells of it could not be made.
-pub(crate) fn tell<E: Write + Drop>(alloc: Global, ended: Result<Outcome, Trouble>, errors: E) -> u8
+pub fn tell<E: Write + Drop>(alloc: Global, ended: Result<Outcome, Trouble>, errors: E) -> u8
     ensures { (result ≡ ended_status ended) ⊎ (result ≡ 5) }
 {
     match ended {
