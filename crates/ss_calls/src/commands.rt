@@ -278,7 +278,8 @@ fn is_told_alone(alloc: Global, words: &[&str]) -> bool {
         output: Closed,
         errors: &mut errors,
     };
-    perform(alloc, words, &Folder, streams) == 6 && errors.as_slice() == b"cannot write report\n"
+    perform(alloc, words, &Folder, streams) == 6
+        && errors.as_slice() == b"cannot write report\n".as_slice()
 }
 
 // Whether that is so of all these words.

@@ -205,7 +205,7 @@ fn refusals_have_their_numbers_names_and_lines(rt: HostRuntime) {
 // Whether a run of that text ended as it should, or for want of memory with the first of its report.
 fn is_no_wrong_answer(outcome: &Outcome, report: &[u8]) -> bool {
     match outcome {
-        Outcome::Stopped(Stop::Ended, used) => *used == 0 && report == b"5\n7\n",
+        Outcome::Stopped(Stop::Ended, used) => *used == 0 && report == b"5\n7\n".as_slice(),
         Outcome::Stopped(Stop::Memory, used) => *used == 0 && b"5\n7\n".starts_with(report),
         other => *other == Outcome::Refused(Refusal::Memory) && report.is_empty(),
     }
