@@ -98,7 +98,7 @@ fn added<'a>(
     line: Command<'a>,
     command: Result<Command<'a>, AllocError>,
 ) -> Result<Command<'a>, AllocError>
-    ensures { IfOk result (λ c. (words : App) → IfOk command (λ k. app_of k ≡ words) → IfOk command (λ k. (out-Command k).has_globals ≡ false) → app_of c ≡ with_subcommand (app_of line) words.top) }
+    ensures { IfOk result (λ c. (words : App) → IfOk command.entry (λ k. app_of k ≡ words) → IfOk command.entry (λ k. (out-Command k).has_globals ≡ false) → app_of c ≡ with_subcommand (app_of line.entry) words.top) }
 {
     match command {
         Ok(command) => line.subcommand(command),
