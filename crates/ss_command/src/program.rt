@@ -1,7 +1,7 @@
 //! The program over any files and streams.
 ghost use Rattle.std.specs.Prelude.{◌≡◌, ◌⊎◌};
 ghost use Rattle.ss_engine.specs.Outcomes.{status_of};
-ghost use Rattle.simscript.specs.Statuses.{ended_status, trouble_status};
+ghost use Rattle.ss_command.specs.Statuses.{ended_status, trouble_status};
 
 use crate::files::FileStore;
 use crate::misuse::Misuse;
@@ -9,7 +9,7 @@ use crate::order::Order;
 use crate::trouble::Trouble;
 use ss_base::Counted;
 use ss_engine::{Outcome, Stop, compile, outcome_line, outcome_status, simulate};
-use std::alloc::Global;
+use std::alloc::{AllocError, Global};
 use std::convert::AsStr;
 use std::io::{BufReader, BufWriter, ErrorKind, Read, Write};
 
@@ -58,21 +58,36 @@ fn obey<F: FileStore, I: Read + Drop, O: Write + Drop>(
     output: O,
 ) -> Result<Outcome, Trouble> {
     match order {
-        Order::Plain => {
-            let text = read_source(alloc, input)?;
-            run(alloc, &text, &[][..], output, TICKS)
-        }
+        Order::Plain => run(alloc, &read_source(alloc, input)?, &[][..], output, TICKS),
         Order::Check(name) => check(alloc, &read_file(alloc, files, name)?, output),
         Order::List(name) => list(alloc, &read_file(alloc, files, name)?, output),
-        Order::Run(name, input_name, ticks) => {
-            let text = read_file(alloc, files, name)?;
-            match input_name {
-                None => run(alloc, &text, &[][..], output, ticks),
-                Some(input_name) => {
-                    let input = open(files, input_name, Trouble::Input)?;
-                    run_with_input(alloc, &text, input, output, ticks)
-                }
-            }
+        Order::Run(name, data, ticks) => {
+            run_text(
+                alloc,
+                &read_file(alloc, files, name)?,
+                files,
+                data,
+                output,
+                ticks,
+            )
+        }
+    }
+}
+
+// Runs a text with the data in the file of this name, or with none.
+fn run_text<F: FileStore, O: Write + Drop>(
+    alloc: Global,
+    text: &[u8],
+    files: &F,
+    data: Option<&str>,
+    output: O,
+    ticks: u64,
+) -> Result<Outcome, Trouble> {
+    match data {
+        None => run(alloc, text, &[][..], output, ticks),
+        Some(name) => {
+            let input = open(files, name, Trouble::Input)?;
+            run_with_input(alloc, text, input, output, ticks)
         }
     }
 }
@@ -92,8 +107,16 @@ fn read_source<R: Read + Drop>(alloc: Global, reader: R) -> Result<Vec<u8>, Trou
     let mut text = Vec::new(alloc);
     match reader.take(SOURCE_READ).read_to_end(&mut text) {
         Ok(_) => Ok(text),
-        Err(error) if error.kind() == ErrorKind::OutOfMemory => Err(Trouble::Memory),
-        Err(_) => Err(Trouble::Source),
+        Err(error) => Err(unread(error.kind())),
+    }
+}
+
+// What stops the program where a text can't be read.
+fn unread(kind: ErrorKind) -> Trouble {
+    if kind == ErrorKind::OutOfMemory {
+        Trouble::Memory
+    } else {
+        Trouble::Source
     }
 }
 
@@ -105,10 +128,10 @@ fn run_with_input<R: Read + Drop, O: Write + Drop>(
     output: O,
     ticks: u64,
 ) -> Result<Outcome, Trouble> {
-    let Ok(reader) = BufReader::new(alloc, input) else {
-        return Err(Trouble::Memory);
-    };
-    run(alloc, text, reader, output, ticks)
+    match BufReader::new(alloc, input) {
+        Ok(reader) => run(alloc, text, reader, output, ticks),
+        Err(_) => Err(Trouble::Memory),
+    }
 }
 
 // Runs a text with the data of this reader, and writes its report in blocks.
@@ -119,10 +142,22 @@ fn run<R: Read + Drop, O: Write + Drop>(
     output: O,
     ticks: u64,
 ) -> Result<Outcome, Trouble> {
-    let Ok(writer) = BufWriter::new(alloc, output) else {
-        return Err(Trouble::Memory);
-    };
-    let (reader, writer) = (Counted::new(input), Counted::new(writer));
+    match BufWriter::new(alloc, output) {
+        Ok(writer) => report(alloc, text, input, writer, ticks),
+        Err(_) => Err(Trouble::Memory),
+    }
+}
+
+// Runs a text with the data of this reader, and writes its report to this writer, which is flushed
+// at the end.
+fn report<R: Read + Drop, W: Write + Drop>(
+    alloc: Global,
+    text: &[u8],
+    input: R,
+    output: W,
+    ticks: u64,
+) -> Result<Outcome, Trouble> {
+    let (reader, writer) = (Counted::new(input), Counted::new(output));
     let (outcome, _reader, writer) = simulate(alloc, text, reader, writer, &[ticks]);
     match writer.into_inner().flush() {
         Ok(()) => Ok(outcome),
@@ -140,11 +175,18 @@ fn check<O: Write + Drop>(alloc: Global, text: &[u8], output: O) -> Result<Outco
 
 // Compiles a text, and prints its code.
 fn list<O: Write + Drop>(alloc: Global, text: &[u8], output: O) -> Result<Outcome, Trouble> {
-    let model = match compile(alloc, text) {
-        Ok(model) => model,
-        Err(refusal) => return Ok(Outcome::Refused(refusal)),
-    };
-    match model.listing(alloc) {
+    match compile(alloc, text) {
+        Ok(model) => print_listing(model.listing(alloc), output),
+        Err(refusal) => Ok(Outcome::Refused(refusal)),
+    }
+}
+
+// Prints a listing, where there was memory for it.
+fn print_listing<O: Write + Drop>(
+    listing: Result<Vec<u8>, AllocError>,
+    output: O,
+) -> Result<Outcome, Trouble> {
+    match listing {
         Ok(lines) => print(output, &lines),
         Err(_) => Err(Trouble::Memory),
     }
@@ -161,7 +203,7 @@ fn print<O: Write + Drop>(mut output: O, bytes: &[u8]) -> Result<Outcome, Troubl
 
 /// Tells how an order ended, and answers the exit status: that of the outcome or of what stopped the
 /// program, or that of memory where the line that tells of it could not be made.
-pub(crate) fn tell<E: Write + Drop>(alloc: Global, ended: Result<Outcome, Trouble>, errors: E) -> u8
+pub fn tell<E: Write + Drop>(alloc: Global, ended: Result<Outcome, Trouble>, errors: E) -> u8
     ensures { (result ≡ ended_status ended) ⊎ (result ≡ 5) }
 {
     match ended {

@@ -1,8 +1,8 @@
 //! The command line as `clap` is told of it.
-ghost use Rattle.std.specs.Prelude.{◌≡◌, IfOk, false};
-ghost use Rattle.clap.specs.Words.{app_of, rule_of};
+ghost use Rattle.std.specs.Prelude.{◌≡◌, IfOk, codes, false};
+ghost use Rattle.clap.specs.Words.{App, app_of, new_app, rule_of, with_subcommand};
 ghost use Rattle.clap.specs.declared.builder.command.Command.TheViews.{out-Command};
-ghost use Rattle.simscript.specs.CommandLine.{check_words, command_line, file_rule, input_rule, list_words, run_words, ticks_rule};
+ghost use Rattle.ss_command.specs.CommandLine.{check_words, command_line, file_rule, input_rule, list_words, run_words, ticks_rule};
 
 use clap::builder::ValueParser;
 use clap::{Arg, ArgAction, Command};
@@ -82,16 +82,35 @@ fn list_command<'a>(alloc: Global) -> Result<Command<'a>, AllocError>
         .arg(model_file(alloc))
 }
 
-/// The whole command line. The error comes where memory was refused.
-pub fn whole_command<'a>(alloc: Global) -> Result<Command<'a>, AllocError>
-    ensures { IfOk result (λ c. app_of c ≡ command_line) }
+// The command line with none of its commands.
+fn bare_line<'a>(alloc: Global) -> Command<'a>
+    ensures { app_of result ≡ new_app (codes "simscript") }
 {
     Command::new(alloc, "simscript")
         .about(
             "Compiles and runs models written in a profile of SIMSCRIPT II. Without a command it runs the model on the standard input, with no input data and 1,000,000 ticks",
         )
         .after_help("Example: simscript run shop.sim --input shop.data")
-        .subcommand(run_command(alloc)?)?
-        .subcommand(check_command(alloc)?)?
-        .subcommand(list_command(alloc)?)
+}
+
+// The command line with one more command, where there was memory for that.
+fn added<'a>(
+    line: Command<'a>,
+    command: Result<Command<'a>, AllocError>,
+) -> Result<Command<'a>, AllocError>
+    ensures { IfOk result (λ c. (words : App) → IfOk command.entry (λ k. app_of k ≡ words) → IfOk command.entry (λ k. (out-Command k).has_globals ≡ false) → app_of c ≡ with_subcommand (app_of line.entry) words.top) }
+{
+    match command {
+        Ok(command) => line.subcommand(command),
+        Err(error) => Err(error),
+    }
+}
+
+/// The whole command line. The error comes where memory was refused.
+pub fn whole_command<'a>(alloc: Global) -> Result<Command<'a>, AllocError>
+    ensures { IfOk result (λ c. app_of c ≡ command_line) }
+{
+    let line = added(bare_line(alloc), run_command(alloc))?;
+    let line = added(line, check_command(alloc))?;
+    added(line, list_command(alloc))
 }

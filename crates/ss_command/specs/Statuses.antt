@@ -5,10 +5,10 @@ use Rattle.clap.specs.declared.error.kind.ErrorKind.{ErrorKind}
 use Rattle.clap.specs.declared.error.kind.ErrorKind.TheVariants.{DisplayHelp, DisplayVersion}
 use Rattle.ss_engine.specs.Outcomes.{status_of}
 use Rattle.ss_engine.specs.declared.outcome.Outcome.{Outcome}
-use Rattle.simscript.specs.declared.trouble.Trouble.{Trouble}
-use Rattle.simscript.specs.declared.trouble.Trouble.TheVariants as trouble
-use Rattle.simscript.specs.declared.misuse.Misuse.{Misuse}
-use Rattle.simscript.specs.declared.misuse.Misuse.TheVariants.{Words, Incomplete, Memory}
+use Rattle.ss_command.specs.declared.trouble.Trouble.{Trouble}
+use Rattle.ss_command.specs.declared.trouble.Trouble.TheVariants as trouble
+use Rattle.ss_command.specs.declared.misuse.Misuse.{Misuse}
+use Rattle.ss_command.specs.declared.misuse.Misuse.TheVariants.{Words, Incomplete, Memory}
 
 -- a call for help or for the version is answered; all else is a mistake
 abbrev pub kind_status : ErrorKind → ℕ
