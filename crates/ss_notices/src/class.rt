@@ -1,12 +1,13 @@
-//! What a program says of a class of notices.
+//! A class of notices.
 
-ghost use Rattle.std.specs.Prelude.{◌≡◌};
+ghost use Rattle.std.specs.Prelude.{◌≡◌, IfOk};
 
 use ss_base::{Line, RankKeys};
+use std::alloc::{AllocError, Global};
 use std::marker::Model;
 
-/// A class of notices: the attributes that break ties, the line of its event routine, how many attributes that takes, and
-/// the global variable that a notice is saved in, if it is saved.
+/// What a program says of a class of notices: the attributes that break ties, the line of its event routine, how many
+/// attributes that takes, and the global variable that a notice is saved in, if it is saved.
 ///
 /// A contract sees it as a record of these.
 #[derive(Drop)]
@@ -27,8 +28,8 @@ impl Model for NoticeClass {
 }
 
 impl NoticeClass {
-    /// A class of notices with these.
-    pub(crate) fn new(
+    /// A class of notices of which this is said.
+    pub fn new(
         class: u32,
         ties: RankKeys,
         line: Line,
@@ -47,6 +48,7 @@ impl NoticeClass {
     }
 
     /// The number of the class.
+    #[inline(always)]
     pub fn class(&self) -> u32
         ensures { result ≡ self.now.class }
     {
@@ -54,6 +56,7 @@ impl NoticeClass {
     }
 
     /// The attributes that break ties, the first of which counts most.
+    #[inline(always)]
     pub fn ties(&self) -> &RankKeys
         ensures { result.now ≡ self.now.ties }
     {
@@ -61,6 +64,7 @@ impl NoticeClass {
     }
 
     /// The line of its event routine.
+    #[inline(always)]
     pub fn line(&self) -> Line
         ensures { result ≡ self.now.line }
     {
@@ -68,6 +72,7 @@ impl NoticeClass {
     }
 
     /// How many attributes of a notice its event routine takes.
+    #[inline(always)]
     pub fn given(&self) -> usize
         ensures { result ≡ self.now.given }
     {
@@ -75,9 +80,21 @@ impl NoticeClass {
     }
 
     /// The global variable that a notice is saved in, if it is saved.
+    #[inline(always)]
     pub fn saved(&self) -> Option<u32>
         ensures { result ≡ self.now.saved }
     {
         self.saved
+    }
+
+    /// The same, in memory of its own.
+    ///
+    /// # Errors
+    /// `AllocError` where memory was refused.
+    pub fn copied(&self, alloc: Global) -> Result<NoticeClass, AllocError>
+        ensures { IfOk result (λ copy. copy ≡ self.now) }
+    {
+        let ties = self.ties.copied(alloc)?;
+        Ok(NoticeClass::new(self.class, ties, self.line, self.given, self.saved))
     }
 }
