@@ -5,8 +5,8 @@ ghost use Rattle.ss_tree.specs.View.{view_expression, view_option, view_named, v
 ghost use Rattle.ss_grammar.specs.Reading.{Gives, begins_by, taken, in_table};
 ghost use Rattle.ss_grammar.specs.ReadExpressions.{sum_in};
 ghost use Rattle.ss_grammar.specs.ReadPlaces.{target_in};
-ghost use Rattle.ss_statements.specs.SpelledStatements.{end_of, outcome_of};
-ghost use Rattle.ss_statements.specs.ReadStatements.{called, positive_of, picture_of, begins_outcome, items_in, trigger, pictures_at, given_in, yielding_in, position_in, when_in};
+ghost use Rattle.ss_simple.specs.SpelledParts.{end_of};
+ghost use Rattle.ss_simple.specs.ReadSimple.{called, positive_of, picture_of, items_in, trigger, pictures_at, given_in, yielding_in, position_in, when_in};
 
 use ss_grammar::classes::{Class, begins_class, expect_class};
 use ss_grammar::expressions::{sum, sums};
@@ -15,7 +15,7 @@ use ss_grammar::places::{target, targets};
 use ss_grammar::tokens::{begins_word, expect_word, syntax};
 use ss_lex::{PictureLine, Token, TokenKind, Word};
 use ss_tree::expression::{Expression, Named};
-use ss_tree::statement::{FindOutcome, Position, SetEnd, When};
+use ss_tree::statement::{Position, SetEnd, When};
 use std::alloc::Global;
 
 /// The end of a set that the word names.
@@ -58,46 +58,6 @@ pub fn begins_end(tokens: &[Token]) -> bool
     }
 }
 
-/// What the IF of a FIND asks.
-fn outcome_of(word: Word) -> Option<FindOutcome>
-    ensures { result ≡ outcome_of word }
-{
-    match word {
-        Word::Found => Some(FindOutcome::Found),
-        Word::None => Some(FindOutcome::None),
-        _ => None,
-    }
-}
-
-/// FOUND or NONE.
-pub fn outcome(tokens: &[Token]) -> Result<(FindOutcome, &[Token]), Failure>
-    ensures { Gives (λ x. (x.0, x.1.now)) result (taken (in_table outcome_of) tokens.now) }
-{
-    match tokens {
-        [] => Err(syntax(tokens)),
-        [first, rest @ ..] => match &first.kind {
-            TokenKind::Word(found) => match outcome_of(*found) {
-                Some(outcome) => Ok((outcome, rest)),
-                None => Err(syntax(tokens)),
-            },
-            _ => Err(syntax(tokens)),
-        },
-    }
-}
-
-/// Whether FOUND or NONE is first.
-pub fn begins_outcome(tokens: &[Token]) -> bool
-    ensures { result ≡ begins_outcome tokens.now }
-{
-    match tokens {
-        [] => false,
-        [first, ..] => match &first.kind {
-            TokenKind::Word(found) => outcome_of(*found).is_some(),
-            _ => false,
-        },
-    }
-}
-
 /// A number of pictures, 1 at least.
 pub fn positive(tokens: &[Token]) -> Result<(u64, &[Token]), Failure>
     ensures { Gives (λ x. (x.0, x.1.now)) result (taken positive_of tokens.now) }
@@ -133,7 +93,7 @@ pub fn items(
 }
 
 /// The words before the pictures.
-#[tactic(auto, unfolding(crate::specs::ReadStatements::trigger))]
+#[tactic(auto, unfolding(crate::specs::ReadSimple::trigger))]
 pub fn trigger(tokens: &[Token]) -> Result<&[Token], Failure>
     ensures { Gives (λ rest. (tt, rest.now)) result (trigger tokens.now) }
 {
@@ -242,7 +202,7 @@ pub fn called_target(
 }
 
 /// Where a member is filed.
-#[tactic(auto, unfolding(crate::specs::ReadStatements::position_in))]
+#[tactic(auto, unfolding(crate::specs::ReadSimple::position_in))]
 pub fn place(alloc: Global, tokens: &[Token], room: u8) -> Result<(Position, &[Token]), Failure>
     ensures { Gives (λ x. (view_position x.0, x.1.now)) result (position_in room tokens.now) }
 {
@@ -266,7 +226,7 @@ pub fn place(alloc: Global, tokens: &[Token], room: u8) -> Result<(Position, &[T
 }
 
 /// When a notice is due.
-#[tactic(auto, unfolding(crate::specs::ReadStatements::when_in))]
+#[tactic(auto, unfolding(crate::specs::ReadSimple::when_in))]
 pub fn due(alloc: Global, tokens: &[Token], room: u8) -> Result<(When, &[Token]), Failure>
     ensures { Gives (λ x. (view_when x.0, x.1.now)) result (when_in room tokens.now) }
 {

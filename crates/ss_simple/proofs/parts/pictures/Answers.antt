@@ -1,9 +1,9 @@
 use Rattle.std.proofs.Common.{sym, subst, ◌≡◌, ◌-◌, ◌+◌}
 use Rattle.std.proofs.lemmas.Result.{err_from_is_err_and}
-use Rattle.ss_statements.specs.ReadStatements.{pictures_at}
-use Rattle.ss_statements.proofs.StatementParts.{picture_grows, picture_breaks, pictures_done}
+use Rattle.ss_simple.specs.ReadSimple.{pictures_at}
+use Rattle.ss_simple.proofs.Pictures.{picture_grows, picture_breaks, pictures_done}
 use Rattle.ss_grammar.proofs.Rows.{with_front}
-use Rattle.ss_statements.proofs.parts.pictures.Goals as goal
+use Rattle.ss_simple.proofs.parts.pictures.Goals as goal
 
 pub returns-in_err-next : goal.returns-in_err-next
 returns-in_err-next c =

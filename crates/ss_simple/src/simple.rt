@@ -3,7 +3,7 @@
 ghost use Rattle.std.specs.Prelude.{◌≡◌, map};
 ghost use Rattle.ss_tree.specs.View.{view_expression, view_statement};
 ghost use Rattle.ss_grammar.specs.Reading.{Gives};
-ghost use Rattle.ss_statements.specs.ReadStatements.{let_at, add_at, subtract_at, call_at, read_at, start_at, new_at, create_at, destroy_at, cancel_at, file_at, remove_end_at, remove_this_at, remove_at, schedule_the_at, schedule_a_at, schedule_at, reset_at, print_head, print_at, skip_at, simple_at};
+ghost use Rattle.ss_simple.specs.ReadSimple.{let_at, add_at, subtract_at, call_at, read_at, start_at, new_at, create_at, destroy_at, cancel_at, file_at, remove_end_at, remove_this_at, remove_at, schedule_the_at, schedule_a_at, schedule_at, reset_at, print_head, print_at, skip_at, simple_at};
 
 use crate::parts::{
     begins_end, called_target, called_value, due, given, items, pictures, place, positive, set_end,
@@ -24,7 +24,7 @@ use ss_tree::statement::Statement;
 use std::alloc::Global;
 
 /// A LET behind its first word.
-#[tactic(auto, unfolding(crate::specs::ReadStatements::let_at, ss_tree::specs::View::view_statement))]
+#[tactic(auto, unfolding(crate::specs::ReadSimple::let_at, ss_tree::specs::View::view_statement))]
 fn let_form(
     alloc: Global,
     line: Line,
@@ -45,7 +45,7 @@ fn let_form(
 }
 
 /// An ADD behind its first word.
-#[tactic(auto, unfolding(crate::specs::ReadStatements::add_at, ss_tree::specs::View::view_statement))]
+#[tactic(auto, unfolding(crate::specs::ReadSimple::add_at, ss_tree::specs::View::view_statement))]
 fn add_form(
     alloc: Global,
     line: Line,
@@ -66,7 +66,7 @@ fn add_form(
 }
 
 /// A SUBTRACT behind its first word.
-#[tactic(auto, unfolding(crate::specs::ReadStatements::subtract_at, ss_tree::specs::View::view_statement))]
+#[tactic(auto, unfolding(crate::specs::ReadSimple::subtract_at, ss_tree::specs::View::view_statement))]
 fn subtract_form(
     alloc: Global,
     line: Line,
@@ -87,7 +87,7 @@ fn subtract_form(
 }
 
 /// A CALL behind its first word.
-#[tactic(auto, unfolding(crate::specs::ReadStatements::call_at, ss_tree::specs::View::view_statement))]
+#[tactic(auto, unfolding(crate::specs::ReadSimple::call_at, ss_tree::specs::View::view_statement))]
 fn call_form(
     alloc: Global,
     line: Line,
@@ -109,7 +109,7 @@ fn call_form(
 }
 
 /// A READ behind its first word.
-#[tactic(auto, unfolding(crate::specs::ReadStatements::read_at, ss_tree::specs::View::view_statement))]
+#[tactic(auto, unfolding(crate::specs::ReadSimple::read_at, ss_tree::specs::View::view_statement))]
 fn read_form(
     alloc: Global,
     line: Line,
@@ -123,7 +123,7 @@ fn read_form(
 }
 
 /// A START SIMULATION behind its first word.
-#[tactic(auto, unfolding(crate::specs::ReadStatements::start_at, ss_tree::specs::View::view_statement))]
+#[tactic(auto, unfolding(crate::specs::ReadSimple::start_at, ss_tree::specs::View::view_statement))]
 fn start_form(line: Line, tokens: &[Token]) -> Result<(Statement, &[Token]), Failure>
     ensures { Gives (λ x. (view_statement x.0, x.1.now)) result (start_at line tokens.now) }
 {
@@ -132,7 +132,7 @@ fn start_form(line: Line, tokens: &[Token]) -> Result<(Statement, &[Token]), Fai
 }
 
 /// A CREATE A behind its first word.
-#[tactic(auto, unfolding(crate::specs::ReadStatements::new_at, ss_tree::specs::View::view_statement))]
+#[tactic(auto, unfolding(crate::specs::ReadSimple::new_at, ss_tree::specs::View::view_statement))]
 fn new_form(
     alloc: Global,
     line: Line,
@@ -153,7 +153,7 @@ fn new_form(
 }
 
 /// A CREATE behind its first word.
-#[tactic(auto, unfolding(crate::specs::ReadStatements::create_at, ss_tree::specs::View::view_statement))]
+#[tactic(auto, unfolding(crate::specs::ReadSimple::create_at, ss_tree::specs::View::view_statement))]
 fn create_form(
     alloc: Global,
     line: Line,
@@ -171,7 +171,7 @@ fn create_form(
 }
 
 /// A DESTROY behind its first word.
-#[tactic(auto, unfolding(crate::specs::ReadStatements::destroy_at, ss_tree::specs::View::view_statement))]
+#[tactic(auto, unfolding(crate::specs::ReadSimple::destroy_at, ss_tree::specs::View::view_statement))]
 fn destroy_form(
     alloc: Global,
     line: Line,
@@ -192,7 +192,7 @@ fn destroy_form(
 }
 
 /// A CANCEL behind its first word.
-#[tactic(auto, unfolding(crate::specs::ReadStatements::cancel_at, ss_tree::specs::View::view_statement))]
+#[tactic(auto, unfolding(crate::specs::ReadSimple::cancel_at, ss_tree::specs::View::view_statement))]
 fn cancel_form(
     alloc: Global,
     line: Line,
@@ -213,7 +213,7 @@ fn cancel_form(
 }
 
 /// A FILE behind its first word.
-#[tactic(auto, unfolding(crate::specs::ReadStatements::file_at, ss_tree::specs::View::view_statement))]
+#[tactic(auto, unfolding(crate::specs::ReadSimple::file_at, ss_tree::specs::View::view_statement))]
 fn file_form(
     alloc: Global,
     line: Line,
@@ -236,7 +236,7 @@ fn file_form(
 }
 
 /// A REMOVE FIRST or LAST behind THE.
-#[tactic(auto, unfolding(crate::specs::ReadStatements::remove_end_at, ss_tree::specs::View::view_statement))]
+#[tactic(auto, unfolding(crate::specs::ReadSimple::remove_end_at, ss_tree::specs::View::view_statement))]
 fn remove_end_form(
     alloc: Global,
     line: Line,
@@ -259,7 +259,7 @@ fn remove_end_form(
 }
 
 /// A REMOVE of a given member behind THE.
-#[tactic(auto, unfolding(crate::specs::ReadStatements::remove_this_at, ss_tree::specs::View::view_statement))]
+#[tactic(auto, unfolding(crate::specs::ReadSimple::remove_this_at, ss_tree::specs::View::view_statement))]
 fn remove_this_form(
     alloc: Global,
     line: Line,
@@ -275,7 +275,7 @@ fn remove_this_form(
 }
 
 /// A REMOVE behind its first word.
-#[tactic(auto, unfolding(crate::specs::ReadStatements::remove_at, ss_tree::specs::View::view_statement))]
+#[tactic(auto, unfolding(crate::specs::ReadSimple::remove_at, ss_tree::specs::View::view_statement))]
 fn remove_form(
     alloc: Global,
     line: Line,
@@ -293,7 +293,7 @@ fn remove_form(
 }
 
 /// A SCHEDULE THE behind its first word.
-#[tactic(auto, unfolding(crate::specs::ReadStatements::schedule_the_at, ss_tree::specs::View::view_statement))]
+#[tactic(auto, unfolding(crate::specs::ReadSimple::schedule_the_at, ss_tree::specs::View::view_statement))]
 fn schedule_the_form(
     alloc: Global,
     line: Line,
@@ -318,7 +318,7 @@ fn schedule_the_form(
 }
 
 /// A SCHEDULE A behind its first word.
-#[tactic(auto, unfolding(crate::specs::ReadStatements::schedule_a_at, ss_tree::specs::View::view_statement))]
+#[tactic(auto, unfolding(crate::specs::ReadSimple::schedule_a_at, ss_tree::specs::View::view_statement))]
 fn schedule_a_form(
     alloc: Global,
     line: Line,
@@ -343,7 +343,7 @@ fn schedule_a_form(
 }
 
 /// A SCHEDULE behind its first word.
-#[tactic(auto, unfolding(crate::specs::ReadStatements::schedule_at, ss_tree::specs::View::view_statement))]
+#[tactic(auto, unfolding(crate::specs::ReadSimple::schedule_at, ss_tree::specs::View::view_statement))]
 fn schedule_form(
     alloc: Global,
     line: Line,
@@ -360,7 +360,7 @@ fn schedule_form(
 }
 
 /// A RESET behind its first word.
-#[tactic(auto, unfolding(crate::specs::ReadStatements::reset_at, ss_tree::specs::View::view_statement))]
+#[tactic(auto, unfolding(crate::specs::ReadSimple::reset_at, ss_tree::specs::View::view_statement))]
 fn reset_form(
     alloc: Global,
     line: Line,
@@ -376,7 +376,7 @@ fn reset_form(
 }
 
 /// The number of pictures of a PRINT, and its items.
-#[tactic(auto, unfolding(crate::specs::ReadStatements::print_head))]
+#[tactic(auto, unfolding(crate::specs::ReadSimple::print_head))]
 fn print_head(
     alloc: Global,
     tokens: &[Token],
@@ -392,7 +392,7 @@ fn print_head(
 }
 
 /// A PRINT behind its first word.
-#[tactic(auto, unfolding(crate::specs::ReadStatements::print_at, ss_tree::specs::View::view_statement))]
+#[tactic(auto, unfolding(crate::specs::ReadSimple::print_at, ss_tree::specs::View::view_statement))]
 fn print_form(
     alloc: Global,
     line: Line,
@@ -412,7 +412,7 @@ fn print_form(
 }
 
 /// A SKIP behind its first word.
-#[tactic(auto, unfolding(crate::specs::ReadStatements::skip_at, ss_tree::specs::View::view_statement))]
+#[tactic(auto, unfolding(crate::specs::ReadSimple::skip_at, ss_tree::specs::View::view_statement))]
 fn skip_form(
     alloc: Global,
     line: Line,
@@ -427,7 +427,7 @@ fn skip_form(
 }
 
 /// A statement that has no others in it, behind its first word.
-#[tactic(auto, unfolding(crate::specs::ReadStatements::simple_at, ss_tree::specs::View::view_statement))]
+#[tactic(auto, unfolding(crate::specs::ReadSimple::simple_at, ss_tree::specs::View::view_statement))]
 pub fn simple_form(
     alloc: Global,
     line: Line,
