@@ -17,7 +17,7 @@ const WRITTEN_PER_CALL: usize = 4096;
 
 /// How many statements stand in the preamble of a tree, how many sections it has, and how many
 /// statements stand right in these.
-#[derive(Clone, Copy, PartialEq, Eq)]
+#[derive(Clone, Copy, PartialEq)]
 pub struct Counts {
     pub preamble: u64,
     pub sections: u64,
@@ -75,7 +75,7 @@ impl Ending {
 }
 
 /// What judges a text.
-#[derive(Clone, Copy, PartialEq, Eq)]
+#[derive(Clone, Copy)]
 pub enum Judge {
     /// The lexer and the parser.
     Tree,

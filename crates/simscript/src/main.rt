@@ -5,25 +5,21 @@
 //! standard output; how the run ended, where it didn't simply end, is told on standard error.
 #![tactic(auto)]
 
-#[cfg(test)]
-mod engine_tests;
-mod files;
-mod misuse;
-mod order;
-mod program;
-#[cfg(test)]
-mod tests;
-mod trouble;
-mod words;
-
-use files::Disk;
-use program::{Streams, perform};
+use ss_command::{Disk, Streams, perform};
 use std::env;
 use std::io::ErrorKind;
 use std::process::ExitCode;
 
+// The words of the command line, the program's name first. The error says why they can't be had.
+fn words(rt: &HostRuntime) -> Result<Vec<String>, ErrorKind> {
+    match env::args(rt) {
+        Ok(args) => args.collect(rt.alloc()).map_err(|_| ErrorKind::OutOfMemory),
+        Err(error) => Err(error.kind()),
+    }
+}
+
 // The status where the words of the command line can't be had.
-fn without_words(rt: &impl Eprint, kind: ErrorKind) -> u8 {
+fn without_words(rt: &HostRuntime, kind: ErrorKind) -> u8 {
     if kind == ErrorKind::OutOfMemory {
         let _ = eprintln!(rt; "out of memory");
         return 5;
@@ -35,17 +31,14 @@ fn without_words(rt: &impl Eprint, kind: ErrorKind) -> u8 {
 }
 
 fn main(rt: HostRuntime) -> ExitCode {
-    let args = match env::args(&rt) {
-        Ok(args) => args,
-        Err(error) => return ExitCode::from(without_words(&rt, error.kind())),
-    };
-    let Ok(words) = args.collect::<Vec<String>>(rt.alloc()) else {
-        return ExitCode::from(without_words(&rt, ErrorKind::OutOfMemory));
+    let words = match words(&rt) {
+        Ok(words) => words,
+        Err(kind) => return ExitCode::from(without_words(&rt, kind)),
     };
     let streams = Streams {
         input: rt.reader(),
         output: rt.stdout(),
         errors: rt.stderr(),
     };
-    ExitCode::from(perform(rt.alloc(), words.as_slice(), &Disk::new(&rt), streams))
+    ExitCode::from(perform(rt.alloc(), &words, &Disk::new(&rt), streams))
 }

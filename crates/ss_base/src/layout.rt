@@ -7,7 +7,7 @@ use std::alloc::{AllocError, Global};
 use std::marker::Model;
 
 /// What a field, a variable or a value is: a whole number or a text.
-#[derive(Clone, Copy, PartialEq, Eq, Debug)]
+#[derive(Clone, Copy, PartialEq, Debug)]
 pub enum Mode {
     Integer,
     Alpha,
@@ -26,7 +26,7 @@ impl Mode {
 }
 
 /// How the entities of a class come and go.
-#[derive(Clone, Copy, PartialEq, Eq, Debug)]
+#[derive(Clone, Copy, PartialEq)]
 pub enum ClassKind {
     /// Made once, all together, and known by their index.
     Permanent,
@@ -67,7 +67,7 @@ impl ClassLayout {
 }
 
 /// Who owns the sets of a name.
-#[derive(Clone, Copy, PartialEq, Eq, Debug)]
+#[derive(Clone, Copy, PartialEq)]
 pub enum Owner {
     /// THE SYSTEM, which owns one set of the name.
     System,
@@ -76,7 +76,7 @@ pub enum Owner {
 }
 
 /// The sets of one name: who owns them, and the class of their members.
-#[derive(Clone, Copy, PartialEq, Eq, Debug)]
+#[derive(Clone, Copy)]
 pub struct SetLayout {
     pub owner: Owner,
     pub member: usize,
@@ -144,7 +144,7 @@ impl SetLayout {
 }
 
 /// What a ranked set looks at in its members: a field, and whether a high value comes first.
-#[derive(Clone, Copy, PartialEq, Eq, Debug)]
+#[derive(Clone, Copy)]
 pub struct RankKey {
     pub field: usize,
     pub high: bool,

@@ -87,7 +87,7 @@ impl FaultyRead for MemoryRead {
 }
 
 /// What a call of a writer over memory does that goes wrong.
-#[derive(Clone, Copy, PartialEq, Eq, Debug)]
+#[derive(Clone, Copy)]
 pub enum Trouble {
     /// It answers an error.
     Error,

@@ -1,7 +1,7 @@
 ghost use Rattle.std.specs.Prelude.{◌≡◌, ◌<◌, ◌≤◌, IfSome};
 
 /// What a reader or a writer over memory is told to do at its calls.
-#[derive(Clone, Copy, PartialEq, Eq, Debug)]
+#[derive(Clone, Copy)]
 pub struct Plan {
     /// The most bytes that a call passes. 0 counts as 1.
     pub per_call: usize,
@@ -52,7 +52,7 @@ impl Plan {
 }
 
 /// How far a reader or a writer has come with its plan.
-#[derive(Clone, Copy, PartialEq, Eq, Debug)]
+#[derive(Clone, Copy)]
 pub struct Progress {
     pub plan: Plan,
     /// How many calls were made.

@@ -108,7 +108,11 @@ static CALLS: [Row; 8] = [
     (&[Call::Integer, Call::Ended], 2, 0),
     (&[Call::Integer, Call::Alpha], 3, 0),
     (&[Call::Integer, Call::Integer, Call::Integer], 3, 0),
-    (&[Call::Alpha, Call::Integer, Call::Alpha, Call::Ended], 4, 0),
+    (
+        &[Call::Alpha, Call::Integer, Call::Alpha, Call::Ended],
+        4,
+        0,
+    ),
     (
         &[
             Call::Alpha,
@@ -134,7 +138,11 @@ static BROKEN: [Option<&[u8]>; 3] = [Some(b"12"), None, Some(b"3 ")];
 static FAILING: [Row; 3] = [
     (&[Call::Ended], 1, 0),
     (&[Call::Integer], 2, 1),
-    (&[Call::Alpha, Call::Integer, Call::Ended, Call::Alpha], 2, 1),
+    (
+        &[Call::Alpha, Call::Integer, Call::Ended, Call::Alpha],
+        2,
+        1,
+    ),
 ];
 
 #[test]

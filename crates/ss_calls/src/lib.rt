@@ -4,7 +4,11 @@
 #[cfg(test)]
 mod base;
 #[cfg(test)]
+mod commands;
+#[cfg(test)]
 mod counted;
+#[cfg(test)]
+mod engine;
 #[cfg(test)]
 mod events;
 #[cfg(test)]

@@ -96,59 +96,398 @@ pub(crate) fn add_detail(
 {
     match instruction {
         Instruction::Push { value } => add_pushed(text, value),
-        Instruction::Fetch { variable } => add_told(text, "fetch", &[Operand::Place(Destination::Variable { variable: *variable })]),
-        Instruction::Calculate { operator, line } => add_told(text, "calculate", &[Operand::Word(Word::Operator(*operator)), Operand::At(*line)]),
-        Instruction::Signed { sign, line } => add_told(text, "signed", &[Operand::Word(Word::Sign(*sign)), Operand::At(*line)]),
+        Instruction::Fetch { variable } => add_told(
+            text,
+            "fetch",
+            &[Operand::Place(Destination::Variable {
+                variable: *variable,
+            })],
+        ),
+        Instruction::Calculate { operator, line } => add_told(
+            text,
+            "calculate",
+            &[Operand::Word(Word::Operator(*operator)), Operand::At(*line)],
+        ),
+        Instruction::Signed { sign, line } => add_told(
+            text,
+            "signed",
+            &[Operand::Word(Word::Sign(*sign)), Operand::At(*line)],
+        ),
         Instruction::Absolute { line } => add_told(text, "absolute", &[Operand::At(*line)]),
-        Instruction::Attribute { class, field, line } => add_told(text, "attribute", &[Operand::Place(Destination::Attribute { class: *class, field: *field }), Operand::At(*line)]),
-        Instruction::OfSet { query, set, system, line } => add_told(text, "of set", &[Operand::Word(Word::OfSet(*query)), Operand::Owned(*set, *system), Operand::At(*line)]),
-        Instruction::OfMember { query, set, line } => add_told(text, "of member", &[Operand::Word(Word::OfMember(*query)), Operand::Set(*set), Operand::At(*line)]),
+        Instruction::Attribute { class, field, line } => add_told(
+            text,
+            "attribute",
+            &[
+                Operand::Place(Destination::Attribute {
+                    class: *class,
+                    field: *field,
+                }),
+                Operand::At(*line),
+            ],
+        ),
+        Instruction::OfSet {
+            query,
+            set,
+            system,
+            line,
+        } => add_told(
+            text,
+            "of set",
+            &[
+                Operand::Word(Word::OfSet(*query)),
+                Operand::Owned(*set, *system),
+                Operand::At(*line),
+            ],
+        ),
+        Instruction::OfMember { query, set, line } => add_told(
+            text,
+            "of member",
+            &[
+                Operand::Word(Word::OfMember(*query)),
+                Operand::Set(*set),
+                Operand::At(*line),
+            ],
+        ),
         Instruction::Clock => add_told(text, "clock", &[]),
         Instruction::TimeOf { line } => add_told(text, "time of", &[Operand::At(*line)]),
-        Instruction::Figure { fold, statistic, system, line } => add_told(text, "figure", &[Operand::Word(Word::Fold(*fold)), Operand::Statistic(*statistic, *system), Operand::At(*line)]),
-        Instruction::Compare { relation, skip } => add_told(text, "compare", &[Operand::Word(Word::Relation(*relation)), Operand::Else(landing(place, *skip))]),
-        Instruction::TestData { negated, skip, line } => add_told(text, "test data", &[Operand::Word(Word::Negated(*negated)), Operand::Else(landing(place, *skip)), Operand::At(*line)]),
-        Instruction::TestEmpty { negated, set, system, skip, line } => add_told(text, "test empty", &[Operand::Word(Word::Negated(*negated)), Operand::Owned(*set, *system), Operand::Else(landing(place, *skip)), Operand::At(*line)]),
-        Instruction::TestMember { negated, set, system, skip, line } => add_told(text, "test member", &[Operand::Word(Word::Negated(*negated)), Operand::Owned(*set, *system), Operand::Else(landing(place, *skip)), Operand::At(*line)]),
+        Instruction::Figure {
+            fold,
+            statistic,
+            system,
+            line,
+        } => add_told(
+            text,
+            "figure",
+            &[
+                Operand::Word(Word::Fold(*fold)),
+                Operand::Statistic(*statistic, *system),
+                Operand::At(*line),
+            ],
+        ),
+        Instruction::Compare { relation, skip } => add_told(
+            text,
+            "compare",
+            &[
+                Operand::Word(Word::Relation(*relation)),
+                Operand::Else(landing(place, *skip)),
+            ],
+        ),
+        Instruction::TestData {
+            negated,
+            skip,
+            line,
+        } => add_told(
+            text,
+            "test data",
+            &[
+                Operand::Word(Word::Negated(*negated)),
+                Operand::Else(landing(place, *skip)),
+                Operand::At(*line),
+            ],
+        ),
+        Instruction::TestEmpty {
+            negated,
+            set,
+            system,
+            skip,
+            line,
+        } => add_told(
+            text,
+            "test empty",
+            &[
+                Operand::Word(Word::Negated(*negated)),
+                Operand::Owned(*set, *system),
+                Operand::Else(landing(place, *skip)),
+                Operand::At(*line),
+            ],
+        ),
+        Instruction::TestMember {
+            negated,
+            set,
+            system,
+            skip,
+            line,
+        } => add_told(
+            text,
+            "test member",
+            &[
+                Operand::Word(Word::Negated(*negated)),
+                Operand::Owned(*set, *system),
+                Operand::Else(landing(place, *skip)),
+                Operand::At(*line),
+            ],
+        ),
         Instruction::Jump { skip } => add_told(text, "jump", &[Operand::To(landing(place, *skip))]),
-        Instruction::LookEntity { class, line } => add_told(text, "look entity", &[Operand::Class(*class), Operand::At(*line)]),
-        Instruction::LookMember { set, line } => add_told(text, "look member", &[Operand::Set(*set), Operand::At(*line)]),
-        Instruction::LookOwner { set, system, line } => add_told(text, "look owner", &[Operand::Owned(*set, *system), Operand::At(*line)]),
-        Instruction::Assign { to, line } => add_told(text, "assign", &[Operand::Place(*to), Operand::At(*line)]),
-        Instruction::Change { sign, to, line } => add_told(text, "change", &[Operand::Word(Word::Sign(*sign)), Operand::Place(*to), Operand::At(*line)]),
-        Instruction::Give { to, line } => add_told(text, "give", &[Operand::Place(*to), Operand::At(*line)]),
-        Instruction::Read { mode, line } => add_told(text, "read", &[Operand::Word(Word::Mode(*mode)), Operand::At(*line)]),
-        Instruction::Print { lines, items } => add_told(text, "print", &[Operand::Pictures(*lines), Operand::Values(*items)]),
+        Instruction::LookEntity { class, line } => add_told(
+            text,
+            "look entity",
+            &[Operand::Class(*class), Operand::At(*line)],
+        ),
+        Instruction::LookMember { set, line } => add_told(
+            text,
+            "look member",
+            &[Operand::Set(*set), Operand::At(*line)],
+        ),
+        Instruction::LookOwner { set, system, line } => add_told(
+            text,
+            "look owner",
+            &[Operand::Owned(*set, *system), Operand::At(*line)],
+        ),
+        Instruction::Assign { to, line } => add_told(
+            text,
+            "assign",
+            &[Operand::Place(*to), Operand::At(*line)],
+        ),
+        Instruction::Change { sign, to, line } => add_told(
+            text,
+            "change",
+            &[
+                Operand::Word(Word::Sign(*sign)),
+                Operand::Place(*to),
+                Operand::At(*line),
+            ],
+        ),
+        Instruction::Give { to, line } => add_told(
+            text,
+            "give",
+            &[Operand::Place(*to), Operand::At(*line)],
+        ),
+        Instruction::Read { mode, line } => add_told(
+            text,
+            "read",
+            &[Operand::Word(Word::Mode(*mode)), Operand::At(*line)],
+        ),
+        Instruction::Print { lines, items } => add_told(
+            text,
+            "print",
+            &[Operand::Pictures(*lines), Operand::Values(*items)],
+        ),
         Instruction::Skip { line } => add_told(text, "skip", &[Operand::At(*line)]),
         Instruction::Turn => add_told(text, "turn", &[]),
-        Instruction::Repeat { back } => add_told(text, "repeat", &[Operand::To(origin(place, *back))]),
-        Instruction::Begin { skip, line } => add_told(text, "begin", &[Operand::Else(landing(place, *skip)), Operand::At(*line)]),
-        Instruction::BeginClass { class, skip, line } => add_told(text, "begin class", &[Operand::Class(*class), Operand::Else(landing(place, *skip)), Operand::At(*line)]),
-        Instruction::Take { variable, line } => add_told(text, "take", &[Operand::Place(Destination::Variable { variable: *variable }), Operand::At(*line)]),
+        Instruction::Repeat { back } => add_told(
+            text,
+            "repeat",
+            &[Operand::To(origin(place, *back))],
+        ),
+        Instruction::Begin { skip, line } => add_told(
+            text,
+            "begin",
+            &[Operand::Else(landing(place, *skip)), Operand::At(*line)],
+        ),
+        Instruction::BeginClass { class, skip, line } => add_told(
+            text,
+            "begin class",
+            &[
+                Operand::Class(*class),
+                Operand::Else(landing(place, *skip)),
+                Operand::At(*line),
+            ],
+        ),
+        Instruction::Take { variable, line } => add_told(
+            text,
+            "take",
+            &[
+                Operand::Place(Destination::Variable {
+                    variable: *variable,
+                }),
+                Operand::At(*line),
+            ],
+        ),
         Instruction::Next { back } => add_told(text, "next", &[Operand::To(origin(place, *back))]),
-        Instruction::BeginSet { reverse, set, system, skip, line } => add_told(text, "begin set", &[Operand::Word(Word::Order(*reverse)), Operand::Owned(*set, *system), Operand::Else(landing(place, *skip)), Operand::At(*line)]),
-        Instruction::BeginAt { reverse, after, set, system, skip, line } => add_told(text, "begin at", &[Operand::Word(Word::Order(*reverse)), Operand::Word(Word::Start(*after)), Operand::Owned(*set, *system), Operand::Else(landing(place, *skip)), Operand::At(*line)]),
-        Instruction::TakeMember { variable, reverse, set, line } => add_told(text, "take member", &[Operand::Place(Destination::Variable { variable: *variable }), Operand::Word(Word::Order(*reverse)), Operand::Set(*set), Operand::At(*line)]),
-        Instruction::NextMember { set, system, back, line } => add_told(text, "next member", &[Operand::Owned(*set, *system), Operand::To(origin(place, *back)), Operand::At(*line)]),
+        Instruction::BeginSet {
+            reverse,
+            set,
+            system,
+            skip,
+            line,
+        } => add_told(
+            text,
+            "begin set",
+            &[
+                Operand::Word(Word::Order(*reverse)),
+                Operand::Owned(*set, *system),
+                Operand::Else(landing(place, *skip)),
+                Operand::At(*line),
+            ],
+        ),
+        Instruction::BeginAt {
+            reverse,
+            after,
+            set,
+            system,
+            skip,
+            line,
+        } => add_told(
+            text,
+            "begin at",
+            &[
+                Operand::Word(Word::Order(*reverse)),
+                Operand::Word(Word::Start(*after)),
+                Operand::Owned(*set, *system),
+                Operand::Else(landing(place, *skip)),
+                Operand::At(*line),
+            ],
+        ),
+        Instruction::TakeMember {
+            variable,
+            reverse,
+            set,
+            line,
+        } => add_told(
+            text,
+            "take member",
+            &[
+                Operand::Place(Destination::Variable {
+                    variable: *variable,
+                }),
+                Operand::Word(Word::Order(*reverse)),
+                Operand::Set(*set),
+                Operand::At(*line),
+            ],
+        ),
+        Instruction::NextMember {
+            set,
+            system,
+            back,
+            line,
+        } => add_told(
+            text,
+            "next member",
+            &[
+                Operand::Owned(*set, *system),
+                Operand::To(origin(place, *back)),
+                Operand::At(*line),
+            ],
+        ),
         Instruction::Forget { count } => add_told(text, "forget", &[Operand::Values(*count)]),
-        Instruction::Call { routine, given, yielding } => add_told(text, "call", &[Operand::Routine(*routine, first_place(routines, *routine)), Operand::Given(*given), Operand::Yielding(*yielding)]),
+        Instruction::Call {
+            routine,
+            given,
+            yielding,
+        } => add_told(
+            text,
+            "call",
+            &[
+                Operand::Routine(*routine, first_place(routines, *routine)),
+                Operand::Given(*given),
+                Operand::Yielding(*yielding),
+            ],
+        ),
         Instruction::Leave => add_told(text, "leave", &[]),
         Instruction::Halt => add_told(text, "halt", &[]),
-        Instruction::Create { class, line } => add_told(text, "create", &[Operand::Class(*class), Operand::At(*line)]),
-        Instruction::CreateAll { counted, line } => add_told(text, "create all", &[Operand::Class(counted.class), Operand::Place(Destination::Variable { variable: Variable::Global { number: counted.variable } }), Operand::At(*line)]),
-        Instruction::Destroy { class, line } => add_told(text, "destroy", &[Operand::Class(*class), Operand::At(*line)]),
-        Instruction::File { filing, set, system, line } => add_told(text, "file", &[Operand::Word(Word::Filing(*filing)), Operand::Owned(*set, *system), Operand::At(*line)]),
-        Instruction::Remove { set, system, line } => add_told(text, "remove", &[Operand::Owned(*set, *system), Operand::At(*line)]),
-        Instruction::RemoveEnd { end, set, system, line } => add_told(text, "remove end", &[Operand::Word(Word::End(*end)), Operand::Owned(*set, *system), Operand::At(*line)]),
-        Instruction::When { later, line } => add_told(text, "when", &[Operand::Word(Word::Time(*later)), Operand::At(*line)]),
-        Instruction::MakeNotice { class, given, line } => add_told(text, "make notice", &[Operand::Class(*class), Operand::Given(*given), Operand::At(*line)]),
-        Instruction::Name { to, line } => add_told(text, "name", &[Operand::Place(*to), Operand::At(*line)]),
-        Instruction::FileNotice { class, line } => add_told(text, "file notice", &[Operand::Class(*class), Operand::At(*line)]),
-        Instruction::Reschedule { class, given, line } => add_told(text, "reschedule", &[Operand::Class(*class), Operand::Given(*given), Operand::At(*line)]),
-        Instruction::Cancel { class, line } => add_told(text, "cancel", &[Operand::Class(*class), Operand::At(*line)]),
-        Instruction::Await { skip } => add_told(text, "await", &[Operand::Else(landing(place, *skip))]),
+        Instruction::Create { class, line } => add_told(
+            text,
+            "create",
+            &[Operand::Class(*class), Operand::At(*line)],
+        ),
+        Instruction::CreateAll { counted, line } => add_told(
+            text,
+            "create all",
+            &[
+                Operand::Class(counted.class),
+                Operand::Place(Destination::Variable {
+                    variable: Variable::Global {
+                        number: counted.variable,
+                    },
+                }),
+                Operand::At(*line),
+            ],
+        ),
+        Instruction::Destroy { class, line } => add_told(
+            text,
+            "destroy",
+            &[Operand::Class(*class), Operand::At(*line)],
+        ),
+        Instruction::File {
+            filing,
+            set,
+            system,
+            line,
+        } => add_told(
+            text,
+            "file",
+            &[
+                Operand::Word(Word::Filing(*filing)),
+                Operand::Owned(*set, *system),
+                Operand::At(*line),
+            ],
+        ),
+        Instruction::Remove { set, system, line } => add_told(
+            text,
+            "remove",
+            &[Operand::Owned(*set, *system), Operand::At(*line)],
+        ),
+        Instruction::RemoveEnd {
+            end,
+            set,
+            system,
+            line,
+        } => add_told(
+            text,
+            "remove end",
+            &[
+                Operand::Word(Word::End(*end)),
+                Operand::Owned(*set, *system),
+                Operand::At(*line),
+            ],
+        ),
+        Instruction::When { later, line } => add_told(
+            text,
+            "when",
+            &[Operand::Word(Word::Time(*later)), Operand::At(*line)],
+        ),
+        Instruction::MakeNotice { class, given, line } => add_told(
+            text,
+            "make notice",
+            &[
+                Operand::Class(*class),
+                Operand::Given(*given),
+                Operand::At(*line),
+            ],
+        ),
+        Instruction::Name { to, line } => add_told(
+            text,
+            "name",
+            &[Operand::Place(*to), Operand::At(*line)],
+        ),
+        Instruction::FileNotice { class, line } => add_told(
+            text,
+            "file notice",
+            &[Operand::Class(*class), Operand::At(*line)],
+        ),
+        Instruction::Reschedule { class, given, line } => add_told(
+            text,
+            "reschedule",
+            &[
+                Operand::Class(*class),
+                Operand::Given(*given),
+                Operand::At(*line),
+            ],
+        ),
+        Instruction::Cancel { class, line } => add_told(
+            text,
+            "cancel",
+            &[Operand::Class(*class), Operand::At(*line)],
+        ),
+        Instruction::Await { skip } => add_told(
+            text,
+            "await",
+            &[Operand::Else(landing(place, *skip))],
+        ),
         Instruction::TakeEvent => add_told(text, "take event", events),
-        Instruction::NextEvent { back } => add_told(text, "next event", &[Operand::To(origin(place, *back))]),
-        Instruction::Reset { statistic, system, line } => add_told(text, "reset", &[Operand::Statistic(*statistic, *system), Operand::At(*line)]),
+        Instruction::NextEvent { back } => add_told(
+            text,
+            "next event",
+            &[Operand::To(origin(place, *back))],
+        ),
+        Instruction::Reset {
+            statistic,
+            system,
+            line,
+        } => add_told(
+            text,
+            "reset",
+            &[Operand::Statistic(*statistic, *system), Operand::At(*line)],
+        ),
     }
 }

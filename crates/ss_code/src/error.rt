@@ -6,7 +6,7 @@ ghost use Rattle.std.specs.Prelude.{◌≡◌};
 use std::alloc::AllocError;
 
 /// Why a program has no code.
-#[derive(Debug, PartialEq, Eq, Clone, Copy, thiserror::Error)]
+#[derive(Debug, Clone, Copy, thiserror::Error)]
 pub enum CodeError {
     /// The code has more instructions than the limit allows: refusal 81, which has no line.
     #[error("the program is too long")]

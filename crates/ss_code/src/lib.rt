@@ -13,7 +13,6 @@ pub mod generate;
 pub mod lines;
 mod listing;
 mod loops;
-pub mod notices;
 mod operand;
 mod places;
 mod sayings;

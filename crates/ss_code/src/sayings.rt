@@ -7,9 +7,9 @@ ghost use Rattle.ss_program.specs.View.{view_event, view_program};
 ghost use Rattle.ss_code.specs.Emitted.{said_by};
 
 use crate::code::Sayings;
-use crate::notices::NoticeClass;
 use ss_base::{Layout, Mode, copied_disciplines};
 use ss_events::TieShape;
+use ss_notices::NoticeClass;
 use ss_program::sections::{Event, Program};
 use std::alloc::{AllocError, Global};
 

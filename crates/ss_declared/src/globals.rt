@@ -22,7 +22,7 @@ use ss_tree::preamble::ClassKind;
 use std::alloc::{AllocError, Global};
 
 /// What a global name stands for.
-#[derive(Clone, Copy, PartialEq, Eq, Debug)]
+#[derive(Clone, Copy)]
 pub enum Standing {
     /// A variable made by a DEFINE.
     Variable,

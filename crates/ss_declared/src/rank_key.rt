@@ -19,7 +19,7 @@ use ss_sayings::{Said, Saying};
 use std::alloc::{AllocError, Global};
 
 /// The classes of the members of the sets that a DEFINE names.
-#[derive(Clone, Copy, PartialEq, Eq, Debug)]
+#[derive(Clone, Copy)]
 pub enum Members {
     One(Name),
     Several,

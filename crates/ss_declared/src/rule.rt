@@ -3,7 +3,7 @@
 use ss_base::Line;
 
 /// A rule on what a program declares.
-#[derive(Clone, Copy, PartialEq, Eq, Debug)]
+#[derive(Clone, Copy)]
 pub enum Rule {
     /// A name is declared once, and what may be said once is said once.
     Twice,
@@ -28,7 +28,7 @@ pub enum Rule {
 }
 
 /// A rule that is broken, and the first line of the text where it is.
-#[derive(Clone, Copy, PartialEq, Eq, Debug)]
+#[derive(Clone, Copy)]
 pub struct Broken {
     pub rule: Rule,
     pub line: Line,

@@ -8,7 +8,7 @@ use ss_sayings::{Said, Saying};
 use ss_tree::preamble::ClassKind;
 
 /// What a saying is about.
-#[derive(Clone, Copy, PartialEq, Eq, Debug)]
+#[derive(Clone, Copy)]
 pub enum Topic {
     /// NORMALLY.
     Normally,

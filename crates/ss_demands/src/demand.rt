@@ -5,7 +5,7 @@ use ss_lex::Name;
 use ss_tree::expression::Function;
 
 /// What a demand compares: modes, or counts.
-#[derive(Clone, Copy, PartialEq, Eq, Debug)]
+#[derive(Clone, Copy)]
 pub enum Aspect {
     /// The mode of whole numbers.
     Integer,
@@ -37,7 +37,7 @@ pub enum Aspect {
 }
 
 /// A demand: what is found in the text is what is wanted there.
-#[derive(Clone, Copy, PartialEq, Eq, Debug)]
+#[derive(Clone, Copy)]
 pub struct Demand {
     /// The line of the innermost statement that makes it; of the head of a loop or of an IF it is that
     /// of the loop or the IF, of the head of an EVENT section that of the section.

@@ -12,7 +12,7 @@ use ss_tree::expression::{Expression, Named};
 use std::alloc::AllocError;
 
 /// What takes values that a statement hands over, each in its place.
-#[derive(Clone, Copy, PartialEq, Eq, Debug)]
+#[derive(Clone, Copy)]
 pub(crate) enum Receiver {
     /// The parameters that a routine is given.
     Given(Name),

@@ -5,7 +5,7 @@ use ss_sayings::SetRule;
 use ss_tree::preamble::{ClassKind, Mode, StatisticKind};
 
 /// A class.
-#[derive(Clone, Copy, PartialEq, Eq, Debug)]
+#[derive(Clone, Copy)]
 pub struct Class {
     pub kind: ClassKind,
     /// The line of its declaration.
@@ -14,7 +14,7 @@ pub struct Class {
 
 /// An attribute: the number of its class, its number among the attributes of that class, and its mode, if
 /// a DEFINE or NORMALLY gives it one.
-#[derive(Clone, Copy, PartialEq, Eq, Debug)]
+#[derive(Clone, Copy)]
 pub struct Attribute {
     pub class: usize,
     pub field: usize,
@@ -22,7 +22,7 @@ pub struct Attribute {
 }
 
 /// How a DEFINE, the statement of this number in the preamble, orders a set.
-#[derive(Clone, Copy, PartialEq, Eq, Debug)]
+#[derive(Clone, Copy)]
 pub struct Ordering {
     pub statement: usize,
     pub rule: SetRule,
@@ -30,7 +30,7 @@ pub struct Ordering {
 
 /// A set: who owns it, the number of the class of its members, and how a DEFINE orders it, each where it is
 /// said.
-#[derive(Clone, Copy, PartialEq, Eq, Debug)]
+#[derive(Clone, Copy)]
 pub struct Set {
     pub owner: Option<Owner>,
     pub member: Option<usize>,
@@ -38,7 +38,7 @@ pub struct Set {
 }
 
 /// What a global variable is.
-#[derive(Clone, Copy, PartialEq, Eq, Debug)]
+#[derive(Clone, Copy)]
 pub enum VariableKind {
     /// That of a DEFINE.
     Defined,
@@ -49,14 +49,14 @@ pub enum VariableKind {
 }
 
 /// A global variable.
-#[derive(Clone, Copy, PartialEq, Eq, Debug)]
+#[derive(Clone, Copy)]
 pub struct Variable {
     pub kind: VariableKind,
     pub mode: Mode,
 }
 
 /// A routine: the number of its section, and how many values it is given and yields.
-#[derive(Clone, Copy, PartialEq, Eq, Debug)]
+#[derive(Clone, Copy)]
 pub struct Routine {
     pub section: usize,
     pub given: usize,
@@ -64,7 +64,7 @@ pub struct Routine {
 }
 
 /// The EVENT section of a class: its number, how many values it is given, and whether it saves its notice.
-#[derive(Clone, Copy, PartialEq, Eq, Debug)]
+#[derive(Clone, Copy)]
 pub struct Event {
     pub section: usize,
     pub given: usize,
@@ -72,7 +72,7 @@ pub struct Event {
 }
 
 /// A statistic: the number of the history that it tells of, and what it tells.
-#[derive(Clone, Copy, PartialEq, Eq, Debug)]
+#[derive(Clone, Copy)]
 pub struct Statistic {
     pub history: usize,
     pub kind: StatisticKind,

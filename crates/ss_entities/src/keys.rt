@@ -10,7 +10,7 @@ use std::alloc::{AllocError, Global};
 
 /// A key of the sets that a DEFINE ranks: the number of that DEFINE in the preamble, the name of an
 /// attribute, and whether a high value comes first.
-#[derive(Clone, Copy, PartialEq, Eq, Debug)]
+#[derive(Clone, Copy)]
 pub struct RankedBy {
     pub statement: usize,
     pub attribute: Name,
@@ -19,7 +19,7 @@ pub struct RankedBy {
 
 /// A key for the ties of a class: the name of the class, that of an attribute, and whether a high value
 /// comes first.
-#[derive(Clone, Copy, PartialEq, Eq, Debug)]
+#[derive(Clone, Copy)]
 pub struct TiedBy {
     pub class: Name,
     pub attribute: Name,

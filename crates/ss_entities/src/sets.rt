@@ -2,7 +2,7 @@
 
 ghost use Rattle.std.specs.Prelude.{◌≡◌, map, OnOk, IfOk};
 ghost use Rattle.std.specs.List.{flat_map, fold};
-ghost use Rattle.ss_entities.specs.Entities.{classes as classes_said, member_by, ordering_by, owner_by, set_by, set_names as set_names_said, set_of, sets as sets_said};
+ghost use Rattle.ss_entities.specs.Entities.{classes as classes_said, member_by, ordering_by, orderings as orderings_said, owner_by, set_by, set_names as set_names_said, set_of, sets as sets_said};
 ghost use Rattle.ss_firsts.specs.Firsts.{each_once, firsts, with_first, with_name, with_name_if};
 
 use crate::entry::{Class, Ordering, Set};
@@ -187,6 +187,34 @@ pub fn sets_of(
     Ok(sets)
 }
 
+// The sets of these names, where this is told of their owners and members.
+fn ordered_sets(
+    alloc: Global,
+    owners: &IndexMap<Name, Owner>,
+    members: &IndexMap<Name, usize>,
+    names: &IndexSet<Name>,
+    sayings: &[Saying],
+) -> Result<Vec<Set>, AllocError>
+    ensures { IfOk result (λ out. out.items ≡ map (set_of owners.now.entries members.now.entries (orderings_said sayings.now)) names.now.keys) }
+{
+    let orderings = orderings_of(alloc, sayings)?;
+    sets_of(alloc, owners, members, &orderings, names.as_slice())
+}
+
+// The sets of these names, where this is told of their owners.
+fn owned_sets(
+    alloc: Global,
+    classes: &IndexMap<Name, Class>,
+    owners: &IndexMap<Name, Owner>,
+    names: &IndexSet<Name>,
+    sayings: &[Saying],
+) -> Result<Vec<Set>, AllocError>
+    ensures { IfOk result (λ out. out.items ≡ map (set_of owners.now.entries (firsts (flat_map (member_by classes.now.entries) sayings.now)) (orderings_said sayings.now)) names.now.keys) }
+{
+    let members = members_of(alloc, classes, sayings)?;
+    ordered_sets(alloc, owners, &members, names, sayings)
+}
+
 /// The sets of these names, where these are the classes.
 pub fn sets_in(
     alloc: Global,
@@ -199,7 +227,5 @@ pub fn sets_in(
     ensures { IfOk result (λ out. out.items ≡ sets_said sayings.now) }
 {
     let owners = owners_of(alloc, classes, sayings)?;
-    let members = members_of(alloc, classes, sayings)?;
-    let orderings = orderings_of(alloc, sayings)?;
-    sets_of(alloc, &owners, &members, &orderings, names.as_slice())
+    owned_sets(alloc, classes, &owners, names, sayings)
 }

@@ -7,7 +7,7 @@ use ss_base::{FaultKind, Refused};
 use std::alloc::{AllocError, Global};
 
 /// A call of an event list.
-#[derive(Clone, Copy, Debug)]
+#[derive(Clone, Copy)]
 pub enum Call<'a> {
     /// Schedules a notice at a time, in units, under the rank of its class and its ties.
     Schedule {
@@ -25,7 +25,7 @@ pub enum Call<'a> {
 }
 
 /// What a call of an event list answered.
-#[derive(Clone, Copy, PartialEq, Eq, Debug)]
+#[derive(Clone, Copy, PartialEq)]
 pub enum Answer {
     Done,
     Faulted(FaultKind),

@@ -19,7 +19,7 @@ pub const MOST_SCHEDULINGS: u64 = 4_611_686_018_427_387_903;
 /// Where a notice stands among others: its time in units, the rank of its class, and its ties.
 ///
 /// The values are those at the moment when the key is made. A contract sees the record of the three.
-#[derive(Drop, Debug)]
+#[derive(Drop)]
 pub struct Key {
     time: i64,
     rank: usize,
@@ -84,7 +84,7 @@ impl Key {
 }
 
 // A pending notice with its key and its place in the order of scheduling.
-#[derive(Drop, Debug)]
+#[derive(Drop)]
 struct Entry {
     key: Key,
     // How many schedulings came before this one.

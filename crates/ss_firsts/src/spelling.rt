@@ -17,7 +17,7 @@ pub const SPELLING_LIMIT: usize = 34;
 /// How a name is spelled, in capitals.
 ///
 /// A contract sees it as the list of its bytes.
-#[derive(Clone, Copy, Debug)]
+#[derive(Clone, Copy)]
 pub struct Spelling {
     room: [u8; SPELLING_LIMIT],
     len: usize,

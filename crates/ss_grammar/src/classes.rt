@@ -10,7 +10,7 @@ use crate::tokens::syntax;
 use ss_lex::{Token, TokenKind, Word};
 
 /// Words that mean the same in a place.
-#[derive(Clone, Copy, PartialEq, Eq, Debug)]
+#[derive(Clone, Copy)]
 pub enum Class {
     /// A, AN or THE.
     Article,

@@ -17,7 +17,7 @@ use ss_tree::expression::{Designator, Expression, Named};
 use std::alloc::Global;
 
 /// What stands behind the first expression of a test.
-#[derive(Clone, Copy, PartialEq, Eq, Debug)]
+#[derive(Clone, Copy)]
 pub enum Verb {
     Compares(Relation),
     /// IS EMPTY, or IS NOT EMPTY where it is negated.
@@ -27,7 +27,7 @@ pub enum Verb {
 }
 
 /// The word of a test in words that says what is tested.
-#[derive(Clone, Copy, PartialEq, Eq, Debug)]
+#[derive(Clone, Copy)]
 pub enum Told {
     Empty,
     In,

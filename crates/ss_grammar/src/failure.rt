@@ -6,14 +6,14 @@ ghost use Rattle.ss_grammar.specs.declared.failure.Failure.TheVariants.{Memory};
 use std::alloc::{AllocError, AllocFailed};
 
 /// What is wrong with the tokens.
-#[derive(Clone, Copy, Debug, PartialEq, Eq)]
+#[derive(Clone, Copy)]
 pub enum Fault {
     Syntax,
     TooDeep,
 }
 
 /// Why nothing was read.
-#[derive(Debug, Drop)]
+#[derive(Drop)]
 pub enum Failure {
     Memory,
     /// A fault, and how many tokens were left where it was found.

@@ -1,7 +1,7 @@
 //! Why a value is not noted.
 
 /// Why a value is not noted.
-#[derive(Clone, Copy, PartialEq, Eq, Debug)]
+#[derive(Clone, Copy)]
 pub enum Unnoted {
     /// A history takes no further value: the fault 14.
     Full,

@@ -12,7 +12,7 @@ use std::marker::Model;
 pub const BLOCK: usize = 4096;
 
 /// The reader answered an error.
-#[derive(Clone, Copy, PartialEq, Eq, Debug)]
+#[derive(Clone, Copy)]
 pub struct ReadFailed;
 
 /// A reader, the bytes that it gave and that are still to be looked at, and whether it gave an end.

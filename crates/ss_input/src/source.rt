@@ -18,7 +18,7 @@ use ss_base::{Alpha, FaultKind, FaultyRead};
 use std::marker::Model;
 
 /// Why no word was read.
-#[derive(Clone, Copy, PartialEq, Eq, Debug)]
+#[derive(Clone, Copy)]
 pub enum Missed {
     /// END OF DATA where no word is left; BAD DATA where the word is no value of the mode, or too
     /// long, or stands behind too many separators.

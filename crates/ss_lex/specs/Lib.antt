@@ -4,6 +4,7 @@ pub mod Laws
 pub mod Lines
 pub mod Listings
 pub mod Names
+pub mod Parts
 pub mod Pieces
 pub mod Reading
 pub mod Refusals

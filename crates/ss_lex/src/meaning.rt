@@ -1,7 +1,7 @@
 use crate::token::TokenKind;
 
 /// What can be wrong with a piece of a line.
-#[derive(Clone, Copy, PartialEq, Eq, Debug)]
+#[derive(Clone, Copy)]
 pub enum Fault {
     BadNumber,
     OpenText,
@@ -10,7 +10,7 @@ pub enum Fault {
 }
 
 /// What a piece of a line means.
-#[derive(Debug, Drop)]
+#[derive(Drop)]
 pub enum Meaning {
     Nothing,
     /// A token, and the length of its spelling in bytes.

@@ -16,7 +16,7 @@ pub const NAME_LIMIT: usize = 32;
 /// A name in capitals, of 1 to `NAME_LIMIT` bytes.
 ///
 /// A contract sees it as the list of its bytes.
-#[derive(Clone, Copy, Debug)]
+#[derive(Clone, Copy)]
 pub struct Name {
     room: [u8; NAME_LIMIT],
     len: usize,

@@ -4,7 +4,7 @@ use std::alloc::{AllocError, Global};
 use std::marker::Model;
 
 /// The bytes of a line that is a picture, without its end.
-#[derive(Debug, Drop)]
+#[derive(Drop)]
 pub struct PictureLine {
     bytes: Vec<u8>,
 }

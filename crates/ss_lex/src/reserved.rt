@@ -1,10 +1,14 @@
 ghost use Rattle.std.specs.Prelude.{◌≡◌, map};
+ghost use Rattle.ss_lex.specs.Parts.{part, part_for};
 ghost use Rattle.ss_lex.specs.Words.{found_in, reserved};
 
 use crate::word::Word;
 
-/// The reserved words, by their spelling, in the order of their bytes.
-static RESERVED: [(&[u8], Word); 141] = [
+/// A reserved word behind its spelling.
+type Row = (&'static [u8], Word);
+
+// The reserved words, by their spelling, in the order of their bytes, in four parts.
+static A_TO_D: [(&[u8], Word); 29] = [
     (b"A", Word::A),
     (b"ABS.F", Word::AbsF),
     (b"ACCUMULATE", Word::Accumulate),
@@ -34,6 +38,9 @@ static RESERVED: [(&[u8], Word); 141] = [
     (b"DESTROY", Word::Destroy),
     (b"DIV.F", Word::DivF),
     (b"DO", Word::Do),
+];
+
+static E_TO_L: [(&[u8], Word); 42] = [
     (b"EACH", Word::Each),
     (b"ELSE", Word::Else),
     (b"EMPTY", Word::Empty),
@@ -76,6 +83,9 @@ static RESERVED: [(&[u8], Word); 141] = [
     (b"LOOP", Word::Loop),
     (b"LOW", Word::Low),
     (b"LT", Word::Lt),
+];
+
+static M_TO_R: [(&[u8], Word); 37] = [
     (b"MAIN", Word::Main),
     (b"MAX.F", Word::MaxF),
     (b"MAXIMUM", Word::Maximum),
@@ -113,6 +123,9 @@ static RESERVED: [(&[u8], Word); 141] = [
     (b"RETURN", Word::Return),
     (b"REVERSE", Word::Reverse),
     (b"ROUTINE", Word::Routine),
+];
+
+static S_TO_Y: [(&[u8], Word); 33] = [
     (b"SAVING", Word::Saving),
     (b"SCHEDULE", Word::Schedule),
     (b"SET", Word::Set),
@@ -148,18 +161,57 @@ static RESERVED: [(&[u8], Word); 141] = [
     (b"YIELDING", Word::Yielding),
 ];
 
-/// The rows of the table.
-fn rows() -> &'static [(&'static [u8], Word)]
-    ensures { map (λ row. (row.0.now, row.1)) result.now ≡ reserved }
+// The rows from A to D.
+fn a_to_d() -> &'static [Row]
+    ensures { map (λ row. (row.0.now, row.1)) result.now ≡ part 0 29 }
 {
-    &RESERVED
+    &A_TO_D
+}
+
+// The rows from E to L.
+fn e_to_l() -> &'static [Row]
+    ensures { map (λ row. (row.0.now, row.1)) result.now ≡ part 29 42 }
+{
+    &E_TO_L
+}
+
+// The rows from M to R.
+fn m_to_r() -> &'static [Row]
+    ensures { map (λ row. (row.0.now, row.1)) result.now ≡ part 71 37 }
+{
+    &M_TO_R
+}
+
+// The rows from S to Y.
+fn s_to_y() -> &'static [Row]
+    ensures { map (λ row. (row.0.now, row.1)) result.now ≡ part 108 33 }
+{
+    &S_TO_Y
+}
+
+// The rows in which a word with this first byte stands, if it is reserved.
+fn rows_for(first: u8) -> &'static [Row]
+    ensures { map (λ row. (row.0.now, row.1)) result.now ≡ part_for first }
+{
+    if first < b'E' {
+        a_to_d()
+    } else if first < b'M' {
+        e_to_l()
+    } else if first < b'S' {
+        m_to_r()
+    } else {
+        s_to_y()
+    }
 }
 
 /// The reserved word with this spelling.
 pub fn reserved_word(spelling: &[u8]) -> Option<Word>
     ensures { result ≡ found_in reserved spelling.now }
 {
-    let rows = rows();
+    let Some(first) = spelling.first() else {
+        return None;
+    };
+    let rows = rows_for(*first);
     match rows.binary_search_by_key(&spelling, |row| row.0) {
         Ok(i) => Some(rows[i].1),
         Err(_) => None,

@@ -6,7 +6,7 @@ use crate::word::Word;
 use ss_base::{Alpha, Line};
 
 /// A character that is a token by itself.
-#[derive(Clone, Copy, PartialEq, Eq, Debug)]
+#[derive(Clone, Copy, PartialEq)]
 pub enum Symbol {
     OpenParenthesis,
     CloseParenthesis,
@@ -20,7 +20,7 @@ pub enum Symbol {
 }
 
 /// What a token is.
-#[derive(PartialEq, Debug, Drop)]
+#[derive(PartialEq, Drop)]
 pub enum TokenKind {
     Word(Word),
     Name(Name),
@@ -33,14 +33,14 @@ pub enum TokenKind {
 }
 
 /// The place of a token's spelling in the text, in bytes.
-#[derive(Clone, Copy, PartialEq, Eq, Debug)]
+#[derive(Clone, Copy)]
 pub struct Span {
     pub start: usize,
     pub length: usize,
 }
 
 /// A token, the place of its spelling and the line that it begins in.
-#[derive(PartialEq, Debug, Drop)]
+#[derive(Drop)]
 pub struct Token {
     pub kind: TokenKind,
     pub span: Span,

@@ -4,7 +4,7 @@ use std::marker::Model;
 /// The tokens of a text, and how many lines it has.
 ///
 /// A contract sees them as a record of the list of the tokens and the number of lines.
-#[derive(Debug, Drop)]
+#[derive(Drop)]
 pub struct Tokens {
     tokens: Vec<Token>,
     line_count: u32,

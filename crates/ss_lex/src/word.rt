@@ -1,7 +1,7 @@
 //! Reserved words.
 
 /// A reserved word. Spellings that mean the same everywhere are one word.
-#[derive(Clone, Copy, PartialEq, Eq, Debug)]
+#[derive(Clone, Copy, PartialEq)]
 pub enum Word {
     A,
     /// ABS.F

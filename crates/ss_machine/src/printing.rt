@@ -11,7 +11,7 @@ use ss_base::{FaultyWrite, Value};
 use ss_picture::{Picture, Sink, SinkError};
 
 /// Why printing stopped.
-#[derive(Clone, Copy, PartialEq, Eq, Debug)]
+#[derive(Clone, Copy)]
 pub enum Unprinted {
     /// Memory was refused.
     Memory,

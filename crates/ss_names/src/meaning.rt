@@ -3,7 +3,7 @@
 use ss_tree::preamble::Weighting;
 
 /// What a derived name of a set tells.
-#[derive(Clone, Copy, PartialEq, Eq, Debug)]
+#[derive(Clone, Copy)]
 pub enum Derived {
     /// F., the first member.
     FirstMember,
@@ -20,7 +20,7 @@ pub enum Derived {
 }
 
 /// What a global or a derived name stands for, by its number.
-#[derive(Clone, Copy, PartialEq, Eq, Debug)]
+#[derive(Clone, Copy)]
 pub enum Meaning {
     /// A global variable of a DEFINE.
     Variable(usize),
@@ -37,7 +37,7 @@ pub enum Meaning {
 }
 
 /// What a TALLY or an ACCUMULATE is of, by its number.
-#[derive(Clone, Copy, PartialEq, Eq, Debug)]
+#[derive(Clone, Copy)]
 pub enum Subject {
     /// A global variable of a DEFINE.
     Variable(usize),
@@ -48,7 +48,7 @@ pub enum Subject {
 
 /// What a TALLY or an ACCUMULATE keeps: how it weighs the values of its subject, and that subject, if its
 /// name stands for one.
-#[derive(Clone, Copy, PartialEq, Eq, Debug)]
+#[derive(Clone, Copy)]
 pub struct History {
     pub weighting: Weighting,
     pub subject: Option<Subject>,

@@ -24,17 +24,23 @@ use ss_tree::preamble::Mode;
 use std::alloc::{AllocError, Global};
 use std::marker::Model;
 
+// The lists of a table.
+#[derive(Drop)]
+struct Lists {
+    names: Meanings,
+    usual: Option<Mode>,
+    numbers: Box<Numbers>,
+    sets: Vec<Set>,
+    notices: Box<Notices>,
+    histories: Vec<History>,
+}
+
 /// What a program declares. What has a number has it by its place in the order of the text, from 0.
 ///
 /// A contract sees a record of lists.
 #[derive(Drop)]
 pub struct Names {
-    names: Meanings,
-    usual: Option<Mode>,
-    numbers: Numbers,
-    sets: Vec<Set>,
-    notices: Notices,
-    histories: Vec<History>,
+    lists: Box<Lists>,
 }
 
 impl Model for Names {
@@ -42,26 +48,26 @@ impl Model for Names {
 
     ghost Value = { Table };
 
-    ghost view = { λ n. record { names = n.names; usual = n.usual; classes = n.numbers.classes; attributes = n.numbers.attributes; fields = n.numbers.fields; set_names = n.numbers.set_names; sets = n.sets.items; variables = n.numbers.variables; routines = n.numbers.routines; events = n.notices.events; ranks = n.notices.ranks; statistics = n.numbers.statistics; weighings = n.numbers.weighings; histories = n.histories.items; rank_keys = n.notices.rank_keys; tie_keys = n.notices.tie_keys } };
+    ghost view = { λ n. record { names = n.lists.value.names; usual = n.lists.value.usual; classes = n.lists.value.numbers.value.classes; attributes = n.lists.value.numbers.value.attributes; fields = n.lists.value.numbers.value.fields; set_names = n.lists.value.numbers.value.set_names; sets = n.lists.value.sets.items; variables = n.lists.value.numbers.value.variables; routines = n.lists.value.numbers.value.routines; events = n.lists.value.notices.value.events; ranks = n.lists.value.notices.value.ranks; statistics = n.lists.value.numbers.value.statistics; weighings = n.lists.value.numbers.value.weighings; histories = n.lists.value.histories.items; rank_keys = n.lists.value.notices.value.rank_keys; tie_keys = n.lists.value.notices.value.tie_keys } };
 }
 
 /// A global or a derived name, by its place in the table.
-#[derive(Clone, Copy, PartialEq, Eq, Debug)]
+#[derive(Clone, Copy)]
 pub struct NameId(pub usize);
 
 // What is numbered, and what names stand for.
 #[derive(Drop)]
 struct Named {
-    numbers: Numbers,
+    numbers: Box<Numbers>,
     names: Meanings,
 }
 
 // What is numbered, and what names stand for, where this is said.
 fn named_in(alloc: Global, sayings: &[Saying]) -> Result<Named, AllocError>
-    ensures numbers { IfOk result (λ n. n.numbers ≡ numbered sayings.now) }
+    ensures numbers { IfOk result (λ n. n.numbers.value ≡ numbered sayings.now) }
     ensures names { IfOk result (λ n. n.names ≡ meanings_in (numbered sayings.now) sayings.now) }
 {
-    let numbers = numbers_of(alloc, sayings)?;
+    let numbers = Box::new(alloc, numbers_of(alloc, sayings)?)?;
     let names = meanings_of(alloc, &numbers, sayings)?;
     Ok(Named { numbers, names })
 }
@@ -70,7 +76,7 @@ fn named_in(alloc: Global, sayings: &[Saying]) -> Result<Named, AllocError>
 #[derive(Drop)]
 struct Told {
     sets: Vec<Set>,
-    notices: Notices,
+    notices: Box<Notices>,
     histories: Vec<History>,
 }
 
@@ -83,12 +89,20 @@ fn told_in(
 ) -> Result<Told, AllocError>
     requires { numbers.now ≡ numbered sayings.now }
     ensures sets { IfOk result (λ t. t.sets.items ≡ sets_said sayings.now) }
-    ensures notices { IfOk result (λ t. t.notices ≡ notices_said sayings.now) }
+    ensures notices { IfOk result (λ t. t.notices.value ≡ notices_said sayings.now) }
     ensures histories { IfOk result (λ t. t.histories.items ≡ histories_said names.now sayings.now) }
 {
-    let sets = sets_in(alloc, &numbers.classes, &numbers.set_names, sayings)?;
-    let notices = notices_of(alloc, &numbers.classes, sayings)?;
-    let histories = histories_of(alloc, names, &numbers.weighings)?;
+    let sets = sets_in(
+        alloc,
+        &numbers.entities.classes,
+        &numbers.set_names,
+        sayings,
+    )?;
+    let notices = Box::new(
+        alloc,
+        notices_of(alloc, &numbers.entities.classes, sayings)?,
+    )?;
+    let histories = histories_of(alloc, names, &numbers.tellings.weighings)?;
     Ok(Told {
         sets,
         notices,
@@ -107,13 +121,16 @@ impl Names {
     {
         let named = named_in(alloc, sayings)?;
         let told = told_in(alloc, &named.numbers, &named.names, sayings)?;
-        Ok(Names {
+        let lists = Lists {
             names: named.names,
             usual: usual_mode(sayings),
             numbers: named.numbers,
             sets: told.sets,
             notices: told.notices,
             histories: told.histories,
+        };
+        Ok(Names {
+            lists: Box::new(alloc, lists)?,
         })
     }
 
@@ -121,7 +138,7 @@ impl Names {
     pub fn find(&self, spelling: &[u8]) -> Option<NameId>
         ensures { option_map (λ id. id.0) result ≡ place_in self.now.names spelling.now }
     {
-        let place = self.names.place(spelling)?;
+        let place = self.lists.names.place(spelling)?;
         Some(NameId(place))
     }
 
@@ -129,7 +146,7 @@ impl Names {
     pub fn len(&self) -> usize
         ensures { result ≡ length self.now.names }
     {
-        self.names.len()
+        self.lists.names.len()
     }
 
     /// The spelling of a name, which is one of this table.
@@ -137,91 +154,91 @@ impl Names {
         requires { id.0 < length self.now.names }
         ensures { slice_get (keys_of self.now.names) id.0 ≡ Some result.now }
     {
-        self.names.spelling(id.0)
+        self.lists.names.spelling(id.0)
     }
 
     /// What a name of this table stands for. None where it is none of them.
     pub fn meaning_of(&self, id: NameId) -> Option<Meaning>
         ensures { result ≡ slice_get (values_of self.now.names) id.0 }
     {
-        self.names.at(id.0)
+        self.lists.names.at(id.0)
     }
 
     /// What a name stands for. None where it is no global or derived name.
     pub fn meaning(&self, name: &Name) -> Option<Meaning>
         ensures { result ≡ told_of self.now.names name.now }
     {
-        self.names.meaning(name)
+        self.lists.names.meaning(name)
     }
 
     /// The mode that NORMALLY gives to every name that has none.
     pub fn usual_mode(&self) -> Option<Mode>
         ensures { result ≡ self.now.usual }
     {
-        self.usual
+        self.lists.usual
     }
 
     /// How many classes there are.
     pub fn classes(&self) -> usize
         ensures { result ≡ length self.now.classes }
     {
-        self.numbers.classes.len()
+        self.lists.numbers.entities.classes.len()
     }
 
     /// The class of this number.
     pub fn class(&self, number: usize) -> Option<Class>
         ensures { result ≡ slice_get (values_of self.now.classes) number }
     {
-        value_at(&self.numbers.classes, number)
+        value_at(&self.lists.numbers.entities.classes, number)
     }
 
     /// The name of the class of this number.
     pub fn class_name(&self, number: usize) -> Option<Name>
         ensures { result ≡ slice_get (keys_of self.now.classes) number }
     {
-        key_at(&self.numbers.classes, number)
+        key_at(&self.lists.numbers.entities.classes, number)
     }
 
     /// The attribute of this number.
     pub fn attribute(&self, number: usize) -> Option<Attribute>
         ensures { result ≡ slice_get (values_of self.now.attributes) number }
     {
-        value_at(self.numbers.attributes.entries(), number)
+        value_at(self.lists.numbers.entities.attributes.entries(), number)
     }
 
     /// The number of an attribute, if it is one.
     pub fn attribute_number(&self, name: &Name) -> Option<usize>
         ensures { result ≡ place_in self.now.attributes name.now }
     {
-        self.numbers.attributes.place(name)
+        self.lists.numbers.entities.attributes.place(name)
     }
 
     /// The attributes of a class, in the order of the text; none where there is no such class.
     pub fn fields(&self, class: usize) -> &[Name]
         ensures { result.now ≡ get_or self.now.fields class [] }
     {
-        self.numbers.attributes.fields(class)
+        self.lists.numbers.entities.attributes.fields(class)
     }
 
     /// How many sets there are.
     pub fn sets(&self) -> usize
         ensures { result ≡ length self.now.sets }
     {
-        self.sets.len()
+        self.lists.sets.len()
     }
 
     /// The set of this number.
     pub fn set(&self, number: usize) -> Option<Set>
         ensures { result ≡ slice_get self.now.sets number }
     {
-        self.sets.get(number).copied()
+        self.lists.sets.get(number).copied()
     }
 
     /// The name of the set of this number.
     pub fn set_name(&self, number: usize) -> Option<Name>
         ensures { result ≡ slice_get self.now.set_names number }
     {
-        self.numbers.set_names.get_index(number).copied()
+        self.lists.numbers.set_names.get_index(number).copied()
     }
 
     /// How many global variables there are: those of DEFINE, the variable of each class, and N. of each
@@ -229,42 +246,42 @@ impl Names {
     pub fn variables(&self) -> usize
         ensures { result ≡ length self.now.variables }
     {
-        self.numbers.variables.len()
+        self.lists.numbers.variables.len()
     }
 
     /// The global variable of this number.
     pub fn variable(&self, number: usize) -> Option<Variable>
         ensures { result ≡ slice_get (values_of self.now.variables) number }
     {
-        spelled_at(&self.numbers.variables, number)
+        spelled_at(&self.lists.numbers.variables, number)
     }
 
     /// How many routines there are.
     pub fn routines(&self) -> usize
         ensures { result ≡ length self.now.routines }
     {
-        self.numbers.routines.len()
+        self.lists.numbers.routines.len()
     }
 
     /// The routine of this number.
     pub fn routine(&self, number: usize) -> Option<Routine>
         ensures { result ≡ slice_get (values_of self.now.routines) number }
     {
-        value_at(&self.numbers.routines, number)
+        value_at(&self.lists.numbers.routines, number)
     }
 
     /// The EVENT section of this name.
     pub fn event(&self, name: &Name) -> Option<Event>
         ensures { result ≡ told_of self.now.events name.now }
     {
-        self.notices.events.get(name).copied()
+        self.lists.notices.events.get(name).copied()
     }
 
     /// How many classes of notices there are.
     pub fn ranks(&self) -> usize
         ensures { result ≡ length self.now.ranks }
     {
-        self.notices.ranks.len()
+        self.lists.notices.ranks.len()
     }
 
     /// The number of the class of notices that has this place in the order of rank: those of PRIORITY ORDER
@@ -272,62 +289,62 @@ impl Names {
     pub fn ranked(&self, rank: usize) -> Option<usize>
         ensures { result ≡ slice_get (values_of self.now.ranks) rank }
     {
-        value_at(&self.notices.ranks, rank)
+        value_at(&self.lists.notices.ranks, rank)
     }
 
     /// The place of a class of notices in the order of rank.
     pub fn rank(&self, class: &Name) -> Option<usize>
         ensures { result ≡ place_in self.now.ranks class.now }
     {
-        self.notices.ranks.get_index_of(class)
+        self.lists.notices.ranks.get_index_of(class)
     }
 
     /// How many statistics there are.
     pub fn statistics(&self) -> usize
         ensures { result ≡ length self.now.statistics }
     {
-        self.numbers.statistics.len()
+        self.lists.numbers.tellings.statistics.len()
     }
 
     /// The statistic of this number.
     pub fn statistic(&self, number: usize) -> Option<Statistic>
         ensures { result ≡ slice_get (values_of self.now.statistics) number }
     {
-        value_at(&self.numbers.statistics, number)
+        value_at(&self.lists.numbers.tellings.statistics, number)
     }
 
     /// How many histories there are: one of each name that a TALLY or an ACCUMULATE is of.
     pub fn histories(&self) -> usize
         ensures { result ≡ length self.now.histories }
     {
-        self.histories.len()
+        self.lists.histories.len()
     }
 
     /// The history of this number.
     pub fn history(&self, number: usize) -> Option<History>
         ensures { result ≡ slice_get self.now.histories number }
     {
-        self.histories.get(number).copied()
+        self.lists.histories.get(number).copied()
     }
 
     /// The number of the history of a name, if a TALLY or an ACCUMULATE is of it.
     pub fn history_of(&self, name: &Name) -> Option<usize>
         ensures { result ≡ place_in self.now.weighings name.now }
     {
-        self.numbers.weighings.get_index_of(name)
+        self.lists.numbers.tellings.weighings.get_index_of(name)
     }
 
     /// The keys of ranked sets, in the order of the text, each with the number of its DEFINE.
     pub fn rank_keys(&self) -> &[RankedBy]
         ensures { result.now ≡ self.now.rank_keys }
     {
-        &self.notices.rank_keys
+        &self.lists.notices.rank_keys
     }
 
     /// The keys for the ties of notices, in the order of the text, each with its class.
     pub fn tie_keys(&self) -> &[TiedBy]
         ensures { result.now ≡ self.now.tie_keys }
     {
-        &self.notices.tie_keys
+        &self.lists.notices.tie_keys
     }
 }

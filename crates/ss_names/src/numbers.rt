@@ -9,26 +9,23 @@ ghost use Rattle.ss_names.specs.Meanings.{class_name_meaning, count_meaning, num
 use crate::meaning::Meaning;
 use indexmap::{IndexMap, IndexSet};
 use ss_entities::{
-    Attributes, Class, Entities, Routine, Statistic, Variable, entities_of, routines_of, set_names,
-    tellings_of, variables_of,
+    Entities, Routine, Tellings, Variable, entities_of, routines_of, set_names, tellings_of,
+    variables_of,
 };
 use ss_firsts::Spelling;
 use ss_lex::Name;
 use ss_sayings::Saying;
-use ss_tree::preamble::Weighting;
 use std::alloc::{AllocError, Global};
 use std::marker::Model;
 
 /// What is numbered. A contract sees a record of lists.
 #[derive(Drop)]
 pub struct Numbers {
-    pub classes: IndexMap<Name, Class>,
-    pub attributes: Attributes,
+    pub entities: Box<Entities>,
     pub set_names: IndexSet<Name>,
     pub variables: IndexMap<Spelling, Variable>,
-    pub statistics: IndexMap<Name, Statistic>,
     pub routines: IndexMap<Name, Routine>,
-    pub weighings: IndexMap<Name, Weighting>,
+    pub tellings: Box<Tellings>,
 }
 
 impl Model for Numbers {
@@ -36,7 +33,7 @@ impl Model for Numbers {
 
     ghost Value = { Numbered };
 
-    ghost view = { λ n. record { classes = n.classes.entries; attributes = n.attributes.entries; fields = n.attributes.fields; set_names = n.set_names.keys; variables = n.variables.entries; statistics = n.statistics.entries; routines = n.routines.entries; weighings = n.weighings.entries } };
+    ghost view = { λ n. record { classes = n.entities.value.classes.entries; attributes = n.entities.value.attributes.entries; fields = n.entities.value.attributes.fields; set_names = n.set_names.keys; variables = n.variables.entries; statistics = n.tellings.value.statistics.entries; routines = n.routines.entries; weighings = n.tellings.value.weighings.entries } };
 }
 
 impl Numbers {
@@ -44,7 +41,7 @@ impl Numbers {
     pub fn class(&self, name: &Name) -> Option<Meaning>
         ensures { result ≡ class_name_meaning self.now name.now }
     {
-        let class = self.classes.get_index_of(name)?;
+        let class = self.entities.classes.get_index_of(name)?;
         let variable = self.variables.get_index_of(&Spelling::of_name(name))?;
         Some(Meaning::Class { class, variable })
     }
@@ -53,7 +50,7 @@ impl Numbers {
     pub fn count(&self, name: &Name) -> Option<Meaning>
         ensures { result ≡ count_meaning self.now name.now }
     {
-        let class = self.classes.get_index_of(name)?;
+        let class = self.entities.classes.get_index_of(name)?;
         let variable = self.variables.get_index_of(&Spelling::derived(b'N', name))?;
         Some(Meaning::Count { class, variable })
     }
@@ -62,7 +59,7 @@ impl Numbers {
     pub fn attribute(&self, name: &Name) -> Option<Meaning>
         ensures { result ≡ option_map meanings.Attribute (place_in self.now.attributes name.now) }
     {
-        self.attributes.place(name).map(Meaning::Attribute)
+        self.entities.attributes.place(name).map(Meaning::Attribute)
     }
 
     /// The number of a set.
@@ -76,7 +73,7 @@ impl Numbers {
     pub fn variable(&self, name: &Name) -> Option<Meaning>
         ensures { result ≡ variable_meaning self.now name.now }
     {
-        match self.attributes.place(name) {
+        match self.entities.attributes.place(name) {
             Some(_) => None,
             None => {
                 let variable = self.variables.get_index_of(&Spelling::of_name(name))?;
@@ -89,7 +86,10 @@ impl Numbers {
     pub fn statistic(&self, name: &Name) -> Option<Meaning>
         ensures { result ≡ option_map meanings.Statistic (place_in self.now.statistics name.now) }
     {
-        self.statistics.get_index_of(name).map(Meaning::Statistic)
+        self.tellings
+            .statistics
+            .get_index_of(name)
+            .map(Meaning::Statistic)
     }
 
     /// What the name of a routine stands for.
@@ -103,28 +103,29 @@ impl Numbers {
 // What else is numbered beside these classes and attributes.
 fn numbers_with(
     alloc: Global,
-    entities: Entities,
+    entities: Box<Entities>,
     sayings: &[Saying],
 ) -> Result<Numbers, AllocError>
-    requires classes { entities.classes.entries ≡ classes sayings.now }
-    requires attributes { entities.attributes.entries ≡ attributes sayings.now }
-    requires fields { entities.attributes.fields ≡ fields sayings.now }
+    requires classes { entities.value.classes.entries ≡ classes sayings.now }
+    requires attributes { entities.value.attributes.entries ≡ attributes sayings.now }
+    requires fields { entities.value.attributes.fields ≡ fields sayings.now }
     ensures { IfOk result (λ n. n ≡ numbered sayings.now) }
 {
-    let attributes = entities.attributes;
-    let classes = entities.classes;
     let set_names = set_names(alloc, sayings)?;
-    let variables = variables_of(alloc, &classes, attributes.entries(), sayings)?;
+    let variables = variables_of(
+        alloc,
+        &entities.classes,
+        entities.attributes.entries(),
+        sayings,
+    )?;
     let routines = routines_of(alloc, sayings)?;
-    let tellings = tellings_of(alloc, sayings)?;
+    let tellings = Box::new(alloc, tellings_of(alloc, sayings)?)?;
     Ok(Numbers {
-        classes,
-        attributes,
+        entities,
         set_names,
         variables,
-        statistics: tellings.statistics,
         routines,
-        weighings: tellings.weighings,
+        tellings,
     })
 }
 
@@ -132,6 +133,6 @@ fn numbers_with(
 pub fn numbers_of(alloc: Global, sayings: &[Saying]) -> Result<Numbers, AllocError>
     ensures { IfOk result (λ n. n ≡ numbered sayings.now) }
 {
-    let entities = entities_of(alloc, sayings)?;
+    let entities = Box::new(alloc, entities_of(alloc, sayings)?)?;
     numbers_with(alloc, entities, sayings)
 }

@@ -13,7 +13,8 @@ use Rattle.ss_grammar.specs.ReadWords.{done, fail, skip_class, begins_among, nam
 use Rattle.ss_grammar.specs.Reading.{Reader, ◌>>=◌, word, begins, expect, in_table, taken, name_of, flag, seq, behind, closed, apply, lined, maybe_list, rows}
 use Rattle.ss_parse.specs.SpelledPreambles.{mode_of}
 use Rattle.ss_parse.specs.ReadPreambles.{whole_preamble}
-use Rattle.ss_statements.specs.ReadStatements.{by_word, behind_the, statements_in}
+use Rattle.ss_simple.specs.ReadSimple.{behind_the}
+use Rattle.ss_statements.specs.ReadStatements.{by_word, statements_in}
 
 -- ---- sections
 

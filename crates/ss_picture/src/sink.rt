@@ -11,7 +11,7 @@ use thiserror::Error;
 pub const STALL_LIMIT: u32 = 1000;
 
 /// Why a sink could not send all that it was given.
-#[derive(Clone, Copy, PartialEq, Eq, Debug, Error)]
+#[derive(Clone, Copy, PartialEq, Debug, Error)]
 pub enum SinkError {
     /// The writer answered an error, of any kind.
     #[error("the writer failed")]

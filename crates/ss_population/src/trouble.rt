@@ -7,7 +7,7 @@ ghost use Rattle.ss_meaning.specs.Values.{number_of as number_meant, due};
 use ss_base::{FaultKind, Refused, Value};
 
 /// Why an operation gives nothing.
-#[derive(Clone, Copy, PartialEq, Eq, Debug)]
+#[derive(Clone, Copy)]
 pub enum Trouble {
     /// A fault of the run.
     Fault(FaultKind),
@@ -16,7 +16,7 @@ pub enum Trouble {
 }
 
 /// Why an operation that needs memory gives nothing.
-#[derive(Clone, Copy, PartialEq, Eq, Debug)]
+#[derive(Clone, Copy)]
 pub enum Unmade {
     /// A fault of the run.
     Fault(FaultKind),

@@ -3,7 +3,7 @@
 use crate::expression::{Expression, SetOwner};
 
 /// How two values compare: numbers by their size, texts by their bytes.
-#[derive(Clone, Copy, PartialEq, Eq, Debug)]
+#[derive(Clone, Copy)]
 pub enum Relation {
     Equal,
     NotEqual,

@@ -4,21 +4,21 @@ use ss_base::Value;
 
 /// A variable: a global one by its number among all of them, or a local one by its number in its
 /// routine.
-#[derive(Clone, Copy, PartialEq, Eq, Debug)]
+#[derive(Clone, Copy)]
 pub enum Variable {
     Global { number: u32 },
     Local { number: u32 },
 }
 
 /// The sign before a term, and whether a statement adds or subtracts.
-#[derive(Clone, Copy, PartialEq, Eq, Debug)]
+#[derive(Clone, Copy)]
 pub enum Sign {
     Plus,
     Minus,
 }
 
 /// What makes one whole number of two.
-#[derive(Clone, Copy, PartialEq, Eq, Debug)]
+#[derive(Clone, Copy)]
 pub enum Operator {
     Add,
     Subtract,
@@ -34,7 +34,7 @@ pub enum Operator {
 }
 
 /// What is asked of a set.
-#[derive(Clone, Copy, PartialEq, Eq, Debug)]
+#[derive(Clone, Copy)]
 pub enum SetQuery {
     /// F.: the first member; 0 where there is none.
     FirstMember,
@@ -45,7 +45,7 @@ pub enum SetQuery {
 }
 
 /// What is asked of a member about the set of a name that it is in.
-#[derive(Clone, Copy, PartialEq, Eq, Debug)]
+#[derive(Clone, Copy)]
 pub enum MemberQuery {
     /// P.: the member before this one; 0 where there is none.
     Predecessor,
@@ -56,7 +56,7 @@ pub enum MemberQuery {
 }
 
 /// What is asked of a statistic.
-#[derive(Clone, Copy, PartialEq, Eq, Debug)]
+#[derive(Clone, Copy)]
 pub enum Fold {
     Number,
     Sum,

@@ -57,7 +57,7 @@ pub fn commands_leave_other_sets()
 
 /// A call of a heap that may change it. Classes, fields and sets are named by their numbers, entities by creation
 /// number or index.
-#[derive(Clone, Copy, Debug)]
+#[derive(Clone, Copy)]
 pub enum Command {
     /// Creates an entity of a class, which isn't permanent.
     Create {
@@ -113,7 +113,7 @@ pub enum Command {
 }
 
 /// What a call of a heap answered.
-#[derive(Clone, Copy, PartialEq, Eq, Debug)]
+#[derive(Clone, Copy, PartialEq)]
 pub enum Answer {
     Done,
     /// The creation number of a new entity.

@@ -11,7 +11,7 @@ use crate::words;
 use ss_base::{FaultKind, Owner, Value};
 
 /// What is read of a member of a set at once.
-#[derive(Clone, Copy, Debug)]
+#[derive(Clone, Copy)]
 pub struct Member {
     /// The value of one of its attributes.
     pub value: Value,

@@ -6,7 +6,7 @@ ghost use Rattle.ss_resolve.specs.declared.error.ResolveError.TheVariants.{Memor
 use std::alloc::{AllocError, AllocFailed};
 
 /// Why nothing was resolved.
-#[derive(Clone, Copy, Debug, PartialEq, Eq)]
+#[derive(Clone, Copy)]
 pub enum ResolveError {
     /// Memory was refused.
     Memory,

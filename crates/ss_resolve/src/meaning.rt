@@ -6,7 +6,7 @@ use ss_program::statement::Counted;
 
 /// What is named as a value or a target. Where an entity is meant, `implied` is the variable that has it
 /// where no subscript is written.
-#[derive(Clone, Copy, PartialEq, Eq, Debug)]
+#[derive(Clone, Copy)]
 pub enum Meaning {
     /// A variable, and its mode, if anything gives it one.
     Variable {
@@ -59,7 +59,7 @@ pub enum Meaning {
 }
 
 /// The set that is named.
-#[derive(Clone, Copy, PartialEq, Eq, Debug)]
+#[derive(Clone, Copy)]
 pub enum SetMeant {
     /// A set of THE SYSTEM.
     OfSystem { set: u32 },
@@ -68,7 +68,7 @@ pub enum SetMeant {
 }
 
 /// The class that is named.
-#[derive(Clone, Copy, PartialEq, Eq, Debug)]
+#[derive(Clone, Copy)]
 pub struct ClassMeant {
     pub class: u32,
     pub kind: ClassKind,
@@ -81,7 +81,7 @@ pub struct ClassMeant {
 }
 
 /// The routine that is called.
-#[derive(Clone, Copy, PartialEq, Eq, Debug)]
+#[derive(Clone, Copy)]
 pub struct RoutineMeant {
     pub routine: u32,
     /// How many values it is given.

@@ -34,7 +34,7 @@ pub struct Working {
 }
 
 /// What an instruction came to.
-#[derive(Clone, Copy, PartialEq, Eq, Debug)]
+#[derive(Clone, Copy)]
 pub enum Outcome {
     Went,
     Ends,

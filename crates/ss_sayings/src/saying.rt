@@ -5,7 +5,7 @@ use ss_lex::Name;
 use ss_tree::preamble::{ClassKind, Mode, StatisticKind, Weighting};
 
 /// How a DEFINE orders a set. The keys of a ranked one are sayings of their own.
-#[derive(Clone, Copy, PartialEq, Eq, Debug)]
+#[derive(Clone, Copy)]
 pub enum SetRule {
     /// FIFO, or nothing said.
     Fifo,
@@ -14,7 +14,7 @@ pub enum SetRule {
 }
 
 /// What is said of a name, or by a statement that has none.
-#[derive(Clone, Copy, PartialEq, Eq, Debug)]
+#[derive(Clone, Copy)]
 pub enum Said {
     /// NORMALLY.
     Normally {
@@ -106,7 +106,7 @@ pub enum Said {
 }
 
 /// A name, what is said of it, and in which line.
-#[derive(Clone, Copy, PartialEq, Eq, Debug)]
+#[derive(Clone, Copy)]
 pub struct Saying {
     /// The line of the statement of the preamble, of the section or of the local DEFINE.
     pub line: Line,

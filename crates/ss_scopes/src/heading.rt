@@ -3,7 +3,7 @@
 use ss_lex::Name;
 
 /// What a section is.
-#[derive(Clone, Copy, PartialEq, Eq, Debug)]
+#[derive(Clone, Copy)]
 pub enum Heading {
     Main,
     /// A routine of this name.

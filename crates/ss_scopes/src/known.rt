@@ -5,7 +5,7 @@ use ss_lex::Name;
 use ss_tree::preamble::ClassKind;
 
 /// Of what there is one: the program, or each entity of a class.
-#[derive(Clone, Copy, PartialEq, Eq, Debug)]
+#[derive(Clone, Copy)]
 pub enum Holder {
     /// There is one in the program.
     Program,
@@ -14,7 +14,7 @@ pub enum Holder {
 }
 
 /// What is known of a name that means something in a section.
-#[derive(Clone, Copy, PartialEq, Eq, Debug)]
+#[derive(Clone, Copy)]
 pub enum Known {
     /// A local variable.
     Local(Mode),

@@ -27,8 +27,10 @@ use Rattle.ss_grammar.proofs.WordLaws.{word_in_reads, expect_class_reads, option
 use Rattle.ss_grammar.proofs.ExpressionLaws.{in_begins, continues_sum}
 use Rattle.ss_grammar.proofs.PlaceLaws.{targets_in_reads, continues_place, continues_sums}
 use Rattle.ss_grammar.proofs.ConditionLaws.{stops_place}
-use Rattle.ss_statements.specs.SpelledStatements.{Called, end_of, Position_is, line_of, first_word, Behind}
-use Rattle.ss_statements.specs.ReadStatements.{equals, behind_the, set_in, called, let_at, add_at, subtract_at, call_at, read_at, start_at, new_at, create_at, destroy_at, cancel_at, file_at, remove_end_at, remove_this_at, remove_at, schedule_the_at, schedule_a_at, schedule_at, reset_at, print_at, skip_at, form_word, nested_word}
+use Rattle.ss_simple.specs.SpelledParts.{Called, end_of, Position_is}
+use Rattle.ss_statements.specs.SpelledStatements.{line_of, first_word, Behind}
+use Rattle.ss_simple.specs.ReadSimple.{equals, behind_the, set_in, called, let_at, add_at, subtract_at, call_at, read_at, start_at, new_at, create_at, destroy_at, cancel_at, file_at, remove_end_at, remove_this_at, remove_at, schedule_the_at, schedule_a_at, schedule_at, reset_at, print_at, skip_at}
+use Rattle.ss_statements.specs.ReadStatements.{form_word, nested_word}
 use Rattle.ss_statements.proofs.StatementParts.{continues_simple, ended, over_place, over_targets, over_given, over_yielding, over_called, over_called_place, sum_reads, target_reads, set_reads, given_reads, yielding_reads, called_sum_reads, called_target_reads, continues_position, position_reads, position_stops, Due_is, due_reads, due_stops, Print_head_is, print_head_reads, Pictures_are, pictures_reads}
 
 -- ---- which statements have others in them

@@ -28,7 +28,8 @@ use Rattle.ss_grammar.proofs.WordLaws.{word_in_reads, done_reads, noisy_mark_rea
 use Rattle.ss_grammar.proofs.ConditionLaws.{In_condition, continues_condition, condition_in_reads, condition_begins}
 use Rattle.ss_grammar.proofs.HeadLaws.{head_more, continues_head, continues_for, continues_guarded, for_reads, Guarded_parts, guarded_reads}
 use Rattle.ss_statements.specs.SpelledStatements.{outcome_of, noisy, Find_words, first_word, May_be_governed, Behind, Statement_from, Statements_are, Else_part, Branches, Governed}
-use Rattle.ss_statements.specs.ReadStatements.{by_word, form_word, begins_form_kind, begins_form, begins_statement, begins_outcome, begins_find_if_form, begins_find_if, statements_with, else_with, branches_with, do_with, governed_with, body_with, find_words, if_with, loop_with, find_if_with, found_with, find_with, for_with, while_with, until_with, simple_at, nested_word, nested_at, nested_in, form_in, statement_in, statements_in}
+use Rattle.ss_simple.specs.ReadSimple.{simple_at}
+use Rattle.ss_statements.specs.ReadStatements.{by_word, form_word, begins_form_kind, begins_form, begins_statement, begins_outcome, begins_find_if_form, begins_find_if, statements_with, else_with, branches_with, do_with, governed_with, body_with, find_words, if_with, loop_with, find_if_with, found_with, find_with, for_with, while_with, until_with, nested_word, nested_at, nested_in, form_in, statement_in, statements_in}
 use Rattle.ss_statements.proofs.FirstWords.{Form, plain_form, opening_form, by_word_reads, first_less}
 use Rattle.ss_statements.proofs.StatementParts.{statement_more, continues_simple}
 use Rattle.ss_statements.proofs.SimpleLaws.{is_nested, nested_first, form_first, Form_is, no_form, let_reads, add_reads, subtract_reads, call_reads, return_reads, stop_reads, read_reads, start_reads, create_reads, destroy_reads, cancel_reads, file_reads, remove_reads, schedule_reads, reset_reads, print_reads, skip_reads}

@@ -1,6 +1,5 @@
 -- Parts of statements: what is read is spelled, and what is spelled is read.
-use Rattle.std.proofs.Common.{◌≡◌, ℕ, zero, suc, ◌+◌, ◌-◌, ◌<◌, ◌≤◌, ℤ, pos, negsuc, Bool, true, false, ◌||◌, List, [], ◌∷◌, ◌++◌, length, Some, Result, Ok, Err, refl, sym, ap, subst, ◌∙◌, arith, inl, inr, ◌⊎◌}
-use Rattle.std.proofs.lemmas.List.{append-nil}
+use Rattle.std.proofs.Common.{◌≡◌, ℕ, zero, suc, ◌<◌, ◌≤◌, ℤ, pos, negsuc, Bool, true, false, ◌||◌, List, [], ◌∷◌, length, Some, Ok, refl, ap, subst, ◌∙◌, arith, inl, inr, ◌⊎◌}
 use Rattle.ss_base.specs.declared.line.Line.{Line}
 use Rattle.ss_lex.specs.declared.word.Word.{Word}
 use Rattle.ss_lex.specs.declared.word.Word.TheVariants as words
@@ -9,15 +8,12 @@ use Rattle.ss_lex.specs.declared.token.TokenKind.{TokenKind}
 use Rattle.ss_lex.specs.declared.token.TokenKind.TheVariants as kinds
 use Rattle.ss_lex.specs.declared.token.Token.{Token}
 use Rattle.ss_tree.specs.Tree.{ExpressionTree, NamedTree, PositionTree, by_discipline, at_first, at_last, before, after, WhenTree, at_time, in_units, now}
-use Rattle.ss_grammar.specs.declared.failure.Fault.{Fault}
-use Rattle.ss_grammar.specs.declared.failure.Failure.{Failure}
-use Rattle.ss_grammar.specs.declared.failure.Failure.TheVariants as failures
 use Rattle.ss_grammar.specs.declared.classes.Class.TheVariants as classes
 use Rattle.ss_grammar.specs.Shapes.{Shape, ◌▷◌, nothing, either, provided, Token_is, Word_is, each}
 use Rattle.ss_grammar.specs.Words.{has_word, One_of, the, perhaps_listed}
 use Rattle.ss_grammar.specs.SpelledExpressions.{Sum_is, Target_is, Reference_is}
 use Rattle.ss_grammar.specs.Openers.{openers}
-use Rattle.ss_grammar.specs.Reading.{Fails, word, is, begins, expect, taken, apply, begins_more}
+use Rattle.ss_grammar.specs.Reading.{word, is, begins, expect, taken, apply, begins_more}
 use Rattle.ss_grammar.specs.ReadWords.{begins_class, begins_among, begins_name}
 use Rattle.ss_grammar.specs.ReadExpressions.{begins_sum, sum_in}
 use Rattle.ss_grammar.specs.ReadPlaces.{target_in, begins_target}
@@ -25,13 +21,12 @@ use Rattle.ss_grammar.proofs.Tools.{bind_ok, carry, or_false}
 use Rattle.ss_grammar.proofs.Marks.{token, mark_begins, token_less, In_table}
 use Rattle.ss_grammar.proofs.Depth.{upto_same, Bounded, bounded_bind}
 use Rattle.ss_grammar.proofs.ReaderLaws.{Reads, Item, nowise, Made, item_of, item_marked, expect_reads, taken_reads, seq_reads, marked_reads, closed_reads, made_reads, behind_reads, said_reads, before_mark_reads, maybe_reads, choose_reads}
-use Rattle.ss_grammar.proofs.Rows.{with_front, with_front_more}
 use Rattle.ss_grammar.proofs.WordLaws.{expect_class_reads, one_begins, one_less, done_reads, perhaps_listed_reads, either_reads, item_made, no_word, no_class}
 use Rattle.ss_grammar.proofs.ExpressionLaws.{In, sum_in_reads, continues_sum}
 use Rattle.ss_grammar.proofs.PlaceLaws.{target_in_reads, targets_in_reads, sums_in_reads, continues_place, continues_targets, continues_sums}
 use Rattle.ss_grammar.proofs.ConditionLaws.{the_set_reads, stops_place}
-use Rattle.ss_statements.specs.SpelledStatements.{Trigger, Picture_is, Called, Position_is, When_is}
-use Rattle.ss_statements.specs.ReadStatements.{called, positive, positive_of, items_in, trigger, picture_of, pictures_at, given_in, yielding_in, position_in, when_in, due_in, set_in, print_head}
+use Rattle.ss_simple.specs.SpelledParts.{Trigger, Picture_is, Called, Position_is, When_is}
+use Rattle.ss_simple.specs.ReadSimple.{called, positive, positive_of, items_in, trigger, picture_of, pictures_at, given_in, yielding_in, position_in, when_in, due_in, set_in, print_head}
 
 -- ---- PRINT
 
@@ -137,30 +132,6 @@ pictures_reads k n = record { sound = sound n; complete = λ ts ps rest s stop. 
     opening : (n : ℕ) (ts : List Token) → Bounded k (openers ts) (pictures_at n ts)
     opening zero ts = omega arith
     opening (suc n) ts = bounded_bind k (openers ts) (taken picture_of ts) _ ((picture_reads k).opening ts) (λ p. bounded_bind k (openers p.1) (pictures_at n p.1) _ (opening n p.1) (λ ps. omega arith))
-
--- ---- the loop over the pictures
-
-pub picture_grows : (front : List (List ℕ)) (count i : ℕ) (ts : List Token) (p : List ℕ) (left : List Token) (total : Result (List (List ℕ) × List Token) Fault) → i < count → taken picture_of ts ≡ Ok (p, left) → with_front front (pictures_at (count - i) ts) ≡ total → with_front (front ++ p ∷ []) (pictures_at (count - (i + 1)) left) ≡ total
-unfolding pictures_at
-picture_grows front count i ts p left total lt h so_far =
-    let k : count - i ≡ suc (count - (i + 1)) = omega arith in
-    let one : with_front front (pictures_at (count - i) ts) ≡ with_front (front ++ p ∷ []) (pictures_at (count - (i + 1)) left) = rw (k, h) (sym (with_front_more front p (pictures_at (count - (i + 1)) left))) in
-    sym one ∙ so_far
-
-pub picture_breaks : (front : List (List ℕ)) (count i : ℕ) (ts : List Token) (e : Failure) (total : Result (List (List ℕ) × List Token) Fault) → i < count → Fails e (taken picture_of ts) → with_front front (pictures_at (count - i) ts) ≡ total → Fails e total
-unfolding pictures_at
-picture_breaks front count i ts failures.Memory total lt h so_far = tt
-picture_breaks front count i ts (failures.Refused f left) total lt h so_far =
-    let k : count - i ≡ suc (count - (i + 1)) = omega arith in
-    let one : with_front front (pictures_at (count - i) ts) ≡ Err f = rw (k, h) refl in
-    sym so_far ∙ one
-
-pub pictures_done : (front : List (List ℕ)) (count i : ℕ) (ts : List Token) (total : Result (List (List ℕ) × List Token) Fault) → count ≤ i → with_front front (pictures_at (count - i) ts) ≡ total → total ≡ Ok (front, ts)
-unfolding pictures_at
-pictures_done front count i ts total le so_far =
-    let k : count - i ≡ 0 = omega arith in
-    let one : with_front front (pictures_at (count - i) ts) ≡ Ok (front, ts) = rw k (ap (λ (ps : List (List ℕ)). Ok (ps, ts)) (append-nil front)) in
-    sym so_far ∙ one
 
 -- ---- words that may follow a statement and go on with it
 

@@ -1,6 +1,5 @@
 //! Statements: from tokens to their trees.
 #![tactic(auto)]
 
-mod parts;
-mod simple;
+mod outcomes;
 pub mod statements;

@@ -8,14 +8,14 @@ ghost use Rattle.ss_grammar.specs.Reading.{word};
 ghost use Rattle.ss_grammar.specs.ReadWords.{begins_noisy, expect_noisy};
 ghost use Rattle.ss_statements.specs.ReadStatements.{nested_word, begins_form, begins_statement, begins_find_if, statements_with, else_with, branches_with, do_with, governed_with, body_with, find_words, if_with, loop_with, find_if_with, found_with, find_with, for_with, while_with, until_with, nested_in, statement_in, statements_in};
 
-use crate::parts::{begins_outcome, outcome};
-use crate::simple::simple_form;
+use crate::outcomes::{begins_outcome, outcome};
 use ss_base::Line;
 use ss_grammar::conditions::condition;
 use ss_grammar::failure::Failure;
 use ss_grammar::heads::{begins_guard, for_head, guarded_head};
 use ss_grammar::tokens::{begins_word, expect_word, skip_symbol, skip_word, syntax, too_deep};
 use ss_lex::{Symbol, Token, TokenKind, Word};
+use ss_simple::simple::simple_form;
 use ss_tree::head::{GuardKind, Head};
 use ss_tree::statement::Statement;
 use std::alloc::Global;

@@ -9,17 +9,17 @@ ghost use Rattle.ss_store.specs.Seen.{with_seen};
 ghost use Rattle.ss_store.specs.Scheduled.{Finds, put_there};
 ghost use Rattle.ss_store.specs.Events.{Comes, Begins, Lets, First, Told, is_of};
 
-use crate::notices::NoticeClass;
 use crate::scene::Scene;
 use crate::scheduling::lacking;
 use ss_base::{ClassKind, Line, Value};
+use ss_notices::NoticeClass;
 use ss_population::known::Known;
 use ss_population::trouble::Unmade;
 
 /// An event that comes next: its notice by its number, the rank of its class, and what the program says of that: the
 /// line of its routine, how many attributes that takes, and the global variable that a notice is saved in, if it is
 /// saved.
-#[derive(Clone, Copy, Debug)]
+#[derive(Clone, Copy)]
 pub struct Event {
     pub rank: usize,
     pub class: u32,
@@ -30,12 +30,27 @@ pub struct Event {
 }
 
 /// What becomes of the notice of an event that begins.
-#[derive(Clone, Copy, Debug)]
+#[derive(Clone, Copy)]
 pub enum Fate {
     /// It is there, and is still to be assigned to this global variable.
     Saved(u32),
     /// It is destroyed.
     Gone,
+}
+
+// The event of a notice of the class of which this is said, which has this rank.
+#[inline(always)]
+fn event_of(said: &NoticeClass, rank: usize, notice: i64) -> Event
+    ensures { result ≡ record { rank = rank; class = said.now.class; line = said.now.line; given = said.now.given; saved = said.now.saved; notice = notice } }
+{
+    Event {
+        rank,
+        class: said.class(),
+        line: said.line(),
+        given: said.given(),
+        saved: said.saved(),
+        notice,
+    }
 }
 
 impl Scene {
@@ -66,7 +81,7 @@ impl Scene {
         for rank in 0..notices.len() {
             let said = &notices[rank];
             if self.is_of(said.class(), known) {
-                return Some(said.event(rank, known.number));
+                return Some(event_of(said, rank, known.number));
             }
         }
         None

@@ -11,7 +11,7 @@ use ss_population::known::{Known, Membership, known_number};
 use ss_population::trouble::{Trouble, or_trouble};
 
 /// Where a member is filed.
-#[derive(Clone, Copy, Debug)]
+#[derive(Clone, Copy)]
 pub enum Filing {
     /// Where the discipline of the set says.
     ByDiscipline,

@@ -6,7 +6,6 @@ pub mod coming;
 pub mod entities;
 pub mod filing;
 mod members;
-pub mod notices;
 mod pending;
 mod removing;
 pub mod scene;

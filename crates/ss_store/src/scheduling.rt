@@ -6,10 +6,10 @@ ghost use Rattle.ss_store.specs.Seen.{Looks, Grows};
 ghost use Rattle.ss_store.specs.Scheduled.{Leads, Forms, Goes, Finds, put_there, lacking, moment_of, time_after, ranked_at, key_ranked, key_meant, scheduled_known, scheduled_anew};
 
 use crate::entities::settled;
-use crate::notices::NoticeClass;
 use crate::scene::Scene;
 use ss_base::{FaultKind, RankKey, Value, plus};
 use ss_events::{Key, Tie};
+use ss_notices::NoticeClass;
 use ss_population::known::Known;
 use ss_population::trouble::{Trouble, Unmade, number_of};
 use std::alloc::Global;
@@ -138,7 +138,7 @@ impl Scene {
             None => Err(Unmade::Misfit),
             Some(said) => {
                 let mut ties = Vec::new(alloc);
-                match self.freeze(class, x, said.ties(), &mut ties) {
+                match self.freeze(class, x, said.ties().as_slice(), &mut ties) {
                     Err(unmade) => Err(unmade),
                     Ok(()) => Ok(Key::with_ties(time, rank, ties)),
                 }

@@ -3,7 +3,7 @@
 use crate::expression::{Expression, Named};
 
 /// How two values compare.
-#[derive(Clone, Copy, PartialEq, Eq, Debug)]
+#[derive(Clone, Copy)]
 pub enum Relation {
     Equal,
     NotEqual,

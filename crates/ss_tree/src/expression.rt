@@ -4,14 +4,14 @@ use ss_base::Alpha;
 use ss_lex::Name;
 
 /// The sign before a term.
-#[derive(Clone, Copy, PartialEq, Eq, Debug)]
+#[derive(Clone, Copy)]
 pub enum Sign {
     Plus,
     Minus,
 }
 
 /// A function of the language.
-#[derive(Clone, Copy, PartialEq, Eq, Debug)]
+#[derive(Clone, Copy)]
 pub enum Function {
     /// DIV.F, the quotient.
     Div,
@@ -26,7 +26,7 @@ pub enum Function {
 }
 
 /// What stands where a program names a value.
-#[derive(Clone, Copy, PartialEq, Eq, Debug)]
+#[derive(Clone, Copy)]
 pub enum Designator {
     Name(Name),
     /// TIME.V, the time.

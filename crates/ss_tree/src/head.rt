@@ -5,7 +5,7 @@ use crate::expression::{Expression, Named};
 use ss_lex::Name;
 
 /// What a phrase does with a candidate, by its condition.
-#[derive(Clone, Copy, PartialEq, Eq, Debug)]
+#[derive(Clone, Copy)]
 pub enum PhraseKind {
     /// WITH or WHEN: passes a candidate where the condition holds.
     With,
@@ -25,7 +25,7 @@ pub struct Phrase {
 }
 
 /// How the condition of a loop that begins with WHILE or UNTIL ends it.
-#[derive(Clone, Copy, PartialEq, Eq, Debug)]
+#[derive(Clone, Copy)]
 pub enum GuardKind {
     /// WHILE: ends the loop where the condition doesn't hold.
     While,

@@ -4,7 +4,7 @@ use ss_base::Line;
 use ss_lex::Name;
 
 /// What a value is.
-#[derive(Clone, Copy, PartialEq, Eq, Debug)]
+#[derive(Clone, Copy)]
 pub enum Mode {
     Integer,
     Alpha,
@@ -12,7 +12,7 @@ pub enum Mode {
 }
 
 /// A kind of class.
-#[derive(Clone, Copy, PartialEq, Eq, Debug)]
+#[derive(Clone, Copy)]
 pub enum ClassKind {
     Permanent,
     Temporary,
@@ -31,7 +31,7 @@ pub enum Clause {
 }
 
 /// A name by which members or events are ranked, the highest value first or the lowest.
-#[derive(Clone, Copy, PartialEq, Eq, Debug)]
+#[derive(Clone, Copy)]
 pub struct Key {
     pub high: bool,
     pub name: Name,
@@ -48,7 +48,7 @@ pub enum SetOrder {
 }
 
 /// What a statistic tells of its subject.
-#[derive(Clone, Copy, PartialEq, Eq, Debug)]
+#[derive(Clone, Copy)]
 pub enum StatisticKind {
     Number,
     Sum,
@@ -57,14 +57,14 @@ pub enum StatisticKind {
 }
 
 /// A statistic and its name.
-#[derive(Clone, Copy, PartialEq, Eq, Debug)]
+#[derive(Clone, Copy)]
 pub struct Statistic {
     pub name: Name,
     pub kind: StatisticKind,
 }
 
 /// How statistics weigh the values of their subject.
-#[derive(Clone, Copy, PartialEq, Eq, Debug)]
+#[derive(Clone, Copy)]
 pub enum Weighting {
     /// TALLY: each value once.
     Tally,

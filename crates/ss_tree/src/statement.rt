@@ -18,7 +18,7 @@ pub enum Position {
 }
 
 /// An end of a set.
-#[derive(Clone, Copy, PartialEq, Eq, Debug)]
+#[derive(Clone, Copy)]
 pub enum SetEnd {
     First,
     Last,
@@ -35,7 +35,7 @@ pub enum When {
 }
 
 /// Whether the case was found for which the statements behind a FIND stand first.
-#[derive(Clone, Copy, PartialEq, Eq, Debug)]
+#[derive(Clone, Copy)]
 pub enum FindOutcome {
     Found,
     None,

@@ -3,7 +3,7 @@
 use ss_base::Line;
 
 /// A rule on what a program does with its names and values.
-#[derive(Clone, Copy, PartialEq, Eq, Debug)]
+#[derive(Clone, Copy)]
 pub enum Rule {
     /// 71: there is no MAIN.
     NoMain,
@@ -26,7 +26,7 @@ pub enum Rule {
 }
 
 /// A rule that is broken, and the line of the first place in the text; 0 where there is no MAIN.
-#[derive(Clone, Copy, PartialEq, Eq, Debug)]
+#[derive(Clone, Copy)]
 pub struct Broken {
     pub rule: Rule,
     pub line: Line,

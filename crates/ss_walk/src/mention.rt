@@ -5,7 +5,7 @@ use ss_lex::Name;
 use ss_tree::preamble::Mode;
 
 /// As what a name stands in a section.
-#[derive(Clone, Copy, PartialEq, Eq, Debug)]
+#[derive(Clone, Copy)]
 pub enum Role {
     /// A value of an expression.
     Value,
@@ -44,7 +44,7 @@ pub enum Role {
 }
 
 /// What is mentioned.
-#[derive(Clone, Copy, PartialEq, Eq, Debug)]
+#[derive(Clone, Copy)]
 pub enum Mentioned {
     Name(Name),
     /// TIME.V, the time.
@@ -56,7 +56,7 @@ pub enum Mentioned {
 }
 
 /// A mention.
-#[derive(Clone, Copy, PartialEq, Eq, Debug)]
+#[derive(Clone, Copy)]
 pub struct Mention {
     /// The line of the innermost statement that it stands in; of the head of a loop or of an IF it is
     /// that of the loop or the IF, of a parameter that of the section, of a local variable that of its

@@ -1,7 +1,7 @@
 use Rattle.std.proofs.Common.{◌≡◌, map, ap, ◌∙◌}
 use Rattle.std.specs.List.{flat_map}
 use Rattle.std.proofs.lemmas.Result.{IfOk-weaker}
-use Rattle.ss_entities.specs.Entities.{member_by, owner_by, orderings, set_members, set_names, set_of, set_owners, sets}
+use Rattle.ss_entities.specs.Entities.{member_by, owner_by, orderings, set_members, set_of, set_owners, sets}
 use Rattle.ss_firsts.specs.Firsts.{firsts}
 use Rattle.ss_entities.proofs.sets.sets_in.Goals as goal
 
@@ -10,9 +10,7 @@ returns c =
     let says = c.args.sayings.now in
     let owners : c.in_ok-owners.owners.entries ≡ set_owners says =
     c.in_ok-owners.ensures ∙ ap (λ cs. firsts (flat_map (owner_by cs) says)) c.requires.classes in
-    let members : c.in_ok-members.members.entries ≡ set_members says =
-    c.in_ok-members.ensures ∙ ap (λ cs. firsts (flat_map (member_by cs) says)) c.requires.classes in
-    let ordered : c.in_ok-orderings.orderings.entries ≡ orderings says = c.in_ok-orderings.ensures in
-    let names : c.as_slice.result.now ≡ set_names says = c.as_slice.ensures.keys ∙ c.requires.names in
-    IfOk-weaker c.sets_of.result _ (λ out. out.items ≡ sets says)
-    (λ out e. e ∙ (λ i. map (set_of (owners i) (members i) (ordered i)) (names i))) c.sets_of.ensures
+    let members : firsts (flat_map (member_by c.args.classes.now.entries) says) ≡ set_members says =
+    ap (λ cs. firsts (flat_map (member_by cs) says)) c.requires.classes in
+    IfOk-weaker c.owned_sets.result _ (λ out. out.items ≡ sets says)
+    (λ out e. e ∙ (λ i. map (set_of (owners i) (members i) (orderings says)) (c.requires.names i))) c.owned_sets.ensures

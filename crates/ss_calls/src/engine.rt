@@ -1,0 +1,229 @@
+//! What outcomes, refusals and listings are told as, and a whole run whose memory is refused.
+
+use ss_base::{FaultKind, Line, MemoryRead, MemoryWrite, Plan, Trouble};
+use ss_engine::{Model, Outcome, Refusal, Stop, compile, outcome_line, outcome_status, simulate};
+use std::alloc::Global;
+use std::test::Fail;
+
+static ANSWER: &[u8] = b"MAIN\nPRINT 1 LINE WITH 6*7 THUS\nANSWER ***\nEND";
+
+static ANSWER_LISTING: &[u8] = b"0       push         6\n\
+1       push         7\n\
+2       calculate    times, line 2\n\
+3       print        pictures 0, values 1\n\
+4       leave\n";
+
+// The model that the manual lists, and its listing there.
+static BELL: &[u8] = b"PREAMBLE\n\
+NORMALLY, MODE IS INTEGER\n\
+EVENT NOTICES INCLUDE BELL\n\
+END\n\
+MAIN\n\
+FOR I = 1 TO 3 DO\n\
+IF I GT 1\n\
+CALL SHOW GIVING I * 10\n\
+ALWAYS\n\
+LOOP\n\
+SCHEDULE A BELL AT 5\n\
+START SIMULATION\n\
+END\n\
+ROUTINE SHOW GIVEN N\n\
+PRINT 1 LINE WITH N THUS\n\
+COUNT **\n\
+END\n\
+EVENT BELL\n\
+PRINT 1 LINE WITH \"TIME\", TIME.V THUS\n\
+**** *\n\
+END\n";
+
+static BELL_LISTING: &[u8] = b"0       push         1\n\
+1       push         3\n\
+2       push         1\n\
+3       begin        else to 14, line 6\n\
+4       take         local 0, line 6\n\
+5       fetch        local 0\n\
+6       push         1\n\
+7       compare      greater, else to 13\n\
+8       fetch        local 0\n\
+9       push         10\n\
+10      calculate    times, line 8\n\
+11      call         routine 0 at 24, given 1, yielding 0\n\
+12      jump         to 13\n\
+13      next         to 4\n\
+14      forget       values 3\n\
+15      push         5\n\
+16      when         at, line 11\n\
+17      make notice  class 0, given 0, line 11\n\
+18      name         global 0, line 11\n\
+19      file notice  class 0, line 11\n\
+20      await        else to 23\n\
+21      take event   to 27\n\
+22      next event   to 21\n\
+23      leave\n\
+24      fetch        local 0\n\
+25      print        pictures 0, values 1\n\
+26      leave\n\
+27      push         \"TIME\"\n\
+28      clock\n\
+29      print        pictures 1, values 2\n\
+30      leave\n";
+
+// Two numbers that are read, each printed.
+static TWO_WORDS: &[u8] =
+    b"PREAMBLE NORMALLY, MODE IS INTEGER END\nMAIN\nREAD X PRINT 1 LINE WITH X THUS\n*\nREAD X PRINT 1 LINE WITH X THUS\n*\nEND";
+
+// Whether the code of a model is listed so.
+fn is_listing(alloc: Global, model: &Model, listing: &[u8]) -> bool {
+    match model.listing(alloc) {
+        Ok(lines) => lines.as_slice() == listing,
+        Err(_) => false,
+    }
+}
+
+// Whether the code of a text is listed so.
+fn is_listed(alloc: Global, text: &[u8], listing: &[u8]) -> bool {
+    match compile(alloc, text) {
+        Ok(model) => is_listing(alloc, &model, listing),
+        Err(_) => false,
+    }
+}
+
+#[test]
+fn the_listing_of_a_print(rt: HostRuntime) {
+    assert!(rt; is_listed(rt.alloc(), ANSWER, ANSWER_LISTING));
+}
+
+#[test]
+fn the_listing_of_the_manual(rt: HostRuntime) {
+    assert!(rt; is_listed(rt.alloc(), BELL, BELL_LISTING));
+}
+
+static OUTCOMES: [(Outcome, u8, &[u8]); 10] = [
+    (Outcome::Stopped(Stop::Ended, 0), 0, b""),
+    (
+        Outcome::Refused(Refusal::PictureCut(Line(2))),
+        1,
+        b"refused 36 PictureCut at line 2\n",
+    ),
+    (
+        Outcome::Refused(Refusal::CodeTooLong),
+        1,
+        b"refused 81 CodeTooLong at line 0\n",
+    ),
+    (
+        Outcome::Stopped(Stop::Fault(FaultKind::DestroyedEntity, Line(19)), 8),
+        3,
+        b"fault 3 DESTROYED ENTITY at line 19\n",
+    ),
+    (
+        Outcome::Stopped(Stop::Paused, 2),
+        4,
+        b"paused after 2 ticks\n",
+    ),
+    (Outcome::Stopped(Stop::Memory, 0), 5, b"out of memory\n"),
+    (Outcome::Refused(Refusal::Memory), 5, b"out of memory\n"),
+    (
+        Outcome::Stopped(Stop::Output, 0),
+        6,
+        b"cannot write report\n",
+    ),
+    (Outcome::Stopped(Stop::Input, 0), 6, b"cannot read input\n"),
+    (Outcome::Stopped(Stop::Failed, 0), 6, b"failed before\n"),
+];
+
+// Whether this line tells of an outcome.
+fn is_line(alloc: Global, outcome: &Outcome, line: &[u8]) -> bool {
+    match outcome_line(alloc, outcome) {
+        Ok(told) => told.as_slice() == line,
+        Err(_) => false,
+    }
+}
+
+// Whether outcomes have these statuses and lines.
+fn are_told(alloc: Global, outcomes: &[(Outcome, u8, &[u8])]) -> bool {
+    for (outcome, status, line) in outcomes {
+        if outcome_status(outcome) != *status || !is_line(alloc, outcome, line) {
+            return false;
+        }
+    }
+    true
+}
+
+#[test]
+fn statuses_and_lines(rt: HostRuntime) {
+    assert!(rt; are_told(rt.alloc(), &OUTCOMES));
+}
+
+static REFUSALS: [(Refusal, u32, &str, u32); 30] = [
+    (Refusal::TooLong(Line(0)), 31, "TooLong", 0),
+    (Refusal::NotAscii(Line(1)), 32, "NotAscii", 1),
+    (Refusal::BadNumber(Line(2)), 33, "BadNumber", 2),
+    (Refusal::OpenText(Line(3)), 34, "OpenText", 3),
+    (Refusal::AlphaTooLong(Line(4)), 35, "AlphaTooLong", 4),
+    (Refusal::PictureCut(Line(5)), 36, "PictureCut", 5),
+    (Refusal::NameTooLong(Line(6)), 37, "NameTooLong", 6),
+    (Refusal::Syntax(Line(2)), 41, "Syntax", 2),
+    (Refusal::TooDeep(Line(3)), 42, "TooDeep", 3),
+    (Refusal::Twice(Line(1)), 51, "Twice", 1),
+    (Refusal::RealMode(Line(7)), 52, "RealMode", 7),
+    (Refusal::UnknownClass(Line(2)), 53, "UnknownClass", 2),
+    (Refusal::UnknownSet(Line(3)), 54, "UnknownSet", 3),
+    (Refusal::NoOwner(Line(4)), 55, "NoOwner", 4),
+    (Refusal::NoMember(Line(5)), 56, "NoMember", 5),
+    (Refusal::RankKey(Line(6)), 57, "RankKey", 6),
+    (Refusal::TallyTwice(Line(7)), 58, "TallyTwice", 7),
+    (Refusal::TooMany(Line(8)), 59, "TooMany", 8),
+    (Refusal::TieKey(Line(9)), 60, "TieKey", 9),
+    (Refusal::NoMain(Line(0)), 71, "NoMain", 0),
+    (Refusal::NoEventRoutine(Line(5)), 72, "NoEventRoutine", 5),
+    (Refusal::Mode(Line(1)), 73, "Mode", 1),
+    (Refusal::Arguments(Line(2)), 74, "Arguments", 2),
+    (Refusal::Subscript(Line(3)), 75, "Subscript", 3),
+    (Refusal::NotAssignable(Line(4)), 76, "NotAssignable", 4),
+    (Refusal::Fields(Line(8)), 77, "Fields", 8),
+    (Refusal::StartPlace(Line(5)), 78, "StartPlace", 5),
+    (Refusal::Unknown(Line(6)), 79, "Unknown", 6),
+    (Refusal::CodeTooLong, 81, "CodeTooLong", 0),
+    (Refusal::Memory, 0, "Memory", 0),
+];
+
+// Whether refusals have these numbers, names and lines.
+fn are_refusals(refusals: &[(Refusal, u32, &str, u32)]) -> bool {
+    for (refusal, number, name, line) in refusals {
+        if refusal.number() != *number || refusal.name() != *name || refusal.line() != *line {
+            return false;
+        }
+    }
+    true
+}
+
+#[test]
+fn refusals_have_their_numbers_names_and_lines(rt: HostRuntime) {
+    assert!(rt; are_refusals(&REFUSALS));
+}
+
+// Whether a run of that text ended as it should, or for want of memory with the first of its report.
+fn is_no_wrong_answer(outcome: &Outcome, report: &[u8]) -> bool {
+    match outcome {
+        Outcome::Stopped(Stop::Ended, used) => *used == 0 && report == b"5\n7\n".as_slice(),
+        Outcome::Stopped(Stop::Memory, used) => *used == 0 && b"5\n7\n".starts_with(report),
+        other => *other == Outcome::Refused(Refusal::Memory) && report.is_empty(),
+    }
+}
+
+// Whether the run of that text with this reader and writer gives no wrong answer.
+fn runs_well(alloc: Global, reader: MemoryRead, writer: MemoryWrite) -> bool {
+    let (outcome, _reader, writer) = simulate(alloc, TWO_WORDS, reader, writer, &[0]);
+    is_no_wrong_answer(&outcome, writer.bytes())
+}
+
+// Whatever growth is refused, the run ends for want of memory with the first of the report, or as it
+// should.
+#[test]
+fn want_of_memory_is_never_a_wrong_answer(rt: HostRuntime) -> Result<(), Fail> {
+    let alloc = rt.alloc();
+    let reader = MemoryRead::new(alloc, b"5 7", Plan::smooth(1))?;
+    let writer = MemoryWrite::new(alloc, 2048, Plan::smooth(256), Trouble::Error)?;
+    assert!(rt; runs_well(alloc, reader, writer));
+    Ok(())
+}

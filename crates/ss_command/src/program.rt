@@ -1,0 +1,248 @@
+//! The program over any files and streams.
+ghost use Rattle.std.specs.Prelude.{◌≡◌, ◌⊎◌};
+ghost use Rattle.ss_engine.specs.Outcomes.{status_of};
+ghost use Rattle.ss_command.specs.Statuses.{ended_status, trouble_status};
+
+use crate::files::FileStore;
+use crate::misuse::Misuse;
+use crate::order::Order;
+use crate::trouble::Trouble;
+use ss_base::Counted;
+use ss_engine::{Outcome, Stop, compile, outcome_line, outcome_status, simulate};
+use std::alloc::{AllocError, Global};
+use std::convert::AsStr;
+use std::io::{BufReader, BufWriter, ErrorKind, Read, Write};
+
+/// The most bytes of a text that are read: one more than a text may have.
+const SOURCE_READ: u64 = 1_048_577;
+
+/// The ticks of a run whose words name none.
+const TICKS: u64 = 1_000_000;
+
+/// The standard streams of a process.
+pub struct Streams<I, O, E> {
+    pub input: I,
+    pub output: O,
+    pub errors: E,
+}
+
+/// Does what the words of a command line ask for, the program's name first, and answers the exit
+/// status: 0 where it was done or help was asked for, 1 for a refused text, 2 for wrong words, 3 for
+/// a fault of the run, 4 for a pause, 5 for want of memory, 6 where a file or a stream failed.
+///
+/// What is asked for goes to the output, in blocks; one line on the errors says why the status isn't
+/// 0.
+pub fn perform<F: FileStore, S: AsStr, I: Read + Drop, O: Write + Drop, E: Write + Drop>(
+    alloc: Global,
+    words: &[S],
+    files: &F,
+    streams: Streams<I, O, E>,
+) -> u8 {
+    let Streams {
+        input,
+        output,
+        errors,
+    } = streams;
+    match Order::of(alloc, words) {
+        Ok(order) => tell(alloc, obey(alloc, order, files, input, output), errors),
+        Err(misuse) => explain(&misuse, output, errors),
+    }
+}
+
+// Does what an order says.
+fn obey<F: FileStore, I: Read + Drop, O: Write + Drop>(
+    alloc: Global,
+    order: Order<'_>,
+    files: &F,
+    input: I,
+    output: O,
+) -> Result<Outcome, Trouble> {
+    match order {
+        Order::Plain => run(alloc, &read_source(alloc, input)?, &[][..], output, TICKS),
+        Order::Check(name) => check(alloc, &read_file(alloc, files, name)?, output),
+        Order::List(name) => list(alloc, &read_file(alloc, files, name)?, output),
+        Order::Run(name, data, ticks) => {
+            run_text(
+                alloc,
+                &read_file(alloc, files, name)?,
+                files,
+                data,
+                output,
+                ticks,
+            )
+        }
+    }
+}
+
+// Runs a text with the data in the file of this name, or with none.
+fn run_text<F: FileStore, O: Write + Drop>(
+    alloc: Global,
+    text: &[u8],
+    files: &F,
+    data: Option<&str>,
+    output: O,
+    ticks: u64,
+) -> Result<Outcome, Trouble> {
+    match data {
+        None => run(alloc, text, &[][..], output, ticks),
+        Some(name) => {
+            let input = open(files, name, Trouble::Input)?;
+            run_with_input(alloc, text, input, output, ticks)
+        }
+    }
+}
+
+// The file of this name, open for reading.
+fn open<F: FileStore>(files: &F, name: &str, trouble: Trouble) -> Result<F::File, Trouble> {
+    files.open(name).map_err(|_error| trouble)
+}
+
+// The text in the file of this name, or as much of it as shows that it is too long.
+fn read_file<F: FileStore>(alloc: Global, files: &F, name: &str) -> Result<Vec<u8>, Trouble> {
+    read_source(alloc, open(files, name, Trouble::Source)?)
+}
+
+// The text that this reader gives, or as much of it as shows that it is too long.
+fn read_source<R: Read + Drop>(alloc: Global, reader: R) -> Result<Vec<u8>, Trouble> {
+    let mut text = Vec::new(alloc);
+    match reader.take(SOURCE_READ).read_to_end(&mut text) {
+        Ok(_) => Ok(text),
+        Err(error) => Err(unread(error.kind())),
+    }
+}
+
+// What stops the program where a text can't be read.
+fn unread(kind: ErrorKind) -> Trouble {
+    if kind == ErrorKind::OutOfMemory {
+        Trouble::Memory
+    } else {
+        Trouble::Source
+    }
+}
+
+// Runs a text with the data of this file, which is asked for a block at a time.
+fn run_with_input<R: Read + Drop, O: Write + Drop>(
+    alloc: Global,
+    text: &[u8],
+    input: R,
+    output: O,
+    ticks: u64,
+) -> Result<Outcome, Trouble> {
+    match BufReader::new(alloc, input) {
+        Ok(reader) => run(alloc, text, reader, output, ticks),
+        Err(_) => Err(Trouble::Memory),
+    }
+}
+
+// Runs a text with the data of this reader, and writes its report in blocks.
+fn run<R: Read + Drop, O: Write + Drop>(
+    alloc: Global,
+    text: &[u8],
+    input: R,
+    output: O,
+    ticks: u64,
+) -> Result<Outcome, Trouble> {
+    match BufWriter::new(alloc, output) {
+        Ok(writer) => report(alloc, text, input, writer, ticks),
+        Err(_) => Err(Trouble::Memory),
+    }
+}
+
+// Runs a text with the data of this reader, and writes its report to this writer, which is flushed
+// at the end.
+fn report<R: Read + Drop, W: Write + Drop>(
+    alloc: Global,
+    text: &[u8],
+    input: R,
+    output: W,
+    ticks: u64,
+) -> Result<Outcome, Trouble> {
+    let (reader, writer) = (Counted::new(input), Counted::new(output));
+    let (outcome, _reader, writer) = simulate(alloc, text, reader, writer, &[ticks]);
+    match writer.into_inner().flush() {
+        Ok(()) => Ok(outcome),
+        Err(_) => Err(Trouble::Report),
+    }
+}
+
+// Compiles a text, and prints that it is accepted.
+fn check<O: Write + Drop>(alloc: Global, text: &[u8], output: O) -> Result<Outcome, Trouble> {
+    match compile(alloc, text) {
+        Ok(_model) => print(output, b"accepted\n"),
+        Err(refusal) => Ok(Outcome::Refused(refusal)),
+    }
+}
+
+// Compiles a text, and prints its code.
+fn list<O: Write + Drop>(alloc: Global, text: &[u8], output: O) -> Result<Outcome, Trouble> {
+    match compile(alloc, text) {
+        Ok(model) => print_listing(model.listing(alloc), output),
+        Err(refusal) => Ok(Outcome::Refused(refusal)),
+    }
+}
+
+// Prints a listing, where there was memory for it.
+fn print_listing<O: Write + Drop>(
+    listing: Result<Vec<u8>, AllocError>,
+    output: O,
+) -> Result<Outcome, Trouble> {
+    match listing {
+        Ok(lines) => print(output, &lines),
+        Err(_) => Err(Trouble::Memory),
+    }
+}
+
+// Prints these bytes, with which all is done.
+fn print<O: Write + Drop>(mut output: O, bytes: &[u8]) -> Result<Outcome, Trouble> {
+    let written = output.write_all(bytes).and_then(|()| output.flush());
+    match written {
+        Ok(()) => Ok(Outcome::Stopped(Stop::Ended, 0)),
+        Err(_) => Err(Trouble::Report),
+    }
+}
+
+/// Tells how an order ended, and answers the exit status: that of the outcome or of what stopped the
+/// program, or that of memory where the line that tells of it could not be made.
+pub fn tell<E: Write + Drop>(alloc: Global, ended: Result<Outcome, Trouble>, errors: E) -> u8
+    ensures { (result ≡ ended_status ended) ⊎ (result ≡ 5) }
+{
+    match ended {
+        Ok(outcome) => tell_outcome(alloc, &outcome, errors),
+        Err(trouble) => tell_trouble(trouble, errors),
+    }
+}
+
+// Tells of an outcome by its line. A line that can't be written is lost, and the status stands.
+fn tell_outcome<E: Write + Drop>(alloc: Global, outcome: &Outcome, mut errors: E) -> u8
+    ensures { (result ≡ status_of outcome.now) ⊎ (result ≡ 5) }
+{
+    match outcome_line(alloc, outcome) {
+        Ok(line) => {
+            let _ = errors.write_all(&line);
+            outcome_status(outcome)
+        }
+        Err(_) => tell_trouble(Trouble::Memory, errors),
+    }
+}
+
+// Tells of what stopped the program.
+fn tell_trouble<E: Write + Drop>(trouble: Trouble, mut errors: E) -> u8
+    ensures { result ≡ trouble_status trouble }
+{
+    let text = trouble.text();
+    let _ = writeln!(errors, "{text}");
+    trouble.status()
+}
+
+// Gives the help that was asked for, or says what is wrong with the words.
+fn explain<O: Write + Drop, E: Write + Drop>(misuse: &Misuse, mut output: O, mut errors: E) -> u8 {
+    if misuse.status() != 0 {
+        let _ = write!(errors, "{misuse}");
+        return misuse.status();
+    }
+    let written = write!(output, "{misuse}").and_then(|()| output.flush());
+    match written {
+        Ok(()) => 0,
+        Err(_) => tell_trouble(Trouble::Report, errors),
+    }
+}

@@ -1,0 +1,2 @@
+pub mod SpelledParts
+pub mod ReadSimple

@@ -1,0 +1,246 @@
+//! Parts of statements.
+
+ghost use Rattle.std.specs.Prelude.{◌≡◌, map};
+ghost use Rattle.ss_tree.specs.View.{view_expression, view_option, view_named, view_position, view_when};
+ghost use Rattle.ss_grammar.specs.Reading.{Gives, begins_by, taken, in_table};
+ghost use Rattle.ss_grammar.specs.ReadExpressions.{sum_in};
+ghost use Rattle.ss_grammar.specs.ReadPlaces.{target_in};
+ghost use Rattle.ss_simple.specs.SpelledParts.{end_of};
+ghost use Rattle.ss_simple.specs.ReadSimple.{called, positive_of, picture_of, items_in, trigger, pictures_at, given_in, yielding_in, position_in, when_in};
+
+use ss_grammar::classes::{Class, begins_class, expect_class};
+use ss_grammar::expressions::{sum, sums};
+use ss_grammar::failure::Failure;
+use ss_grammar::places::{target, targets};
+use ss_grammar::tokens::{begins_word, expect_word, syntax};
+use ss_lex::{PictureLine, Token, TokenKind, Word};
+use ss_tree::expression::{Expression, Named};
+use ss_tree::statement::{Position, SetEnd, When};
+use std::alloc::Global;
+
+/// The end of a set that the word names.
+fn end_of(word: Word) -> Option<SetEnd>
+    ensures { result ≡ end_of word }
+{
+    match word {
+        Word::First => Some(SetEnd::First),
+        Word::Last => Some(SetEnd::Last),
+        _ => None,
+    }
+}
+
+/// FIRST or LAST.
+pub fn set_end(tokens: &[Token]) -> Result<(SetEnd, &[Token]), Failure>
+    ensures { Gives (λ x. (x.0, x.1.now)) result (taken (in_table end_of) tokens.now) }
+{
+    match tokens {
+        [] => Err(syntax(tokens)),
+        [first, rest @ ..] => match &first.kind {
+            TokenKind::Word(found) => match end_of(*found) {
+                Some(end) => Ok((end, rest)),
+                None => Err(syntax(tokens)),
+            },
+            _ => Err(syntax(tokens)),
+        },
+    }
+}
+
+/// Whether FIRST or LAST is first.
+pub fn begins_end(tokens: &[Token]) -> bool
+    ensures { result ≡ begins_by (in_table end_of) tokens.now }
+{
+    match tokens {
+        [] => false,
+        [first, ..] => match &first.kind {
+            TokenKind::Word(found) => end_of(*found).is_some(),
+            _ => false,
+        },
+    }
+}
+
+/// A number of pictures, 1 at least.
+pub fn positive(tokens: &[Token]) -> Result<(u64, &[Token]), Failure>
+    ensures { Gives (λ x. (x.0, x.1.now)) result (taken positive_of tokens.now) }
+{
+    match tokens {
+        [] => Err(syntax(tokens)),
+        [first, rest @ ..] => match &first.kind {
+            TokenKind::Number(number) => {
+                if *number > 0 {
+                    Ok((number.unsigned_abs(), rest))
+                } else {
+                    Err(syntax(tokens))
+                }
+            }
+            _ => Err(syntax(tokens)),
+        },
+    }
+}
+
+/// The items of a PRINT.
+pub fn items(
+    alloc: Global,
+    tokens: &[Token],
+    room: u8,
+) -> Result<(Vec<Expression>, &[Token]), Failure>
+    ensures { Gives (λ x. (map view_expression x.0.items, x.1.now)) result (items_in room tokens.now) }
+{
+    if !begins_word(tokens, Word::With) {
+        return Ok((Vec::new(alloc), tokens));
+    }
+    let rest = expect_word(tokens, Word::With)?;
+    sums(alloc, rest, room)
+}
+
+/// The words before the pictures.
+#[tactic(auto, unfolding(crate::specs::ReadSimple::trigger))]
+pub fn trigger(tokens: &[Token]) -> Result<&[Token], Failure>
+    ensures { Gives (λ rest. (tt, rest.now)) result (trigger tokens.now) }
+{
+    if begins_word(tokens, Word::Thus) {
+        expect_word(tokens, Word::Thus)
+    } else if begins_word(tokens, Word::As) {
+        let rest = expect_word(tokens, Word::As)?;
+        expect_word(rest, Word::Follows)
+    } else {
+        let rest = expect_word(tokens, Word::Like)?;
+        expect_word(rest, Word::This)
+    }
+}
+
+/// The bytes of a picture.
+fn picture(alloc: Global, tokens: &[Token]) -> Result<(PictureLine, &[Token]), Failure>
+    ensures { Gives (λ x. (x.0, x.1.now)) result (taken picture_of tokens.now) }
+{
+    match tokens {
+        [] => Err(syntax(tokens)),
+        [first, rest @ ..] => match &first.kind {
+            TokenKind::Picture(line) => Ok((PictureLine::of(alloc, line.bytes())?, rest)),
+            _ => Err(syntax(tokens)),
+        },
+    }
+}
+
+/// So many pictures.
+pub fn pictures(
+    alloc: Global,
+    tokens: &[Token],
+    count: u64,
+) -> Result<(Vec<PictureLine>, &[Token]), Failure>
+    ensures { Gives (λ x. (x.0.items, x.1.now)) result (pictures_at count tokens.now) }
+{
+    let mut all = Vec::new(alloc);
+    let mut rest = tokens;
+    'more: for _ in 0..count {
+        let (next, after) = picture(alloc, rest)?;
+        all.push(next)?;
+        rest = after;
+    }
+    Ok((all, rest))
+}
+
+/// The expressions that are given, if there are any.
+pub fn given(
+    alloc: Global,
+    tokens: &[Token],
+    room: u8,
+) -> Result<(Vec<Expression>, &[Token]), Failure>
+    ensures { Gives (λ x. (map view_expression x.0.items, x.1.now)) result (given_in room tokens.now) }
+{
+    if !begins_class(tokens, Class::Given) {
+        return Ok((Vec::new(alloc), tokens));
+    }
+    let rest = expect_class(tokens, Class::Given)?;
+    sums(alloc, rest, room)
+}
+
+/// The targets of what is yielded, if there are any.
+pub fn yielding(
+    alloc: Global,
+    tokens: &[Token],
+    room: u8,
+) -> Result<(Vec<Named>, &[Token]), Failure>
+    ensures { Gives (λ x. (map view_named x.0.items, x.1.now)) result (yielding_in room tokens.now) }
+{
+    if !begins_word(tokens, Word::Yielding) {
+        return Ok((Vec::new(alloc), tokens));
+    }
+    let rest = expect_word(tokens, Word::Yielding)?;
+    targets(alloc, rest, room)
+}
+
+/// What stands behind CALLED, if it is there, as a value.
+pub fn called_value(
+    alloc: Global,
+    tokens: &[Token],
+    room: u8,
+) -> Result<(Option<Expression>, &[Token]), Failure>
+    ensures { Gives (λ x. (view_option view_expression x.0, x.1.now)) result (called (sum_in room) tokens.now) }
+{
+    if !begins_word(tokens, Word::Called) {
+        return Ok((None, tokens));
+    }
+    let rest = expect_word(tokens, Word::Called)?;
+    let (value, rest) = sum(alloc, rest, room)?;
+    Ok((Some(value), rest))
+}
+
+/// What stands behind CALLED, if it is there, as a target.
+pub fn called_target(
+    alloc: Global,
+    tokens: &[Token],
+    room: u8,
+) -> Result<(Option<Named>, &[Token]), Failure>
+    ensures { Gives (λ x. (view_option view_named x.0, x.1.now)) result (called (target_in room) tokens.now) }
+{
+    if !begins_word(tokens, Word::Called) {
+        return Ok((None, tokens));
+    }
+    let rest = expect_word(tokens, Word::Called)?;
+    let (target, rest) = target(alloc, rest, room)?;
+    Ok((Some(target), rest))
+}
+
+/// Where a member is filed.
+#[tactic(auto, unfolding(crate::specs::ReadSimple::position_in))]
+pub fn place(alloc: Global, tokens: &[Token], room: u8) -> Result<(Position, &[Token]), Failure>
+    ensures { Gives (λ x. (view_position x.0, x.1.now)) result (position_in room tokens.now) }
+{
+    if begins_word(tokens, Word::First) {
+        let rest = expect_word(tokens, Word::First)?;
+        Ok((Position::First, rest))
+    } else if begins_word(tokens, Word::Last) {
+        let rest = expect_word(tokens, Word::Last)?;
+        Ok((Position::Last, rest))
+    } else if begins_word(tokens, Word::Before) {
+        let rest = expect_word(tokens, Word::Before)?;
+        let (other, rest) = sum(alloc, rest, room)?;
+        Ok((Position::Before(other), rest))
+    } else if begins_word(tokens, Word::After) {
+        let rest = expect_word(tokens, Word::After)?;
+        let (other, rest) = sum(alloc, rest, room)?;
+        Ok((Position::After(other), rest))
+    } else {
+        Ok((Position::Discipline, tokens))
+    }
+}
+
+/// When a notice is due.
+#[tactic(auto, unfolding(crate::specs::ReadSimple::when_in))]
+pub fn due(alloc: Global, tokens: &[Token], room: u8) -> Result<(When, &[Token]), Failure>
+    ensures { Gives (λ x. (view_when x.0, x.1.now)) result (when_in room tokens.now) }
+{
+    if begins_word(tokens, Word::At) {
+        let rest = expect_word(tokens, Word::At)?;
+        let (time, rest) = sum(alloc, rest, room)?;
+        Ok((When::At(time), rest))
+    } else if begins_word(tokens, Word::In) {
+        let rest = expect_word(tokens, Word::In)?;
+        let (units, rest) = sum(alloc, rest, room)?;
+        let rest = expect_word(rest, Word::Unit)?;
+        Ok((When::In(units), rest))
+    } else {
+        let rest = expect_word(tokens, Word::Now)?;
+        Ok((When::Now, rest))
+    }
+}
