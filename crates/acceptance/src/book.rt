@@ -2,11 +2,10 @@
 
 use crate::cases::{Case, Part};
 use crate::content::Content;
-use crate::directive::Directive;
+use crate::directive::{Head, Topic};
+use crate::words::{first_word, named, number};
 use crate::wrong::Wrong;
 use std::alloc::{AllocError, Global};
-use std::collections::BTreeMap;
-use std::mem;
 
 /// A mistake in a case file.
 #[derive(Clone, Copy)]
@@ -16,29 +15,239 @@ pub struct Mistake {
     pub wrong: Wrong,
 }
 
-/// The cases of a file, and the mistakes in it.
+/// A text that cases may begin with.
 #[derive(Drop)]
-pub struct Book {
-    pub cases: Vec<Case>,
-    pub mistakes: Vec<Mistake>,
+struct Text<'a> {
+    name: &'a str,
+    bytes: Vec<u8>,
 }
 
-impl Book {
+/// What content belongs to.
+#[derive(Clone, Copy)]
+enum Place {
+    Nowhere,
+    /// The last text.
+    Text,
+    /// A part of the last case.
+    Case(Part),
+}
+
+/// A case file, as far as it was read: its cases, and the mistakes in it.
+#[derive(Drop)]
+pub struct Book<'a> {
+    alloc: Global,
+    pub cases: Vec<Case<'a>>,
+    pub mistakes: Vec<Mistake>,
+    texts: Vec<Text<'a>>,
+    /// What further content belongs to.
+    place: Place,
+}
+
+impl<'a> Book<'a> {
+    /// The book of a file of which nothing was read yet.
+    pub fn new(alloc: Global) -> Book<'a> {
+        Book {
+            alloc,
+            cases: Vec::new(alloc),
+            mistakes: Vec::new(alloc),
+            texts: Vec::new(alloc),
+            place: Place::Nowhere,
+        }
+    }
+
     /// Reads the text of a case file. A line with a mistake is left out of its case. The error comes
     /// where memory was refused for what is told of a mistake.
-    pub fn read(alloc: Global, text: &str) -> Result<Book, AllocError> {
-        let mut reading = Reading::new(alloc);
-        let mut mistakes = Vec::new(alloc);
+    pub fn read(&mut self, text: &'a str) -> Result<(), AllocError> {
         let mut number: u64 = 0;
         for line in text.split('\n') {
             number = number.saturating_add(1);
-            note(&mut mistakes, number, reading.take(line, number).err())?;
+            self.read_line(line, number)?;
         }
-        note(&mut mistakes, number, reading.settle().err())?;
-        let cases = reading.cases;
-        add_lacks(&mut mistakes, &cases)?;
-        Ok(Book { cases, mistakes })
+        self.end(number)
     }
+
+    // Reads a further line, of this number.
+    fn read_line(&mut self, line: &'a str, number: u64) -> Result<(), AllocError> {
+        let taken = self.take(line, number);
+        note(&mut self.mistakes, number, taken.err())
+    }
+
+    // Ends with the line of this number.
+    fn end(&mut self, number: u64) -> Result<(), AllocError> {
+        let settled = self.settle();
+        note(&mut self.mistakes, number, settled.err())?;
+        add_lacks(&mut self.mistakes, &self.cases)
+    }
+
+    // Takes a further line, of this number.
+    fn take(&mut self, line: &'a str, number: u64) -> Result<(), Wrong> {
+        if is_remark(line) {
+            return Ok(());
+        }
+        match Content::of(line) {
+            Some(content) => self.add(content),
+            None => self.obey(line, number),
+        }
+    }
+
+    // Adds content to what it belongs to.
+    fn add(&mut self, content: Content<'_>) -> Result<(), Wrong> {
+        let alloc = self.alloc;
+        match self.content() {
+            Some(bytes) => content.add_to(alloc, bytes),
+            None => Err(Wrong::Content),
+        }
+    }
+
+    // Where content is put.
+    fn content(&mut self) -> Option<&mut Vec<u8>> {
+        match self.place {
+            Place::Nowhere => None,
+            Place::Text => Some(&mut self.texts.last_mut()?.bytes),
+            Place::Case(part) => Some(self.cases.last_mut()?.content(part)),
+        }
+    }
+
+    // Does what a directive says, in the line of this number.
+    fn obey(&mut self, line: &'a str, number: u64) -> Result<(), Wrong> {
+        let (word, rest) = first_word(line);
+        match Head::of(word)? {
+            Head::Text => self.begin_text(rest),
+            Head::Case => self.begin_case(rest, number),
+            Head::After => self.begin_with_text(rest),
+            Head::As => self.begin_as(rest),
+            Head::Line => self.begin_line(rest),
+            Head::Part(part) => self.begin_part(part, rest),
+            Head::Says(topic) => self.take_down(topic, rest),
+        }
+    }
+
+    // Ends what content belongs to. Content behind it belongs nowhere.
+    fn settle(&mut self) -> Result<(), Wrong> {
+        self.place = Place::Nowhere;
+        match self.cases.last_mut() {
+            Some(case) => case.end_line(),
+            None => Ok(()),
+        }
+    }
+
+    // The case under way.
+    fn case(&mut self) -> Result<&mut Case<'a>, Wrong> {
+        match self.cases.last_mut() {
+            Some(case) => Ok(case),
+            None => Err(Wrong::NoCase),
+        }
+    }
+
+    // The content from here on is the text of this name.
+    fn begin_text(&mut self, name: &'a str) -> Result<(), Wrong> {
+        let name = named(name)?;
+        self.settle()?;
+        if text_named(&self.texts, name).is_some() {
+            return Err(Wrong::TextTwice);
+        }
+        let bytes = Vec::new(self.alloc);
+        self.texts.push(Text { name, bytes })?;
+        self.place = Place::Text;
+        Ok(())
+    }
+
+    // A case begins.
+    fn begin_case(&mut self, name: &'a str, line: u64) -> Result<(), Wrong> {
+        let name = named(name)?;
+        self.settle()?;
+        self.cases.push(Case::new(self.alloc, name, line))?;
+        Ok(())
+    }
+
+    // The content from here on belongs to this part of the case under way.
+    fn begin_part(&mut self, part: Part, words: &str) -> Result<(), Wrong> {
+        if !words.is_empty() {
+            return Err(Wrong::Directive);
+        }
+        self.settle()?;
+        self.case()?.begin_part(part);
+        self.place = Place::Case(part);
+        Ok(())
+    }
+
+    // The content from here on takes the place of a line of the model.
+    fn begin_line(&mut self, words: &str) -> Result<(), Wrong> {
+        let number = number(words)?;
+        self.settle()?;
+        self.case()?.begin_line(number)?;
+        self.place = Place::Case(Part::Model);
+        Ok(())
+    }
+
+    // The model begins with the text of this name.
+    fn begin_with_text(&mut self, name: &str) -> Result<(), Wrong> {
+        let name = named(name)?;
+        self.settle()?;
+        match self.cases.last_mut() {
+            Some(case) => begin_with(case, text_named(&self.texts, name)),
+            None => Err(Wrong::NoCase),
+        }
+    }
+
+    // The model begins with that of the case before.
+    fn begin_as(&mut self, words: &str) -> Result<(), Wrong> {
+        if words != "before" {
+            return Err(Wrong::Directive);
+        }
+        self.settle()?;
+        match self.cases.split_last_mut() {
+            Some((case, earlier)) => begin_as_last(case, earlier),
+            None => Err(Wrong::NoCaseBefore),
+        }
+    }
+
+    // Takes down what is said of the case under way. Where there is none, what is wrong with the words
+    // themselves comes first.
+    fn take_down(&mut self, topic: Topic, words: &'a str) -> Result<(), Wrong> {
+        let alloc = self.alloc;
+        match self.cases.last_mut() {
+            Some(case) => case.take_down(topic, words),
+            None => said_of_none(alloc, topic, words),
+        }
+    }
+}
+
+// Whether a line is for the reader alone.
+fn is_remark(line: &str) -> bool {
+    matches!(line.as_bytes(), [] | [b'#', ..])
+}
+
+// The bytes of the text of this name.
+fn text_named<'b>(texts: &'b [Text<'_>], name: &str) -> Option<&'b [u8]> {
+    for text in texts {
+        if text.name == name {
+            return Some(&text.bytes);
+        }
+    }
+    None
+}
+
+// Begins the model of a case with a text, if there is one.
+fn begin_with(case: &mut Case<'_>, text: Option<&[u8]>) -> Result<(), Wrong> {
+    match text {
+        Some(text) => case.begin_model(text),
+        None => Err(Wrong::NoText),
+    }
+}
+
+// Begins the model of a case with that of the last of the earlier ones.
+fn begin_as_last(case: &mut Case<'_>, earlier: &[Case<'_>]) -> Result<(), Wrong> {
+    match earlier.last() {
+        Some(before) => case.begin_model(&before.model),
+        None => Err(Wrong::NoCaseBefore),
+    }
+}
+
+// What is wrong with words that say something of no case.
+fn said_of_none(alloc: Global, topic: Topic, words: &str) -> Result<(), Wrong> {
+    Case::new(alloc, "", 0).take_down(topic, words)?;
+    Err(Wrong::NoCase)
 }
 
 // Adds what is wrong with a line, if anything is.
@@ -50,146 +259,9 @@ fn note(mistakes: &mut Vec<Mistake>, line: u64, wrong: Option<Wrong>) -> Result<
 }
 
 // Adds what is wrong with cases as a whole.
-fn add_lacks(mistakes: &mut Vec<Mistake>, cases: &[Case]) -> Result<(), AllocError> {
+fn add_lacks(mistakes: &mut Vec<Mistake>, cases: &[Case<'_>]) -> Result<(), AllocError> {
     for case in cases {
         note(mistakes, case.line, case.lack())?;
     }
     Ok(())
-}
-
-/// What content belongs to.
-#[derive(Drop)]
-enum Place {
-    Nowhere,
-    /// The text of this name.
-    Text(String),
-    /// A part of the case under way.
-    Case(Part),
-}
-
-/// A case file as far as it was read.
-#[derive(Drop)]
-struct Reading {
-    alloc: Global,
-    /// The texts by their names.
-    texts: BTreeMap<String, Vec<u8>>,
-    /// The cases. The last one is under way.
-    cases: Vec<Case>,
-    /// What the content at hand belongs to.
-    place: Place,
-    /// The content since that place was named.
-    content: Vec<u8>,
-}
-
-impl Reading {
-    // Nothing was read yet.
-    fn new(alloc: Global) -> Reading {
-        Reading {
-            alloc,
-            texts: BTreeMap::new(alloc),
-            cases: Vec::new(alloc),
-            place: Place::Nowhere,
-            content: Vec::new(alloc),
-        }
-    }
-
-    // Reads a further line, of this number.
-    fn take(&mut self, line: &str, number: u64) -> Result<(), Wrong> {
-        if line.is_empty() || line.starts_with('#') {
-            return Ok(());
-        }
-        match Content::of(line) {
-            Some(content) => self.add(content),
-            None => self.obey(Directive::of(self.alloc, line)?, number),
-        }
-    }
-
-    // Adds content to that at hand.
-    fn add(&mut self, content: Content<'_>) -> Result<(), Wrong> {
-        if matches!(&self.place, Place::Nowhere) {
-            return Err(Wrong::Content);
-        }
-        content.add_to(self.alloc, &mut self.content)
-    }
-
-    // Does what a directive in the line of this number says.
-    fn obey(&mut self, directive: Directive<'_>, number: u64) -> Result<(), Wrong> {
-        match directive {
-            Directive::Text(name) => self.begin_text(name),
-            Directive::Case(name) => self.begin_case(name, number),
-            Directive::Part(part) => self.begin_part(part),
-            Directive::After(name) => self.begin_with_text(name),
-            Directive::AsBefore => self.begin_as_before(),
-            Directive::Says(saying) => match self.cases.last_mut() {
-                Some(case) => case.take_down(saying),
-                None => Err(Wrong::NoCase),
-            },
-        }
-    }
-
-    // Puts the content at hand where it belongs. Content behind it belongs nowhere.
-    fn settle(&mut self) -> Result<(), Wrong> {
-        let empty = Vec::new(self.alloc);
-        let content = mem::replace(&mut self.content, empty);
-        match mem::replace(&mut self.place, Place::Nowhere) {
-            Place::Nowhere => Ok(()),
-            Place::Text(name) => {
-                self.texts.insert(name, content)?;
-                Ok(())
-            }
-            Place::Case(part) => match self.cases.last_mut() {
-                Some(case) => case.put(self.alloc, part, content),
-                None => Err(Wrong::NoCase),
-            },
-        }
-    }
-
-    // The content from here on is the text of this name.
-    fn begin_text(&mut self, name: &str) -> Result<(), Wrong> {
-        self.settle()?;
-        if self.texts.contains_key(name) {
-            return Err(Wrong::TextTwice);
-        }
-        self.place = Place::Text(String::from_str(self.alloc, name)?);
-        Ok(())
-    }
-
-    // A case begins.
-    fn begin_case(&mut self, name: &str, line: u64) -> Result<(), Wrong> {
-        self.settle()?;
-        self.cases.push(Case::new(self.alloc, name, line)?)?;
-        Ok(())
-    }
-
-    // The content from here on belongs to this part of the case under way.
-    fn begin_part(&mut self, part: Part) -> Result<(), Wrong> {
-        self.settle()?;
-        let case = self.cases.last().ok_or(Wrong::NoCase)?;
-        if !case.has(part) {
-            return Err(Wrong::NoLine);
-        }
-        self.place = Place::Case(part);
-        Ok(())
-    }
-
-    // The model begins with the text of this name.
-    fn begin_with_text(&mut self, name: &str) -> Result<(), Wrong> {
-        self.settle()?;
-        let Some(case) = self.cases.last_mut() else {
-            return Err(Wrong::NoCase);
-        };
-        match self.texts.get(name) {
-            Some(text) => case.begin_model(text),
-            None => Err(Wrong::NoText),
-        }
-    }
-
-    // The model begins with that of the case before.
-    fn begin_as_before(&mut self) -> Result<(), Wrong> {
-        self.settle()?;
-        match self.cases.as_mut_slice() {
-            [.., before, case] => case.begin_model(&before.model),
-            _ => Err(Wrong::NoCaseBefore),
-        }
-    }
 }

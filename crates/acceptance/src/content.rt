@@ -1,113 +1,130 @@
 //! Lines of content.
 
 use crate::wrong::Wrong;
-use std::alloc::{AllocError, Global};
+use std::alloc::Global;
 
 /// A line of content, as it stands in the file.
 #[derive(Clone, Copy)]
 pub struct Content<'a> {
     /// The text, with its escapes.
-    text: &'a str,
+    text: &'a [u8],
     /// How often it is meant.
     times: u64,
-    /// Whether a line end belongs to it.
-    ends_line: bool,
+    /// What is put behind it at last.
+    end: &'static [u8],
 }
 
 impl<'a> Content<'a> {
     /// The content that a line of the file holds, or None where it is another line.
     pub fn of(line: &'a str) -> Option<Content<'a>> {
-        if line == "|" {
-            return Some(Content::whole_line(""));
-        }
-        if let Some(text) = line.strip_prefix("| ") {
-            return Some(Content::whole_line(text));
-        }
-        if let Some(text) = line.strip_prefix("> ") {
-            return Some(Content::repeated(text, 1));
-        }
-        let (count, text) = line.split_once(" > ")?;
-        let times = count.parse::<u64>().ok()?;
-        Some(Content::repeated(text, times))
-    }
-
-    // A text and a line end.
-    fn whole_line(text: &'a str) -> Content<'a> {
-        Content {
-            text,
-            times: 1,
-            ends_line: true,
-        }
-    }
-
-    // A text with no line end, so many times.
-    fn repeated(text: &'a str, times: u64) -> Content<'a> {
-        Content {
-            text,
-            times,
-            ends_line: false,
+        match line.as_bytes() {
+            [b'|'] => Some(whole_line(&[])),
+            [b'|', b' ', text @ ..] => Some(whole_line(text)),
+            [b'>', b' ', text @ ..] => Some(repeated(text, 1)),
+            _ => counted(line),
         }
     }
 
     /// Puts the bytes that are meant behind these.
-    pub fn add_to(&self, alloc: Global, bytes: &mut Vec<u8>) -> Result<(), Wrong> {
-        let piece = unescaped(alloc, self.text)?;
+    pub fn add_to(self, alloc: Global, bytes: &mut Vec<u8>) -> Result<(), Wrong> {
+        let mut piece = Vec::new(alloc);
+        self.add_through(&mut piece, bytes)
+    }
+
+    // Reads the text into an empty piece, and puts that behind the bytes as often as it is meant.
+    fn add_through(self, piece: &mut Vec<u8>, bytes: &mut Vec<u8>) -> Result<(), Wrong> {
+        unescape(self.text, piece)?;
         for _ in 0..self.times {
-            bytes.extend_from_slice(&piece)?;
+            bytes.extend_from_slice(piece)?;
         }
-        if self.ends_line {
-            bytes.push(b'\n')?;
-        }
+        bytes.extend_from_slice(self.end)?;
         Ok(())
     }
 }
 
-/// How much of an escape was read.
+// A text and a line end.
+fn whole_line(text: &[u8]) -> Content<'_> {
+    Content {
+        text,
+        times: 1,
+        end: b"\n",
+    }
+}
+
+// A text with no line end, so many times.
+fn repeated(text: &[u8], times: u64) -> Content<'_> {
+    Content {
+        text,
+        times,
+        end: &[],
+    }
+}
+
+// N > and a text.
+fn counted(line: &str) -> Option<Content<'_>> {
+    let (count, text) = line.split_once(" > ")?;
+    match count.parse::<u64>() {
+        Ok(times) => Some(repeated(text.as_bytes(), times)),
+        Err(_) => None,
+    }
+}
+
+/// What was read of an escape.
 #[derive(Clone, Copy)]
 enum Escape {
-    /// Nothing: the next byte stands for itself.
+    /// None is under way.
     Outside,
-    /// A backslash.
+    /// The backslash.
     Begun,
-    /// A backslash and `x`.
+    /// The backslash and an x.
     Hexadecimal,
-    /// A backslash, `x` and a digit of this value.
+    /// The backslash, an x and a digit of this value.
     OneDigit(u8),
 }
 
-// The bytes that a text with escapes means.
-fn unescaped(alloc: Global, text: &str) -> Result<Vec<u8>, Wrong> {
-    let mut bytes = Vec::new(alloc);
+// Puts the bytes that a text means behind these.
+fn unescape(text: &[u8], bytes: &mut Vec<u8>) -> Result<(), Wrong> {
     let mut escape = Escape::Outside;
-    for byte in text.bytes() {
-        escape = add_byte(&mut bytes, escape, byte)?;
+    for byte in text {
+        escape = add_byte(bytes, escape, *byte)?;
     }
     match escape {
-        Escape::Outside => Ok(bytes),
+        Escape::Outside => Ok(()),
         _ => Err(Wrong::Escape),
     }
 }
 
 // Reads one byte further, and answers what was read of an escape then.
 fn add_byte(bytes: &mut Vec<u8>, escape: Escape, byte: u8) -> Result<Escape, Wrong> {
-    let meant = match (escape, byte) {
-        (Escape::Outside, b'\\') => return Ok(Escape::Begun),
-        (Escape::Outside, _) => byte,
-        (Escape::Begun, b'x') => return Ok(Escape::Hexadecimal),
-        (Escape::Begun, _) => escaped(byte)?,
-        (Escape::Hexadecimal, _) => return Ok(Escape::OneDigit(digit(byte)?)),
-        (Escape::OneDigit(high), _) => (high << 4) | digit(byte)?,
-    };
-    bytes.push(meant)?;
+    match escape {
+        Escape::Outside => add_plain(bytes, byte),
+        Escape::Begun => add_escaped(bytes, byte),
+        Escape::Hexadecimal => Ok(Escape::OneDigit(digit(byte)?)),
+        Escape::OneDigit(high) => add_meant(bytes, (high << 4) | digit(byte)?),
+    }
+}
+
+// Adds a byte that is meant.
+fn add_meant(bytes: &mut Vec<u8>, byte: u8) -> Result<Escape, Wrong> {
+    bytes.push(byte)?;
     Ok(Escape::Outside)
 }
 
-// The byte that this one means behind a backslash.
-fn escaped(byte: u8) -> Result<u8, Wrong> {
+// Reads a byte outside of escapes.
+fn add_plain(bytes: &mut Vec<u8>, byte: u8) -> Result<Escape, Wrong> {
     match byte {
-        b'\\' => Ok(b'\\'),
-        b't' => Ok(b'\t'),
-        b'r' => Ok(b'\r'),
+        b'\\' => Ok(Escape::Begun),
+        _ => add_meant(bytes, byte),
+    }
+}
+
+// Reads the byte behind a backslash.
+fn add_escaped(bytes: &mut Vec<u8>, byte: u8) -> Result<Escape, Wrong> {
+    match byte {
+        b'\\' => add_meant(bytes, b'\\'),
+        b't' => add_meant(bytes, b'\t'),
+        b'r' => add_meant(bytes, b'\r'),
+        b'x' => Ok(Escape::Hexadecimal),
         _ => Err(Wrong::Escape),
     }
 }
@@ -122,39 +139,24 @@ fn digit(byte: u8) -> Result<u8, Wrong> {
     }
 }
 
-// The bytes before a line of a text, counted from 1, and those behind it; None where it has no such line.
-fn around_line(text: &[u8], number: u64) -> Option<(&[u8], &[u8])> {
+/// Where a line of a text stands.
+#[derive(Clone, Copy)]
+pub struct LinePlace {
+    pub start: usize,
+    pub end: usize,
+}
+
+/// Where the line of this number stands in a text, counted from 1; None where it has no such line.
+pub fn place_of_line(text: &[u8], number: u64) -> Option<LinePlace> {
     let mut start: usize = 0;
     let mut count: u64 = 0;
     for line in text.split_inclusive(|byte| *byte == b'\n') {
         let end = start.saturating_add(line.len());
         count = count.saturating_add(1);
         if count == number {
-            return Some((text.get(..start)?, text.get(end..)?));
+            return Some(LinePlace { start, end });
         }
         start = end;
     }
     None
-}
-
-/// Whether a text has a line of this number, counted from 1.
-pub fn has_line(text: &[u8], number: u64) -> bool {
-    around_line(text, number).is_some()
-}
-
-/// The text with this content in place of the line of that number; None where it has no such line.
-pub fn with_line(
-    alloc: Global,
-    text: &[u8],
-    number: u64,
-    content: &[u8],
-) -> Result<Option<Vec<u8>>, AllocError> {
-    let Some((before, behind)) = around_line(text, number) else {
-        return Ok(None);
-    };
-    let mut whole = Vec::new(alloc);
-    whole.extend_from_slice(before)?;
-    whole.extend_from_slice(content)?;
-    whole.extend_from_slice(behind)?;
-    Ok(Some(whole))
 }

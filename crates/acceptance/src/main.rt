@@ -10,14 +10,18 @@ mod book;
 mod cases;
 mod content;
 mod directive;
+mod ending;
+mod found;
 mod judged;
 mod refusals;
 mod score;
 mod told;
 mod trial;
+mod words;
 mod wrong;
 
 use book::{Book, Mistake};
+use cases::Case;
 use score::Score;
 use std::alloc::Global;
 use std::io::{BufWriter, Write};
@@ -30,21 +34,38 @@ use wrong::Wrong;
 
 // Tries the cases in the text of a file.
 fn try_text<W: Write>(alloc: Global, out: &mut W, file: &str, text: &str) -> io::Result<Score> {
-    let book = Book::read(alloc, text)?;
+    let mut book = Book::new(alloc);
+    try_book(alloc, out, file, text, &mut book)
+}
+
+// Reads the text of a file into an empty book, and tries its cases.
+fn try_book<'a, W: Write>(
+    alloc: Global,
+    out: &mut W,
+    file: &str,
+    text: &'a str,
+    book: &mut Book<'a>,
+) -> io::Result<Score> {
+    book.read(text)?;
     let mut score = Score::NONE;
     for mistake in &book.mistakes {
-        tell_mistake(out, file, mistake)?;
+        tell_mistake(out, file, *mistake)?;
         score = score.with_mistake();
     }
     for case in &book.cases {
-        let verdict = tried(alloc, case)?;
-        let failed = !verdict.differences.is_empty();
-        if failed {
-            tell_verdict(out, file, case, &verdict)?;
-        }
-        score = score.with_case(failed);
+        score = score.with_case(try_case(alloc, out, file, case)?);
     }
     Ok(score)
+}
+
+// Tries a case, and answers whether it failed.
+fn try_case<W: Write>(alloc: Global, out: &mut W, file: &str, case: &Case<'_>) -> io::Result<bool> {
+    let verdict = tried(alloc, case)?;
+    let failed = !verdict.found.is_empty();
+    if failed {
+        tell_verdict(out, file, case.name, &verdict)?;
+    }
+    Ok(failed)
 }
 
 // Tries the cases of a file.
@@ -58,7 +79,7 @@ fn try_file<R: Files + AllocGlobal, W: Write>(
             line: 0,
             wrong: Wrong::File,
         };
-        tell_mistake(out, file, &mistake)?;
+        tell_mistake(out, file, mistake)?;
         return Ok(Score::NONE.with_mistake());
     };
     try_text(rt.alloc(), out, file, &text)

@@ -95,14 +95,14 @@ fn told_in(
     let sets = sets_in(
         alloc,
         &numbers.entities.classes,
-        &numbers.set_names,
+        &numbers.others.set_names,
         sayings,
     )?;
     let notices = Box::new(
         alloc,
         notices_of(alloc, &numbers.entities.classes, sayings)?,
     )?;
-    let histories = histories_of(alloc, names, &numbers.tellings.weighings)?;
+    let histories = histories_of(alloc, names, &numbers.others.tellings.weighings)?;
     Ok(Told {
         sets,
         notices,
@@ -238,7 +238,12 @@ impl Names {
     pub fn set_name(&self, number: usize) -> Option<Name>
         ensures { result ≡ slice_get self.now.set_names number }
     {
-        self.lists.numbers.set_names.get_index(number).copied()
+        self.lists
+            .numbers
+            .others
+            .set_names
+            .get_index(number)
+            .copied()
     }
 
     /// How many global variables there are: those of DEFINE, the variable of each class, and N. of each
@@ -260,14 +265,14 @@ impl Names {
     pub fn routines(&self) -> usize
         ensures { result ≡ length self.now.routines }
     {
-        self.lists.numbers.routines.len()
+        self.lists.numbers.others.routines.len()
     }
 
     /// The routine of this number.
     pub fn routine(&self, number: usize) -> Option<Routine>
         ensures { result ≡ slice_get (values_of self.now.routines) number }
     {
-        value_at(&self.lists.numbers.routines, number)
+        value_at(&self.lists.numbers.others.routines, number)
     }
 
     /// The EVENT section of this name.
@@ -303,14 +308,14 @@ impl Names {
     pub fn statistics(&self) -> usize
         ensures { result ≡ length self.now.statistics }
     {
-        self.lists.numbers.tellings.statistics.len()
+        self.lists.numbers.others.tellings.statistics.len()
     }
 
     /// The statistic of this number.
     pub fn statistic(&self, number: usize) -> Option<Statistic>
         ensures { result ≡ slice_get (values_of self.now.statistics) number }
     {
-        value_at(&self.lists.numbers.tellings.statistics, number)
+        value_at(&self.lists.numbers.others.tellings.statistics, number)
     }
 
     /// How many histories there are: one of each name that a TALLY or an ACCUMULATE is of.
@@ -331,7 +336,12 @@ impl Names {
     pub fn history_of(&self, name: &Name) -> Option<usize>
         ensures { result ≡ place_in self.now.weighings name.now }
     {
-        self.lists.numbers.tellings.weighings.get_index_of(name)
+        self.lists
+            .numbers
+            .others
+            .tellings
+            .weighings
+            .get_index_of(name)
     }
 
     /// The keys of ranked sets, in the order of the text, each with the number of its DEFINE.

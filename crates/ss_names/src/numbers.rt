@@ -2,7 +2,9 @@
 
 ghost use Rattle.std.specs.Prelude.{◌≡◌, option_map, IfOk};
 ghost use Rattle.ss_firsts.specs.Firsts.{place_among, place_in};
-ghost use Rattle.ss_entities.specs.Entities.{attributes, classes, fields};
+ghost use Rattle.ss_entities.specs.Entities.{attributes, classes, fields, set_names as set_names_said};
+ghost use Rattle.ss_entities.specs.Statistics.{statistics, weighings};
+ghost use Rattle.ss_entities.specs.Variables.{routines};
 ghost use Rattle.ss_names.specs.declared.meaning.Meaning.TheVariants as meanings;
 ghost use Rattle.ss_names.specs.Meanings.{class_name_meaning, count_meaning, numbered, variable_meaning};
 
@@ -18,14 +20,20 @@ use ss_sayings::Saying;
 use std::alloc::{AllocError, Global};
 use std::marker::Model;
 
+/// What is numbered without a look at classes and attributes.
+#[derive(Drop)]
+pub struct Others {
+    pub set_names: IndexSet<Name>,
+    pub routines: IndexMap<Name, Routine>,
+    pub tellings: Tellings,
+}
+
 /// What is numbered. A contract sees a record of lists.
 #[derive(Drop)]
 pub struct Numbers {
     pub entities: Box<Entities>,
-    pub set_names: IndexSet<Name>,
+    pub others: Box<Others>,
     pub variables: IndexMap<Spelling, Variable>,
-    pub routines: IndexMap<Name, Routine>,
-    pub tellings: Box<Tellings>,
 }
 
 impl Model for Numbers {
@@ -33,7 +41,7 @@ impl Model for Numbers {
 
     ghost Value = { Numbered };
 
-    ghost view = { λ n. record { classes = n.entities.value.classes.entries; attributes = n.entities.value.attributes.entries; fields = n.entities.value.attributes.fields; set_names = n.set_names.keys; variables = n.variables.entries; statistics = n.tellings.value.statistics.entries; routines = n.routines.entries; weighings = n.tellings.value.weighings.entries } };
+    ghost view = { λ n. record { classes = n.entities.value.classes.entries; attributes = n.entities.value.attributes.entries; fields = n.entities.value.attributes.fields; set_names = n.others.value.set_names.keys; variables = n.variables.entries; statistics = n.others.value.tellings.statistics.entries; routines = n.others.value.routines.entries; weighings = n.others.value.tellings.weighings.entries } };
 }
 
 impl Numbers {
@@ -66,7 +74,7 @@ impl Numbers {
     pub fn set(&self, name: &Name) -> Option<usize>
         ensures { result ≡ place_among self.now.set_names name.now }
     {
-        self.set_names.get_index_of(name)
+        self.others.set_names.get_index_of(name)
     }
 
     /// What the name of a global variable stands for, unless it is an attribute.
@@ -96,11 +104,46 @@ impl Numbers {
     pub fn routine(&self, name: &Name) -> Option<Meaning>
         ensures { result ≡ option_map meanings.Routine (place_in self.now.routines name.now) }
     {
-        self.routines.get_index_of(name).map(Meaning::Routine)
+        self.others
+            .routines
+            .get_index_of(name)
+            .map(Meaning::Routine)
     }
 }
 
-// What else is numbered beside these classes and attributes.
+// What is numbered with these sets.
+fn others_with(
+    alloc: Global,
+    set_names: IndexSet<Name>,
+    sayings: &[Saying],
+) -> Result<Box<Others>, AllocError>
+    ensures set_names { IfOk result (λ o. o.value.set_names.keys ≡ set_names.keys) }
+    ensures routines { IfOk result (λ o. o.value.routines.entries ≡ routines sayings.now) }
+    ensures statistics { IfOk result (λ o. o.value.tellings.statistics.entries ≡ statistics sayings.now) }
+    ensures weighings { IfOk result (λ o. o.value.tellings.weighings.entries ≡ weighings sayings.now) }
+{
+    let routines = routines_of(alloc, sayings)?;
+    let tellings = tellings_of(alloc, sayings)?;
+    let others = Others {
+        set_names,
+        routines,
+        tellings,
+    };
+    Ok(Box::new(alloc, others)?)
+}
+
+// What some sayings number without a look at classes and attributes.
+fn others_of(alloc: Global, sayings: &[Saying]) -> Result<Box<Others>, AllocError>
+    ensures set_names { IfOk result (λ o. o.value.set_names.keys ≡ set_names_said sayings.now) }
+    ensures routines { IfOk result (λ o. o.value.routines.entries ≡ routines sayings.now) }
+    ensures statistics { IfOk result (λ o. o.value.tellings.statistics.entries ≡ statistics sayings.now) }
+    ensures weighings { IfOk result (λ o. o.value.tellings.weighings.entries ≡ weighings sayings.now) }
+{
+    let set_names = set_names(alloc, sayings)?;
+    others_with(alloc, set_names, sayings)
+}
+
+// What is numbered with these classes and attributes.
 fn numbers_with(
     alloc: Global,
     entities: Box<Entities>,
@@ -111,21 +154,17 @@ fn numbers_with(
     requires fields { entities.value.attributes.fields ≡ fields sayings.now }
     ensures { IfOk result (λ n. n ≡ numbered sayings.now) }
 {
-    let set_names = set_names(alloc, sayings)?;
+    let others = others_of(alloc, sayings)?;
     let variables = variables_of(
         alloc,
         &entities.classes,
         entities.attributes.entries(),
         sayings,
     )?;
-    let routines = routines_of(alloc, sayings)?;
-    let tellings = Box::new(alloc, tellings_of(alloc, sayings)?)?;
     Ok(Numbers {
         entities,
-        set_names,
+        others,
         variables,
-        routines,
-        tellings,
     })
 }
 

@@ -1,0 +1,101 @@
+//! How cases are to end.
+
+use crate::words::{first_word, number};
+use crate::wrong::Wrong;
+use ss_tree::program::Program;
+use std::alloc::{AllocError, Global};
+
+/// How many statements stand in the preamble of a tree, how many sections it has, and how many
+/// statements stand right in these.
+#[derive(Clone, Copy)]
+pub struct Counts {
+    pub preamble: u64,
+    pub sections: u64,
+    pub statements: u64,
+}
+
+impl Counts {
+    /// The counts of a tree.
+    pub fn of(program: &Program) -> Counts {
+        let mut statements: usize = 0;
+        for section in &program.sections {
+            statements = statements.saturating_add(section.body.len());
+        }
+        Counts {
+            preamble: program.preamble.len() as u64,
+            sections: program.sections.len() as u64,
+            statements: statements as u64,
+        }
+    }
+
+    /// Whether these are the same.
+    pub fn is(self, other: Counts) -> bool {
+        self.preamble == other.preamble
+            && self.sections == other.sections
+            && self.statements == other.statements
+    }
+
+    /// The words that tell of them, as an ending is written.
+    pub fn told(self, alloc: Global) -> Result<String, AllocError> {
+        let Counts {
+            preamble,
+            sections,
+            statements,
+        } = self;
+        format!(in alloc; "tree {preamble} {sections} {statements}")
+    }
+}
+
+/// How a case is to end.
+#[derive(Clone, Copy)]
+pub enum Ending<'a> {
+    /// With this line of the program, or `ended`.
+    Line(&'a str),
+    /// With any tree.
+    AnyTree,
+    /// With a tree of so many statements and sections.
+    Tree(Counts),
+    /// With no broken rule.
+    Kept,
+}
+
+impl<'a> Ending<'a> {
+    /// A tree, kept, or a line of the program.
+    pub fn of(words: &'a str) -> Result<Ending<'a>, Wrong> {
+        match words.strip_prefix("tree ") {
+            Some(counts) => tree_of(counts),
+            None => other_ending(words),
+        }
+    }
+
+    /// The words that tell of it.
+    pub fn told(self, alloc: Global) -> Result<String, AllocError> {
+        match self {
+            Ending::Line(line) => String::from_str(alloc, line),
+            Ending::AnyTree => String::from_str(alloc, "tree"),
+            Ending::Tree(counts) => counts.told(alloc),
+            Ending::Kept => String::from_str(alloc, "kept"),
+        }
+    }
+}
+
+// Any tree, kept, or a line of the program.
+fn other_ending(words: &str) -> Result<Ending<'_>, Wrong> {
+    match words {
+        "" => Err(Wrong::Ending),
+        "tree" => Ok(Ending::AnyTree),
+        "kept" => Ok(Ending::Kept),
+        _ => Ok(Ending::Line(words)),
+    }
+}
+
+// P S T.
+fn tree_of(words: &str) -> Result<Ending<'_>, Wrong> {
+    let (preamble, rest) = first_word(words);
+    let (sections, statements) = first_word(rest);
+    Ok(Ending::Tree(Counts {
+        preamble: number(preamble)?,
+        sections: number(sections)?,
+        statements: number(statements)?,
+    }))
+}

@@ -1,0 +1,219 @@
+//! What the words of directives mean.
+
+use crate::wrong::Wrong;
+use ss_base::{Plan, Trouble};
+use std::alloc::Global;
+
+/// The first word of some words, and the others.
+pub fn first_word(words: &str) -> (&str, &str) {
+    match words.split_once(' ') {
+        Some(parts) => parts,
+        None => (words, ""),
+    }
+}
+
+/// A name, which may be several words.
+pub fn named(name: &str) -> Result<&str, Wrong> {
+    if name.is_empty() {
+        return Err(Wrong::Name);
+    }
+    Ok(name)
+}
+
+/// A whole number.
+pub fn number(word: &str) -> Result<u64, Wrong> {
+    match word.parse::<u64>() {
+        Ok(number) => Ok(number),
+        Err(_) => Err(Wrong::Number),
+    }
+}
+
+/// Whole numbers, one at least.
+pub fn numbers(alloc: Global, words: &str) -> Result<Vec<u64>, Wrong> {
+    let mut numbers = Vec::new(alloc);
+    add_numbers(&mut numbers, words)?;
+    Ok(numbers)
+}
+
+// Adds whole numbers, one at least.
+fn add_numbers(numbers: &mut Vec<u64>, words: &str) -> Result<(), Wrong> {
+    for word in words.split(' ') {
+        add_number(numbers, word)?;
+    }
+    Ok(())
+}
+
+// Adds a whole number.
+fn add_number(numbers: &mut Vec<u64>, word: &str) -> Result<(), Wrong> {
+    numbers.push(number(word)?)?;
+    Ok(())
+}
+
+/// Short N ..
+pub fn short_numbers(alloc: Global, words: &str) -> Result<Vec<u64>, Wrong> {
+    match words.strip_prefix("short ") {
+        Some(words) => numbers(alloc, words),
+        None => Err(Wrong::Directive),
+    }
+}
+
+// A count of bytes, or of calls.
+fn size(word: &str) -> Result<usize, Wrong> {
+    match word.parse::<usize>() {
+        Ok(size) => Ok(size),
+        Err(_) => Err(Wrong::Number),
+    }
+}
+
+/// What a reader or a writer does at its calls.
+#[derive(Clone, Copy)]
+pub struct StreamPlan {
+    pub plan: Plan,
+    /// What goes wrong at a call of a writer; a reader's call answers an error.
+    pub trouble: Trouble,
+}
+
+impl StreamPlan {
+    /// The plan of a stream that passes so many bytes a call.
+    pub fn smooth(per_call: usize) -> StreamPlan {
+        StreamPlan {
+            plan: Plan::smooth(per_call),
+            trouble: Trouble::Error,
+        }
+    }
+}
+
+/// From when on calls of a stream go wrong.
+#[derive(Clone, Copy)]
+enum Start {
+    /// From the call of that number.
+    Call,
+    /// Once so many bytes were passed.
+    Bytes,
+}
+
+/// How the words say what goes wrong with a stream, and when: those before a number, and those
+/// behind it.
+struct Phrase {
+    before: &'static str,
+    behind: &'static str,
+    trouble: Trouble,
+    start: Start,
+}
+
+/// What goes wrong with a reader.
+static READER_PHRASES: [Phrase; 1] = [Phrase {
+    before: "fails from call ",
+    behind: "",
+    trouble: Trouble::Error,
+    start: Start::Call,
+}];
+
+/// What goes wrong with a writer.
+static WRITER_PHRASES: [Phrase; 4] = [
+    Phrase {
+        before: "fails from call ",
+        behind: "",
+        trouble: Trouble::Error,
+        start: Start::Call,
+    },
+    Phrase {
+        before: "fails after ",
+        behind: " bytes",
+        trouble: Trouble::Error,
+        start: Start::Bytes,
+    },
+    Phrase {
+        before: "takes nothing from call ",
+        behind: "",
+        trouble: Trouble::NoByte,
+        start: Start::Call,
+    },
+    Phrase {
+        before: "takes nothing after ",
+        behind: " bytes",
+        trouble: Trouble::NoByte,
+        start: Start::Bytes,
+    },
+];
+
+impl Phrase {
+    // The word that stands for the number, where the words are so.
+    fn number<'a>(&self, words: &'a str) -> Option<&'a str> {
+        words.strip_prefix(self.before)?.strip_suffix(self.behind)
+    }
+
+    // The plan of a stream that goes wrong so.
+    fn plan(&self, per_call: usize, number: &str) -> Result<StreamPlan, Wrong> {
+        let number = size(number)?;
+        let plan = match self.start {
+            Start::Call => Plan::wrong_from_call(per_call, number as u64),
+            Start::Bytes => Plan::wrong_after_bytes(per_call, number),
+        };
+        Ok(StreamPlan {
+            plan,
+            trouble: self.trouble,
+        })
+    }
+}
+
+/// N, or N fails from call K.
+pub fn reader(words: &str) -> Result<StreamPlan, Wrong> {
+    stream(words, &READER_PHRASES, Wrong::Reader)
+}
+
+/// N, or N and what goes wrong, and when.
+pub fn writer(words: &str) -> Result<StreamPlan, Wrong> {
+    stream(words, &WRITER_PHRASES, Wrong::Writer)
+}
+
+// N, or N and one of these phrases.
+fn stream(words: &str, phrases: &[Phrase], wrong: Wrong) -> Result<StreamPlan, Wrong> {
+    let (per_call, rest) = first_word(words);
+    let per_call = size(per_call)?;
+    if rest.is_empty() {
+        return Ok(StreamPlan::smooth(per_call));
+    }
+    for phrase in phrases {
+        if let Some(number) = phrase.number(rest) {
+            return phrase.plan(per_call, number);
+        }
+    }
+    Err(wrong)
+}
+
+/// A call of a session, and what it is to answer.
+#[derive(Clone, Copy)]
+pub struct Call<'a> {
+    pub ticks: u64,
+    /// The line of its stop, or `ended`.
+    pub line: &'a str,
+    /// The ticks used since the start, where they are looked at.
+    pub used: Option<u64>,
+}
+
+impl<'a> Call<'a> {
+    /// N LINE, or N LINE, used U.
+    pub fn of(words: &'a str) -> Result<Call<'a>, Wrong> {
+        match words.split_once(' ') {
+            Some((ticks, answer)) => answered(number(ticks)?, answer),
+            None => Err(Wrong::Run),
+        }
+    }
+}
+
+// LINE, or LINE, used U.
+fn answered(ticks: u64, answer: &str) -> Result<Call<'_>, Wrong> {
+    match answer.rsplit_once(", used ") {
+        Some((line, used)) => call_of(ticks, line, Some(number(used)?)),
+        None => call_of(ticks, answer, None),
+    }
+}
+
+// A call, where it has a line.
+fn call_of(ticks: u64, line: &str, used: Option<u64>) -> Result<Call<'_>, Wrong> {
+    if line.is_empty() {
+        return Err(Wrong::Run);
+    }
+    Ok(Call { ticks, line, used })
+}
