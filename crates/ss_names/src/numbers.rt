@@ -94,7 +94,8 @@ impl Numbers {
     pub fn statistic(&self, name: &Name) -> Option<Meaning>
         ensures { result ≡ option_map meanings.Statistic (place_in self.now.statistics name.now) }
     {
-        self.tellings
+        self.others
+            .tellings
             .statistics
             .get_index_of(name)
             .map(Meaning::Statistic)
