@@ -1,4 +1,6 @@
 pub mod Each
 mod Nested
+mod Over
+mod Seen
 mod Steps
 mod Trees

@@ -5,3 +5,4 @@ pub mod Conditions
 pub mod Heads
 pub mod Statements
 pub mod Examples
+pub mod Results

@@ -9,6 +9,7 @@ ghost use Rattle.ss_resolve.specs.Conditions.{condition, conjunction, one_test};
 use crate::error::ResolveError;
 use crate::expressions::resolve_expression;
 use crate::places::resolve_set;
+use crate::results::beside;
 use crate::scope::Scope;
 use crate::words::relation_of;
 use ss_program::condition::{
@@ -33,7 +34,7 @@ fn resolve_test<S: Scope>(
             right,
         } => {
             let left = resolve_expression(alloc, scope, left)?;
-            let right = resolve_expression(alloc, scope, right)?;
+            let (left, right) = beside(left, resolve_expression(alloc, scope, right))?;
             Ok(ResolvedTest::Compare {
                 left,
                 relation: relation_of(*relation),
@@ -54,7 +55,7 @@ fn resolve_test<S: Scope>(
             negated,
         } => {
             let member = resolve_expression(alloc, scope, member)?;
-            let (set, owner) = resolve_set(alloc, scope, set)?;
+            let (member, (set, owner)) = beside(member, resolve_set(alloc, scope, set))?;
             Ok(ResolvedTest::Member {
                 negated: *negated,
                 set,

@@ -11,6 +11,7 @@ use crate::classes::{all_counted, single_class};
 use crate::error::ResolveError;
 use crate::expressions::resolve_expression;
 use crate::places::{resolve_entity_called, resolve_new_place, resolve_set, resolve_target};
+use crate::results::beside;
 use crate::scope::Scope;
 use crate::words::end_of;
 use ss_base::Line;
@@ -110,8 +111,8 @@ pub(crate) fn resolve_file<S: Scope>(
     ensures { Gives view_resolved result (statement (S.context scope.now) (file_statement line (view_expression member.now) (view_position position.now) (view_named set.now))) }
 {
     let member = resolve_expression(alloc, scope, member)?;
-    let position = resolve_position(alloc, scope, position)?;
-    let (set, owner) = resolve_set(alloc, scope, set)?;
+    let filed = beside(member, resolve_position(alloc, scope, position))?;
+    let ((member, position), (set, owner)) = beside(filed, resolve_set(alloc, scope, set))?;
     Ok(Resolved::File {
         line,
         set,
@@ -134,7 +135,7 @@ pub(crate) fn resolve_remove_end<S: Scope>(
     ensures { Gives view_resolved result (statement (S.context scope.now) (remove_end line end (view_named target.now) (view_named set.now))) }
 {
     let into = resolve_target(alloc, scope, target)?;
-    let (set, owner) = resolve_set(alloc, scope, set)?;
+    let (into, (set, owner)) = beside(into, resolve_set(alloc, scope, set))?;
     Ok(Resolved::RemoveEnd {
         line,
         end: end_of(end),
@@ -156,7 +157,7 @@ pub(crate) fn resolve_remove<S: Scope>(
     ensures { Gives view_resolved result (statement (S.context scope.now) (remove_statement line (view_expression member.now) (view_named set.now))) }
 {
     let member = resolve_expression(alloc, scope, member)?;
-    let (set, owner) = resolve_set(alloc, scope, set)?;
+    let (member, (set, owner)) = beside(member, resolve_set(alloc, scope, set))?;
     Ok(Resolved::Remove {
         line,
         set,

@@ -9,6 +9,7 @@ ghost use Rattle.ss_program.specs.View.{view_expression as view_resolved, view_o
 ghost use Rattle.ss_program.specs.Views.{with_operation};
 ghost use Rattle.ss_resolve.specs.Answers.{Gives};
 ghost use Rattle.ss_resolve.specs.Expressions.{entity_of, expression, factors, one, plain, subscript, terms, time_of, two, value_of};
+ghost use Rattle.ss_resolve.specs.Results.{operation};
 
 use crate::error::ResolveError;
 use crate::meaning::Meaning;
@@ -32,9 +33,9 @@ pub(crate) fn entity_of(implied: Variable, subscript: Option<Resolved>) -> Resol
     }
 }
 
-// A value that takes no subscript.
-fn plain(subscript: Option<Resolved>, value: Resolved) -> Result<Resolved, ResolveError>
-    ensures { Gives view_resolved result (plain (view_option view_resolved subscript) (view_resolved value)) }
+/// What takes no subscript.
+pub(crate) fn plain<T: Drop>(subscript: Option<Resolved>, value: T) -> Result<T, ResolveError>
+    ensures { Gives (λ x. x) result (plain (view_option view_resolved subscript) value) }
 {
     match subscript {
         Some(_) => Err(ResolveError::Unresolved),
@@ -57,7 +58,7 @@ fn time_of(alloc: Global, subscript: Option<Resolved>) -> Result<Resolved, Resol
 }
 
 // The value of what is named, with the subscript if there is one.
-#[tactic(auto, unfolding(ss_program::specs::View::view_expression))]
+#[tactic(auto, unfolding(ss_program::specs::View::view_expression), using(crate::proofs::Seen::plain_seen))]
 fn value_of(
     alloc: Global,
     meaning: Meaning,
@@ -182,8 +183,8 @@ fn resolve_named<S: Scope>(
 ) -> Result<Resolved, ResolveError>
     ensures { Gives view_resolved result (expression (S.context scope.now) (named designator (expression_row (map view_expression subscripts.now)))) }
 {
-    let subscript = resolve_subscript(alloc, scope, subscripts)?;
     let meaning = scope.meaning(designator)?;
+    let subscript = resolve_subscript(alloc, scope, subscripts)?;
     value_of(alloc, meaning, subscript)
 }
 
@@ -224,23 +225,25 @@ fn resolve_call<S: Scope>(
             let argument = Box::new(alloc, argument)?;
             Ok(Resolved::Absolute { argument })
         }
-        Function::Div => {
-            let (left, right) = resolve_two(alloc, scope, arguments)?;
-            calculate(alloc, left, Operator::Quotient, right)
-        }
-        Function::Mod => {
-            let (left, right) = resolve_two(alloc, scope, arguments)?;
-            calculate(alloc, left, Operator::Remainder, right)
-        }
-        Function::Min => {
-            let (left, right) = resolve_two(alloc, scope, arguments)?;
-            calculate(alloc, left, Operator::Least, right)
-        }
-        Function::Max => {
-            let (left, right) = resolve_two(alloc, scope, arguments)?;
-            calculate(alloc, left, Operator::Greatest, right)
-        }
+        Function::Div => resolve_operation(alloc, scope, Operator::Quotient, arguments),
+        Function::Mod => resolve_operation(alloc, scope, Operator::Remainder, arguments),
+        Function::Min => resolve_operation(alloc, scope, Operator::Least, arguments),
+        Function::Max => resolve_operation(alloc, scope, Operator::Greatest, arguments),
     }
+}
+
+// A function of two numbers, by what it makes of them.
+#[cycle(resolving)]
+fn resolve_operation<S: Scope>(
+    alloc: Global,
+    scope: &S,
+    operator: Operator,
+    arguments: &[Expression],
+) -> Result<Resolved, ResolveError>
+    ensures { Gives view_resolved result (operation (S.context scope.now) operator (expression_row (map view_expression arguments.now))) }
+{
+    let (left, right) = resolve_two(alloc, scope, arguments)?;
+    calculate(alloc, left, operator, right)
 }
 
 // One argument.
@@ -260,19 +263,20 @@ fn resolve_one<S: Scope>(
     }
 }
 
-// Two arguments.
+// Two arguments, the left one in a box.
 #[cycle(resolving)]
 #[tactic(auto, unfolding(crate::specs::Expressions::two))]
 fn resolve_two<S: Scope>(
     alloc: Global,
     scope: &S,
     arguments: &[Expression],
-) -> Result<(Resolved, Resolved), ResolveError>
-    ensures { Gives (λ p. (view_resolved p.0, view_resolved p.1)) result (two (S.context scope.now) (expression_row (map view_expression arguments.now))) }
+) -> Result<(Box<Resolved>, Resolved), ResolveError>
+    ensures { Gives (λ p. (view_resolved p.0.value, view_resolved p.1)) result (two (S.context scope.now) (expression_row (map view_expression arguments.now))) }
 {
     match arguments {
         [left, right] => {
             let left = resolve_expression(alloc, scope, left)?;
+            let left = Box::new(alloc, left)?;
             let right = resolve_expression(alloc, scope, right)?;
             Ok((left, right))
         }
@@ -325,13 +329,12 @@ fn resolve_terms<S: Scope>(
 // An operation on two numbers.
 fn calculate(
     alloc: Global,
-    left: Resolved,
+    first: Box<Resolved>,
     operator: Operator,
     right: Resolved,
 ) -> Result<Resolved, ResolveError>
-    ensures { Gives view_resolved result (Some (Calculate operator (view_resolved left) (view_resolved right))) }
+    ensures { Gives view_resolved result (Some (Calculate operator (view_resolved first.value) (view_resolved right))) }
 {
-    let first = Box::new(alloc, left)?;
     let mut further = Vec::new(alloc);
     further.push(Operation {
         operator,

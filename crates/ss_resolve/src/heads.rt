@@ -14,6 +14,7 @@ use crate::error::ResolveError;
 use crate::expressions::resolve_expression;
 use crate::meaning::Meaning;
 use crate::places::resolve_set;
+use crate::results::beside;
 use crate::scope::Scope;
 use crate::words::{guard_kind_of, phrase_kind_of};
 use ss_lex::Name;
@@ -199,8 +200,8 @@ pub(crate) fn resolve_head<S: Scope>(
         } => {
             let variable = loop_variable(scope, *variable)?;
             let first = resolve_expression(alloc, scope, from)?;
-            let limit = resolve_expression(alloc, scope, to)?;
-            let step = resolve_step(alloc, scope, step)?;
+            let bounds = beside(first, resolve_expression(alloc, scope, to))?;
+            let ((first, limit), step) = beside(bounds, resolve_step(alloc, scope, step))?;
             Ok(ResolvedHead::Numbers {
                 variable,
                 first,
@@ -216,8 +217,8 @@ pub(crate) fn resolve_head<S: Scope>(
             ..
         } => {
             let variable = loop_variable(scope, *variable)?;
-            let (set, owner) = resolve_set(alloc, scope, set)?;
-            let start = resolve_start(alloc, scope, start)?;
+            let set = resolve_set(alloc, scope, set)?;
+            let ((set, owner), start) = beside(set, resolve_start(alloc, scope, start))?;
             Ok(ResolvedHead::Members {
                 variable,
                 set,

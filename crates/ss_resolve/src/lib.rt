@@ -13,6 +13,7 @@ mod loops;
 mod meaning;
 mod notices;
 mod places;
+mod results;
 mod scope;
 mod statements;
 mod words;

@@ -5,15 +5,30 @@ ghost use Rattle.ss_tree.specs.View.{view_head};
 ghost use Rattle.ss_program.specs.View.{view_body, view_statement as view_resolved};
 ghost use Rattle.ss_resolve.specs.Answers.{Gives};
 ghost use Rattle.ss_resolve.specs.Statements.{find, find_by, for_over, loop};
+ghost use Rattle.ss_resolve.specs.Results.{over, over_seen};
 
 use crate::error::ResolveError;
 use crate::heads::{phrases_of, resolve_guards, resolve_head, resolve_phrases};
+use crate::results::beside;
 use crate::scope::Scope;
 use ss_base::Line;
+use ss_program::head::{Head as ResolvedHead, Phrase};
 use ss_program::statement::Statement as Resolved;
 use ss_tree::head::Head;
 use ss_tree::statement::FindOutcome;
 use std::alloc::Global;
+
+// What a FOR goes over, and its phrases.
+fn resolve_over<S: Scope>(
+    alloc: Global,
+    scope: &S,
+    head: &Head,
+) -> Result<(ResolvedHead, Vec<Phrase>), ResolveError>
+    ensures { Gives over_seen result (over (S.context scope.now) (view_head head.now)) }
+{
+    let over = resolve_head(alloc, scope, head)?;
+    beside(over, resolve_phrases(alloc, scope, phrases_of(head)))
+}
 
 // A FOR with its body.
 fn resolve_for<S: Scope>(
@@ -25,11 +40,10 @@ fn resolve_for<S: Scope>(
 ) -> Result<Resolved, ResolveError>
     ensures { Gives view_resolved result (for_over line (S.context scope.now) (view_head head.now) (view_body body.items)) }
 {
-    let over = resolve_head(alloc, scope, head)?;
-    let phrases = resolve_phrases(alloc, scope, phrases_of(head))?;
+    let (head, phrases) = resolve_over(alloc, scope, head)?;
     Ok(Resolved::For {
         line,
-        head: over,
+        head,
         phrases,
         body,
     })
@@ -67,11 +81,10 @@ pub(crate) fn resolve_find<S: Scope>(
 ) -> Result<Resolved, ResolveError>
     ensures { Gives view_resolved result (find line (S.context scope.now) (view_head head.now) (view_body found.items) (view_body none.items)) }
 {
-    let over = resolve_head(alloc, scope, head)?;
-    let phrases = resolve_phrases(alloc, scope, phrases_of(head))?;
+    let (head, phrases) = resolve_over(alloc, scope, head)?;
     Ok(Resolved::Find {
         line,
-        head: over,
+        head,
         phrases,
         found,
         none,

@@ -13,6 +13,7 @@ use crate::expressions::resolve_expression;
 use crate::lists::resolve_all;
 use crate::meaning::ClassMeant;
 use crate::places::{resolve_entity_called, resolve_new_place, resolve_restarts};
+use crate::results::{beside, where_holds};
 use crate::scope::Scope;
 use ss_base::Line;
 use ss_lex::Name;
@@ -44,7 +45,7 @@ fn resolve_when<S: Scope>(
 }
 
 // A new notice, where its class has as many attributes as are given at least.
-#[tactic(auto, unfolding(ss_program::specs::View::view_statement))]
+#[tactic(auto, unfolding(ss_program::specs::View::view_statement), using(crate::proofs::Seen::where_seen))]
 fn new_notice(
     line: Line,
     class: ClassMeant,
@@ -54,21 +55,21 @@ fn new_notice(
 ) -> Result<Resolved, ResolveError>
     ensures { Gives view_resolved result (new_notice line class (view_place into) (map expression_seen given.items) (when_seen when)) }
 {
-    if given.len() <= class.attributes {
-        Ok(Resolved::ScheduleNew {
+    let fits = given.len() <= class.attributes;
+    where_holds(
+        fits,
+        Resolved::ScheduleNew {
             line,
             class: class.class,
             into,
             given,
             when,
-        })
-    } else {
-        Err(ResolveError::Unresolved)
-    }
+        },
+    )
 }
 
 // A notice that is there, where its class has as many attributes as are given at least.
-#[tactic(auto, unfolding(ss_program::specs::View::view_statement))]
+#[tactic(auto, unfolding(ss_program::specs::View::view_statement), using(crate::proofs::Seen::where_seen))]
 fn old_notice(
     line: Line,
     class: ClassMeant,
@@ -78,17 +79,17 @@ fn old_notice(
 ) -> Result<Resolved, ResolveError>
     ensures { Gives view_resolved result (old_notice line class (expression_seen notice) (map expression_seen given.items) (when_seen when)) }
 {
-    if given.len() <= class.attributes {
-        Ok(Resolved::Schedule {
+    let fits = given.len() <= class.attributes;
+    where_holds(
+        fits,
+        Resolved::Schedule {
             line,
             class: class.class,
             notice,
             given,
             when,
-        })
-    } else {
-        Err(ResolveError::Unresolved)
-    }
+        },
+    )
 }
 
 /// SCHEDULE A.
@@ -106,8 +107,8 @@ pub(crate) fn resolve_schedule_new<S: Scope>(
 {
     let class = notice_class(scope, class)?;
     let into = resolve_new_place(alloc, scope, class.variable, called)?;
-    let given = resolve_all(alloc, scope, given)?;
-    let when = resolve_when(alloc, scope, when)?;
+    let (into, given) = beside(into, resolve_all(alloc, scope, given))?;
+    let ((into, given), when) = beside((into, given), resolve_when(alloc, scope, when))?;
     new_notice(line, class, into, given, when)
 }
 
@@ -126,8 +127,8 @@ pub(crate) fn resolve_schedule<S: Scope>(
 {
     let class = notice_class(scope, class)?;
     let notice = resolve_entity_called(alloc, scope, class.variable, called)?;
-    let given = resolve_all(alloc, scope, given)?;
-    let when = resolve_when(alloc, scope, when)?;
+    let (notice, given) = beside(notice, resolve_all(alloc, scope, given))?;
+    let ((notice, given), when) = beside((notice, given), resolve_when(alloc, scope, when))?;
     old_notice(line, class, notice, given, when)
 }
 

@@ -4,11 +4,11 @@ ghost use Rattle.std.specs.Prelude.{◌≡◌, map, Some, None};
 ghost use Rattle.ss_tree.specs.View.{view_expression, view_named, view_option};
 ghost use Rattle.ss_program.specs.View.{view_expression as view_resolved, view_option as option_seen, view_owner, view_place, view_restart, view_target};
 ghost use Rattle.ss_resolve.specs.Answers.{Gives, each};
-ghost use Rattle.ss_resolve.specs.Expressions.{owned_by, place_of, plain, set_named, target};
+ghost use Rattle.ss_resolve.specs.Expressions.{owned_by, place_of, set_named, target};
 ghost use Rattle.ss_resolve.specs.Statements.{entity_called, mode_of, new_place, reader, restart, told_of};
 
 use crate::error::ResolveError;
-use crate::expressions::{entity_of, resolve_expression, resolve_subscript};
+use crate::expressions::{entity_of, plain, resolve_expression, resolve_subscript};
 use crate::meaning::{Meaning, SetMeant};
 use crate::scope::Scope;
 use ss_base::Mode;
@@ -19,25 +19,14 @@ use std::alloc::Global;
 
 // ---- targets
 
-// A target that takes no subscript.
-fn plain_place(subscript: Option<Resolved>, place: Place) -> Result<Place, ResolveError>
-    ensures { Gives view_place result (plain (option_seen view_resolved subscript) (view_place place)) }
-{
-    match subscript {
-        Some(_) => Err(ResolveError::Unresolved),
-        None => Ok(place),
-    }
-}
-
 // The target that is named, with the subscript if there is one.
+#[tactic(auto, using(crate::proofs::Seen::plain_seen))]
 fn place_of(meaning: Meaning, subscript: Option<Resolved>) -> Result<Place, ResolveError>
     ensures { Gives view_place result (place_of meaning (option_seen view_resolved subscript)) }
 {
     match meaning {
-        Meaning::Variable { variable, .. } => {
-            plain_place(subscript, Place::ToVariable { variable })
-        }
-        Meaning::Count { count } => plain_place(subscript, Place::ToCount { count }),
+        Meaning::Variable { variable, .. } => plain(subscript, Place::ToVariable { variable }),
+        Meaning::Count { count } => plain(subscript, Place::ToCount { count }),
         Meaning::Attribute {
             class,
             field,
@@ -65,8 +54,8 @@ pub(crate) fn resolve_target<S: Scope>(
 ) -> Result<Place, ResolveError>
     ensures { Gives view_place result (target (S.context scope.now) (view_named tree.now)) }
 {
-    let subscript = resolve_subscript(alloc, scope, &tree.subscripts)?;
     let meaning = scope.meaning(tree.designator)?;
+    let subscript = resolve_subscript(alloc, scope, &tree.subscripts)?;
     place_of(meaning, subscript)
 }
 
@@ -109,9 +98,9 @@ fn mode_of(meaning: Meaning) -> Result<Mode, ResolveError>
 fn resolve_reader<S: Scope>(alloc: Global, scope: &S, tree: &Named) -> Result<Target, ResolveError>
     ensures { Gives view_target result (reader (S.context scope.now) (view_named tree.now)) }
 {
-    let place = resolve_target(alloc, scope, tree)?;
     let meaning = scope.meaning(tree.designator)?;
     let mode = mode_of(meaning)?;
+    let place = resolve_target(alloc, scope, tree)?;
     Ok(Target { place, mode })
 }
 
@@ -165,14 +154,12 @@ pub(crate) fn resolve_entity_called<S: Scope>(
 // ---- sets
 
 // The number of a set, and whose it is.
+#[tactic(auto, using(crate::proofs::Seen::plain_seen))]
 fn owned_by(set: SetMeant, subscript: Option<Resolved>) -> Result<(u32, SetOwner), ResolveError>
     ensures { Gives (λ p. (p.0, view_owner p.1)) result (owned_by set (option_seen view_resolved subscript)) }
 {
     match set {
-        SetMeant::OfSystem { set } => match subscript {
-            Some(_) => Err(ResolveError::Unresolved),
-            None => Ok((set, SetOwner::TheSystem)),
-        },
+        SetMeant::OfSystem { set } => plain(subscript, (set, SetOwner::TheSystem)),
         SetMeant::OfEntity { set, implied } => {
             let entity = entity_of(implied, subscript);
             Ok((set, SetOwner::Entity { entity }))
@@ -188,34 +175,25 @@ pub(crate) fn resolve_set<S: Scope>(
 ) -> Result<(u32, SetOwner), ResolveError>
     ensures { Gives (λ p. (p.0, view_owner p.1)) result (set_named (S.context scope.now) (view_named tree.now)) }
 {
-    let subscript = resolve_subscript(alloc, scope, &tree.subscripts)?;
     let set = scope.set(tree.designator)?;
+    let subscript = resolve_subscript(alloc, scope, &tree.subscripts)?;
     owned_by(set, subscript)
 }
 
 // ---- statistics
 
-// Nothing of whose statistic it is, where there is no subscript.
-fn told_of_program(subscript: Option<Resolved>) -> Result<Option<Resolved>, ResolveError>
-    ensures { Gives (option_seen view_resolved) result (plain (option_seen view_resolved subscript) None) }
-{
-    match subscript {
-        Some(_) => Err(ResolveError::Unresolved),
-        None => Ok(None),
-    }
-}
-
 // Whose statistic of what is named starts afresh.
+#[tactic(auto, using(crate::proofs::Seen::plain_seen))]
 fn told_of(meaning: Meaning, subscript: Option<Resolved>) -> Result<Option<Resolved>, ResolveError>
     ensures { Gives (option_seen view_resolved) result (told_of meaning (option_seen view_resolved subscript)) }
 {
     match meaning {
         Meaning::Variable { variable, .. } => match variable {
-            Variable::Global { .. } => told_of_program(subscript),
+            Variable::Global { .. } => plain(subscript, None),
             Variable::Local { .. } => Err(ResolveError::Unresolved),
         },
         Meaning::Attribute { implied, .. } => Ok(Some(entity_of(implied, subscript))),
-        Meaning::OfSystemSet { .. } => told_of_program(subscript),
+        Meaning::OfSystemSet { .. } => plain(subscript, None),
         Meaning::OfSet { implied, .. } => Ok(Some(entity_of(implied, subscript))),
         Meaning::Count { .. }
         | Meaning::OfMember { .. }
@@ -234,10 +212,10 @@ fn resolve_restart<S: Scope>(
 ) -> Result<Restart, ResolveError>
     ensures { Gives view_restart result (restart (S.context scope.now) (view_named tree.now)) }
 {
-    let subscript = resolve_subscript(alloc, scope, &tree.subscripts)?;
     let meaning = scope.meaning(tree.designator)?;
-    let of = told_of(meaning, subscript)?;
     let statistic = scope.statistic(tree.designator)?;
+    let subscript = resolve_subscript(alloc, scope, &tree.subscripts)?;
+    let of = told_of(meaning, subscript)?;
     Ok(Restart { statistic, of })
 }
 

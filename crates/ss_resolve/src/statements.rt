@@ -12,6 +12,7 @@ use crate::expressions::resolve_expression;
 use crate::lists::resolve_all;
 use crate::meaning::RoutineMeant;
 use crate::places::{resolve_readers, resolve_target, resolve_targets};
+use crate::results::beside;
 use crate::scope::Scope;
 use ss_base::Line;
 use ss_lex::{Name, PictureLine};
@@ -32,7 +33,7 @@ pub(crate) fn resolve_let<S: Scope>(
     ensures { Gives view_resolved result (statement (S.context scope.now) (let_statement line (view_named target.now) (view_expression value.now))) }
 {
     let target = resolve_target(alloc, scope, target)?;
-    let value = resolve_expression(alloc, scope, value)?;
+    let (target, value) = beside(target, resolve_expression(alloc, scope, value))?;
     Ok(Resolved::Let {
         line,
         target,
@@ -52,7 +53,7 @@ pub(crate) fn resolve_add<S: Scope>(
     ensures { Gives view_resolved result (statement (S.context scope.now) (add_statement line (view_expression amount.now) (view_named target.now))) }
 {
     let value = resolve_expression(alloc, scope, amount)?;
-    let target = resolve_target(alloc, scope, target)?;
+    let (value, target) = beside(value, resolve_target(alloc, scope, target))?;
     Ok(Resolved::Change {
         line,
         sign: Sign::Plus,
@@ -73,7 +74,7 @@ pub(crate) fn resolve_subtract<S: Scope>(
     ensures { Gives view_resolved result (statement (S.context scope.now) (subtract_statement line (view_expression amount.now) (view_named target.now))) }
 {
     let value = resolve_expression(alloc, scope, amount)?;
-    let target = resolve_target(alloc, scope, target)?;
+    let (value, target) = beside(value, resolve_target(alloc, scope, target))?;
     Ok(Resolved::Change {
         line,
         sign: Sign::Minus,

@@ -100,7 +100,7 @@ resolve_two-returns-in-len1 g t c = less_than_two (g.S.Scope.context c.args.scop
 
 pub resolve_two-returns-in_ok-right-in-len2 : goal.resolve_two-returns-in_ok-right-in-len2
 resolve_two-returns-in_ok-right-in-len2 g t c =
-    rw (two_is (g.S.Scope.context c.args.scope.now) c.args.arguments.now c.left-item.result c.right-item.result c.in-len2.len_at_least c.in-len2.len_below c.left-item.is c.right-item.is, c.in_ok-left-in-len2.ensures, c.in_ok-right-in-len2.ensures) refl
+    rw (two_is (g.S.Scope.context c.args.scope.now) c.args.arguments.now c.left-item.result c.right-item.result c.in-len2.len_at_least c.in-len2.len_below c.left-item.is c.right-item.is, c.in_ok-left-in-len2.ensures, c.in_ok-right-in-len2.ensures, c.in_ok-left-in-len2-2.ensures.ok) refl
 
 pub resolve_two-returns-in-len3-up : goal.resolve_two-returns-in-len3-up
 resolve_two-returns-in-len3-up g t c = more_than_two (g.S.Scope.context c.args.scope.now) c.args.arguments.now c.in-len3-up.len_at_least

@@ -12,6 +12,6 @@ returns-then-is_of c =
     let found : is_of c.args.self.now.heap n said.class ≡ true = search rules in
     let same : to_z w64 (of_z w64 n) ≡ n = search rules in
     let event : Event = record { rank = rank; class = said.class; line = said.line; given = said.given; saved = said.saved; notice = n } in
-    let is : c.event.result ≡ event = c.event.ensures ∙ ap (λ (z : ℤ). record event { notice = z }) same in
-    event_found c.args.self.now.heap n es rank said c.event.result
+    let is : c.event_of.result ≡ event = c.event_of.ensures ∙ ap (λ (z : ℤ). record event { notice = z }) same in
+    event_found c.args.self.now.heap n es rank said c.event_of.result
     (slice_get_read es (length es) rank said refl c.loop-rank-test.true c.index-notices-rank.is) found c.loop-rank.invariant is

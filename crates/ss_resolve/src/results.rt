@@ -1,0 +1,30 @@
+//! Steps that may fail, one after the other.
+
+ghost use Rattle.ss_resolve.specs.Answers.{Gives, where_holds};
+ghost use Rattle.ss_resolve.specs.Results.{Beside};
+
+use crate::error::ResolveError;
+
+/// What was made first, beside what was made next, unless that failed.
+pub(crate) fn beside<A: Drop, B>(
+    first: A,
+    next: Result<B, ResolveError>,
+) -> Result<(A, B), ResolveError>
+    ensures { Beside first next result }
+{
+    match next {
+        Ok(next) => Ok((first, next)),
+        Err(e) => Err(e),
+    }
+}
+
+/// A value, where a test holds.
+pub(crate) fn where_holds<T: Drop>(holds: bool, value: T) -> Result<T, ResolveError>
+    ensures { Gives (λ x. x) result (where_holds holds value) }
+{
+    if holds {
+        Ok(value)
+    } else {
+        Err(ResolveError::Unresolved)
+    }
+}
