@@ -12,9 +12,6 @@ use std::alloc::{AllocError, Global};
 /// The bytes that a writer has room for beyond the report that is wanted.
 const MORE_ROOM: usize = 65_536;
 
-/// The bytes that the readers give at a call, of a case that names none.
-const READ_PER_CALL: [usize; 3] = [1, 7, 4096];
-
 /// How a case fared.
 #[derive(Drop)]
 pub struct Verdict {
@@ -57,8 +54,13 @@ fn run_with_readers(
 ) -> Result<Option<usize>, AllocError> {
     match case.reader {
         Some(reader) => run_with_plans(alloc, case, &[reader.plan], found),
-        None => run_with_plans(alloc, case, &READ_PER_CALL.map(Plan::smooth), found),
+        None => run_with_plans(alloc, case, &usual_readers(), found),
     }
+}
+
+// What the readers do that a case is tried with in turn that names none.
+fn usual_readers() -> [Plan; 3] {
+    [Plan::smooth(1), Plan::smooth(7), Plan::smooth(4096)]
 }
 
 // Runs a case with readers of each of these plans, as above.
