@@ -1,5 +1,5 @@
 -- Where the runs of a session stood when memory, its reader or its writer failed.
-use Rattle.std.proofs.Common.{◌≡◌, ℕ, suc, ◌+◌, false, List, [], ◌++◌, inl, Option, Some, None, refl, subst}
+use Rattle.std.proofs.Common.{◌≡◌, ℕ, suc, ◌+◌, false, List, [], ◌++◌, inl, Option, Some, None, refl, subst, arith}
 use Rattle.std.proofs.KnownBytes.{Appends-nil, Consumes-nil}
 use Rattle.ss_input.specs.Blocks.{KnowsEnd}
 use Rattle.ss_input.specs.declared.source.Source.{Source}
@@ -68,6 +68,6 @@ nothing_stood remaining contents code reader writer = record {
     ended = false;
     gave = Consumes-nil (remaining reader);
     at_end = λ e. absurd cc;
-    says = λ more e ticks. record { state = start code more ticks; passed = refl; left = refl; cut = record { part = []; begins = refl; within = inl refl } };
+    says = λ more e ticks. record { state = start code more (0 + ticks); passed = refl; left = omega arith; cut = record { part = []; begins = refl; within = inl refl } };
   };
 }
