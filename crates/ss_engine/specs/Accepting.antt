@@ -51,10 +51,12 @@ pub record IsProgramOf (text : List ℕ) (p : Program) : Type 0 where
 abbrev pub IsWellFormed : List ℕ → Type 0
 IsWellFormed text = (tree : ProgramTree) × IsKeptBy text tree
 
--- the code does what the text means: for every input and every number of ticks what the text's program means, and nothing else
+-- the code is that of the text's program, and does what the text means: for every input and every number of ticks what the
+-- program means, and nothing else
 pub record Compiles (text : List ℕ) (code : Code) : Type 0 where
   pub program : Program
   pub meant : IsProgramOf text program
+  pub code_is : code ≡ code_of program
   pub behaves : Behaves program code
 
 -- the text has tokens, and they spell no program: for syntax none of any depth; where it is too deep, none within the

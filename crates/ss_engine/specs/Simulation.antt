@@ -5,8 +5,10 @@ use Rattle.ss_program.specs.Program.{Program}
 use Rattle.ss_machine.specs.declared.stop.Stop.{Stop}
 use Rattle.ss_engine.specs.declared.outcome.Outcome.{Outcome}
 use Rattle.ss_engine.specs.declared.outcome.Outcome.TheVariants.{Refused, Stopped}
-use Rattle.ss_engine.specs.Accepting.{IsProgramOf, RefusedFor}
+use Rattle.ss_engine.specs.Accepting.{IsProgramOf, RefusedFor, Compiles}
+use Rattle.ss_machine_code.specs.Machine.{Code}
 use Rattle.ss_sessions.specs.Headline.{Simulated}
+use Rattle.ss_sessions.specs.Standing.{Stood}
 
 -- the text is well formed, and the run of its program that used so many ticks stopped so
 pub record IsSimulated {R W : Type 0} (remaining : R → Option (List ℕ)) (contents : W → Option (List ℕ)) (text : List ℕ) (stop : Stop) (used : ℕ) (reader new_reader : R) (writer new_writer : W) : Type 0 where
@@ -20,3 +22,15 @@ abbrev pub ComesTo : {R W : Type 0} → (R → Option (List ℕ)) → (W → Opt
 ComesTo remaining contents text (Refused refusal) reader new_reader writer new_writer = RefusedFor text refusal
 ComesTo remaining contents text (Stopped stop used) reader new_reader writer new_writer =
     IsSimulated remaining contents text stop used reader new_reader writer new_writer
+
+-- the text has this code, of which a run that used so many ticks stood so
+pub record IsStanding {R W : Type 0} (remaining : R → Option (List ℕ)) (contents : W → Option (List ℕ)) (text : List ℕ) (stop : Stop) (used : ℕ) (reader new_reader : R) (writer new_writer : W) : Type 0 where
+  pub code : Code
+  pub compiled : Compiles text code
+  pub stood : Stood remaining contents code stop used reader new_reader writer new_writer
+
+-- where memory, the reader or the writer failed, the ticks are those that the text's code took up to where it stood
+abbrev pub StandsSo : {R W : Type 0} → (R → Option (List ℕ)) → (W → Option (List ℕ)) → List ℕ → Outcome → R → R → W → W → Type 0
+StandsSo remaining contents text (Refused refusal) reader new_reader writer new_writer = Unit {0}
+StandsSo remaining contents text (Stopped stop used) reader new_reader writer new_writer =
+    IsStanding remaining contents text stop used reader new_reader writer new_writer

@@ -4,7 +4,7 @@ ghost use Rattle.std.specs.Prelude.{◌≡◌, ◌≤◌, ℕ};
 ghost use Rattle.ss_base.specs.Failures.{HasRisen};
 ghost use Rattle.ss_engine.specs.declared.refusal.Refusal.{Refusal as RefusalSeen};
 ghost use Rattle.ss_sessions.specs.Headline.{handed_out};
-ghost use Rattle.ss_engine.specs.Simulation.{ComesTo};
+ghost use Rattle.ss_engine.specs.Simulation.{ComesTo, StandsSo};
 ghost use Rattle.ss_machine.specs.declared.stop.Stop.{Stop as StopSeen};
 
 use crate::front::compile;
@@ -23,7 +23,8 @@ use std::alloc::Global;
 /// text means for the input and the ticks handed out, and the run ended exactly as its meaning does:
 /// ended, a fault at its line, or paused with all ticks used. Where memory, the reader or the writer
 /// failed, the writer took the first bytes of that report, at least those that it means for a tick
-/// fewer than were used. A text that is refused leaves both untouched.
+/// fewer than were used, and the ticks are those that the text's code took up to where it stood. A text
+/// that is refused leaves both untouched.
 pub fn simulate<R: FaultyRead, W: FaultyWrite>(
     alloc: Global,
     text: &[u8],
@@ -32,6 +33,7 @@ pub fn simulate<R: FaultyRead, W: FaultyWrite>(
     pieces: &[u64],
 ) -> (Outcome, R, W)
     ensures headline { ComesTo R.remaining W.contents text.now result.0 reader result.1 writer result.2 }
+    ensures standing { StandsSo R.remaining W.contents text.now result.0 reader result.1 writer result.2 }
     ensures ticks { (stop : StopSeen) (used : ℕ) → result.0 ≡ Outcome.Stopped stop used → used ≤ handed_out pieces.now }
     ensures paused { (used : ℕ) → result.0 ≡ Outcome.Stopped Stop.Paused used → used ≡ handed_out pieces.now }
     ensures untouched { (refusal : RefusalSeen) → result.0 ≡ Outcome.Refused refusal → (result.1 ≡ reader) × (result.2 ≡ writer) }

@@ -1,7 +1,6 @@
 -- What a run of the machine says of a program that its code behaves as.
 use Rattle.std.proofs.Common.{◌≡◌, ◌≢◌, ℕ, ◌+◌, ◌<◌, false, List, [], ◌++◌, ◌⊎◌, inl, inr, Option, refl, sym, ap, ◌∙◌, subst, append_assoc, append-nil, arith}
 use Rattle.std.proofs.KnownBytes.{Appends-nil, Consumes-nil}
-use Rattle.std.specs.Io.KnownBytes.{Consumes, IsAtEnd}
 use Rattle.ss_input.specs.Blocks.{KnowsEnd}
 use Rattle.ss_input.specs.declared.source.Source.{Source}
 use Rattle.ss_input.specs.Inputs.{IsFresh, Finds, Reads, source_block, source_reader}
@@ -17,7 +16,7 @@ use Rattle.ss_runner.specs.declared.working.Working.{Working}
 use Rattle.ss_runner.specs.Holding.{state_of}
 use Rattle.ss_machine.specs.Runs.{Finishes, IsCut, IsCutAt, TookLast, Comes, Ran, does_read, does_write}
 use Rattle.ss_sessions.specs.Headline.{IsBetween, Means, Gave, Simulated}
-use Rattle.ss_sessions.proofs.Inputs.{fresh_stands}
+use Rattle.ss_sessions.proofs.Inputs.{fresh_gave, reads_find}
 use Rattle.ss_sessions.proofs.Ticks.{pauses_with_fewer}
 
 result_is : (e : Ending) (m r : Run) → e ≢ WentWrong → result_at e m ≡ Ends r → m ≡ r
@@ -72,21 +71,10 @@ module _ (on_the_way : OnTheWay) (fewer_ticks : OneTickFewer) (pauses : Pauses) 
       (first : (input : List ℕ) (ticks : ℕ) → state_of w input [] ticks ≡ start code input ticks) (fresh : IsFresh reader source) (at_last : source_reader last ≡ last_reader) (knows : KnowsEnd remaining (source_block last)) where
     -- what is said of the input before a run is said of what the reader gave
     gave : (Says Means : List ℕ → Type 0) → ((input : List ℕ) → Says input → Means input) → Finds remaining source last Says → Gave remaining reader last_reader Means
-    gave Says Means to f = record {
-      read = f.got;
-      ended = (source_block last).ended;
-      gave = subst (λ r. Consumes (remaining reader) (remaining r) f.got) at_last (subst (λ r. Consumes (remaining r) (remaining (source_reader last)) f.got) fresh.reader_is f.consumed);
-      at_end = λ e. subst (λ r. IsAtEnd (remaining r)) at_last (knows e);
-      says = λ more e. to (f.got ++ more) (f.says more (f.got ++ more) e (fresh_stands reader source (f.got ++ more) fresh));
-    }
+    gave = fresh_gave remaining source last reader last_reader fresh at_last knows
 
     finds : (Says : (input rest : List ℕ) → Type 0) → Reads remaining source last Says → Finds remaining source last (λ input. (rest : List ℕ) × Says input rest)
-    finds Says h = record {
-      got = h.got;
-      consumed = h.consumed;
-      after_end = h.after_end;
-      says = λ more input e st. let l = h.says more input e st in (l.rest, l.says);
-    }
+    finds = reads_find remaining source last
 
     over : (stop : Stop) (ending : Ending) → ((bytes input : List ℕ) → ((more : ℕ) → meaning p input (used + more) ≡ record { report = bytes; ending = ending; ticks = more }) → Means stop p used bytes input)
         → TookLast remaining source last (contents writer) (contents last_writer) (λ bytes input report ticks. Finishes code (state_of w input report (used + ticks)) made (report ++ bytes) ending ticks)

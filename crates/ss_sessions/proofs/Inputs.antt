@@ -4,7 +4,9 @@ use Rattle.std.proofs.KnownBytes.{Consumes-trans}
 use Rattle.ss_input.specs.Blocks.{KnowsEnd}
 use Rattle.ss_input.specs.declared.source.Source.{Source}
 use Rattle.std.specs.declared.option.Option.{Option}
+use Rattle.std.specs.Io.KnownBytes.{Consumes, IsAtEnd}
 use Rattle.ss_input.specs.Inputs.{source_block, source_reader, Stands, Reads, Finds, IsFresh}
+use Rattle.ss_sessions.specs.Headline.{Gave}
 
 none_more : (xs more : List ℕ) → xs ≡ [] → more ≡ [] → xs ++ more ≡ []
 none_more xs more e f = ap (λ l. l ++ more) e ∙ f
@@ -49,3 +51,23 @@ not_both false e f = absurd cc
 -- a fresh source has not met the end of its reader
 pub fresh_knows : {R : Type 0} (remaining : R → Option (List ℕ)) (reader : R) (s : Source R) → IsFresh reader s → KnowsEnd remaining (source_block s)
 fresh_knows remaining reader s f e = absurd (not_both (source_block s).ended f.not_ended e)
+
+module _ {R : Type 0} (remaining : R → Option (List ℕ)) (source last : Source R) where
+  -- what is said of the input before a run is said of what the reader of a fresh source gave
+  pub fresh_gave : (reader last_reader : R) → IsFresh reader source → source_reader last ≡ last_reader → KnowsEnd remaining (source_block last) → (Says Means : List ℕ → Type 0) → ((input : List ℕ) → Says input → Means input) → Finds remaining source last Says → Gave remaining reader last_reader Means
+  fresh_gave reader last_reader fresh at_last knows Says Means to f = record {
+    read = f.got;
+    ended = (source_block last).ended;
+    gave = subst (λ r. Consumes (remaining reader) (remaining r) f.got) at_last (subst (λ r. Consumes (remaining r) (remaining (source_reader last)) f.got) fresh.reader_is f.consumed);
+    at_end = λ e. subst (λ r. IsAtEnd (remaining r)) at_last (knows e);
+    says = λ more e. to (f.got ++ more) (f.says more (f.got ++ more) e (fresh_stands reader source (f.got ++ more) fresh));
+  }
+
+  -- what a call reads it finds
+  pub reads_find : (Says : (input rest : List ℕ) → Type 0) → Reads remaining source last Says → Finds remaining source last (λ input. (rest : List ℕ) × Says input rest)
+  reads_find Says h = record {
+    got = h.got;
+    consumed = h.consumed;
+    after_end = h.after_end;
+    says = λ more input e st. let l = h.says more input e st in (l.rest, l.says);
+  }

@@ -5,3 +5,4 @@ mod Headline
 mod Sessions
 mod Ticks
 mod Running
+mod Standing

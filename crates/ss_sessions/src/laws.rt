@@ -8,6 +8,7 @@ ghost use Rattle.ss_machine_code.specs.Running.{Behaves};
 ghost use Rattle.ss_sessions.specs.declared.session.Session.{Session as SessionSeen};
 ghost use Rattle.ss_sessions.specs.Headline.{Simulated};
 ghost use Rattle.ss_sessions.specs.Sessions.{HasRun, session_machine, session_reader, session_writer, stands_so};
+ghost use Rattle.ss_sessions.specs.Standing.{Stood};
 
 use ss_base::{FaultyRead, FaultyWrite};
 use ss_machine_code::laws::laws;
@@ -24,3 +25,10 @@ pub fn sessions_are_meant<R: FaultyRead, W: FaultyWrite>()
     laws();
     typed_laws();
 }
+
+/// Where memory, the reader or the writer failed, the ticks used are those that the machine of the code took from its first
+/// state up to where it stood, with the bytes that the writer took; where the writer failed the instruction at hand writes, where
+/// the reader failed it reads.
+pub fn sessions_stand<R: FaultyRead, W: FaultyWrite>()
+    ensures { (session : SessionSeen R W) (code : Code) (reader : R) (writer : W) (pieces : List ℕ) → HasRun R.remaining R.faults W.contents W.faults code reader writer pieces session → Stood R.remaining W.contents code (stands_so (session_machine session).stopped) (session_machine session).used reader (session_reader session) writer (session_writer session) }
+{}

@@ -9,8 +9,9 @@ ghost use Rattle.ss_machine_code.specs.Machine.{Code};
 ghost use Rattle.ss_machine_code.specs.Running.{Behaves};
 ghost use Rattle.ss_sessions.specs.Headline.{Simulated, handed_out};
 ghost use Rattle.ss_sessions.specs.Sessions.{GoesOn, HasRun, WasRun, session_machine, stands_so};
+ghost use Rattle.ss_sessions.specs.Standing.{Stood};
 
-use crate::laws::sessions_are_meant;
+use crate::laws::{sessions_are_meant, sessions_stand};
 use crate::model::Model;
 use crate::session::Session;
 use ss_base::{FaultyRead, FaultyWrite};
@@ -54,6 +55,7 @@ pub fn run_model<R: FaultyRead, W: FaultyWrite>(
     pieces: &[u64],
 ) -> (Stop, u64, R, W)
     ensures simulated { (p : Program) → WellTyped p → Behaves p model → Simulated R.remaining W.contents p result.0 result.1 reader result.2 writer result.3 }
+    ensures stood { Stood R.remaining W.contents model result.0 result.1 reader result.2 writer result.3 }
     ensures used { result.1 ≤ handed_out pieces.now }
     ensures never_failed { result.0 ≡ Stop.Failed → ⊥ }
     ensures paused { result.0 ≡ Stop.Paused → result.1 ≡ handed_out pieces.now }
@@ -61,6 +63,7 @@ pub fn run_model<R: FaultyRead, W: FaultyWrite>(
     ensures input { result.0 ≡ Stop.Input → HasRisen (R.faults reader) (R.faults result.2) }
 {
     sessions_are_meant::<R, W>();
+    sessions_stand::<R, W>();
     let mut session = match Session::start(alloc, model, reader, writer) {
         Ok(session) => session,
         Err((reader, writer)) => return (Stop::Memory, 0, reader, writer),

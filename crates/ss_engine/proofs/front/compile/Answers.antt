@@ -29,7 +29,7 @@ returns-in-Ok-generate-clause-accepted c =
     let becomes = c.in-Ok-check.ensures.checked in
     let keeps : IsKeptBy c.args.text.now tree = record { read = read; declared = c.in-Ok-of.ensures.made.kept; kept = becomes.kept } in
     let meant : IsProgramOf c.args.text.now p = record { tree = tree; keeps = keeps; resolved = becomes.resolved } in
-    subst (Compiles c.args.text.now) (sym c.new.ensures) (record { program = p; meant = meant; behaves = c.in-Ok-generate.ensures.behaves })
+    subst (Compiles c.args.text.now) (sym c.new.ensures) (record { program = p; meant = meant; code_is = c.in-Ok-generate.ensures.code; behaves = c.in-Ok-generate.ensures.behaves })
 
 pub returns-clause-refused : goal.returns-clause-refused
 returns-clause-refused c =

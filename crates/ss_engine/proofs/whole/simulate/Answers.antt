@@ -8,3 +8,6 @@ returns-clause-headline g c =
       meant = compiled.meant;
       simulated = c.run_model-stop.ensures.simulated compiled.program (c.laws.ensures.typed c.args.text.now compiled.program compiled.meant) compiled.behaves;
     }
+
+pub returns-clause-standing : goal.returns-clause-standing
+returns-clause-standing g c = record { code = c.in-Ok.model; compiled = c.in-Ok.ensures.accepted; stood = c.run_model-stop.ensures.stood }

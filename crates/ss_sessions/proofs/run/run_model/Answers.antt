@@ -4,7 +4,9 @@ use Rattle.ss_machine.specs.Held.{IsAtStart}
 use Rattle.ss_machine.specs.declared.stop.Stop.TheVariants.{Memory, Output, Input}
 use Rattle.ss_sessions.specs.Sessions.{session_machine, session_reader, session_writer}
 use Rattle.ss_sessions.specs.Headline.{Simulated}
+use Rattle.ss_sessions.specs.Standing.{Stood}
 use Rattle.ss_sessions.proofs.Headline.{nothing_simulated}
+use Rattle.ss_sessions.proofs.Standing.{nothing_stood}
 use Rattle.ss_sessions.proofs.Running.{stands_stopped}
 use Rattle.ss_sessions.proofs.run.run_model.Goals as goal
 
@@ -32,6 +34,32 @@ returns-clause-simulated g c p typed b =
     let read = subst (λ r. Simulated remaining contents p c.run_pieces-stop.result (session_machine now).used c.args.reader r c.args.writer (session_writer now)) last_reader stopped in
     let written = subst (λ w. Simulated remaining contents p c.run_pieces-stop.result (session_machine now).used c.args.reader out.0 c.args.writer w) last_writer read in
     subst (λ u. Simulated remaining contents p c.run_pieces-stop.result u c.args.reader out.0 c.args.writer out.1) (sym c.used-used.ensures) written
+
+pub returns-in-Err-clause-stood : goal.returns-in-Err-clause-stood
+returns-in-Err-clause-stood g c =
+    let given = c.start.ensures.err (c.in-Err.reader, c.in-Err.writer) c.in-Err.is in
+    let same_reader : c.args.reader ≡ c.in-Err.reader = sym (ap (λ (x : g.row.R.Denot × g.row.W.Denot). x.0) given) in
+    let same_writer : c.args.writer ≡ c.in-Err.writer = sym (ap (λ (x : g.row.R.Denot × g.row.W.Denot). x.1) given) in
+    subst (λ r. Stood g.R.FaultyRead.remaining g.W.FaultyWrite.contents c.args.model Memory 0 c.args.reader r c.args.writer c.in-Err.writer) same_reader
+    (subst (λ w. Stood g.R.FaultyRead.remaining g.W.FaultyWrite.contents c.args.model Memory 0 c.args.reader c.args.reader c.args.writer w) same_writer
+    (nothing_stood g.R.FaultyRead.remaining g.W.FaultyWrite.contents c.args.model c.args.reader c.args.writer))
+
+pub returns-clause-stood : goal.returns-clause-stood
+returns-clause-stood g c =
+    let remaining = g.R.FaultyRead.remaining in
+    let contents = g.W.FaultyWrite.contents in
+    let code = c.args.model in
+    let now = c.run_pieces-stop.new.session in
+    let out = c.close-reader.result in
+    let closed = c.close-reader.ensures in
+    let last_reader : session_reader now ≡ out.0 = sym (ap (λ (x : g.row.R.Denot × g.row.W.Denot). x.0) closed) in
+    let last_writer : session_writer now ≡ out.1 = sym (ap (λ (x : g.row.R.Denot × g.row.W.Denot). x.1) closed) in
+    let was = c.run_pieces-stop.ensures.was_run code c.args.reader c.args.writer c.in-Ok.ensures.has_run in
+    let stood = c.sessions_stand.ensures now code c.args.reader c.args.writer was.pieces was.run in
+    let stopped = subst (λ s. Stood remaining contents code s (session_machine now).used c.args.reader (session_reader now) c.args.writer (session_writer now)) (sym c.run_pieces-stop.ensures.stopped) stood in
+    let read = subst (λ r. Stood remaining contents code c.run_pieces-stop.result (session_machine now).used c.args.reader r c.args.writer (session_writer now)) last_reader stopped in
+    let written = subst (λ w. Stood remaining contents code c.run_pieces-stop.result (session_machine now).used c.args.reader out.0 c.args.writer w) last_writer read in
+    subst (λ u. Stood remaining contents code c.run_pieces-stop.result u c.args.reader out.0 c.args.writer out.1) (sym c.used-used.ensures) written
 
 pub returns-clause-output : goal.returns-clause-output
 returns-clause-output g c q =
