@@ -2,8 +2,8 @@
 
 ghost use Rattle.std.specs.Prelude.{◌≡◌, None, map};
 ghost use Rattle.ss_tree.specs.View.{view_clause, view_order, view_preamble};
-ghost use Rattle.ss_grammar.specs.Reading.{Gives, word, begins, expect, behind, maybe_list, begins_by, begins_more, taken, in_table};
-ghost use Rattle.ss_lex.specs.declared.word.Word.TheVariants.{Include};
+ghost use Rattle.ss_grammar.specs.Reading.{Gives, word, begins, expect, behind, closed, maybe_list, begins_by, begins_more, taken, in_table};
+ghost use Rattle.ss_lex.specs.declared.word.Word.TheVariants.{Include, Variable};
 ghost use Rattle.ss_grammar.specs.ReadWords.{begins_name, names};
 ghost use Rattle.ss_parse.specs.SpelledPreambles.{mode_of, rank_of, statistic_of, group_behind};
 ghost use Rattle.ss_parse.specs.ReadPreambles.{then_rank, keys, statistic_kind, found, clause, begins_clause, clause_list, clauses, ranking, order, permanent_at, temporary_at, notices_at, every_at, normally_at, system_at, define_end, define_at, priority_at, break_at, statistics_at, preamble_at, begins_preamble, preamble_in, preambles, whole_preamble};
@@ -35,7 +35,7 @@ fn mode_of(word: Word) -> Option<Mode>
 }
 
 /// A mode.
-pub fn mode(tokens: &[Token]) -> Result<(Mode, &[Token]), Failure>
+fn mode(tokens: &[Token]) -> Result<(Mode, &[Token]), Failure>
     ensures { Gives (λ x. (x.0, x.1.now)) result (taken (in_table mode_of) tokens.now) }
 {
     match tokens {
@@ -48,6 +48,15 @@ pub fn mode(tokens: &[Token]) -> Result<(Mode, &[Token]), Failure>
             _ => Err(syntax(tokens)),
         },
     }
+}
+
+/// A mode and VARIABLE.
+pub fn variable_mode(tokens: &[Token]) -> Result<(Mode, &[Token]), Failure>
+    ensures { Gives (λ x. (x.0, x.1.now)) result (closed (taken (in_table mode_of)) (expect (word Variable)) tokens.now) }
+{
+    let (mode, rest) = mode(tokens)?;
+    let rest = expect_word(rest, Word::Variable)?;
+    Ok((mode, rest))
 }
 
 /// Whether a mode is first.
@@ -394,8 +403,7 @@ fn define_end(
     ensures { Gives (λ x. (view_preamble x.0, x.1.now)) result (define_end line names.items tokens.now) }
 {
     if begins_mode(tokens) {
-        let (mode, rest) = mode(tokens)?;
-        let rest = expect_word(rest, Word::Variable)?;
+        let (mode, rest) = variable_mode(tokens)?;
         Ok((
             PreambleStatement::DefineVariables { line, names, mode },
             rest,

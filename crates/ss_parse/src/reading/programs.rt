@@ -2,12 +2,16 @@
 
 ghost use Rattle.std.specs.Prelude.{◌≡◌, map};
 ghost use Rattle.ss_grammar.specs.Shapes.{first_line};
-ghost use Rattle.ss_tree.specs.View.{view_definition, view_kind, view_section, view_program};
-ghost use Rattle.ss_grammar.specs.Reading.{Gives, word, begins, expect, behind, maybe_list, rows};
-ghost use Rattle.ss_grammar.specs.ReadWords.{names};
-ghost use Rattle.ss_parse.specs.ReadPrograms.{begins_section, saving, routine_kind, event_kind, kind_at, variables, definition, definitions, section_at, section_in, program_in, program_of};
+ghost use Rattle.ss_lex.specs.declared.word.Word.TheVariants.{As, End, Variable};
+ghost use Rattle.ss_tree.specs.View.{view_statement, view_definition, view_kind, view_section, view_program};
+ghost use Rattle.ss_grammar.specs.declared.classes.Class.TheVariants.{Article};
+ghost use Rattle.ss_grammar.specs.Reading.{Gives, word, begins, expect, taken, in_table, behind, closed, maybe_list, rows};
+ghost use Rattle.ss_grammar.specs.ReadWords.{skip_class, names};
+ghost use Rattle.ss_statements.specs.ReadStatements.{statements_in};
+ghost use Rattle.ss_parse.specs.SpelledPreambles.{mode_of};
+ghost use Rattle.ss_parse.specs.ReadPrograms.{begins_section, saving, routine_kind, event_kind, kind_at, variables, definition, definitions, body_in, section_at, section_in, program_in, program_of};
 
-use crate::reading::preambles::{mode, preamble};
+use crate::reading::preambles::{preamble, variable_mode};
 use ss_base::Line;
 use ss_grammar::classes::{Class, skip_class};
 use ss_grammar::failure::Failure;
@@ -17,6 +21,7 @@ use ss_lex::{Name, Token, TokenKind, Word};
 use ss_statements::statements::statements;
 use ss_tree::preamble::Mode;
 use ss_tree::program::{LocalDefinition, Program, Section, SectionKind};
+use ss_tree::statement::Statement;
 use std::alloc::Global;
 
 /// The levels of nesting that may be open at a place.
@@ -110,15 +115,21 @@ fn section_kind(
     }
 }
 
+/// AS, a mode and VARIABLE.
+fn mode_behind(tokens: &[Token]) -> Result<(Mode, &[Token]), Failure>
+    ensures { Gives (λ x. (x.0, x.1.now)) result (behind (expect (word As)) (λ ts. closed (taken (in_table mode_of)) (expect (word Variable)) (skip_class Article ts)) tokens.now) }
+{
+    let rest = expect_word(tokens, Word::As)?;
+    variable_mode(skip_class(rest, Class::Article))
+}
+
 /// Names and their mode, behind DEFINE.
 #[tactic(auto, unfolding(crate::specs::ReadPrograms::variables))]
 fn variables(alloc: Global, tokens: &[Token]) -> Result<(Vec<Name>, Mode, &[Token]), Failure>
     ensures { Gives (λ x. ((x.0.items, x.1), x.2.now)) result (variables tokens.now) }
 {
     let (names, rest) = names(alloc, tokens)?;
-    let rest = expect_word(rest, Word::As)?;
-    let (mode, rest) = mode(skip_class(rest, Class::Article))?;
-    let rest = expect_word(rest, Word::Variable)?;
+    let (mode, rest) = mode_behind(rest)?;
     Ok((names, mode, rest))
 }
 
@@ -147,6 +158,32 @@ fn definitions(alloc: Global, tokens: &[Token]) -> Result<(Vec<LocalDefinition>,
     Ok((all, rest))
 }
 
+/// The statements of a section, and END.
+fn statements_to_end(
+    alloc: Global,
+    tokens: &[Token],
+    room: u8,
+) -> Result<(Vec<Statement>, &[Token]), Failure>
+    ensures { Gives (λ x. (map view_statement x.0.items, x.1.now)) result (closed (statements_in room) (expect (word End)) tokens.now) }
+{
+    let (statements, rest) = statements(alloc, tokens, room)?;
+    let rest = expect_word(rest, Word::End)?;
+    Ok((statements, rest))
+}
+
+/// A section behind its header: its DEFINEs, its statements, and END.
+fn body(
+    alloc: Global,
+    tokens: &[Token],
+    room: u8,
+) -> Result<(Vec<LocalDefinition>, Vec<Statement>, &[Token]), Failure>
+    ensures { Gives (λ x. ((map view_definition x.0.items, map view_statement x.1.items), x.2.now)) result (body_in room tokens.now) }
+{
+    let (definitions, rest) = definitions(alloc, tokens)?;
+    let (statements, rest) = statements_to_end(alloc, rest, room)?;
+    Ok((definitions, statements, rest))
+}
+
 /// A section behind its first word.
 #[tactic(auto, unfolding(crate::specs::ReadPrograms::section_at))]
 fn section_behind(
@@ -159,9 +196,7 @@ fn section_behind(
     ensures { Gives (λ x. (view_section x.0, x.1.now)) result (section_at room line word tokens.now) }
 {
     let (kind, rest) = section_kind(alloc, word, tokens)?;
-    let (definitions, rest) = definitions(alloc, rest)?;
-    let (body, rest) = statements(alloc, rest, room)?;
-    let rest = expect_word(rest, Word::End)?;
+    let (definitions, body, rest) = body(alloc, rest, room)?;
     let section = Section {
         line,
         kind,
