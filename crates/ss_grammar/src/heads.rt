@@ -3,7 +3,7 @@
 ghost use Rattle.std.specs.Prelude.{◌≡◌, map};
 ghost use Rattle.ss_tree.specs.View.{view_expression, view_option, view_phrase, view_guard, view_start, view_head};
 ghost use Rattle.ss_grammar.specs.SpelledConditions.{phrase_of, guard_of};
-ghost use Rattle.ss_grammar.specs.Reading.{Gives, taken, in_table, apply, skip_comma};
+ghost use Rattle.ss_grammar.specs.Reading.{Gives, taken, in_table, seq, apply, skip_comma};
 ghost use Rattle.ss_grammar.specs.ReadHeads.{begins_phrase, begins_guard, phrase_in, guard_in, phrases_in, guards_behind, step_in, range_in, start_in, reverse, members_in, class_in, class_tree, each_named, each_in, for_in, guarded_in};
 
 use crate::classes::{Class, begins_class, expect_class};
@@ -233,6 +233,32 @@ fn reverse(tokens: &[Token]) -> Result<(bool, &[Token]), Failure>
     Ok((true, rest))
 }
 
+/// Whether a loop over a set goes in reverse order, and its phrases.
+fn order_and_phrases(
+    alloc: Global,
+    tokens: &[Token],
+    room: u8,
+) -> Result<(bool, Vec<Phrase>, &[Token]), Failure>
+    ensures { Gives (λ x. ((x.0, map view_phrase x.1.items), x.2.now)) result (seq reverse (phrases_in room) tokens.now) }
+{
+    let (reverse, rest) = reverse(tokens)?;
+    let (phrases, rest) = phrases(alloc, rest, room)?;
+    Ok((reverse, phrases, rest))
+}
+
+/// How a loop over a set goes, behind the set.
+fn members_end(
+    alloc: Global,
+    tokens: &[Token],
+    room: u8,
+) -> Result<(MemberStart, bool, Vec<Phrase>, &[Token]), Failure>
+    ensures { Gives (λ x. ((view_start x.0, (x.1, map view_phrase x.2.items)), x.3.now)) result (seq (start_in room) (seq reverse (phrases_in room)) tokens.now) }
+{
+    let (start, rest) = start(alloc, tokens, room)?;
+    let (reverse, phrases, rest) = order_and_phrases(alloc, rest, room)?;
+    Ok((start, reverse, phrases, rest))
+}
+
 /// The head of a loop over a set, behind its variable.
 #[tactic(auto, unfolding(crate::specs::ReadHeads::members_in))]
 fn members(
@@ -245,9 +271,7 @@ fn members(
 {
     let rest = expect_word(tokens, Word::In)?;
     let (set, rest) = reference(alloc, skip_word(rest, Word::The), room)?;
-    let (start, rest) = start(alloc, rest, room)?;
-    let (reverse, rest) = reverse(rest)?;
-    let (phrases, rest) = phrases(alloc, rest, room)?;
+    let (start, reverse, phrases, rest) = members_end(alloc, rest, room)?;
     let head = Head::Members {
         variable,
         set,
