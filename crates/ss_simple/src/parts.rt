@@ -1,18 +1,19 @@
 //! Parts of statements.
 
 ghost use Rattle.std.specs.Prelude.{◌≡◌, map};
+ghost use Rattle.ss_lex.specs.declared.word.Word.TheVariants.{In};
 ghost use Rattle.ss_tree.specs.View.{view_expression, view_option, view_named, view_position, view_when};
-ghost use Rattle.ss_grammar.specs.Reading.{Gives, begins_by, taken, in_table};
+ghost use Rattle.ss_grammar.specs.Reading.{Gives, word, expect, begins_by, taken, in_table, seq, behind};
 ghost use Rattle.ss_grammar.specs.ReadExpressions.{sum_in};
 ghost use Rattle.ss_grammar.specs.ReadPlaces.{target_in};
 ghost use Rattle.ss_simple.specs.SpelledParts.{end_of};
-ghost use Rattle.ss_simple.specs.ReadSimple.{called, positive_of, picture_of, items_in, trigger, pictures_at, given_in, yielding_in, position_in, when_in};
+ghost use Rattle.ss_simple.specs.ReadSimple.{called, positive_of, picture_of, items_in, trigger, pictures_at, given_in, yielding_in, position_in, when_in, due_in, set_in};
 
 use ss_grammar::classes::{Class, begins_class, expect_class};
 use ss_grammar::expressions::{sum, sums};
 use ss_grammar::failure::Failure;
-use ss_grammar::places::{target, targets};
-use ss_grammar::tokens::{begins_word, expect_word, syntax};
+use ss_grammar::places::{reference, target, targets};
+use ss_grammar::tokens::{begins_word, expect_word, skip_word, syntax};
 use ss_lex::{PictureLine, Token, TokenKind, Word};
 use ss_tree::expression::{Expression, Named};
 use ss_tree::statement::{Position, SetEnd, When};
@@ -203,7 +204,7 @@ pub fn called_target(
 
 /// Where a member is filed.
 #[tactic(auto, unfolding(crate::specs::ReadSimple::position_in))]
-pub fn place(alloc: Global, tokens: &[Token], room: u8) -> Result<(Position, &[Token]), Failure>
+fn place(alloc: Global, tokens: &[Token], room: u8) -> Result<(Position, &[Token]), Failure>
     ensures { Gives (λ x. (view_position x.0, x.1.now)) result (position_in room tokens.now) }
 {
     if begins_word(tokens, Word::First) {
@@ -227,7 +228,7 @@ pub fn place(alloc: Global, tokens: &[Token], room: u8) -> Result<(Position, &[T
 
 /// When a notice is due.
 #[tactic(auto, unfolding(crate::specs::ReadSimple::when_in))]
-pub fn due(alloc: Global, tokens: &[Token], room: u8) -> Result<(When, &[Token]), Failure>
+fn due(alloc: Global, tokens: &[Token], room: u8) -> Result<(When, &[Token]), Failure>
     ensures { Gives (λ x. (view_when x.0, x.1.now)) result (when_in room tokens.now) }
 {
     if begins_word(tokens, Word::At) {
@@ -243,4 +244,56 @@ pub fn due(alloc: Global, tokens: &[Token], room: u8) -> Result<(When, &[Token])
         let rest = expect_word(tokens, Word::Now)?;
         Ok((When::Now, rest))
     }
+}
+
+/// What is given, and when the notice is due.
+pub fn given_and_due(
+    alloc: Global,
+    tokens: &[Token],
+    room: u8,
+) -> Result<(Vec<Expression>, When, &[Token]), Failure>
+    ensures { Gives (λ x. ((map view_expression x.0.items, view_when x.1), x.2.now)) result (due_in room tokens.now) }
+{
+    let (given, rest) = given(alloc, tokens, room)?;
+    let (when, rest) = due(alloc, rest, room)?;
+    Ok((given, when, rest))
+}
+
+/// The target behind this word.
+pub fn target_behind(
+    alloc: Global,
+    wanted: Word,
+    tokens: &[Token],
+    room: u8,
+) -> Result<(Named, &[Token]), Failure>
+    ensures { Gives (λ x. (view_named x.0, x.1.now)) result (behind (expect (word wanted)) (target_in room) tokens.now) }
+{
+    let rest = expect_word(tokens, wanted)?;
+    target(alloc, rest, room)
+}
+
+/// The set behind this word.
+pub fn set_behind(
+    alloc: Global,
+    wanted: Word,
+    tokens: &[Token],
+    room: u8,
+) -> Result<(Named, &[Token]), Failure>
+    ensures { Gives (λ x. (view_named x.0, x.1.now)) result (behind (expect (word wanted)) (set_in room) tokens.now) }
+{
+    let rest = expect_word(tokens, wanted)?;
+    reference(alloc, skip_word(rest, Word::The), room)
+}
+
+/// Where a member is filed, and in which set.
+pub fn place_in_set(
+    alloc: Global,
+    tokens: &[Token],
+    room: u8,
+) -> Result<(Position, Named, &[Token]), Failure>
+    ensures { Gives (λ x. ((view_position x.0, view_named x.1), x.2.now)) result (seq (position_in room) (behind (expect (word In)) (set_in room)) tokens.now) }
+{
+    let (position, rest) = place(alloc, tokens, room)?;
+    let (set, rest) = set_behind(alloc, Word::In, rest, room)?;
+    Ok((position, set, rest))
 }

@@ -6,15 +6,15 @@ ghost use Rattle.ss_grammar.specs.Reading.{Gives};
 ghost use Rattle.ss_simple.specs.ReadSimple.{let_at, add_at, subtract_at, call_at, read_at, start_at, new_at, create_at, destroy_at, cancel_at, file_at, remove_end_at, remove_this_at, remove_at, schedule_the_at, schedule_a_at, schedule_at, reset_at, print_head, print_at, skip_at, simple_at};
 
 use crate::parts::{
-    begins_end, called_target, called_value, due, given, items, pictures, place, positive, set_end,
-    trigger, yielding,
+    begins_end, called_target, called_value, given, given_and_due, items, pictures, place_in_set,
+    positive, set_behind, set_end, target_behind, trigger, yielding,
 };
 use ss_base::Line;
 use ss_grammar::classes::{Class, expect_class, skip_class};
 use ss_grammar::expressions::sum;
 use ss_grammar::failure::Failure;
 use ss_grammar::names::{name, names};
-use ss_grammar::places::{reference, target, targets};
+use ss_grammar::places::{target, targets};
 use ss_grammar::tokens::{
     begins_word, behind_first, expect_symbol, expect_word, skip_word, syntax,
 };
@@ -55,8 +55,7 @@ fn add_form(
     ensures { Gives (λ x. (view_statement x.0, x.1.now)) result (add_at line room tokens.now) }
 {
     let (amount, rest) = sum(alloc, tokens, room)?;
-    let rest = expect_word(rest, Word::To)?;
-    let (target, rest) = target(alloc, rest, room)?;
+    let (target, rest) = target_behind(alloc, Word::To, rest, room)?;
     let form = Statement::Add {
         line,
         amount,
@@ -76,8 +75,7 @@ fn subtract_form(
     ensures { Gives (λ x. (view_statement x.0, x.1.now)) result (subtract_at line room tokens.now) }
 {
     let (amount, rest) = sum(alloc, tokens, room)?;
-    let rest = expect_word(rest, Word::From)?;
-    let (target, rest) = target(alloc, rest, room)?;
+    let (target, rest) = target_behind(alloc, Word::From, rest, room)?;
     let form = Statement::Subtract {
         line,
         amount,
@@ -223,9 +221,7 @@ fn file_form(
     ensures { Gives (λ x. (view_statement x.0, x.1.now)) result (file_at line room tokens.now) }
 {
     let (member, rest) = sum(alloc, skip_word(tokens, Word::The), room)?;
-    let (position, rest) = place(alloc, rest, room)?;
-    let rest = expect_word(rest, Word::In)?;
-    let (set, rest) = reference(alloc, skip_word(rest, Word::The), room)?;
+    let (position, set, rest) = place_in_set(alloc, rest, room)?;
     let form = Statement::File {
         line,
         member,
@@ -247,8 +243,7 @@ fn remove_end_form(
 {
     let (end, rest) = set_end(tokens)?;
     let (target, rest) = target(alloc, rest, room)?;
-    let rest = expect_word(rest, Word::From)?;
-    let (set, rest) = reference(alloc, skip_word(rest, Word::The), room)?;
+    let (set, rest) = set_behind(alloc, Word::From, rest, room)?;
     let form = Statement::RemoveEnd {
         line,
         end,
@@ -269,8 +264,7 @@ fn remove_this_form(
     ensures { Gives (λ x. (view_statement x.0, x.1.now)) result (remove_this_at line room tokens.now) }
 {
     let (member, rest) = sum(alloc, tokens, room)?;
-    let rest = expect_word(rest, Word::From)?;
-    let (set, rest) = reference(alloc, skip_word(rest, Word::The), room)?;
+    let (set, rest) = set_behind(alloc, Word::From, rest, room)?;
     Ok((Statement::Remove { line, member, set }, rest))
 }
 
@@ -305,8 +299,7 @@ fn schedule_the_form(
     let rest = expect_word(tokens, Word::The)?;
     let class = name(rest)?;
     let (called, rest) = called_value(alloc, behind_first(rest), room)?;
-    let (given, rest) = given(alloc, rest, room)?;
-    let (when, rest) = due(alloc, rest, room)?;
+    let (given, when, rest) = given_and_due(alloc, rest, room)?;
     let form = Statement::Schedule {
         line,
         class,
@@ -330,8 +323,7 @@ fn schedule_a_form(
     let rest = expect_class(tokens, Class::Indefinite)?;
     let class = name(rest)?;
     let (called, rest) = called_target(alloc, behind_first(rest), room)?;
-    let (given, rest) = given(alloc, rest, room)?;
-    let (when, rest) = due(alloc, rest, room)?;
+    let (given, when, rest) = given_and_due(alloc, rest, room)?;
     let form = Statement::ScheduleNew {
         line,
         class,
