@@ -3,9 +3,10 @@
 ghost use Rattle.std.specs.Prelude.{◌≡◌, map};
 ghost use Rattle.ss_tree.specs.Tree.{statement_row};
 ghost use Rattle.ss_tree.specs.View.{view_statement, view_head};
-ghost use Rattle.ss_grammar.specs.Reading.{Gives};
-ghost use Rattle.ss_grammar.specs.Reading.{word};
+ghost use Rattle.ss_lex.specs.declared.word.Word.TheVariants.{If};
+ghost use Rattle.ss_grammar.specs.Reading.{Gives, word, in_table, taken, seq, behind};
 ghost use Rattle.ss_grammar.specs.ReadWords.{begins_noisy, expect_noisy};
+ghost use Rattle.ss_statements.specs.SpelledStatements.{outcome_of};
 ghost use Rattle.ss_statements.specs.ReadStatements.{nested_word, begins_form, begins_statement, begins_find_if, statements_with, else_with, branches_with, do_with, governed_with, body_with, find_words, if_with, loop_with, find_if_with, found_with, find_with, for_with, while_with, until_with, nested_in, statement_in, statements_in};
 
 use crate::outcomes::{begins_outcome, outcome};
@@ -17,7 +18,7 @@ use ss_grammar::tokens::{begins_word, expect_word, skip_symbol, skip_word, synta
 use ss_lex::{Symbol, Token, TokenKind, Word};
 use ss_simple::simple::simple_form;
 use ss_tree::head::{GuardKind, Head};
-use ss_tree::statement::Statement;
+use ss_tree::statement::{FindOutcome, Statement};
 use std::alloc::Global;
 
 /// Whether the word, with a comma before it or not, is first.
@@ -237,6 +238,22 @@ fn loop_form(
     Ok((Statement::Loop { line, head, body }, rest))
 }
 
+/// What the IF of a FIND asks, and its statements.
+#[cycle(statements)]
+#[tactic(auto)]
+fn find_branches(
+    alloc: Global,
+    tokens: &[Token],
+    room: u8,
+) -> Result<(FindOutcome, Vec<Statement>, Vec<Statement>, &[Token]), Failure>
+    ensures { Gives (λ x. ((x.0, (statement_row (map view_statement x.1.items), statement_row (map view_statement x.2.items))), x.3.now)) result (behind (expect_noisy (word If)) (seq (taken (in_table outcome_of)) (branches_with (statement_in room))) tokens.now) }
+{
+    let rest = expect_noisy(tokens, Word::If)?;
+    let (outcome, rest) = outcome(rest)?;
+    let (then, otherwise, rest) = branches(alloc, rest, room)?;
+    Ok((outcome, then, otherwise, rest))
+}
+
 /// The IF of a FIND.
 #[cycle(statements)]
 #[tactic(auto, unfolding(crate::specs::ReadStatements::find_if_with), using(ss_tree::specs::Views::view_find_if_made))]
@@ -249,9 +266,7 @@ fn find_if_form(
 ) -> Result<(Statement, &[Token]), Failure>
     ensures { Gives (λ x. (view_statement x.0, x.1.now)) result (find_if_with line room (statement_in room) (view_head head) tokens.now) }
 {
-    let rest = expect_noisy(tokens, Word::If)?;
-    let (outcome, rest) = outcome(rest)?;
-    let (then, otherwise, rest) = branches(alloc, rest, room)?;
+    let (outcome, then, otherwise, rest) = find_branches(alloc, tokens, room)?;
     let form = Statement::FindIf {
         line,
         head,
