@@ -1,6 +1,6 @@
 //! The command line as `clap` is told of it.
 ghost use Rattle.std.specs.Prelude.{◌≡◌, IfOk, codes, false};
-ghost use Rattle.clap.specs.Words.{App, app_of, new_app, rule_of, with_subcommand};
+ghost use Rattle.clap.specs.Words.{App, app_of, new_app, rule_of, with_rule, with_subcommand};
 ghost use Rattle.clap.specs.declared.builder.command.Command.TheViews.{out-Command};
 ghost use Rattle.ss_command.specs.CommandLine.{check_words, command_line, file_rule, input_rule, list_words, run_words, ticks_rule};
 
@@ -45,9 +45,9 @@ fn tick_count<'a>(alloc: Global) -> Arg<'a>
         .default_value("1000000")
 }
 
-// run FILE [--input FILE] [--ticks N]
-fn run_command<'a>(alloc: Global) -> Result<Command<'a>, AllocError>
-    ensures words { IfOk result (λ c. app_of c ≡ run_words) }
+// run FILE
+fn run_of_file<'a>(alloc: Global) -> Result<Command<'a>, AllocError>
+    ensures words { IfOk result (λ c. app_of c ≡ with_rule (new_app (codes "run")) file_rule) }
     ensures own { IfOk result (λ c. (out-Command c).has_globals ≡ false) }
 {
     Command::new(alloc, "run")
@@ -55,9 +55,23 @@ fn run_command<'a>(alloc: Global) -> Result<Command<'a>, AllocError>
         .after_help(
             "Example: simscript run shop.sim --input shop.data --ticks 50000\n\nThe exit status is 0 where the run ended, 1 for a refused text, 2 for a wrong command line, 3 for a fault, 4 where the ticks were used up, 5 for want of memory and 6 where a file, the input or the output failed.",
         )
-        .arg(model_file(alloc))?
-        .arg(input_file(alloc))?
-        .arg(tick_count(alloc))
+        .arg(model_file(alloc))
+}
+
+// run FILE [--input FILE]
+fn run_with_input<'a>(alloc: Global) -> Result<Command<'a>, AllocError>
+    ensures words { IfOk result (λ c. app_of c ≡ with_rule (with_rule (new_app (codes "run")) file_rule) input_rule) }
+    ensures own { IfOk result (λ c. (out-Command c).has_globals ≡ false) }
+{
+    run_of_file(alloc)?.arg(input_file(alloc))
+}
+
+// run FILE [--input FILE] [--ticks N]
+fn run_command<'a>(alloc: Global) -> Result<Command<'a>, AllocError>
+    ensures words { IfOk result (λ c. app_of c ≡ run_words) }
+    ensures own { IfOk result (λ c. (out-Command c).has_globals ≡ false) }
+{
+    run_with_input(alloc)?.arg(tick_count(alloc))
 }
 
 // check FILE

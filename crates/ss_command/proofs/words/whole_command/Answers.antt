@@ -11,8 +11,8 @@ with_added a old new words added same = added ∙ ap (λ (o : App). with_subcomm
 pub returns : goal.returns
 returns c =
     let one = with_added _ _ (new_app (codes "simscript")) run_words
-    (c.in_ok-added.ensures run_words c.run_command.ensures.words c.run_command.ensures.own) c.bare_line.ensures in
+    (c.in_ok-line.ensures run_words c.run_command.ensures.words c.run_command.ensures.own) c.bare_line.ensures in
     let two = with_added _ _ _ check_words
-    (c.in_ok-added-2.ensures check_words c.check_command.ensures.words c.check_command.ensures.own) one in
+    (c.in_ok-line-2.ensures check_words c.check_command.ensures.words c.check_command.ensures.own) one in
     IfOk-weaker c.added-3.result _ _ (λ whole h. with_added _ _ _ list_words
     (h list_words c.list_command.ensures.words c.list_command.ensures.own) two) c.added-3.ensures
