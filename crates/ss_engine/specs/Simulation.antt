@@ -29,7 +29,7 @@ pub record IsStanding {R W : Type 0} (remaining : R → Option (List ℕ)) (cont
   pub compiled : Compiles text code
   pub stood : Stood remaining contents code stop used reader new_reader writer new_writer
 
--- where memory, the reader or the writer failed, the ticks are those that the text's code took up to where it stood
+-- where memory, the reader or the writer failed, the text's code comes with these ticks used to a place where its report is cut so
 abbrev pub StandsSo : {R W : Type 0} → (R → Option (List ℕ)) → (W → Option (List ℕ)) → List ℕ → Outcome → R → R → W → W → Type 0
 StandsSo remaining contents text (Refused refusal) reader new_reader writer new_writer = Unit {0}
 StandsSo remaining contents text (Stopped stop used) reader new_reader writer new_writer =

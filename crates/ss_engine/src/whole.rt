@@ -23,8 +23,8 @@ use std::alloc::Global;
 /// text means for the input and the ticks handed out, and the run ended exactly as its meaning does:
 /// ended, a fault at its line, or paused with all ticks used. Where memory, the reader or the writer
 /// failed, the writer took the first bytes of that report, at least those that it means for a tick
-/// fewer than were used, and the ticks are those that the text's code took up to where it stood. A text
-/// that is refused leaves both untouched.
+/// fewer than were used, and with these ticks used the text's code comes to a place where its report is
+/// cut so. A text that is refused leaves both untouched.
 pub fn simulate<R: FaultyRead, W: FaultyWrite>(
     alloc: Global,
     text: &[u8],

@@ -26,9 +26,9 @@ pub fn sessions_are_meant<R: FaultyRead, W: FaultyWrite>()
     typed_laws();
 }
 
-/// Where memory, the reader or the writer failed, the ticks used are those that the machine of the code took from its first
-/// state up to where it stood, with the bytes that the writer took; where the writer failed the instruction at hand writes, where
-/// the reader failed it reads.
+/// Where memory, the reader or the writer failed, the machine of the code comes from its first state, with the ticks used, to
+/// a place where its report is cut to the bytes that the writer took; where the writer failed the instruction at hand writes,
+/// where the reader failed it reads. It says that there is such a place, and not which of several.
 pub fn sessions_stand<R: FaultyRead, W: FaultyWrite>()
     ensures { (session : SessionSeen R W) (code : Code) (reader : R) (writer : W) (pieces : List ℕ) → HasRun R.remaining R.faults W.contents W.faults code reader writer pieces session → Stood R.remaining W.contents code (stands_so (session_machine session).stopped) (session_machine session).used reader (session_reader session) writer (session_writer session) }
 {}
