@@ -1,7 +1,4 @@
 pub mod Pieces
 pub mod Emitted
 pub mod Limits
-pub mod Words
-pub mod Operands
-pub mod Details
-pub mod Listing
+pub use Rattle.ss_listing.specs.Listing

@@ -1,14 +1,14 @@
 //! The code of a program.
 
 ghost use Rattle.std.specs.Prelude.{◌≡◌, ◌<◌, ◌^◌, length, map, slice_get, IfOk};
-ghost use Rattle.ss_code.specs.Listing.{listing_of};
+ghost use Rattle.ss_listing.specs.Listing.{listing_of};
 ghost use Rattle.ss_code.specs.Emitted.{IsCode};
 
-use crate::entry::Entry;
 use crate::lines::Lines;
-use crate::listing::listing;
 use ss_base::{Discipline, Layout, Mode};
 use ss_events::TieShape;
+use ss_listing::listing::listing;
+use ss_machine_code::entry::Entry;
 use ss_machine_code::instruction::Instruction;
 use ss_notices::NoticeClass;
 use ss_program::sections::Statistic;

@@ -10,12 +10,12 @@ ghost use Rattle.ss_code.specs.Limits.{instruction_limit, small_program};
 ghost use Rattle.ss_machine_code.specs.Translation.{code_of, sections_code, sections_pictures, routine_bodies, event_bodies, routine_entry, event_entry, routine_entries, event_entries};
 
 use crate::code::Code;
-use crate::entry::Entry;
 use crate::error::CodeError;
 use crate::lines::Lines;
 use crate::sayings::sayings;
 use crate::statements::emit_section;
 use ss_base::Mode;
+use ss_machine_code::entry::Entry;
 use ss_machine_code::instruction::Instruction;
 use ss_machine_code::laws::laws;
 use ss_program::checked::Checked;

@@ -1,13 +1,13 @@
 //! The text that shows a list of instructions.
 
 ghost use Rattle.std.specs.Prelude.{◌≡◌, ◌++◌, codes, decimal, map, IfOk, OnOk};
-ghost use Rattle.ss_code.specs.Details.{padded, detail};
-ghost use Rattle.ss_code.specs.Listing.{beginning, listed};
+ghost use Rattle.ss_listing.specs.Details.{padded, detail};
+ghost use Rattle.ss_listing.specs.Listing.{beginning, listed};
 
 use crate::detail::{add_detail, add_padded};
-use crate::entry::Entry;
 use crate::operand::Operand;
 use itoa::Buffer;
+use ss_machine_code::entry::Entry;
 use ss_machine_code::instruction::Instruction;
 use std::alloc::{AllocError, Global};
 
@@ -57,8 +57,9 @@ fn lines(
     Ok(text)
 }
 
-/// A line for each instruction: its number from 0, a blank, what it is called, and what it works on.
-pub(crate) fn listing(
+/// A line for each instruction: its number from 0, a blank, what it is called, and what it works on. The error comes where
+/// memory was refused.
+pub fn listing(
     alloc: Global,
     routines: &[Entry],
     events: &[Entry],

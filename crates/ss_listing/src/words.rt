@@ -1,7 +1,7 @@
 //! The words of instructions: what they compute, compare, ask and choose.
 
 ghost use Rattle.std.specs.Prelude.{◌≡◌};
-ghost use Rattle.ss_code.specs.Words.{mode_word, operator_word, sign_word, set_word, member_word, fold_word, relation_word, end_word, filing_word, negated_word, order_word, start_word, time_word, word_text};
+ghost use Rattle.ss_listing.specs.Words.{mode_word, operator_word, sign_word, set_word, member_word, fold_word, relation_word, end_word, filing_word, negated_word, order_word, start_word, time_word, word_text};
 
 use ss_base::Mode;
 use ss_machine_code::instruction::Filing;

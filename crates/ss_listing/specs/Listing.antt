@@ -2,9 +2,9 @@
 use Rattle.std.specs.Prelude.{ℕ, ◌+◌, List, [], ◌∷◌, ◌++◌, map, codes, decimal}
 use Rattle.ss_machine_code.specs.Machine.{Entry, Code}
 use Rattle.ss_machine_code.specs.declared.instruction.Instruction.{Instruction}
-use Rattle.ss_code.specs.declared.operand.Operand.{Operand}
-use Rattle.ss_code.specs.declared.operand.Operand.TheVariants.{To}
-use Rattle.ss_code.specs.Details.{padded, detail}
+use Rattle.ss_listing.specs.declared.operand.Operand.{Operand}
+use Rattle.ss_listing.specs.declared.operand.Operand.TheVariants.{To}
+use Rattle.ss_listing.specs.Details.{padded, detail}
 
 -- where the routine of an event begins
 abbrev pub beginning : Entry → Operand

@@ -5,10 +5,10 @@ use Rattle.ss_machine_code.specs.Machine.{Entry}
 use Rattle.ss_machine_code.specs.declared.instruction.Destination.TheVariants as destinations
 use Rattle.ss_machine_code.specs.declared.instruction.Instruction.{Instruction}
 use Rattle.ss_machine_code.specs.declared.instruction.Instruction.TheVariants as i
-use Rattle.ss_code.specs.declared.words.Word.TheVariants as w
-use Rattle.ss_code.specs.declared.operand.Operand.{Operand}
-use Rattle.ss_code.specs.declared.operand.Operand.TheVariants as o
-use Rattle.ss_code.specs.Operands.{value_text, operand_text}
+use Rattle.ss_listing.specs.declared.words.Word.TheVariants as w
+use Rattle.ss_listing.specs.declared.operand.Operand.{Operand}
+use Rattle.ss_listing.specs.declared.operand.Operand.TheVariants as o
+use Rattle.ss_listing.specs.Operands.{value_text, operand_text}
 
 -- further operands, a comma and a blank before each
 abbrev pub further_text : List Operand → List ℕ

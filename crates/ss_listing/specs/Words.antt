@@ -18,8 +18,8 @@ use Rattle.ss_program.specs.declared.statement.End.{End}
 use Rattle.ss_program.specs.declared.statement.End.TheVariants as ends
 use Rattle.ss_machine_code.specs.declared.instruction.Filing.{Filing}
 use Rattle.ss_machine_code.specs.declared.instruction.Filing.TheVariants as filings
-use Rattle.ss_code.specs.declared.words.Word.{Word}
-use Rattle.ss_code.specs.declared.words.Word.TheVariants as w
+use Rattle.ss_listing.specs.declared.words.Word.{Word}
+use Rattle.ss_listing.specs.declared.words.Word.TheVariants as w
 
 -- what a word of input is read as
 abbrev pub mode_word : Mode → List ℕ

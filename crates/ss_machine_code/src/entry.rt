@@ -27,7 +27,7 @@ impl Model for Entry {
 
 impl Entry {
     /// A routine that begins at this place.
-    pub(crate) fn new(place: usize, given: Vec<Mode>, yielding: usize, others: Vec<Mode>) -> Entry
+    pub fn new(place: usize, given: Vec<Mode>, yielding: usize, others: Vec<Mode>) -> Entry
         ensures { result ≡ record { place = place; given = given.items; yielding = yielding; others = others.items } }
     {
         Entry {

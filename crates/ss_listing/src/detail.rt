@@ -1,14 +1,14 @@
 //! How an instruction is written in a listing.
 
 ghost use Rattle.std.specs.Prelude.{◌≡◌, [], ◌∷◌, ◌+◌, ◌-◌, ◌++◌, codes, OnOk};
-ghost use Rattle.ss_code.specs.declared.operand.Operand.TheVariants.{At};
-ghost use Rattle.ss_code.specs.Operands.{value_text};
-ghost use Rattle.ss_code.specs.Details.{further_text, padded, told, landing as landing_of, first_of_routine, detail};
+ghost use Rattle.ss_listing.specs.declared.operand.Operand.TheVariants.{At};
+ghost use Rattle.ss_listing.specs.Operands.{value_text};
+ghost use Rattle.ss_listing.specs.Details.{further_text, padded, told, landing as landing_of, first_of_routine, detail};
 
-use crate::entry::Entry;
 use crate::operand::{Operand, add_operand, add_value};
 use crate::words::Word;
 use ss_base::{Line, Value};
+use ss_machine_code::entry::Entry;
 use ss_machine_code::instruction::{Destination, Instruction};
 use ss_program::expression::Variable;
 use std::alloc::AllocError;

@@ -1,7 +1,7 @@
 //! What instructions work on, and how a listing writes it.
 
 ghost use Rattle.std.specs.Prelude.{◌≡◌, ◌++◌, decimal, OnOk};
-ghost use Rattle.ss_code.specs.Operands.{in_quotes, value_text, variable_text, place_text, owned_text, statistic_text, routine_text, operand_text};
+ghost use Rattle.ss_listing.specs.Operands.{in_quotes, value_text, variable_text, place_text, owned_text, statistic_text, routine_text, operand_text};
 
 use crate::words::{Word, word_of};
 use itoa::Buffer;

@@ -7,9 +7,9 @@ use Rattle.ss_program.specs.declared.expression.Variable.{Variable}
 use Rattle.ss_program.specs.declared.expression.Variable.TheVariants as variables
 use Rattle.ss_machine_code.specs.declared.instruction.Destination.{Destination}
 use Rattle.ss_machine_code.specs.declared.instruction.Destination.TheVariants as destinations
-use Rattle.ss_code.specs.declared.operand.Operand.{Operand}
-use Rattle.ss_code.specs.declared.operand.Operand.TheVariants as o
-use Rattle.ss_code.specs.Words.{word_text}
+use Rattle.ss_listing.specs.declared.operand.Operand.{Operand}
+use Rattle.ss_listing.specs.declared.operand.Operand.TheVariants as o
+use Rattle.ss_listing.specs.Words.{word_text}
 
 -- a text between two quotes
 abbrev pub in_quotes : List ℕ → List ℕ

@@ -1,0 +1,4 @@
+pub mod Words
+pub mod Operands
+pub mod Details
+pub mod Listing
