@@ -20,7 +20,7 @@ use Rattle.ss_machine.specs.Measure.{left_at, left_to_do, HasLeft, tick}
 use Rattle.ss_machine.specs.Runs.{IsLostAt, with_tick}
 use Rattle.ss_machine.proofs.Steps.{step_more}
 use Rattle.ss_machine.proofs.Onwards.{step_falls}
-use Rattle.ss_machine.proofs.Counting.{left_first, left_more}
+use Rattle.ss_machine.proofs.Counting.{left_first, left_more, many_fall}
 
 -- its sets name classes
 pub sound_layout : (code : Code) → IsCode code → IsTrue (is_sound code.layout)
@@ -52,17 +52,21 @@ module _ (laws : JumpsLand) (code : Code) (good : IsCode code) where
   good_more s t e due same used made h =
       landed (HasLeft code t.core.place t.core.frames (used + tick due) (made + 1)) (hlevel props) (λ lands. left_more code lands s t e due same used made h)
 
+  -- many steps
+  pub good_many : (n : ℕ) (s t : State) → steps code n s ≡ Underway t → left_to_do code t + n ≤ left_to_do code s
+  good_many n s t e = landed (left_to_do code t + n ≤ left_to_do code s) (hlevel props) (λ lands. many_fall code lands n s t e)
+
 -- the steps made are far from 2^128
 small_by : (n used made rest far : ℕ) → n ≤ far → used ≤ far → made + rest ≤ used * n + far → made ≤ far * far + far
 small_by n used made rest far h k e =
     let a : used * n ≤ far * far = mul-le used n far far k h in
     omega (arith, a, e)
 
-far_below : (made : ℕ) → made ≤ (2 ^ 64 - 1) * (2 ^ 64 - 1) + (2 ^ 64 - 1) → made + 1 < 2 ^ 128
+far_below : (made : ℕ) → made ≤ (2 ^ 64 - 1) * (2 ^ 64 - 1) + (2 ^ 64 - 1) → made + 2 ^ 32 < 2 ^ 128
 far_below made h = omega arith
 
-pub made_small : (code : Code) (place : ℕ) (frames : List Frame) (used made : ℕ) → length code.instructions < 2 ^ 63 → used < 2 ^ 64 → HasLeft code place frames used made → made + 1 < 2 ^ 128
-made_small code place frames used made small within h =
+pub made_far : (code : Code) (place : ℕ) (frames : List Frame) (used made : ℕ) → length code.instructions < 2 ^ 63 → used < 2 ^ 64 → HasLeft code place frames used made → made + 2 ^ 32 < 2 ^ 128
+made_far code place frames used made small within h =
     far_below made (small_by (2 * length code.instructions + 1) used made (left_at code place frames) (2 ^ 64 - 1) (omega (arith, small)) (omega (arith, within)) (omega (arith, h, small)))
 
 -- ## A run of good code is never stuck

@@ -11,3 +11,4 @@ mod Onwards
 mod Counting
 mod Good
 mod Reaching
+mod Bursts

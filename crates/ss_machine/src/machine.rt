@@ -12,6 +12,7 @@ use crate::running::{Counts, run};
 use crate::stop::Stop;
 use ss_base::{FaultyRead, FaultyWrite};
 use ss_code::code::Code;
+use ss_fused::fused::Fused;
 use ss_input::Source;
 use ss_machine_code::laws::laws;
 use ss_picture::Sink;
@@ -27,6 +28,7 @@ use std::marker::Model;
 #[derive(Drop)]
 pub struct Machine {
     code: Code,
+    fused: Fused,
     working: Working,
     line: Vec<u8>,
     counts: Counts,
@@ -40,7 +42,7 @@ impl Model for Machine {
 
     ghost view = { λ m. record { code = m.code; working = m.working; used = m.counts.used; steps = m.counts.steps; stopped = m.stopped } };
 
-    ghost invariant = { λ m. IsReady (record { code = m.code; working = m.working; used = m.counts.used; steps = m.counts.steps; stopped = m.stopped }) };
+    ghost invariant = { λ m. IsReady (record { code = m.code; working = m.working; used = m.counts.used; steps = m.counts.steps; stopped = m.stopped }) m.fused };
 }
 
 // The answer of a run after one that stood still.
@@ -72,8 +74,10 @@ impl Machine {
         laws();
         let _sound = code.len();
         let working = first_working(alloc, &code)?;
+        let fused = Fused::of(alloc, code.instructions())?;
         Ok(Machine {
             code,
+            fused,
             working,
             line: Vec::new(alloc),
             counts: Counts { used: 0, steps: 0 },
@@ -134,6 +138,7 @@ impl Machine {
         let last = self.counts.used.saturating_add(ticks);
         let halt = run(
             &self.code,
+            &self.fused,
             &mut self.working,
             &mut self.line,
             self.counts,
