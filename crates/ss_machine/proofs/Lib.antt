@@ -12,3 +12,4 @@ mod Counting
 mod Good
 mod Reaching
 mod Bursts
+mod Resting
