@@ -1,4 +1,3 @@
-pub mod Pieces
 pub mod Emitted
 pub mod Limits
 pub use Rattle.ss_listing.specs.Listing

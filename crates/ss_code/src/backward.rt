@@ -1,28 +1,25 @@
 //! Code that is made from its end to its beginning.
 
-ghost use Rattle.std.specs.Prelude.{◌≡◌, [], ◌++◌, length, IfOk, OnOk};
+ghost use Rattle.std.specs.Prelude.{◌≡◌, [], ◌++◌, ◌^◌, ◌<◌, length, IfOk, OnOk};
 
 use ss_machine_code::instruction::Instruction;
 use std::alloc::{AllocError, Global};
+use std::collections::VecDeque;
 use std::marker::Model;
 
 /// Instructions, of which the last are made first.
 #[derive(Drop)]
 pub(crate) struct Backward {
-    pieces: Vec<Vec<Instruction>>,
-    size: usize,
+    code: VecDeque<Instruction>,
 }
 
 impl Model for Backward {
-    ghost use Rattle.std.specs.Prelude.{◌≡◌, List, length};
+    ghost use Rattle.std.specs.Prelude.{List};
     ghost use Rattle.ss_machine_code.specs.declared.instruction.Instruction.{Instruction as InstructionValue};
-    ghost use Rattle.ss_code.specs.Pieces.{laid_code};
 
     ghost Value = { List InstructionValue };
 
-    ghost view = { λ b. laid_code b.pieces.items };
-
-    ghost invariant = { λ b. b.size ≡ length (laid_code b.pieces.items) };
+    ghost view = { λ b. b.code.items };
 }
 
 impl Backward {
@@ -31,27 +28,25 @@ impl Backward {
         ensures { result ≡ [] }
     {
         Backward {
-            pieces: Vec::new(alloc),
-            size: 0,
+            code: VecDeque::new(alloc),
         }
     }
 
-    /// How many instructions there are.
+    /// How many instructions there are. They lie in memory, so that one more can be counted.
     pub(crate) fn len(&self) -> usize
-        ensures { result ≡ length self.now }
+        ensures value { result ≡ length self.now }
+        ensures small { result < 2 ^ 63 }
     {
-        self.size
+        self.code.len()
     }
 
     /// What stands before the instructions that were made so far.
     pub(crate) fn put_before(&mut self, piece: Vec<Instruction>) -> Result<(), AllocError>
         ensures { OnOk result (self.new ≡ piece.items ++ self.old) }
     {
-        let Some(size) = self.size.checked_add(piece.len()) else {
-            return Err(AllocError);
-        };
-        self.pieces.push(piece)?;
-        self.size = size;
+        for i in (0..piece.len()).rev() {
+            self.code.push_front(piece[i])?;
+        }
         Ok(())
     }
 
@@ -59,10 +54,10 @@ impl Backward {
     pub(crate) fn laid(self, alloc: Global) -> Result<Vec<Instruction>, AllocError>
         ensures { IfOk result (λ code. code.items ≡ self) }
     {
-        let pieces = self.pieces;
-        let mut code = Vec::with_capacity(alloc, self.size)?;
-        for i in (0..pieces.len()).rev() {
-            code.extend_from_slice(&pieces[i])?;
+        let made = self.code;
+        let mut code = Vec::with_capacity(alloc, made.len())?;
+        for i in 0..made.len() {
+            code.push(made[i])?;
         }
         Ok(code)
     }

@@ -1,6 +1,6 @@
 //! The instructions of conditions.
 
-ghost use Rattle.std.specs.Prelude.{◌≡◌, ◌++◌, ◌+◌, map, Bool, IfOk, OnOk};
+ghost use Rattle.std.specs.Prelude.{◌≡◌, ◌++◌, ◌+◌, ◌^◌, ◌<◌, ◌≤◌, length, map, Bool, IfOk, OnOk};
 ghost use Rattle.ss_program.specs.Program.{Empty as EmptyTest, Member as MemberTest};
 ghost use Rattle.ss_program.specs.View.{view_expression, view_owner, view_test, view_conjunction, view_condition, view_guard, view_phrase};
 ghost use Rattle.ss_machine_code.specs.Translation.{test_code, tests_code, condition_code, negated_code, guard_code, guards_code, phrase_code, phrases_code};
@@ -13,16 +13,6 @@ use ss_program::condition::{Condition, Conjunction, Test};
 use ss_program::expression::{Expression, SetOwner};
 use ss_program::head::{Guard, GuardKind, Phrase, PhraseKind};
 use std::alloc::{AllocError, Global};
-
-/// A number of instructions and some more. The error comes where no memory can hold so many.
-pub(crate) fn sum(count: usize, more: usize) -> Result<usize, AllocError>
-    ensures { IfOk result (λ both. both ≡ count + more) }
-{
-    match count.checked_add(more) {
-        Some(both) => Ok(both),
-        None => Err(AllocError),
-    }
-}
 
 // Whether a set has no member.
 fn emit_empty(
@@ -130,12 +120,13 @@ fn emit_tests(
     skip: usize,
     tests: &[Test],
 ) -> Result<Vec<Instruction>, AllocError>
+    requires { skip ≤ 2 ^ 63 }
     ensures { IfOk result (λ code. code.items ≡ tests_code line skip (map view_test tests.now)) }
 {
     let mut rest = Backward::new(alloc);
     for i in (0..tests.len()).rev() {
         let mut front = Vec::new(alloc);
-        let past = sum(rest.len(), skip)?;
+        let past = rest.len() + skip;
         emit_test(&mut front, line, past, &tests[i])?;
         rest.put_before(front)?;
     }
@@ -149,6 +140,7 @@ fn emit_alternatives(
     skip: usize,
     alternatives: &[Conjunction],
 ) -> Result<Vec<Instruction>, AllocError>
+    requires { skip ≤ 2 ^ 63 }
     ensures { IfOk result (λ code. code.items ≡ condition_code line skip (map view_conjunction alternatives.now)) }
 {
     let count = alternatives.len();
@@ -175,6 +167,7 @@ pub(crate) fn emit_condition(
     skip: usize,
     condition: &Condition,
 ) -> Result<Vec<Instruction>, AllocError>
+    requires { skip ≤ 2 ^ 63 }
     ensures { IfOk result (λ code. code.items ≡ condition_code line skip (view_condition condition.now)) }
 {
     emit_alternatives(alloc, line, skip, &condition.alternatives)
@@ -187,6 +180,7 @@ fn emit_negated(
     skip: usize,
     condition: &Condition,
 ) -> Result<Vec<Instruction>, AllocError>
+    requires { skip ≤ 2 ^ 63 }
     ensures { IfOk result (λ code. code.items ≡ negated_code line skip (view_condition condition.now)) }
 {
     let mut code = emit_condition(alloc, line, 1, condition)?;
@@ -201,6 +195,7 @@ fn emit_guard(
     kind: GuardKind,
     condition: &Condition,
 ) -> Result<Vec<Instruction>, AllocError>
+    requires { skip ≤ 2 ^ 63 }
     ensures { IfOk result (λ code. code.items ≡ guard_code line skip kind (view_condition condition.now)) }
 {
     match kind {
@@ -209,19 +204,23 @@ fn emit_guard(
     }
 }
 
-/// The guards of a loop, the last of them first.
+/// The guards of a loop before what follows them, the last of them first. Where one fails it goes on behind that, or behind
+/// so many instructions more.
 pub(crate) fn emit_guards(
     alloc: Global,
     line: Line,
-    skip: usize,
+    more: usize,
     guards: &[Guard],
+    behind: Vec<Instruction>,
 ) -> Result<Vec<Instruction>, AllocError>
-    ensures { IfOk result (λ code. code.items ≡ guards_code line skip (map view_guard guards.now)) }
+    requires { more ≤ 1 }
+    ensures { IfOk result (λ code. code.items ≡ guards_code line (length behind.items + more) (map view_guard guards.now) ++ behind.items) }
 {
     let mut rest = Backward::new(alloc);
+    rest.put_before(behind)?;
     for i in (0..guards.len()).rev() {
         let guard = &guards[i];
-        let past = sum(rest.len(), skip)?;
+        let past = rest.len() + more;
         let front = emit_guard(alloc, line, past, guard.kind, &guard.condition)?;
         rest.put_before(front)?;
     }
@@ -236,9 +235,10 @@ fn emit_phrase(
     kind: PhraseKind,
     condition: &Condition,
 ) -> Result<Vec<Instruction>, AllocError>
+    requires { rest < 2 ^ 63 }
     ensures { IfOk result (λ code. code.items ≡ phrase_code line rest kind (view_condition condition.now)) }
 {
-    let past = sum(rest, 1)?;
+    let past = rest + 1;
     match kind {
         PhraseKind::With => emit_condition(alloc, line, rest, condition),
         PhraseKind::Unless => emit_negated(alloc, line, rest, condition),

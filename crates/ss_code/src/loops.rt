@@ -6,7 +6,7 @@ ghost use Rattle.ss_program.specs.Program.{Numbers, Members, Each};
 ghost use Rattle.ss_machine_code.specs.declared.instruction.Instruction.TheVariants.{Begin};
 ghost use Rattle.ss_machine_code.specs.Translation.{expression_code, step_code, items_code, outset_code, members_code, kept, kept_by, is_system, for_code, find_code, loop_code};
 
-use crate::conditions::{emit_guards, emit_phrases, sum};
+use crate::conditions::{emit_guards, emit_phrases};
 use crate::emit::{emit_expression, emit_step, put, system_owns};
 use crate::sets::emit_outset;
 use ss_base::Line;
@@ -25,15 +25,15 @@ pub(crate) fn emit_loop(
 ) -> Result<(), AllocError>
     ensures { OnOk result (code.new.items ≡ code.old.items ++ loop_code line (map view_guard guards.now) body.items) }
 {
-    let mut again = emit_guards(alloc, line, 1, guards)?;
-    let turn = sum(body.len(), again.len())?;
-    let past = sum(turn, 2)?;
-    let mut first = emit_guards(alloc, line, past, guards)?;
-    code.append(&mut first)?;
-    put(code, Instruction::Turn)?;
-    code.append(&mut body)?;
-    code.append(&mut again)?;
-    put(code, Instruction::Repeat { back: turn + 1 })
+    let mut again = emit_guards(alloc, line, 1, guards, Vec::new(alloc))?;
+    let mut behind = Vec::new(alloc);
+    put(&mut behind, Instruction::Turn)?;
+    behind.append(&mut body)?;
+    behind.append(&mut again)?;
+    let back = behind.len();
+    put(&mut behind, Instruction::Repeat { back })?;
+    let mut first = emit_guards(alloc, line, 0, guards, behind)?;
+    code.append(&mut first)
 }
 
 // The first number, the limit and the step of a FOR, and the look at them.

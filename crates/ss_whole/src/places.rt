@@ -91,9 +91,10 @@ fn count_kind(class: usize, number: usize, kind: VariableKind) -> Result<Option<
 fn count_behind(names: &Names, class: usize, variable: usize) -> Result<Option<u32>, AllocError>
     ensures { IfOk result (λ o. o ≡ count_behind names.now class variable) }
 {
-    let Some(next) = variable.checked_add(1) else {
-        return Err(AllocError);
-    };
+    if variable >= names.variables() {
+        return Ok(None);
+    }
+    let next = variable + 1;
     match names.variable(next) {
         Some(known) => count_kind(class, next, known.kind),
         None => Ok(None),
