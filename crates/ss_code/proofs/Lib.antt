@@ -1,3 +1,4 @@
+mod Looped
 mod Rows
 mod Sizes
 mod Whole

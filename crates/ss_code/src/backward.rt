@@ -4,31 +4,31 @@ ghost use Rattle.std.specs.Prelude.{◌≡◌, [], ◌++◌, ◌^◌, ◌<◌, l
 
 use ss_machine_code::instruction::Instruction;
 use std::alloc::{AllocError, Global};
-use std::collections::VecDeque;
 use std::marker::Model;
 
 /// Instructions, of which the last are made first.
 #[derive(Drop)]
 pub(crate) struct Backward {
-    code: VecDeque<Instruction>,
+    // The last first.
+    code: Vec<Instruction>,
 }
 
 impl Model for Backward {
-    ghost use Rattle.std.specs.Prelude.{List};
+    ghost use Rattle.std.specs.Prelude.{List, reverse};
     ghost use Rattle.ss_machine_code.specs.declared.instruction.Instruction.{Instruction as InstructionValue};
 
     ghost Value = { List InstructionValue };
 
-    ghost view = { λ b. b.code.items };
+    ghost view = { λ b. reverse b.code.items };
 }
 
 impl Backward {
-    /// No instruction yet.
+    /// No instruction.
     pub(crate) fn new(alloc: Global) -> Backward
         ensures { result ≡ [] }
     {
         Backward {
-            code: VecDeque::new(alloc),
+            code: Vec::new(alloc),
         }
     }
 
@@ -44,21 +44,17 @@ impl Backward {
     pub(crate) fn put_before(&mut self, piece: Vec<Instruction>) -> Result<(), AllocError>
         ensures { OnOk result (self.new ≡ piece.items ++ self.old) }
     {
-        for i in (0..piece.len()).rev() {
-            self.code.push_front(piece[i])?;
-        }
-        Ok(())
+        let mut turned = piece;
+        turned.reverse();
+        self.code.append(&mut turned)
     }
 
-    /// The instructions from their beginning to their end.
-    pub(crate) fn laid(self, alloc: Global) -> Result<Vec<Instruction>, AllocError>
-        ensures { IfOk result (λ code. code.items ≡ self) }
+    /// All of them, the first first.
+    pub(crate) fn laid(self) -> Vec<Instruction>
+        ensures { result.items ≡ self }
     {
-        let made = self.code;
-        let mut code = Vec::with_capacity(alloc, made.len())?;
-        for i in 0..made.len() {
-            code.push(made[i])?;
-        }
-        Ok(code)
+        let mut code = self.code;
+        code.reverse();
+        code
     }
 }

@@ -130,7 +130,7 @@ fn emit_tests(
         emit_test(&mut front, line, past, &tests[i])?;
         rest.put_before(front)?;
     }
-    rest.laid(alloc)
+    Ok(rest.laid())
 }
 
 // Alternatives of which one must hold, the last of them first.
@@ -157,7 +157,7 @@ fn emit_alternatives(
         put(&mut front, Instruction::Jump { skip: rest.len() })?;
         rest.put_before(front)?;
     }
-    rest.laid(alloc)
+    Ok(rest.laid())
 }
 
 /// A condition, which jumps where it does not hold.
@@ -224,7 +224,7 @@ pub(crate) fn emit_guards(
         let front = emit_guard(alloc, line, past, guard.kind, &guard.condition)?;
         rest.put_before(front)?;
     }
-    rest.laid(alloc)
+    Ok(rest.laid())
 }
 
 // A phrase before the rest of a turn, of so many instructions.
@@ -263,5 +263,5 @@ pub(crate) fn emit_phrases(
         let front = emit_phrase(alloc, line, rest.len(), phrase.kind, &phrase.condition)?;
         rest.put_before(front)?;
     }
-    rest.laid(alloc)
+    Ok(rest.laid())
 }

@@ -1,10 +1,10 @@
 //! The instructions of loops.
 
-ghost use Rattle.std.specs.Prelude.{◌≡◌, ◌∷◌, ◌++◌, [], map, IfOk, OnOk};
+ghost use Rattle.std.specs.Prelude.{◌≡◌, ◌∷◌, ◌++◌, [], map, length, IfOk, OnOk};
 ghost use Rattle.ss_program.specs.View.{view_expression, view_option, view_owner, view_start, view_head, view_guard, view_phrase};
 ghost use Rattle.ss_program.specs.Program.{Numbers, Members, Each};
 ghost use Rattle.ss_machine_code.specs.declared.instruction.Instruction.TheVariants.{Begin};
-ghost use Rattle.ss_machine_code.specs.Translation.{expression_code, step_code, items_code, outset_code, members_code, kept, kept_by, is_system, for_code, find_code, loop_code};
+ghost use Rattle.ss_machine_code.specs.Translation.{expression_code, step_code, items_code, outset_code, members_code, kept, kept_by, is_system, for_code, find_code, guards_code, loop_code};
 
 use crate::conditions::{emit_guards, emit_phrases};
 use crate::emit::{emit_expression, emit_step, put, system_owns};
@@ -15,23 +15,44 @@ use ss_program::expression::{Expression, SetOwner, Variable};
 use ss_program::head::{Guard, Head, Phrase, Start};
 use std::alloc::{AllocError, Global};
 
+// A turn of a loop, up to the jump back.
+fn emit_turn(
+    alloc: Global,
+    line: Line,
+    guards: &[Guard],
+    mut body: Vec<Instruction>,
+) -> Result<Vec<Instruction>, AllocError>
+    ensures { IfOk result (λ turn. turn.items ≡ Instruction.Turn ∷ (body.items ++ guards_code line 1 (map view_guard guards.now))) }
+{
+    let mut again = emit_guards(alloc, line, 1, guards, Vec::new(alloc))?;
+    let mut turn = Vec::new(alloc);
+    put(&mut turn, Instruction::Turn)?;
+    turn.append(&mut body)?;
+    turn.append(&mut again)?;
+    Ok(turn)
+}
+
+// A turn with the jump back to its beginning.
+fn closed(mut turn: Vec<Instruction>) -> Result<Vec<Instruction>, AllocError>
+    ensures { IfOk result (λ whole. whole.items ≡ turn.items ++ Instruction.Repeat (length turn.items) ∷ []) }
+{
+    let back = turn.len();
+    put(&mut turn, Instruction::Repeat { back })?;
+    Ok(turn)
+}
+
 /// A loop that begins with WHILE or UNTIL.
 pub(crate) fn emit_loop(
     alloc: Global,
     code: &mut Vec<Instruction>,
     line: Line,
     guards: &[Guard],
-    mut body: Vec<Instruction>,
+    body: Vec<Instruction>,
 ) -> Result<(), AllocError>
     ensures { OnOk result (code.new.items ≡ code.old.items ++ loop_code line (map view_guard guards.now) body.items) }
 {
-    let mut again = emit_guards(alloc, line, 1, guards, Vec::new(alloc))?;
-    let mut behind = Vec::new(alloc);
-    put(&mut behind, Instruction::Turn)?;
-    behind.append(&mut body)?;
-    behind.append(&mut again)?;
-    let back = behind.len();
-    put(&mut behind, Instruction::Repeat { back })?;
+    let turn = emit_turn(alloc, line, guards, body)?;
+    let behind = closed(turn)?;
     let mut first = emit_guards(alloc, line, 0, guards, behind)?;
     code.append(&mut first)
 }
