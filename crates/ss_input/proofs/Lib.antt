@@ -1,6 +1,7 @@
-pub mod Passages
-pub mod Digits
-pub mod Gaps
-pub mod Reached
+mod Wanting
 pub mod Asked
+pub mod Digits
 pub mod Failures
+pub mod Gaps
+pub mod Passages
+pub mod Reached

@@ -1,10 +1,11 @@
 -- Bytes that are passed one after another.
-use Rattle.std.proofs.Common.{◌≡◌, ℕ, ◌+◌, Bool, true, List, [], ◌∷◌, ◌++◌, length, take, drop, slice_set, ◌<◌, Option, Some, None, refl, sym, ap, subst, ◌∙◌, arith}
+use Rattle.std.proofs.Common.{◌≡◌, ℕ, ◌+◌, Bool, true, List, [], ◌∷◌, ◌++◌, length, take, drop, slice_set, ◌<◌, Option, Some, None, false, refl, sym, ap, subst, ◌∙◌, arith}
 use Rattle.std.proofs.lemmas.List.{append_assoc, append-nil, length-append, take_more_set}
 use Rattle.std.proofs.lemmas.List.Folds.{list_all-append}
 use Rattle.std.specs.Io.KnownBytes.{Consumes, Keeps}
+use Rattle.std.specs.List.{list_all}
 use Rattle.ss_input.specs.Blocks.{BlockSeen, Looks, Unread, first_of}
-use Rattle.ss_input.specs.Sources.{Gives, Passes, Passed, GapPassed, WordPassed, StandsBefore}
+use Rattle.ss_input.specs.Sources.{Gives, Passes, Passed, GapPassed, WordPassed, StandsBefore, Wants}
 use Rattle.ss_input.specs.Words.{is_separator, is_word_byte}
 
 pub some_first : (x : ℕ) (l : List ℕ) → Some x ≡ first_of l → l ≡ x ∷ drop 1 l
@@ -75,6 +76,21 @@ gives_behind remaining a b c xs h u = record {
   consumes_kept (Some a) None r got h k = absurd h
   consumes_kept (Some a) (Some b) None got h k = absurd k
   consumes_kept (Some a) (Some b) (Some c) got h k = h ∙ ap (λ t. got ++ t) (sym k)
+
+-- the same where all that was at hand passed a test
+pub wants_behind : {R : Type 0} (remaining : R → Option (List ℕ)) (passes : ℕ → Bool) (a b c : BlockSeen R) (xs : List ℕ) → Passes remaining a b xs → list_all passes xs ≡ true → Unread remaining b c → (b.left ≡ []) × (b.ended ≡ false) → Wants remaining passes a c
+unfolding gives_behind
+wants_behind remaining passes a b c xs h all u w =
+    let g = gives_behind remaining a b c xs h u in
+    record {
+      passed = record {
+        bytes = xs;
+        passes = record { got = h.got; consumed = g.consumed; after_end = g.after_end; same = h.same ∙ ap (λ l. xs ++ l) (sym u.left) };
+        holds = all;
+      };
+      none_left = u.left ∙ w.0;
+      goes_on = u.ended ∙ w.1;
+    }
 
 -- and a passage that gave
 pub gives_then : {R : Type 0} (remaining : R → Option (List ℕ)) (a b c : BlockSeen R) (xs : List ℕ) → Passes remaining a b xs → Gives remaining b c → Gives remaining a c

@@ -1,5 +1,5 @@
 -- What is seen of a source of input data, and what a call of it reads.
-use Rattle.std.specs.Prelude.{◌≡◌, ◌≢◌, ◌⊎◌, ℕ, ◌+◌, Bool, true, List, [], ◌∷◌, ◌++◌, length, if◌then◌else◌, Option}
+use Rattle.std.specs.Prelude.{◌≡◌, ◌≢◌, ◌⊎◌, ℕ, ◌+◌, Bool, true, false, List, [], ◌∷◌, ◌++◌, length, if◌then◌else◌, Option}
 use Rattle.std.specs.List.{list_all}
 use Rattle.std.specs.Io.KnownBytes.{Consumes}
 use Rattle.ss_input.specs.Blocks.{BlockSeen}
@@ -57,3 +57,17 @@ pub record Unasked {R : Type 0} (passes : ℕ → Bool) (old new : BlockSeen R) 
 -- whether a block tells without its reader where the next word ends
 abbrev pub HasWord : {R : Type 0} → BlockSeen R → Type 0
 HasWord block = (block.ended ≡ true) ⊎ (behind is_word_byte (behind is_separator block.left) ≢ [])
+
+-- all bytes at hand, and those that the reader gave, pass a test and were passed; it gave no end, and is to be asked for more
+pub record Wants {R : Type 0} (remaining : R → Option (List ℕ)) (passes : ℕ → Bool) (old new : BlockSeen R) : Type 0 where
+  pub passed : Passed remaining old new (λ bytes. list_all passes bytes ≡ true)
+  pub none_left : new.left ≡ []
+  pub goes_on : new.ended ≡ false
+
+-- where the next word ends is told neither by the bytes at hand nor by those that the reader gave, and it gave no end
+pub record Lacks {R : Type 0} (remaining : R → Option (List ℕ)) (old new : BlockSeen R) : Type 0 where
+  pub got : List ℕ
+  pub consumed : Consumes (remaining old.reader) (remaining new.reader) got
+  pub after_end : old.ended ≡ true → (got ≡ []) × (new.ended ≡ true)
+  pub short : behind is_word_byte (behind is_separator (old.left ++ got)) ≡ []
+  pub goes_on : new.ended ≡ false

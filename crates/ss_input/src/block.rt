@@ -93,6 +93,7 @@ impl<R: FaultyRead> Block<R> {
         ensures at_hand { self.old.left ≢ [] → self.new ≡ self.old }
         ensures after_end { self.old.ended ≡ true → self.new ≡ self.old }
         ensures unread { OnErr result (Unread R.remaining self.old self.new) }
+        ensures wanted { OnErr result ((self.old.left ≡ []) × (self.old.ended ≡ false)) }
         ensures counted { R.faults self.new.reader ≡ errors_after result (R.faults self.old.reader) }
         ensures end { KnowsEnd R.remaining self.old → KnowsEnd R.remaining self.new }
     {

@@ -4,7 +4,7 @@ ghost use Rattle.std.specs.List.{list_all};
 ghost use Rattle.std.specs.Prelude.{length, take, ◌≡◌, ◌≤◌, ◌+◌, ◌∷◌, [], true, false, ℕ, Ok, Some, None, OnErr};
 ghost use Rattle.ss_base.specs.Failures.{errors_after};
 ghost use Rattle.ss_input.specs.Blocks.{KnowsEnd, Unread};
-ghost use Rattle.ss_input.specs.Sources.{Gives, Passes, Passed, GapPassed, WordPassed, StandsBefore, Suffices, Unasked};
+ghost use Rattle.ss_input.specs.Sources.{Gives, Passes, Passed, GapPassed, WordPassed, StandsBefore, Suffices, Unasked, Wants};
 ghost use Rattle.ss_input.specs.Words.{is_separator, is_word_byte};
 
 use crate::block::{Block, ReadFailed};
@@ -28,6 +28,7 @@ pub(crate) fn pass_separator<R: FaultyRead>(block: &mut Block<R>) -> Result<bool
     ensures passed { result ≡ Ok true → Passed R.remaining block.old block.new (λ bytes. (b : ℕ) × (bytes ≡ b ∷ []) × (is_separator b ≡ true)) }
     ensures none { result ≡ Ok false → Passes R.remaining block.old block.new [] × StandsBefore is_word_byte block.new }
     ensures unread { OnErr result (Unread R.remaining block.old block.new) }
+    ensures wanted { OnErr result ((block.old.left ≡ []) × (block.old.ended ≡ false)) }
     ensures counted { R.faults block.new.reader ≡ errors_after result (R.faults block.old.reader) }
     ensures unasked { Suffices is_separator block.old → Unasked is_separator block.old block.new }
     ensures end { KnowsEnd R.remaining block.old → KnowsEnd R.remaining block.new }
@@ -46,6 +47,7 @@ pub(crate) fn pass_word_byte<R: FaultyRead>(block: &mut Block<R>) -> Result<Opti
     ensures passed { (b : ℕ) → result ≡ Ok (Some b) → Passes R.remaining block.old block.new (b ∷ []) × (is_word_byte b ≡ true) }
     ensures none { result ≡ Ok None → Passes R.remaining block.old block.new [] × StandsBefore is_separator block.new }
     ensures unread { OnErr result (Unread R.remaining block.old block.new) }
+    ensures wanted { OnErr result ((block.old.left ≡ []) × (block.old.ended ≡ false)) }
     ensures counted { R.faults block.new.reader ≡ errors_after result (R.faults block.old.reader) }
     ensures unasked { Suffices is_word_byte block.old → Unasked is_word_byte block.old block.new }
     ensures end { KnowsEnd R.remaining block.old → KnowsEnd R.remaining block.new }
@@ -69,6 +71,7 @@ pub(crate) fn pass_gap<R: FaultyRead>(
     ensures passed { (count : ℕ) → result ≡ Ok (Some count) → GapPassed R.remaining block.old block.new before count × (count ≤ SEPARATOR_LIMIT) × StandsBefore is_word_byte block.new }
     ensures too_many { result ≡ Ok None → GapPassed R.remaining block.old block.new before (SEPARATOR_LIMIT + 1) }
     ensures gives { OnErr result (Gives R.remaining block.old block.new) }
+    ensures wants { OnErr result (Wants R.remaining is_separator block.old block.new) }
     ensures counted { R.faults block.new.reader ≡ errors_after result (R.faults block.old.reader) }
     ensures unasked { Suffices is_separator block.old → Unasked is_separator block.old block.new }
     ensures end { KnowsEnd R.remaining block.old → KnowsEnd R.remaining block.new }
@@ -94,6 +97,7 @@ pub(crate) fn pass_word<R: FaultyRead>(
     ensures passed { (count : ℕ) → result ≡ Ok (Some count) → WordPassed R.remaining block.old block.new (take count word.new) × (count ≤ WORD_LIMIT) × StandsBefore is_separator block.new }
     ensures too_long { result ≡ Ok None → Passed R.remaining block.old block.new (λ bytes. (list_all is_word_byte bytes ≡ true) × (length bytes ≡ WORD_LIMIT + 1)) }
     ensures gives { OnErr result (Gives R.remaining block.old block.new) }
+    ensures wants { OnErr result (Wants R.remaining is_word_byte block.old block.new) }
     ensures counted { R.faults block.new.reader ≡ errors_after result (R.faults block.old.reader) }
     ensures unasked { Suffices is_word_byte block.old → Unasked is_word_byte block.old block.new }
     ensures end { KnowsEnd R.remaining block.old → KnowsEnd R.remaining block.new }

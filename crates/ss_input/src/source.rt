@@ -7,7 +7,7 @@ ghost use Rattle.ss_base.specs.declared.layout.Mode.TheVariants.{Integer, Alpha 
 ghost use Rattle.ss_base.specs.Failures.{HasRisen, HasRisenBy};
 ghost use Rattle.ss_input.specs.declared.source.Missed.{Missed as MissedSeen};
 ghost use Rattle.ss_input.specs.Blocks.{KnowsEnd};
-ghost use Rattle.ss_input.specs.Sources.{Gives, GapPassed, StandsBefore, Suffices, Unasked, HasWord};
+ghost use Rattle.ss_input.specs.Sources.{Gives, GapPassed, StandsBefore, Suffices, Unasked, HasWord, Wants, Lacks};
 ghost use Rattle.ss_input.specs.Inputs.{source_block, source_gap, source_missed, source_reader, IsFresh, Reads, Finds, Reaches, missed_of, failures_after};
 ghost use Rattle.ss_input.specs.Words.{is_separator, is_word_byte, is_ended, next_word, value_given};
 
@@ -87,6 +87,7 @@ impl<R: FaultyRead> Source<R> {
         ensures ok { OnOk result (Reaches R.remaining self.old self.new) }
         ensures fault { (kind : FaultSeen) → result ≡ Err (Missed.Fault kind) → (kind ≡ FaultKind.BadData) × GapPassed R.remaining (source_block self.old) (source_block self.new) (source_gap self.old) 1048577 }
         ensures gives { result ≡ Err Missed.Input → Gives R.remaining (source_block self.old) (source_block self.new) }
+        ensures wants { result ≡ Err Missed.Input → Wants R.remaining is_separator (source_block self.old) (source_block self.new) }
         ensures missed { source_missed self.new ≡ source_missed self.old }
         ensures counted { R.faults (source_reader self.new) ≡ failures_after result (R.faults (source_reader self.old)) }
         ensures unasked { Suffices is_separator (source_block self.old) → Unasked is_separator (source_block self.old) (source_block self.new) }
@@ -108,6 +109,7 @@ impl<R: FaultyRead> Source<R> {
         ensures read { (count : ℕ) → result ≡ Ok count → Reads R.remaining self.old self.new (λ input rest. next_word input ≡ Ok (record { value = take count word.new; rest = rest })) }
         ensures fault { (kind : FaultSeen) → result ≡ Err (Missed.Fault kind) → Finds R.remaining self.old self.new (λ input. next_word input ≡ Err kind) }
         ensures gives { result ≡ Err Missed.Input → Gives R.remaining (source_block self.old) (source_block self.new) }
+        ensures lacks { result ≡ Err Missed.Input → Lacks R.remaining (source_block self.old) (source_block self.new) }
         ensures missed { source_missed self.new ≡ source_missed self.old }
         ensures counted { R.faults (source_reader self.new) ≡ failures_after result (R.faults (source_reader self.old)) }
         ensures unasked { HasWord (source_block self.old) → source_reader self.new ≡ source_reader self.old }
@@ -132,6 +134,7 @@ impl<R: FaultyRead> Source<R> {
         ensures read { (number : ℤ) → result ≡ Ok number → Reads R.remaining self.old self.new (λ input rest. value_given Integer input ≡ Ok (record { value = Whole number; rest = rest })) }
         ensures fault { (kind : FaultSeen) → result ≡ Err (Missed.Fault kind) → Finds R.remaining self.old self.new (λ input. value_given Integer input ≡ Err kind) }
         ensures gives { result ≡ Err Missed.Input → Gives R.remaining (source_block self.old) (source_block self.new) }
+        ensures lacks { result ≡ Err Missed.Input → Lacks R.remaining (source_block self.old) (source_block self.new) }
         ensures missed { source_missed self.new ≡ source_missed self.old }
         ensures counted { R.faults (source_reader self.new) ≡ failures_after result (R.faults (source_reader self.old)) }
         ensures unasked { HasWord (source_block self.old) → source_reader self.new ≡ source_reader self.old }
@@ -150,6 +153,7 @@ impl<R: FaultyRead> Source<R> {
         ensures read { (text : List ℕ) → result ≡ Ok text → Reads R.remaining self.old self.new (λ input rest. value_given AlphaMode input ≡ Ok (record { value = Text text; rest = rest })) }
         ensures fault { (kind : FaultSeen) → result ≡ Err (Missed.Fault kind) → Finds R.remaining self.old self.new (λ input. value_given AlphaMode input ≡ Err kind) }
         ensures gives { result ≡ Err Missed.Input → Gives R.remaining (source_block self.old) (source_block self.new) }
+        ensures lacks { result ≡ Err Missed.Input → Lacks R.remaining (source_block self.old) (source_block self.new) }
         ensures missed { source_missed self.new ≡ source_missed self.old }
         ensures counted { R.faults (source_reader self.new) ≡ failures_after result (R.faults (source_reader self.old)) }
         ensures unasked { HasWord (source_block self.old) → source_reader self.new ≡ source_reader self.old }
@@ -188,6 +192,7 @@ impl<R: FaultyRead> Source<R> {
         ensures fault { source_missed self.old ≡ None → (kind : FaultSeen) → result ≡ Err (Missed.Fault kind) → Finds R.remaining self.old self.new (λ input. value_given Integer input ≡ Err kind) }
         ensures input { source_missed self.old ≡ None → result ≡ Err Missed.Input → HasRisen (R.faults (source_reader self.old)) (R.faults (source_reader self.new)) }
         ensures lost { source_missed self.old ≡ None → result ≡ Err Missed.Input → Finds R.remaining self.old self.new (λ input. Unit {0}) }
+        ensures lacks { source_missed self.old ≡ None → result ≡ Err Missed.Input → Lacks R.remaining (source_block self.old) (source_block self.new) }
         ensures missed { source_missed self.old ≡ None → source_missed self.new ≡ missed_of result }
         ensures counted { source_missed self.old ≡ None → R.faults (source_reader self.new) ≡ failures_after result (R.faults (source_reader self.old)) }
         ensures never_falls { HasRisenBy 0 (R.faults (source_reader self.old)) (R.faults (source_reader self.new)) }
@@ -213,6 +218,7 @@ impl<R: FaultyRead> Source<R> {
         ensures fault { source_missed self.old ≡ None → (kind : FaultSeen) → result ≡ Err (Missed.Fault kind) → Finds R.remaining self.old self.new (λ input. value_given AlphaMode input ≡ Err kind) }
         ensures input { source_missed self.old ≡ None → result ≡ Err Missed.Input → HasRisen (R.faults (source_reader self.old)) (R.faults (source_reader self.new)) }
         ensures lost { source_missed self.old ≡ None → result ≡ Err Missed.Input → Finds R.remaining self.old self.new (λ input. Unit {0}) }
+        ensures lacks { source_missed self.old ≡ None → result ≡ Err Missed.Input → Lacks R.remaining (source_block self.old) (source_block self.new) }
         ensures missed { source_missed self.old ≡ None → source_missed self.new ≡ missed_of result }
         ensures counted { source_missed self.old ≡ None → R.faults (source_reader self.new) ≡ failures_after result (R.faults (source_reader self.old)) }
         ensures never_falls { HasRisenBy 0 (R.faults (source_reader self.old)) (R.faults (source_reader self.new)) }
@@ -231,6 +237,7 @@ impl<R: FaultyRead> Source<R> {
         ensures read { (ended : Bool) → result ≡ Ok ended → Reads R.remaining self.old self.new (λ input rest. (rest ≡ input) × (is_ended input ≡ Ok ended)) }
         ensures fault { (kind : FaultSeen) → result ≡ Err (Missed.Fault kind) → Finds R.remaining self.old self.new (λ input. is_ended input ≡ Err kind) }
         ensures gives { result ≡ Err Missed.Input → Gives R.remaining (source_block self.old) (source_block self.new) }
+        ensures wants { result ≡ Err Missed.Input → Wants R.remaining is_separator (source_block self.old) (source_block self.new) }
         ensures missed { source_missed self.new ≡ source_missed self.old }
         ensures counted { R.faults (source_reader self.new) ≡ failures_after result (R.faults (source_reader self.old)) }
         ensures unasked { Suffices is_separator (source_block self.old) → Unasked is_separator (source_block self.old) (source_block self.new) }
@@ -253,6 +260,7 @@ impl<R: FaultyRead> Source<R> {
         ensures fault { source_missed self.old ≡ None → (kind : FaultSeen) → result ≡ Err (Missed.Fault kind) → Finds R.remaining self.old self.new (λ input. is_ended input ≡ Err kind) }
         ensures input { source_missed self.old ≡ None → result ≡ Err Missed.Input → HasRisen (R.faults (source_reader self.old)) (R.faults (source_reader self.new)) }
         ensures lost { source_missed self.old ≡ None → result ≡ Err Missed.Input → Finds R.remaining self.old self.new (λ input. Unit {0}) }
+        ensures wants { source_missed self.old ≡ None → result ≡ Err Missed.Input → Wants R.remaining is_separator (source_block self.old) (source_block self.new) }
         ensures missed { source_missed self.old ≡ None → source_missed self.new ≡ missed_of result }
         ensures counted { source_missed self.old ≡ None → R.faults (source_reader self.new) ≡ failures_after result (R.faults (source_reader self.old)) }
         ensures never_falls { HasRisenBy 0 (R.faults (source_reader self.old)) (R.faults (source_reader self.new)) }

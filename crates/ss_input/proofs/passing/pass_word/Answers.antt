@@ -5,7 +5,7 @@ use Rattle.std.proofs.lemmas.List.Folds.{list_all-append}
 use Rattle.ss_input.specs.Sources.{Passes, WordPassed, StandsBefore}
 use Rattle.ss_input.specs.Words.{is_separator, is_word_byte}
 use Rattle.ss_input.proofs.Asked.{unasked_then}
-use Rattle.ss_input.proofs.Passages.{word_more, word_stays, passes_then, gives_behind}
+use Rattle.ss_input.proofs.Passages.{word_more, word_stays, passes_then, gives_behind, wants_behind}
 use Rattle.ss_input.proofs.passing.pass_word.Goals as goal
 
 pub loop-count-preserved : goal.loop-count-preserved
@@ -50,3 +50,8 @@ pub returns-in_err-pass_word_byte-clause-gives : goal.returns-in_err-pass_word_b
 returns-in_err-pass_word_byte-clause-gives g c =
     let e = err_from_is_err_and c.from_residual-in_err-pass_word_byte.result c.from_residual-in_err-pass_word_byte.ensures.1 in
     rw e.1 (gives_behind g.R.FaultyRead.remaining c.args.block.now c.loop-count.block c.pass_word_byte-2.new.block (take c.loop-count.count c.loop-count.word) c.loop-count.invariant.passed.0 c.in_err-pass_word_byte.ensures.unread)
+
+pub returns-in_err-pass_word_byte-clause-wants : goal.returns-in_err-pass_word_byte-clause-wants
+returns-in_err-pass_word_byte-clause-wants g c =
+    let e = err_from_is_err_and c.from_residual-in_err-pass_word_byte.result c.from_residual-in_err-pass_word_byte.ensures.1 in
+    rw e.1 (wants_behind g.R.FaultyRead.remaining is_word_byte c.args.block.now c.loop-count.block c.pass_word_byte-2.new.block (take c.loop-count.count c.loop-count.word) c.loop-count.invariant.passed.0 c.loop-count.invariant.passed.1 c.in_err-pass_word_byte.ensures.unread c.in_err-pass_word_byte.ensures.wanted)

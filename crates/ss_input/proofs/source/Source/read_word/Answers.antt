@@ -1,6 +1,6 @@
 use Rattle.std.proofs.Common.{rules, ◌≡◌, ◌≤◌, take, length, Ok, Err, None, ap, sym, subst, refl}
 use Rattle.ss_base.specs.declared.fault.FaultKind.TheVariants.{EndOfData, BadData}
-use Rattle.ss_input.specs.declared.source.Missed.TheVariants.{Fault}
+use Rattle.ss_input.specs.declared.source.Missed.TheVariants.{Fault, Input}
 use Rattle.ss_input.specs.declared.source.Source.{Source}
 use Rattle.ss_input.specs.Blocks.{first_of}
 use Rattle.ss_input.specs.Words.{next_word, word_at}
@@ -8,6 +8,7 @@ use Rattle.ss_input.specs.Inputs.{Reaches, Reads, Finds, source_block}
 use Rattle.ss_input.proofs.Reached.{too_many_found, none_found, word_found, too_long_found, finds_so}
 use Rattle.ss_input.proofs.Asked.{gap_unasked, word_unasked}
 use Rattle.ss_input.proofs.Passages.{gives_then}
+use Rattle.ss_input.proofs.Wanting.{lacks_gap, lacks_word}
 use Rattle.ss_input.proofs.source.Source.read_word.Goals as goal
 
 pub returns-in_err-reach_word-clause-fault : goal.returns-in_err-reach_word-clause-fault
@@ -73,3 +74,13 @@ pub returns-in-Err-clause-unasked : goal.returns-in-Err-clause-unasked
 returns-in-Err-clause-unasked g c =
     let reached : Reaches g.R.FaultyRead.remaining c.args.self.now c.reach_word.new.self = search rules in
     word_unasked (source_block c.args.self.now) (source_block c.reach_word.new.self) c.pass_word.new.block c.reach_word.ensures.unasked reached.next c.pass_word.ensures.unasked
+
+pub returns-in_err-reach_word-clause-lacks : goal.returns-in_err-reach_word-clause-lacks
+returns-in_err-reach_word-clause-lacks g c e =
+    let same : c.reach_word.result ≡ Err Input = search rules in
+    lacks_gap g.R.FaultyRead.remaining (source_block c.args.self.now) (source_block c.reach_word.new.self) (c.reach_word.ensures.wants same)
+
+pub returns-in-Err-clause-lacks : goal.returns-in-Err-clause-lacks
+returns-in-Err-clause-lacks g c e =
+    let reached : Reaches g.R.FaultyRead.remaining c.args.self.now c.reach_word.new.self = search rules in
+    lacks_word g.R.FaultyRead.remaining (source_block c.args.self.now) (source_block c.reach_word.new.self) c.pass_word.new.block _ _ reached.passed c.in-Err.ensures.wants

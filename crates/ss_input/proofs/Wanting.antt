@@ -1,0 +1,67 @@
+-- Where the reader failed, more of its bytes were needed.
+use Rattle.std.proofs.Common.{◌≡◌, ℕ, Bool, true, false, not, ◌&&◌, List, [], ◌∷◌, ◌++◌, length, Option, refl, sym, ap, subst, ◌∙◌}
+use Rattle.std.specs.Prelude.{if◌then◌else◌}
+use Rattle.std.specs.List.{list_all}
+use Rattle.std.proofs.lemmas.List.{append-nil}
+use Rattle.ss_input.specs.declared.source.Source.{Source}
+use Rattle.ss_input.specs.Blocks.{BlockSeen}
+use Rattle.ss_input.specs.Sources.{Passes, Passed, GapPassed, Wants, Lacks, behind}
+use Rattle.ss_input.specs.Inputs.{source_block, source_gap}
+use Rattle.ss_input.specs.Words.{is_separator, is_word_byte}
+use Rattle.ss_input.proofs.Passages.{passes_then}
+
+and-left : (a b : Bool) → (a && b) ≡ true → a ≡ true
+and-left true b e = refl
+and-left false b e = absurd cc
+
+and-right : (a b : Bool) → (a && b) ≡ true → b ≡ true
+and-right true b e = e
+and-right false b e = absurd cc
+
+-- nothing stands behind bytes that all pass
+pub behind_all : (p : ℕ → Bool) (bs : List ℕ) → list_all p bs ≡ true → behind p bs ≡ []
+behind_all p [] e = refl
+behind_all p (b ∷ bs) e = rw (and-left (p b) (list_all p bs) e) (behind_all p bs (and-right (p b) (list_all p bs) e))
+
+no-separator : (b : Bool) → not b ≡ true → b ≡ false
+no-separator true e = absurd cc
+no-separator false e = refl
+
+word_first : (w : List ℕ) → list_all is_word_byte w ≡ true → behind is_separator w ≡ w
+word_first [] e = refl
+word_first (x ∷ w) e = rw (no-separator (is_separator x) (and-left (is_word_byte x) (list_all is_word_byte w) e)) refl
+
+behind_gap : (gap w : List ℕ) → list_all is_separator gap ≡ true → list_all is_word_byte w ≡ true → behind is_separator (gap ++ w) ≡ w
+behind_gap [] w s e = word_first w e
+behind_gap (b ∷ gap) w s e = rw (and-left (is_separator b) (list_all is_separator gap) s) (behind_gap gap w (and-right (is_separator b) (list_all is_separator gap) s) e)
+
+-- separators and then the bytes of a word
+pub short_so : (gap w : List ℕ) → list_all is_separator gap ≡ true → list_all is_word_byte w ≡ true → behind is_word_byte (behind is_separator (gap ++ w)) ≡ []
+short_so gap w s e = ap (behind is_word_byte) (behind_gap gap w s e) ∙ behind_all is_word_byte w e
+
+module _ {R : Type 0} (remaining : R → Option (List ℕ)) where
+  -- the reader failed before the word
+  pub lacks_gap : (a c : BlockSeen R) → Wants remaining is_separator a c → Lacks remaining a c
+  lacks_gap a c h =
+      let p = h.passed.passes in
+      let all : a.left ++ p.got ≡ h.passed.bytes = p.same ∙ ap (λ l. h.passed.bytes ++ l) h.none_left ∙ append-nil h.passed.bytes in
+      record {
+        got = p.got;
+        consumed = p.consumed;
+        after_end = p.after_end;
+        short = ap (λ l. behind is_word_byte (behind is_separator l)) all ∙ ap (behind is_word_byte) (behind_all is_separator h.passed.bytes h.passed.holds);
+        goes_on = h.goes_on;
+      }
+
+  -- and within it
+  pub lacks_word : (a b c : BlockSeen R) (before count : ℕ) → GapPassed remaining a b before count → Wants remaining is_word_byte b c → Lacks remaining a c
+  lacks_word a b c before count g h =
+      let p = passes_then remaining a b c g.bytes h.passed.bytes g.passes h.passed.passes in
+      let all : a.left ++ p.got ≡ g.bytes ++ h.passed.bytes = p.same ∙ ap (λ l. (g.bytes ++ h.passed.bytes) ++ l) h.none_left ∙ append-nil (g.bytes ++ h.passed.bytes) in
+      record {
+        got = p.got;
+        consumed = p.consumed;
+        after_end = p.after_end;
+        short = ap (λ l. behind is_word_byte (behind is_separator l)) all ∙ short_so g.bytes h.passed.bytes g.holds.0 h.passed.holds;
+        goes_on = h.goes_on;
+      }
