@@ -4,11 +4,7 @@
 #[cfg(test)]
 mod base;
 #[cfg(test)]
-mod commands;
-#[cfg(test)]
 mod counted;
-#[cfg(test)]
-mod engine;
 #[cfg(test)]
 mod events;
 #[cfg(test)]
