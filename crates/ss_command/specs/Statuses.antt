@@ -1,25 +1,9 @@
--- The exit statuses of the program.
+-- The exit statuses of the program, where its words give an order.
 use Rattle.std.specs.Prelude.{ℕ, Result, Ok, Err}
-use Rattle.clap.specs.Words.{kind_of}
-use Rattle.clap.specs.declared.error.kind.ErrorKind.{ErrorKind}
-use Rattle.clap.specs.declared.error.kind.ErrorKind.TheVariants.{DisplayHelp, DisplayVersion}
 use Rattle.ss_engine.specs.Outcomes.{status_of}
 use Rattle.ss_engine.specs.declared.outcome.Outcome.{Outcome}
 use Rattle.ss_command.specs.declared.trouble.Trouble.{Trouble}
 use Rattle.ss_command.specs.declared.trouble.Trouble.TheVariants as trouble
-use Rattle.ss_command.specs.declared.misuse.Misuse.{Misuse}
-use Rattle.ss_command.specs.declared.misuse.Misuse.TheVariants.{Words, Incomplete, Memory}
-
--- a call for help or for the version is answered; all else is a mistake
-abbrev pub kind_status : ErrorKind → ℕ
-kind_status DisplayHelp = 0
-kind_status DisplayVersion = 0
-kind_status _ = 2
-
-abbrev pub misuse_status : Misuse → ℕ
-misuse_status (Words error) = kind_status (kind_of error)
-misuse_status Incomplete = 2
-misuse_status Memory = 5
 
 -- what stops the program before a run has an outcome
 abbrev pub trouble_status : Trouble → ℕ

@@ -2,14 +2,13 @@
 #![tactic(auto)]
 
 mod files;
-mod misuse;
-mod order;
 mod program;
 mod trouble;
-mod words;
 
 pub use files::{Disk, FileStore};
-pub use misuse::Misuse;
-pub use order::Order;
 pub use program::{Streams, perform, tell};
+pub use ss_engine::{
+    Model, Outcome, Refusal, Stop, compile, outcome_line, outcome_status, simulate,
+};
+pub use ss_order::{Misuse, Order};
 pub use trouble::Trouble;

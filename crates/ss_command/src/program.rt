@@ -4,11 +4,10 @@ ghost use Rattle.ss_engine.specs.Outcomes.{status_of};
 ghost use Rattle.ss_command.specs.Statuses.{ended_status, trouble_status};
 
 use crate::files::FileStore;
-use crate::misuse::Misuse;
-use crate::order::Order;
 use crate::trouble::Trouble;
 use ss_base::Counted;
 use ss_engine::{Outcome, Stop, compile, outcome_line, outcome_status, simulate};
+use ss_order::{Misuse, Order};
 use std::alloc::{AllocError, Global};
 use std::convert::AsStr;
 use std::io::{BufReader, BufWriter, ErrorKind, Read, Write};

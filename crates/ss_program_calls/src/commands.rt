@@ -1,8 +1,7 @@
 //! The program's commands, over files and streams in memory.
 
 use ss_base::{FaultKind, Line};
-use ss_command::{FileStore, Order, Streams, Trouble, perform, tell};
-use ss_engine::{Outcome, Refusal, Stop};
+use ss_command::{FileStore, Order, Outcome, Refusal, Stop, Streams, Trouble, perform, tell};
 use std::alloc::Global;
 use std::io;
 use std::io::{ErrorKind, Read, Write};

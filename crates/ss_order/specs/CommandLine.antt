@@ -10,10 +10,10 @@ use Rattle.clap.specs.Words.{one_of, subcommand_of, with_rule, with_subcommand, 
 use Rattle.clap.specs.declared.builder.action.ArgAction.TheVariants.{Set}
 use Rattle.clap.specs.declared.builder.value_parser.ValueParser.{ValueParser}
 use Rattle.clap.specs.declared.builder.value_parser.ValueParser.TheVariants.{Unsigned}
-use Rattle.ss_command.specs.declared.order.Order.{Order}
-use Rattle.ss_command.specs.declared.order.Order.TheVariants as order
-use Rattle.ss_command.specs.declared.misuse.Misuse.{Misuse}
-use Rattle.ss_command.specs.declared.misuse.Misuse.TheVariants as misuse
+use Rattle.ss_order.specs.declared.order.Order.{Order}
+use Rattle.ss_order.specs.declared.order.Order.TheVariants as order
+use Rattle.ss_order.specs.declared.misuse.Misuse.{Misuse}
+use Rattle.ss_order.specs.declared.misuse.Misuse.TheVariants as misuse
 
 -- ---- what the command line may have
 

@@ -1,7 +1,7 @@
 //! What the words of a command line ask for.
 ghost use Rattle.std.specs.Prelude.{◌≡◌, IfOk, IfErr, Some, codes, map, option_and_then, option_map};
 ghost use Rattle.clap.specs.Words.{first_of, found_of, one_of, rows_of, subcommand_rows_of};
-ghost use Rattle.ss_command.specs.CommandLine.{asked, asked_by, asked_in, asked_of, check, list, run_in, ticks_in, IsRefusedFor};
+ghost use Rattle.ss_order.specs.CommandLine.{asked, asked_by, asked_in, asked_of, check, list, run_in, ticks_in, IsRefusedFor};
 
 use crate::misuse::Misuse;
 use crate::words::whole_command;

@@ -2,7 +2,7 @@
 ghost use Rattle.std.specs.Prelude.{◌≡◌, IfOk, codes, false};
 ghost use Rattle.clap.specs.Words.{App, app_of, new_app, rule_of, with_rule, with_subcommand};
 ghost use Rattle.clap.specs.declared.builder.command.Command.TheViews.{out-Command};
-ghost use Rattle.ss_command.specs.CommandLine.{check_words, command_line, file_rule, input_rule, list_words, run_words, ticks_rule};
+ghost use Rattle.ss_order.specs.CommandLine.{check_words, command_line, file_rule, input_rule, list_words, run_words, ticks_rule};
 
 use clap::builder::ValueParser;
 use clap::{Arg, ArgAction, Command};

@@ -8,7 +8,7 @@ use Rattle.clap.specs.ValueTests.{accepts}
 use Rattle.clap.specs.declared.parser.matches.Found.{Found}
 use Rattle.clap.proofs.ValueTestLemmas.{accepts-Accepts, Accepts-accepts}
 use Rattle.clap.proofs.WalkLemmas.{first_value-rows, one_text-rows}
-use Rattle.ss_command.specs.CommandLine.{tick_reader, ticks_in}
+use Rattle.ss_order.specs.CommandLine.{tick_reader, ticks_in}
 
 -- `get_str`
 pub text_read : (f : Found) (id : Text) (r : Option (Bor Text)) → option_map (λ s. s.now) r ≡ first_value f id

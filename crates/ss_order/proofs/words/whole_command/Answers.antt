@@ -1,8 +1,8 @@
 use Rattle.std.proofs.Common.{◌≡◌, ◌∙◌, ap, codes}
 use Rattle.std.proofs.lemmas.Result.{IfOk-weaker}
 use Rattle.clap.specs.Words.{App, app_of, new_app, with_subcommand}
-use Rattle.ss_command.specs.CommandLine.{check_words, list_words, run_words}
-use Rattle.ss_command.proofs.words.whole_command.Goals as goal
+use Rattle.ss_order.specs.CommandLine.{check_words, list_words, run_words}
+use Rattle.ss_order.proofs.words.whole_command.Goals as goal
 
 -- a command line with one more command in it, by what it was before
 with_added : (a old new : App) (words : App) → a ≡ with_subcommand old words.top → old ≡ new → a ≡ with_subcommand new words.top

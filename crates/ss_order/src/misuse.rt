@@ -1,6 +1,6 @@
 //! Command lines that give no order.
 ghost use Rattle.std.specs.Prelude.{◌≡◌, if◌then◌else◌};
-ghost use Rattle.ss_command.specs.Statuses.{misuse_status};
+ghost use Rattle.ss_order.specs.Statuses.{misuse_status};
 
 use clap::Error;
 use std::fmt;

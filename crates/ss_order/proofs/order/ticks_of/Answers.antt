@@ -2,8 +2,8 @@ use Rattle.std.proofs.Common.{ℕ, List, Result, codes}
 use Rattle.std.specs.Str.Parse.{ParsesUnsigned, ExplainsUnsignedError, HasUnsignedDigitsIfOk}
 use Rattle.std.specs.declared.num.ParseIntError.{ParseIntError}
 use Rattle.clap.specs.Words.{found_of}
-use Rattle.ss_command.proofs.Rows.{ticks_read}
-use Rattle.ss_command.proofs.order.ticks_of.Goals as goal
+use Rattle.ss_order.proofs.Rows.{ticks_read}
+use Rattle.ss_order.proofs.order.ticks_of.Goals as goal
 
 pub returns : goal.returns
 returns c =
