@@ -18,7 +18,8 @@ use Rattle.ss_grammar.specs.declared.conditions.Told.TheVariants as tolds
 use Rattle.ss_grammar.specs.Shapes.{Shape, ◌▷◌, nothing, never, optional, provided, Token_is, Word_is, Name_is, Said, flagged, within}
 use Rattle.ss_grammar.specs.Words.{the}
 use Rattle.ss_grammar.specs.SpelledExpressions.{sum_place, Spelled, Sum_is, Plain_name, Subscript, Reference_is}
-use Rattle.ss_grammar.specs.SpelledConditions.{relation_of, In_words, Relation_is, Test_is, joined}
+use Rattle.ss_grammar.specs.SpelledConditions.{In_words, Relation_is, Test_is, joined}
+use Rattle.ss_elements.specs.Words.{relation_of}
 use Rattle.ss_grammar.specs.Reading.{word, is, begins, begins_by, skip, in_table, taken, seq, closed, choose}
 use Rattle.ss_grammar.specs.ReadWords.{said}
 use Rattle.ss_grammar.specs.ReadExpressions.{opening, star, begins_sign, begins_value, begins_sum, sum_in}

@@ -15,7 +15,8 @@ use Rattle.ss_tree.specs.declared.expression.Designator.{Designator}
 use Rattle.ss_tree.specs.declared.expression.Designator.TheVariants as designators
 use Rattle.ss_tree.specs.Tree.{ExpressionTree, number, text, named, call, parenthesised, product, signed, sum, ExpressionRow, no_expression, and_expression, expression_row, TermRow, no_term, and_term, term_row}
 use Rattle.ss_grammar.specs.Shapes.{Shape, ◌▷◌, nothing, never, Token_is, Symbol_is, Said, separator, each, listed, within}
-use Rattle.ss_grammar.specs.SpelledExpressions.{Place, sum_place, first_place, term_place, factor_place, Sign_is, function_of, Designated, Spelled, Further_arguments, Further_factors, Further_terms}
+use Rattle.ss_grammar.specs.SpelledExpressions.{Place, sum_place, first_place, term_place, factor_place, Sign_is, Designated, Spelled, Further_arguments, Further_factors, Further_terms}
+use Rattle.ss_elements.specs.Words.{function_of}
 use Rattle.ss_grammar.specs.Openers.{opens, openers}
 use Rattle.ss_grammar.specs.Reading.{word, is, is_some, begins, skip, taken, seq, apply, skip_separator, begins_more}
 use Rattle.ss_grammar.specs.ReadExpressions.{opening, closing, star, sign_of, begins_sign, designator_of_word, begins_value, begins_sum, sum_of, product_of, arguments_with, enclosed_with, subscripts_with, named_with, call_with, parenthesised_with, factor_in_words, factor_at, factor_with, further_factors_with, term_with, signed_term_with, first_term_with, further_terms_with, sum_with, sum_in}

@@ -13,7 +13,8 @@ use Rattle.ss_grammar.specs.declared.classes.Class.TheVariants as classes
 use Rattle.ss_grammar.specs.Shapes.{Shape, ◌▷◌, nothing, either, provided, noise, Word_is, Symbol_is, Name_is, Said, each, perhaps, flagged}
 use Rattle.ss_grammar.specs.Words.{One_of, the}
 use Rattle.ss_grammar.specs.SpelledExpressions.{Sum_is, Reference_is}
-use Rattle.ss_grammar.specs.SpelledConditions.{phrase_of, guard_of, Start_is, Head_behind, Begins_with_for}
+use Rattle.ss_grammar.specs.SpelledConditions.{Start_is, Head_behind, Begins_with_for}
+use Rattle.ss_elements.specs.Words.{phrase_of, guard_of}
 use Rattle.ss_grammar.specs.Reading.{word, symbol, is, is_some, begins, expect, in_table, behind, apply, choose, comma, skip_comma}
 use Rattle.ss_grammar.specs.ReadWords.{done, begins_class, begins_among}
 use Rattle.ss_grammar.specs.ReadExpressions.{sum_in}

@@ -9,3 +9,4 @@ pub mod ReadWords
 pub mod ReadPlaces
 pub mod ReadConditions
 pub mod ReadHeads
+pub mod Steps

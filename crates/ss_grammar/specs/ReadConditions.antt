@@ -14,7 +14,7 @@ use Rattle.ss_grammar.specs.declared.conditions.Verb.{Verb}
 use Rattle.ss_grammar.specs.declared.conditions.Verb.TheVariants as verbs
 use Rattle.ss_grammar.specs.declared.conditions.Told.{Told}
 use Rattle.ss_grammar.specs.declared.conditions.Told.TheVariants as tolds
-use Rattle.ss_grammar.specs.SpelledConditions.{relation_of}
+use Rattle.ss_elements.specs.Words.{relation_of}
 use Rattle.ss_grammar.specs.Reading.{Reader, ◌>>=◌, word, begins, begins_by, skip, expect, in_table, taken, seq, behind, closed, apply, choose, too_deep, first_and}
 use Rattle.ss_grammar.specs.ReadWords.{said, done, fail}
 use Rattle.ss_grammar.specs.ReadExpressions.{sum_in}

@@ -14,7 +14,7 @@ use Rattle.ss_tree.specs.declared.expression.Function.{Function}
 use Rattle.ss_tree.specs.declared.expression.Designator.{Designator}
 use Rattle.ss_tree.specs.declared.expression.Designator.TheVariants as designators
 use Rattle.ss_tree.specs.Tree.{ExpressionTree, number, text, named, call, parenthesised, product, signed, sum, expression_row, term_row}
-use Rattle.ss_grammar.specs.SpelledExpressions.{function_of}
+use Rattle.ss_elements.specs.Words.{function_of}
 use Rattle.ss_grammar.specs.Reading.{Reader, Mark, symbol, begins, skip, expect, is_some, begins_by, taken, seq, behind, closed, apply, maybe_list, choose, too_deep, rows, list_of}
 
 -- ---- single tokens

@@ -7,7 +7,7 @@ use Rattle.ss_tree.specs.declared.head.PhraseKind.{PhraseKind}
 use Rattle.ss_tree.specs.declared.head.GuardKind.{GuardKind}
 use Rattle.ss_tree.specs.Tree.{ExpressionTree, NamedTree, ConditionTree, PhraseTree, GuardTree, StartTree, from_end, from_member, after_member, HeadTree, over_range, over_members, over_class, guarded}
 use Rattle.ss_grammar.specs.declared.classes.Class.TheVariants as classes
-use Rattle.ss_grammar.specs.SpelledConditions.{phrase_of, guard_of}
+use Rattle.ss_elements.specs.Words.{phrase_of, guard_of}
 use Rattle.ss_grammar.specs.Reading.{Reader, ◌>>=◌, word, symbol, begins, begins_by, skip, expect, in_table, taken, name_of, seq, behind, apply, maybe, flag, choose, rows, skip_comma}
 use Rattle.ss_grammar.specs.ReadWords.{done, begins_class, expect_class}
 use Rattle.ss_grammar.specs.ReadExpressions.{sum_in}

@@ -1,12 +1,10 @@
 -- Which tokens spell a condition and the head of a loop.
-use Rattle.std.specs.Prelude.{◌≡◌, ℕ, List, [], ◌∷◌, Option, Some, None}
+use Rattle.std.specs.Prelude.{◌≡◌, ℕ, List, [], ◌∷◌}
 use Rattle.ss_lex.specs.declared.token.Symbol.TheVariants.{Equals}
 use Rattle.ss_lex.specs.declared.word.Word.{Word}
 use Rattle.ss_lex.specs.declared.word.Word.TheVariants as words
 use Rattle.ss_tree.specs.declared.condition.Relation.{Relation}
 use Rattle.ss_tree.specs.declared.condition.Relation.TheVariants as relations
-use Rattle.ss_tree.specs.declared.head.PhraseKind.{PhraseKind}
-use Rattle.ss_tree.specs.declared.head.PhraseKind.TheVariants as phrases
 use Rattle.ss_tree.specs.declared.head.GuardKind.{GuardKind}
 use Rattle.ss_tree.specs.declared.head.GuardKind.TheVariants as guards
 use Rattle.ss_tree.specs.Tree.{TestTree, compare, empty, member, data_ended, ConditionTree, PhraseTree, GuardTree, StartTree, from_end, from_member, after_member, HeadTree, over_range, over_members, over_class, guarded}
@@ -14,19 +12,9 @@ use Rattle.ss_grammar.specs.Shapes.{Shape, ◌▷◌, nothing, never, either, op
 use Rattle.ss_grammar.specs.declared.classes.Class.TheVariants as classes
 use Rattle.ss_grammar.specs.Words.{One_of, the}
 use Rattle.ss_grammar.specs.SpelledExpressions.{Sum_is, Reference_is}
+use Rattle.ss_elements.specs.Words.{relation_of, phrase_of, guard_of}
 
 -- ---- relations
-
--- a relation that is one word
-abbrev pub relation_of : Word → Option Relation
-relation_of words.Eq = Some relations.Equal
-relation_of words.Equals = Some relations.Equal
-relation_of words.Ne = Some relations.NotEqual
-relation_of words.Lt = Some relations.Less
-relation_of words.Gt = Some relations.Greater
-relation_of words.Le = Some relations.LessOrEqual
-relation_of words.Ge = Some relations.GreaterOrEqual
-relation_of _ = None
 
 -- a relation in words, behind IS or not
 abbrev pub In_words : Relation → Shape
@@ -57,19 +45,6 @@ abbrev pub Condition_is : ℕ → ConditionTree → Shape
 Condition_is levels = joined words.Or (joined words.And (Test_is levels))
 
 -- ---- heads of loops
-
-abbrev pub phrase_of : Word → Option PhraseKind
-phrase_of words.With = Some phrases.With
-phrase_of words.When = Some phrases.With
-phrase_of words.Unless = Some phrases.Unless
-phrase_of words.While = Some phrases.While
-phrase_of words.Until = Some phrases.Until
-phrase_of _ = None
-
-abbrev pub guard_of : Word → Option GuardKind
-guard_of words.While = Some guards.While
-guard_of words.Until = Some guards.Until
-guard_of _ = None
 
 abbrev pub Phrase_is : ℕ → PhraseTree → Shape
 Phrase_is levels p = noise ▷ Said phrase_of p.kind ▷ Condition_is levels p.condition

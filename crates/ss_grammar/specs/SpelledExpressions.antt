@@ -1,17 +1,15 @@
 -- Which tokens spell an expression.
-use Rattle.std.specs.Prelude.{ℕ, Option, Some, None}
+use Rattle.std.specs.Prelude.{ℕ}
 use Rattle.ss_lex.specs.declared.token.TokenKind.TheVariants as kinds
 use Rattle.ss_lex.specs.declared.token.Symbol.TheVariants.{OpenParenthesis, CloseParenthesis, Plus, Minus, Star}
-use Rattle.ss_lex.specs.declared.word.Word.{Word}
 use Rattle.ss_lex.specs.declared.word.Word.TheVariants as words
 use Rattle.ss_tree.specs.declared.expression.Sign.{Sign}
 use Rattle.ss_tree.specs.declared.expression.Sign.TheVariants as signs
-use Rattle.ss_tree.specs.declared.expression.Function.{Function}
-use Rattle.ss_tree.specs.declared.expression.Function.TheVariants as functions
 use Rattle.ss_tree.specs.declared.expression.Designator.{Designator}
 use Rattle.ss_tree.specs.declared.expression.Designator.TheVariants as designators
 use Rattle.ss_tree.specs.Tree.{ExpressionTree, number, text, named, call, parenthesised, product, signed, sum, ExpressionRow, no_expression, and_expression, TermRow, no_term, and_term, NamedTree}
 use Rattle.ss_grammar.specs.Shapes.{Shape, ◌▷◌, nothing, never, provided, Token_is, Word_is, Symbol_is, Name_is, Said, separator, within}
+use Rattle.ss_elements.specs.Words.{function_of}
 
 -- Where an expression stands, by what may stand there without parentheses.
 pub data Place : Type 0 where
@@ -43,14 +41,6 @@ Takes_sum _ = ⊥
 abbrev pub Sign_is : Sign → Shape
 Sign_is signs.Plus = Symbol_is Plus
 Sign_is signs.Minus = Symbol_is Minus
-
-abbrev pub function_of : Word → Option Function
-function_of words.DivF = Some functions.Div
-function_of words.ModF = Some functions.Mod
-function_of words.AbsF = Some functions.Abs
-function_of words.MinF = Some functions.Min
-function_of words.MaxF = Some functions.Max
-function_of _ = None
 
 -- TIME.V and TIME.A count as names
 abbrev pub Designated : Designator → Shape

@@ -3,14 +3,16 @@
 ghost use Rattle.std.specs.Prelude.{◌≡◌, map};
 ghost use Rattle.ss_tree.specs.Tree.{expression_row};
 ghost use Rattle.ss_tree.specs.View.{view_expression, view_option, view_named, view_test, view_conjunction, view_condition};
-ghost use Rattle.ss_grammar.specs.SpelledConditions.{relation_of};
-ghost use Rattle.ss_grammar.specs.Reading.{Gives, begins_by, taken, in_table, word};
+ghost use Rattle.ss_grammar.specs.Reading.{Gives, begins_by, taken, in_table, word, expect, apply};
+ghost use Rattle.ss_grammar.specs.declared.conditions.Verb.TheVariants.{Compares};
 ghost use Rattle.ss_grammar.specs.ReadConditions.{relation_symbol, told_of, verb_end, worded_verb, verb, is_short, is_reference, reference_of, data_test, test_end, sum_test, test_in, conjunction_in, condition_in};
 
 use crate::expressions::sum;
 use crate::failure::Failure;
 use crate::places::reference;
+use crate::steps::{alone, beside};
 use crate::tokens::{begins_word, expect_word, skip_word, syntax, too_deep};
+use ss_elements::words::relation_of;
 use ss_lex::{Symbol, Token, TokenKind, Word};
 use ss_tree::condition::{Condition, Conjunction, Relation, Test};
 use ss_tree::expression::{Designator, Expression, Named};
@@ -34,21 +36,6 @@ pub enum Told {
     Equal,
     Less,
     Greater,
-}
-
-/// The relation that the word stands for.
-fn relation_of(word: Word) -> Option<Relation>
-    ensures { result ≡ relation_of word }
-{
-    match word {
-        Word::Eq | Word::Equals => Some(Relation::Equal),
-        Word::Ne => Some(Relation::NotEqual),
-        Word::Lt => Some(Relation::Less),
-        Word::Gt => Some(Relation::Greater),
-        Word::Le => Some(Relation::LessOrEqual),
-        Word::Ge => Some(Relation::GreaterOrEqual),
-        _ => None,
-    }
 }
 
 /// The relation that is one token.
@@ -91,6 +78,14 @@ fn told_word(tokens: &[Token]) -> Result<(Told, &[Token]), Failure>
     }
 }
 
+/// A verb that compares, and ends with the word.
+fn compares(relation: Relation, tokens: &[Token], last: Word) -> Result<(Verb, &[Token]), Failure>
+    ensures { Gives (λ x. (x.0, x.1.now)) result (apply (λ u. Compares relation) (expect (word last)) tokens.now) }
+{
+    let rest = expect_word(tokens, last)?;
+    Ok((Verb::Compares(relation), rest))
+}
+
 /// What stands behind IS, NOT and the word that says what is tested.
 fn verb_end(
     is: bool,
@@ -104,33 +99,12 @@ fn verb_end(
         Told::Empty if is => Ok((Verb::IsEmpty(negated), tokens)),
         Told::In if is => Ok((Verb::IsIn(negated), tokens)),
         Told::Empty | Told::In => Err(syntax(tokens)),
-        Told::Equal => {
-            let rest = expect_word(tokens, Word::To)?;
-            let relation = if negated {
-                Relation::NotEqual
-            } else {
-                Relation::Equal
-            };
-            Ok((Verb::Compares(relation), rest))
-        }
-        Told::Less => {
-            let rest = expect_word(tokens, Word::Than)?;
-            let relation = if negated {
-                Relation::GreaterOrEqual
-            } else {
-                Relation::Less
-            };
-            Ok((Verb::Compares(relation), rest))
-        }
-        Told::Greater => {
-            let rest = expect_word(tokens, Word::Than)?;
-            let relation = if negated {
-                Relation::LessOrEqual
-            } else {
-                Relation::Greater
-            };
-            Ok((Verb::Compares(relation), rest))
-        }
+        Told::Equal if negated => compares(Relation::NotEqual, tokens, Word::To),
+        Told::Equal => compares(Relation::Equal, tokens, Word::To),
+        Told::Less if negated => compares(Relation::GreaterOrEqual, tokens, Word::Than),
+        Told::Less => compares(Relation::Less, tokens, Word::Than),
+        Told::Greater if negated => compares(Relation::LessOrEqual, tokens, Word::Than),
+        Told::Greater => compares(Relation::Greater, tokens, Word::Than),
     }
 }
 
@@ -219,7 +193,7 @@ fn test_end(
 {
     match verb {
         Verb::Compares(relation) => {
-            let (right, rest) = sum(alloc, tokens, room)?;
+            let (left, (right, rest)) = beside(left, sum(alloc, tokens, room))?;
             let test = Test::Compare {
                 left,
                 relation,
@@ -228,9 +202,10 @@ fn test_end(
             Ok((test, rest))
         }
         Verb::IsIn(negated) => {
-            let (set, rest) = reference(alloc, skip_word(tokens, Word::The), room)?;
+            let set = reference(alloc, skip_word(tokens, Word::The), room);
+            let (member, (set, rest)) = beside(left, set)?;
             let test = Test::Member {
-                member: left,
+                member,
                 set,
                 negated,
             };
@@ -288,9 +263,8 @@ fn conjunction(
 ) -> Result<(Conjunction, &[Token]), Failure>
     ensures { Gives (λ x. (view_conjunction x.0, x.1.now)) result (conjunction_in room tokens.now) }
 {
-    let mut all = Vec::new(alloc);
     let (first, mut rest) = test(alloc, tokens, room)?;
-    all.push(first)?;
+    let mut all = alone(alloc, first)?;
     'more: while begins_word(rest, Word::And) {
         let (next, after) = test(alloc, skip_word(rest, Word::And), room)?;
         all.push(next)?;
@@ -307,9 +281,8 @@ pub fn condition(
 ) -> Result<(Condition, &[Token]), Failure>
     ensures { Gives (λ x. (view_condition x.0, x.1.now)) result (condition_in room tokens.now) }
 {
-    let mut all = Vec::new(alloc);
     let (first, mut rest) = conjunction(alloc, tokens, room)?;
-    all.push(first)?;
+    let mut all = alone(alloc, first)?;
     'more: while begins_word(rest, Word::Or) {
         let (next, after) = conjunction(alloc, skip_word(rest, Word::Or), room)?;
         all.push(next)?;

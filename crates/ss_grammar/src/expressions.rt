@@ -3,14 +3,16 @@
 ghost use Rattle.std.specs.Prelude.{◌≡◌, IfOk, map};
 ghost use Rattle.ss_tree.specs.Tree.{signed};
 ghost use Rattle.ss_tree.specs.View.{view_expression, view_term};
-ghost use Rattle.ss_grammar.specs.SpelledExpressions.{function_of};
+ghost use Rattle.ss_elements.specs.Words.{function_of};
 ghost use Rattle.ss_grammar.specs.Reading.{Gives, word, begins_by, taken, begins_more};
 ghost use Rattle.ss_grammar.specs.ReadExpressions.{sum_of, product_of, sign_of, begins_sign, designator_of_word, begins_sum, arguments_with, enclosed_with, subscripts_with, named_with, call_with, parenthesised_with, factor_in_words, factor_with, further_factors_with, term_with, signed_term_with, first_term_with, further_terms_with, sum_with, sum_in};
 
 use crate::failure::Failure;
+use crate::steps::{alone, beside};
 use crate::tokens::{
     begins_symbol, begins_word, expect_symbol, skip_separator, skip_symbol, syntax, too_deep,
 };
+use ss_elements::words::function_of;
 use ss_lex::{Symbol, Token, TokenKind, Word};
 use ss_tree::expression::{Designator, Expression, Function, Named, Sign, Term};
 use std::alloc::{AllocError, Global};
@@ -42,20 +44,6 @@ pub fn designator_of_word(word: Word) -> Option<Designator>
     match word {
         Word::TimeV => Some(Designator::TimeV),
         Word::TimeA => Some(Designator::TimeA),
-        _ => None,
-    }
-}
-
-/// The function that the word stands for.
-fn function_of(word: Word) -> Option<Function>
-    ensures { result ≡ function_of word }
-{
-    match word {
-        Word::DivF => Some(Function::Div),
-        Word::ModF => Some(Function::Mod),
-        Word::AbsF => Some(Function::Abs),
-        Word::MinF => Some(Function::Min),
-        Word::MaxF => Some(Function::Max),
         _ => None,
     }
 }
@@ -133,7 +121,7 @@ pub fn sum(alloc: Global, tokens: &[Token], room: u8) -> Result<(Expression, &[T
         return Err(too_deep(tokens));
     }
     let (first, rest) = first_term(alloc, tokens, room - 1)?;
-    let (further, rest) = further_terms(alloc, rest, room - 1)?;
+    let (first, (further, rest)) = beside(first, further_terms(alloc, rest, room - 1))?;
     Ok((sum_of(alloc, first, further)?, rest))
 }
 
@@ -188,7 +176,7 @@ fn term(alloc: Global, tokens: &[Token], room: u8) -> Result<(Expression, &[Toke
     ensures { Gives (λ x. (view_expression x.0, x.1.now)) result (term_with (sum_in room) tokens.now) }
 {
     let (first, rest) = factor(alloc, tokens, room)?;
-    let (further, rest) = further_factors(alloc, rest, room)?;
+    let (first, (further, rest)) = beside(first, further_factors(alloc, rest, room))?;
     Ok((product_of(alloc, first, further)?, rest))
 }
 
@@ -299,7 +287,7 @@ fn parenthesised(
     ensures { Gives (λ x. (view_expression x.0, x.1.now)) result (parenthesised_with (sum_in room) tokens.now) }
 {
     let (inner, rest) = sum(alloc, tokens, room)?;
-    let rest = expect_symbol(rest, Symbol::CloseParenthesis)?;
+    let (inner, rest) = beside(inner, expect_symbol(rest, Symbol::CloseParenthesis))?;
     Ok((Expression::Parenthesised(Box::new(alloc, inner)?), rest))
 }
 
@@ -332,7 +320,7 @@ fn enclosed(
 {
     let rest = expect_symbol(tokens, Symbol::OpenParenthesis)?;
     let (arguments, rest) = sums(alloc, rest, room)?;
-    let rest = expect_symbol(rest, Symbol::CloseParenthesis)?;
+    let (arguments, rest) = beside(arguments, expect_symbol(rest, Symbol::CloseParenthesis))?;
     Ok((arguments, rest))
 }
 
@@ -345,9 +333,8 @@ pub fn sums(
 ) -> Result<(Vec<Expression>, &[Token]), Failure>
     ensures { Gives (λ x. (map view_expression x.0.items, x.1.now)) result (arguments_with (sum_in room) tokens.now) }
 {
-    let mut all = Vec::new(alloc);
     let (first, mut rest) = sum(alloc, tokens, room)?;
-    all.push(first)?;
+    let mut all = alone(alloc, first)?;
     'more: while begins_more_sums(rest) {
         let (next, after) = sum(alloc, skip_separator(rest), room)?;
         all.push(next)?;

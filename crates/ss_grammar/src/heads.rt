@@ -2,7 +2,7 @@
 
 ghost use Rattle.std.specs.Prelude.{◌≡◌, map};
 ghost use Rattle.ss_tree.specs.View.{view_expression, view_option, view_phrase, view_guard, view_start, view_head};
-ghost use Rattle.ss_grammar.specs.SpelledConditions.{phrase_of, guard_of};
+ghost use Rattle.ss_elements.specs.Words.{phrase_of, guard_of};
 ghost use Rattle.ss_grammar.specs.Reading.{Gives, taken, in_table, apply, skip_comma};
 ghost use Rattle.ss_grammar.specs.ReadHeads.{begins_phrase, begins_guard, phrase_in, guard_in, phrases_in, guards_behind, step_in, range_in, start_in, reverse, members_in, class_in, class_tree, each_named, each_in, for_in, guarded_in};
 
@@ -12,26 +12,15 @@ use crate::expressions::sum;
 use crate::failure::Failure;
 use crate::names::name;
 use crate::places::reference;
+use crate::steps::{alone, beside};
 use crate::tokens::{
     begins_word, behind_first, expect_symbol, expect_word, skip_symbol, skip_word, syntax,
 };
+use ss_elements::words::{guard_of, phrase_of};
 use ss_lex::{Name, Symbol, Token, TokenKind, Word};
 use ss_tree::expression::Expression;
 use ss_tree::head::{Guard, GuardKind, Head, MemberStart, Phrase, PhraseKind};
 use std::alloc::Global;
-
-/// The phrase that begins with the word.
-fn phrase_of(word: Word) -> Option<PhraseKind>
-    ensures { result ≡ phrase_of word }
-{
-    match word {
-        Word::With | Word::When => Some(PhraseKind::With),
-        Word::Unless => Some(PhraseKind::Unless),
-        Word::While => Some(PhraseKind::While),
-        Word::Until => Some(PhraseKind::Until),
-        _ => None,
-    }
-}
 
 /// The word that begins a phrase.
 fn phrase_kind(tokens: &[Token]) -> Result<(PhraseKind, &[Token]), Failure>
@@ -84,17 +73,6 @@ fn phrases(alloc: Global, tokens: &[Token], room: u8) -> Result<(Vec<Phrase>, &[
         rest = after;
     }
     Ok((all, rest))
-}
-
-/// The condition of a loop that begins with the word.
-fn guard_of(word: Word) -> Option<GuardKind>
-    ensures { result ≡ guard_of word }
-{
-    match word {
-        Word::While => Some(GuardKind::While),
-        Word::Until => Some(GuardKind::Until),
-        _ => None,
-    }
 }
 
 /// WHILE or UNTIL.
@@ -152,8 +130,7 @@ fn guards(
 ) -> Result<(Vec<Guard>, &[Token]), Failure>
     ensures { Gives (λ x. (map view_guard x.0.items, x.1.now)) result (guards_behind room (view_guard first) tokens.now) }
 {
-    let mut all = Vec::new(alloc);
-    all.push(first)?;
+    let mut all = alone(alloc, first)?;
     let mut rest = tokens;
     'more: while begins_next_guard(rest) {
         let (next, after) = guard(alloc, skip_symbol(rest, Symbol::Comma), room)?;
@@ -174,8 +151,7 @@ fn step(
     if !begins_word(tokens, Word::By) {
         return Ok((None, tokens));
     }
-    let rest = expect_word(tokens, Word::By)?;
-    let (step, rest) = sum(alloc, rest, room)?;
+    let (step, rest) = sum(alloc, skip_word(tokens, Word::By), room)?;
     Ok((Some(step), rest))
 }
 
@@ -187,10 +163,11 @@ fn range(alloc: Global, tokens: &[Token], room: u8) -> Result<(Head, &[Token]), 
     let variable = name(tokens)?;
     let rest = expect_symbol(behind_first(tokens), Symbol::Equals)?;
     let (from, rest) = sum(alloc, rest, room)?;
-    let rest = expect_word(rest, Word::To)?;
-    let (to, rest) = sum(alloc, rest, room)?;
-    let (step, rest) = step(alloc, rest, room)?;
-    let (phrases, rest) = phrases(alloc, rest, room)?;
+    let (from, rest) = beside(from, expect_word(rest, Word::To))?;
+    let (from, (to, rest)) = beside(from, sum(alloc, rest, room))?;
+    let (bounds, (step, rest)) = beside((from, to), step(alloc, rest, room))?;
+    let ((bounds, step), (phrases, rest)) = beside((bounds, step), phrases(alloc, rest, room))?;
+    let (from, to) = bounds;
     let head = Head::Range {
         variable,
         from,
@@ -207,12 +184,10 @@ fn start(alloc: Global, tokens: &[Token], room: u8) -> Result<(MemberStart, &[To
     ensures { Gives (λ x. (view_start x.0, x.1.now)) result (start_in room tokens.now) }
 {
     if begins_word(tokens, Word::From) {
-        let rest = expect_word(tokens, Word::From)?;
-        let (member, rest) = sum(alloc, rest, room)?;
+        let (member, rest) = sum(alloc, skip_word(tokens, Word::From), room)?;
         Ok((MemberStart::From(member), rest))
     } else if begins_word(tokens, Word::After) {
-        let rest = expect_word(tokens, Word::After)?;
-        let (member, rest) = sum(alloc, rest, room)?;
+        let (member, rest) = sum(alloc, skip_word(tokens, Word::After), room)?;
         Ok((MemberStart::After(member), rest))
     } else {
         Ok((MemberStart::End, tokens))
@@ -227,8 +202,7 @@ fn reverse(tokens: &[Token]) -> Result<(bool, &[Token]), Failure>
     if !begins_word(tokens, Word::In) {
         return Ok((false, tokens));
     }
-    let rest = expect_word(tokens, Word::In)?;
-    let rest = expect_word(rest, Word::Reverse)?;
+    let rest = expect_word(skip_word(tokens, Word::In), Word::Reverse)?;
     let rest = expect_word(rest, Word::Order)?;
     Ok((true, rest))
 }
@@ -245,9 +219,9 @@ fn members(
 {
     let rest = expect_word(tokens, Word::In)?;
     let (set, rest) = reference(alloc, skip_word(rest, Word::The), room)?;
-    let (start, rest) = start(alloc, rest, room)?;
-    let (reverse, rest) = reverse(rest)?;
-    let (phrases, rest) = phrases(alloc, rest, room)?;
+    let (set, (start, rest)) = beside(set, start(alloc, rest, room))?;
+    let (place, (reverse, rest)) = beside((set, start), reverse(rest))?;
+    let ((set, start), (phrases, rest)) = beside(place, phrases(alloc, rest, room))?;
     let head = Head::Members {
         variable,
         set,
@@ -290,7 +264,7 @@ fn class(
     if !begins_word(tokens, Word::Called) {
         return class_phrases(alloc, class, None, tokens, room);
     }
-    let rest = expect_word(tokens, Word::Called)?;
+    let rest = skip_word(tokens, Word::Called);
     let called = name(rest)?;
     class_phrases(alloc, class, Some(called), behind_first(rest), room)
 }

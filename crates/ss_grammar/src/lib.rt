@@ -8,4 +8,5 @@ pub mod failure;
 pub mod heads;
 pub mod names;
 pub mod places;
+pub mod steps;
 pub mod tokens;

@@ -6,6 +6,7 @@ ghost use Rattle.ss_grammar.specs.ReadWords.{begins_name, names, begins_item, it
 
 use crate::classes::{Class, skip_class};
 use crate::failure::Failure;
+use crate::steps::alone;
 use crate::tokens::{begins_symbol, begins_word, behind_first, skip_separator, syntax};
 use ss_lex::{Name, Symbol, Token, TokenKind, Word};
 use std::alloc::Global;
@@ -48,9 +49,8 @@ fn begins_more_names(tokens: &[Token]) -> bool
 pub fn names(alloc: Global, tokens: &[Token]) -> Result<(Vec<Name>, &[Token]), Failure>
     ensures { Gives (λ x. (x.0.items, x.1.now)) result (names tokens.now) }
 {
-    let mut all = Vec::new(alloc);
     let first = name(tokens)?;
-    all.push(first)?;
+    let mut all = alone(alloc, first)?;
     let mut rest = behind_first(tokens);
     'more: while begins_more_names(rest) {
         let from = skip_separator(rest);
@@ -79,10 +79,9 @@ fn begins_more_items(tokens: &[Token]) -> bool
 pub fn items(alloc: Global, tokens: &[Token]) -> Result<(Vec<Name>, &[Token]), Failure>
     ensures { Gives (λ x. (x.0.items, x.1.now)) result (items tokens.now) }
 {
-    let mut all = Vec::new(alloc);
     let from = skip_class(tokens, Class::Article);
     let first = name(from)?;
-    all.push(first)?;
+    let mut all = alone(alloc, first)?;
     let mut rest = behind_first(from);
     'more: while begins_more_items(rest) {
         let from = skip_class(skip_separator(rest), Class::Article);

@@ -9,8 +9,10 @@ ghost use Rattle.ss_grammar.specs.ReadPlaces.{subscript_row, subscript_with, pla
 
 use crate::expressions::{designator_of_word, sum};
 use crate::failure::Failure;
+use crate::steps::{alone, beside};
 use crate::tokens::{
-    begins_symbol, begins_word, behind_first, expect_symbol, skip_separator, syntax, too_deep,
+    begins_symbol, begins_word, behind_first, expect_symbol, skip_separator, skip_symbol, syntax,
+    too_deep,
 };
 use ss_lex::{Symbol, Token, TokenKind, Word};
 use ss_tree::expression::{Designator, Expression, Named};
@@ -58,21 +60,22 @@ fn subscript(
     if !begins_symbol(tokens, Symbol::OpenParenthesis) {
         return Ok((None, tokens));
     }
-    let rest = expect_symbol(tokens, Symbol::OpenParenthesis)?;
-    let (subscript, rest) = sum(alloc, rest, room)?;
-    let rest = expect_symbol(rest, Symbol::CloseParenthesis)?;
+    let (subscript, rest) = sum(alloc, skip_symbol(tokens, Symbol::OpenParenthesis), room)?;
+    let (subscript, rest) = beside(subscript, expect_symbol(rest, Symbol::CloseParenthesis))?;
     Ok((Some(subscript), rest))
 }
 
-/// The expression alone, if there is one.
-fn alone(alloc: Global, subscript: Option<Expression>) -> Result<Vec<Expression>, AllocError>
+/// The subscript alone, if there is one.
+fn subscripts_of(
+    alloc: Global,
+    subscript: Option<Expression>,
+) -> Result<Vec<Expression>, AllocError>
     ensures { IfOk result (λ v. expression_row (map view_expression v.items) ≡ subscript_row (view_option view_expression subscript)) }
 {
-    let mut all = Vec::new(alloc);
-    if let Some(subscript) = subscript {
-        all.push(subscript)?;
+    match subscript {
+        Some(subscript) => alone(alloc, subscript),
+        None => Ok(Vec::new(alloc)),
     }
-    Ok(all)
 }
 
 /// What a value is put into, where this many levels of nesting, itself among them, may be opened.
@@ -85,7 +88,7 @@ pub fn target(alloc: Global, tokens: &[Token], room: u8) -> Result<(Named, &[Tok
     }
     let designator = designator(tokens)?;
     let (subscript, rest) = subscript(alloc, behind_first(tokens), room - 1)?;
-    let subscripts = alone(alloc, subscript)?;
+    let subscripts = subscripts_of(alloc, subscript)?;
     let target = Named {
         designator,
         subscripts,
@@ -103,7 +106,7 @@ pub fn reference(alloc: Global, tokens: &[Token], room: u8) -> Result<(Named, &[
     }
     let designator = plain_designator(tokens)?;
     let (subscript, rest) = subscript(alloc, behind_first(tokens), room - 1)?;
-    let subscripts = alone(alloc, subscript)?;
+    let subscripts = subscripts_of(alloc, subscript)?;
     let set = Named {
         designator,
         subscripts,
@@ -136,9 +139,8 @@ fn begins_more_targets(tokens: &[Token]) -> bool
 pub fn targets(alloc: Global, tokens: &[Token], room: u8) -> Result<(Vec<Named>, &[Token]), Failure>
     ensures { Gives (λ x. (map view_named x.0.items, x.1.now)) result (targets_in room tokens.now) }
 {
-    let mut all = Vec::new(alloc);
     let (first, mut rest) = target(alloc, tokens, room)?;
-    all.push(first)?;
+    let mut all = alone(alloc, first)?;
     'more: while begins_more_targets(rest) {
         let (next, after) = target(alloc, skip_separator(rest), room)?;
         all.push(next)?;

@@ -34,7 +34,8 @@ use Rattle.ss_grammar.proofs.Rows as rows_laws
 use Rattle.ss_grammar.proofs.Rows.{first_and_reads, list_reads, separated_item, Loop, loop_of, with_front, with_front_more}
 use Rattle.ss_grammar.proofs.WordLaws.{word_in_reads, optional_class_reads, done_reads, fail_reads, noisy_mark_reads, noisy_begins, noisy_less, name_reads, name_begins, name_no_and, name_less, names_reads, items_reads, perhaps_listed_reads, either_reads, item_made, no_word}
 use Rattle.ss_statements.specs.SpelledStatements.{noisy}
-use Rattle.ss_parse.specs.SpelledPreambles.{mode_of, rank_of, statistic_of, Key_is, Keys_are, Statistic_is, Clause_is, Clauses_are, Order_is, article, preamble_line, weighting_word, preamble_first, Preamble_behind, Preamble_from, group_behind, Preambles_are, Whole_preamble}
+use Rattle.ss_parse.specs.SpelledPreambles.{Key_is, Keys_are, Statistic_is, Clause_is, Clauses_are, Order_is, article, preamble_line, weighting_word, preamble_first, Preamble_behind, Preamble_from, group_behind, Preambles_are, Whole_preamble}
+use Rattle.ss_elements.specs.Words.{mode_of, rank_of, statistic_of}
 use Rattle.ss_parse.specs.ReadPreambles.{key_tree, key, then_rank, then_key, keys, statistic_tree, statistic_kind, statistic, found, clause, clause_word, begins_clause, clauses, ranking, order, permanent_at, temporary_at, notices_at, every_at, normally_at, system_at, define_end, define_at, priority_at, break_at, statistics_at, preamble_at, preamble_word, begins_preamble, preamble_in, preamble_row, preambles, whole_preamble}
 use Rattle.ss_statements.proofs.FirstWords.{Form, plain_form, by_word_reads, first_less}
 

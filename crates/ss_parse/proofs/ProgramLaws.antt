@@ -19,7 +19,8 @@ use Rattle.ss_grammar.proofs.Marks.{token, mark_begins, token_less}
 use Rattle.ss_grammar.proofs.ReaderLaws.{Reads, Item, nowise, Made, made_reads, said_reads, seq_reads, marked_reads, closed_reads, before_mark_reads, optional_reads, apply_reads, fewer_reads, lined_reads, item_of, item_marked, flag_reads, expect_reads}
 use Rattle.ss_grammar.proofs.Rows.{rows_reads, Loop, loop_of}
 use Rattle.ss_grammar.proofs.WordLaws.{word_in_reads, optional_class_reads, done_reads, fail_reads, name_reads, names_reads, perhaps_listed_reads, no_word}
-use Rattle.ss_parse.specs.SpelledPreambles.{mode_of, Variables_are}
+use Rattle.ss_parse.specs.SpelledPreambles.{Variables_are}
+use Rattle.ss_elements.specs.Words.{mode_of}
 use Rattle.ss_parse.specs.SpelledPrograms.{section_word, Saving_words, Kind_behind, Definition_is, Section_is, Program_is}
 use Rattle.ss_statements.specs.ReadStatements.{form_word}
 use Rattle.ss_parse.proofs.PreambleLaws.{whole_preamble_reads}

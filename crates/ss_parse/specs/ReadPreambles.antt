@@ -14,7 +14,8 @@ use Rattle.ss_tree.specs.Tree.{ClauseTree, has, owns, belongs_to, OrderTree, fif
 use Rattle.ss_grammar.specs.declared.classes.Class.TheVariants as alike
 use Rattle.ss_grammar.specs.Reading.{Reader, ◌>>=◌, word, begins, begins_by, expect, in_table, taken, name_of, seq, behind, closed, apply, maybe_list, choose, first_and, list_of}
 use Rattle.ss_grammar.specs.ReadWords.{done, fail, skip_class, begins_noisy, expect_noisy, begins_among, begins_name, names, items}
-use Rattle.ss_parse.specs.SpelledPreambles.{mode_of, rank_of, statistic_of, group_behind}
+use Rattle.ss_parse.specs.SpelledPreambles.{group_behind}
+use Rattle.ss_elements.specs.Words.{mode_of, rank_of, statistic_of}
 use Rattle.ss_simple.specs.ReadSimple.{behind_the}
 use Rattle.ss_statements.specs.ReadStatements.{by_word}
 

@@ -11,7 +11,7 @@ use Rattle.ss_tree.specs.Tree.{PreambleTree, DefinitionTree, SectionKindTree, ma
 use Rattle.ss_grammar.specs.declared.classes.Class.TheVariants as classes
 use Rattle.ss_grammar.specs.ReadWords.{done, fail, skip_class, begins_among, names}
 use Rattle.ss_grammar.specs.Reading.{Reader, ◌>>=◌, word, begins, expect, in_table, taken, name_of, flag, seq, behind, closed, apply, lined, maybe_list, rows}
-use Rattle.ss_parse.specs.SpelledPreambles.{mode_of}
+use Rattle.ss_elements.specs.Words.{mode_of}
 use Rattle.ss_parse.specs.ReadPreambles.{whole_preamble}
 use Rattle.ss_simple.specs.ReadSimple.{behind_the}
 use Rattle.ss_statements.specs.ReadStatements.{by_word, statements_in}

@@ -1,44 +1,23 @@
 -- Which tokens spell a preamble.
-use Rattle.std.specs.Prelude.{◌≡◌, ℕ, List, [], ◌∷◌, Option, Some, None, Bool, true, false}
+use Rattle.std.specs.Prelude.{◌≡◌, ℕ, List, [], ◌∷◌, Option, Some, None}
 use Rattle.ss_base.specs.declared.line.Line.{Line}
 use Rattle.ss_lex.specs.declared.word.Word.{Word}
 use Rattle.ss_lex.specs.declared.word.Word.TheVariants as words
 use Rattle.ss_tree.specs.declared.preamble.Mode.{Mode}
-use Rattle.ss_tree.specs.declared.preamble.Mode.TheVariants as modes
 use Rattle.ss_tree.specs.declared.preamble.ClassKind.{ClassKind}
 use Rattle.ss_tree.specs.declared.preamble.ClassKind.TheVariants as classes
 use Rattle.ss_tree.specs.declared.preamble.Key.{Key}
 use Rattle.ss_tree.specs.declared.preamble.Weighting.{Weighting}
 use Rattle.ss_tree.specs.declared.preamble.Weighting.TheVariants as weightings
-use Rattle.ss_tree.specs.declared.preamble.StatisticKind.{StatisticKind}
-use Rattle.ss_tree.specs.declared.preamble.StatisticKind.TheVariants as statistics_kinds
 use Rattle.ss_tree.specs.declared.preamble.Statistic.{Statistic}
 use Rattle.ss_tree.specs.Tree.{ClauseTree, has, owns, belongs_to, OrderTree, fifo, lifo, ranked, PreambleTree, permanent_entities, temporary_entities, event_notices, every, normally, system_owns, define_variables, define_sets, priority_order, break_ties, statistics}
 use Rattle.ss_grammar.specs.declared.classes.Class.TheVariants as alike
 use Rattle.ss_grammar.specs.Shapes.{Shape, ◌▷◌, nothing, optional, provided, Word_is, Name_is, Said, first_and, listed, at}
 use Rattle.ss_grammar.specs.Words.{One_of, the, Item_is, perhaps_listed}
 use Rattle.ss_statements.specs.SpelledStatements.{noisy}
+use Rattle.ss_elements.specs.Words.{mode_of, rank_of, statistic_of}
 
 -- ---- parts
-
-abbrev pub mode_of : Word → Option Mode
-mode_of words.Integer = Some modes.Integer
-mode_of words.Alpha = Some modes.Alpha
-mode_of words.Real = Some modes.Real
-mode_of _ = None
-
--- whether the highest value comes first
-abbrev pub rank_of : Word → Option Bool
-rank_of words.High = Some true
-rank_of words.Low = Some false
-rank_of _ = None
-
-abbrev pub statistic_of : Word → Option StatisticKind
-statistic_of words.Number = Some statistics_kinds.Number
-statistic_of words.Sum = Some statistics_kinds.Sum
-statistic_of words.Maximum = Some statistics_kinds.Maximum
-statistic_of words.Minimum = Some statistics_kinds.Minimum
-statistic_of _ = None
 
 abbrev pub Key_is : Key → Shape
 Key_is key = Said rank_of key.high ▷ Name_is key.name

@@ -2,18 +2,19 @@
 
 ghost use Rattle.std.specs.Prelude.{◌≡◌, map};
 ghost use Rattle.ss_tree.specs.View.{view_expression, view_option, view_named, view_position, view_when};
-ghost use Rattle.ss_grammar.specs.Reading.{Gives, begins_by, taken, in_table};
+ghost use Rattle.ss_grammar.specs.Reading.{Gives, word, expect, behind, begins_by, taken, in_table};
 ghost use Rattle.ss_grammar.specs.ReadExpressions.{sum_in};
 ghost use Rattle.ss_grammar.specs.ReadPlaces.{target_in};
 ghost use Rattle.ss_simple.specs.SpelledParts.{end_of};
-ghost use Rattle.ss_simple.specs.ReadSimple.{called, positive_of, picture_of, items_in, trigger, pictures_at, given_in, yielding_in, position_in, when_in};
+ghost use Rattle.ss_simple.specs.ReadSimple.{equals, set_in, called, positive_of, picture_of, items_in, trigger, pictures_at, given_in, yielding_in, position_in, when_in, due_in};
 
-use ss_grammar::classes::{Class, begins_class, expect_class};
+use ss_grammar::classes::{Class, begins_class, skip_class};
 use ss_grammar::expressions::{sum, sums};
 use ss_grammar::failure::Failure;
-use ss_grammar::places::{target, targets};
-use ss_grammar::tokens::{begins_word, expect_word, syntax};
-use ss_lex::{PictureLine, Token, TokenKind, Word};
+use ss_grammar::places::{reference, target, targets};
+use ss_grammar::steps::beside;
+use ss_grammar::tokens::{begins_word, expect_symbol, expect_word, skip_word, syntax};
+use ss_lex::{PictureLine, Symbol, Token, TokenKind, Word};
 use ss_tree::expression::{Expression, Named};
 use ss_tree::statement::{Position, SetEnd, When};
 use std::alloc::Global;
@@ -88,8 +89,7 @@ pub fn items(
     if !begins_word(tokens, Word::With) {
         return Ok((Vec::new(alloc), tokens));
     }
-    let rest = expect_word(tokens, Word::With)?;
-    sums(alloc, rest, room)
+    sums(alloc, skip_word(tokens, Word::With), room)
 }
 
 /// The words before the pictures.
@@ -98,10 +98,9 @@ pub fn trigger(tokens: &[Token]) -> Result<&[Token], Failure>
     ensures { Gives (λ rest. (tt, rest.now)) result (trigger tokens.now) }
 {
     if begins_word(tokens, Word::Thus) {
-        expect_word(tokens, Word::Thus)
+        Ok(skip_word(tokens, Word::Thus))
     } else if begins_word(tokens, Word::As) {
-        let rest = expect_word(tokens, Word::As)?;
-        expect_word(rest, Word::Follows)
+        expect_word(skip_word(tokens, Word::As), Word::Follows)
     } else {
         let rest = expect_word(tokens, Word::Like)?;
         expect_word(rest, Word::This)
@@ -150,8 +149,7 @@ pub fn given(
     if !begins_class(tokens, Class::Given) {
         return Ok((Vec::new(alloc), tokens));
     }
-    let rest = expect_class(tokens, Class::Given)?;
-    sums(alloc, rest, room)
+    sums(alloc, skip_class(tokens, Class::Given), room)
 }
 
 /// The targets of what is yielded, if there are any.
@@ -165,8 +163,7 @@ pub fn yielding(
     if !begins_word(tokens, Word::Yielding) {
         return Ok((Vec::new(alloc), tokens));
     }
-    let rest = expect_word(tokens, Word::Yielding)?;
-    targets(alloc, rest, room)
+    targets(alloc, skip_word(tokens, Word::Yielding), room)
 }
 
 /// What stands behind CALLED, if it is there, as a value.
@@ -180,8 +177,7 @@ pub fn called_value(
     if !begins_word(tokens, Word::Called) {
         return Ok((None, tokens));
     }
-    let rest = expect_word(tokens, Word::Called)?;
-    let (value, rest) = sum(alloc, rest, room)?;
+    let (value, rest) = sum(alloc, skip_word(tokens, Word::Called), room)?;
     Ok((Some(value), rest))
 }
 
@@ -196,8 +192,7 @@ pub fn called_target(
     if !begins_word(tokens, Word::Called) {
         return Ok((None, tokens));
     }
-    let rest = expect_word(tokens, Word::Called)?;
-    let (target, rest) = target(alloc, rest, room)?;
+    let (target, rest) = target(alloc, skip_word(tokens, Word::Called), room)?;
     Ok((Some(target), rest))
 }
 
@@ -207,18 +202,14 @@ pub fn place(alloc: Global, tokens: &[Token], room: u8) -> Result<(Position, &[T
     ensures { Gives (λ x. (view_position x.0, x.1.now)) result (position_in room tokens.now) }
 {
     if begins_word(tokens, Word::First) {
-        let rest = expect_word(tokens, Word::First)?;
-        Ok((Position::First, rest))
+        Ok((Position::First, skip_word(tokens, Word::First)))
     } else if begins_word(tokens, Word::Last) {
-        let rest = expect_word(tokens, Word::Last)?;
-        Ok((Position::Last, rest))
+        Ok((Position::Last, skip_word(tokens, Word::Last)))
     } else if begins_word(tokens, Word::Before) {
-        let rest = expect_word(tokens, Word::Before)?;
-        let (other, rest) = sum(alloc, rest, room)?;
+        let (other, rest) = sum(alloc, skip_word(tokens, Word::Before), room)?;
         Ok((Position::Before(other), rest))
     } else if begins_word(tokens, Word::After) {
-        let rest = expect_word(tokens, Word::After)?;
-        let (other, rest) = sum(alloc, rest, room)?;
+        let (other, rest) = sum(alloc, skip_word(tokens, Word::After), room)?;
         Ok((Position::After(other), rest))
     } else {
         Ok((Position::Discipline, tokens))
@@ -231,16 +222,65 @@ pub fn due(alloc: Global, tokens: &[Token], room: u8) -> Result<(When, &[Token])
     ensures { Gives (λ x. (view_when x.0, x.1.now)) result (when_in room tokens.now) }
 {
     if begins_word(tokens, Word::At) {
-        let rest = expect_word(tokens, Word::At)?;
-        let (time, rest) = sum(alloc, rest, room)?;
+        let (time, rest) = sum(alloc, skip_word(tokens, Word::At), room)?;
         Ok((When::At(time), rest))
     } else if begins_word(tokens, Word::In) {
-        let rest = expect_word(tokens, Word::In)?;
-        let (units, rest) = sum(alloc, rest, room)?;
-        let rest = expect_word(rest, Word::Unit)?;
+        let (units, rest) = sum(alloc, skip_word(tokens, Word::In), room)?;
+        let (units, rest) = beside(units, expect_word(rest, Word::Unit))?;
         Ok((When::In(units), rest))
     } else {
         let rest = expect_word(tokens, Word::Now)?;
         Ok((When::Now, rest))
     }
+}
+
+/// What is given, and when a notice is due.
+pub fn given_and_due(
+    alloc: Global,
+    tokens: &[Token],
+    room: u8,
+) -> Result<(Vec<Expression>, When, &[Token]), Failure>
+    ensures { Gives (λ x. ((map view_expression x.0.items, view_when x.1), x.2.now)) result (due_in room tokens.now) }
+{
+    let (given, rest) = given(alloc, tokens, room)?;
+    let (given, (when, rest)) = beside(given, due(alloc, rest, room))?;
+    Ok((given, when, rest))
+}
+
+/// An equals sign, and the value behind it.
+pub fn value_set(
+    alloc: Global,
+    tokens: &[Token],
+    room: u8,
+) -> Result<(Expression, &[Token]), Failure>
+    ensures { Gives (λ x. (view_expression x.0, x.1.now)) result (behind (expect equals) (sum_in room) tokens.now) }
+{
+    let rest = expect_symbol(tokens, Symbol::Equals)?;
+    sum(alloc, rest, room)
+}
+
+/// This word, and the target behind it.
+pub fn target_behind(
+    alloc: Global,
+    wanted: Word,
+    tokens: &[Token],
+    room: u8,
+) -> Result<(Named, &[Token]), Failure>
+    ensures { Gives (λ x. (view_named x.0, x.1.now)) result (behind (expect (word wanted)) (target_in room) tokens.now) }
+{
+    let rest = expect_word(tokens, wanted)?;
+    target(alloc, rest, room)
+}
+
+/// This word, and the set behind it.
+pub fn set_behind(
+    alloc: Global,
+    wanted: Word,
+    tokens: &[Token],
+    room: u8,
+) -> Result<(Named, &[Token]), Failure>
+    ensures { Gives (λ x. (view_named x.0, x.1.now)) result (behind (expect (word wanted)) (set_in room) tokens.now) }
+{
+    let rest = expect_word(tokens, wanted)?;
+    reference(alloc, skip_word(rest, Word::The), room)
 }

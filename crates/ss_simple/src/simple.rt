@@ -6,19 +6,18 @@ ghost use Rattle.ss_grammar.specs.Reading.{Gives};
 ghost use Rattle.ss_simple.specs.ReadSimple.{let_at, add_at, subtract_at, call_at, read_at, start_at, new_at, create_at, destroy_at, cancel_at, file_at, remove_end_at, remove_this_at, remove_at, schedule_the_at, schedule_a_at, schedule_at, reset_at, print_head, print_at, skip_at, simple_at};
 
 use crate::parts::{
-    begins_end, called_target, called_value, due, given, items, pictures, place, positive, set_end,
-    trigger, yielding,
+    begins_end, called_target, called_value, given, given_and_due, items, pictures, place,
+    positive, set_behind, set_end, target_behind, trigger, value_set, yielding,
 };
 use ss_base::Line;
 use ss_grammar::classes::{Class, expect_class, skip_class};
 use ss_grammar::expressions::sum;
 use ss_grammar::failure::Failure;
 use ss_grammar::names::{name, names};
-use ss_grammar::places::{reference, target, targets};
-use ss_grammar::tokens::{
-    begins_word, behind_first, expect_symbol, expect_word, skip_word, syntax,
-};
-use ss_lex::{Symbol, Token, Word};
+use ss_grammar::places::{target, targets};
+use ss_grammar::steps::beside;
+use ss_grammar::tokens::{begins_word, behind_first, expect_word, skip_word, syntax};
+use ss_lex::{Token, Word};
 use ss_tree::expression::Expression;
 use ss_tree::statement::Statement;
 use std::alloc::Global;
@@ -34,8 +33,7 @@ fn let_form(
     ensures { Gives (λ x. (view_statement x.0, x.1.now)) result (let_at line room tokens.now) }
 {
     let (target, rest) = target(alloc, tokens, room)?;
-    let rest = expect_symbol(rest, Symbol::Equals)?;
-    let (value, rest) = sum(alloc, rest, room)?;
+    let (target, (value, rest)) = beside(target, value_set(alloc, rest, room))?;
     let form = Statement::Let {
         line,
         target,
@@ -55,8 +53,7 @@ fn add_form(
     ensures { Gives (λ x. (view_statement x.0, x.1.now)) result (add_at line room tokens.now) }
 {
     let (amount, rest) = sum(alloc, tokens, room)?;
-    let rest = expect_word(rest, Word::To)?;
-    let (target, rest) = target(alloc, rest, room)?;
+    let (amount, (target, rest)) = beside(amount, target_behind(alloc, Word::To, rest, room))?;
     let form = Statement::Add {
         line,
         amount,
@@ -76,8 +73,7 @@ fn subtract_form(
     ensures { Gives (λ x. (view_statement x.0, x.1.now)) result (subtract_at line room tokens.now) }
 {
     let (amount, rest) = sum(alloc, tokens, room)?;
-    let rest = expect_word(rest, Word::From)?;
-    let (target, rest) = target(alloc, rest, room)?;
+    let (amount, (target, rest)) = beside(amount, target_behind(alloc, Word::From, rest, room))?;
     let form = Statement::Subtract {
         line,
         amount,
@@ -98,7 +94,7 @@ fn call_form(
 {
     let routine = name(tokens)?;
     let (given, rest) = given(alloc, behind_first(tokens), room)?;
-    let (yielding, rest) = yielding(alloc, rest, room)?;
+    let (given, (yielding, rest)) = beside(given, yielding(alloc, rest, room))?;
     let form = Statement::Call {
         line,
         routine,
@@ -165,8 +161,7 @@ fn create_form(
     if !begins_word(tokens, Word::Every) {
         return new_form(alloc, line, tokens, room);
     }
-    let rest = expect_word(tokens, Word::Every)?;
-    let (classes, rest) = names(alloc, rest)?;
+    let (classes, rest) = names(alloc, skip_word(tokens, Word::Every))?;
     Ok((Statement::CreateEvery { line, classes }, rest))
 }
 
@@ -223,9 +218,9 @@ fn file_form(
     ensures { Gives (λ x. (view_statement x.0, x.1.now)) result (file_at line room tokens.now) }
 {
     let (member, rest) = sum(alloc, skip_word(tokens, Word::The), room)?;
-    let (position, rest) = place(alloc, rest, room)?;
-    let rest = expect_word(rest, Word::In)?;
-    let (set, rest) = reference(alloc, skip_word(rest, Word::The), room)?;
+    let (member, (position, rest)) = beside(member, place(alloc, rest, room))?;
+    let set = set_behind(alloc, Word::In, rest, room);
+    let ((member, position), (set, rest)) = beside((member, position), set)?;
     let form = Statement::File {
         line,
         member,
@@ -247,8 +242,7 @@ fn remove_end_form(
 {
     let (end, rest) = set_end(tokens)?;
     let (target, rest) = target(alloc, rest, room)?;
-    let rest = expect_word(rest, Word::From)?;
-    let (set, rest) = reference(alloc, skip_word(rest, Word::The), room)?;
+    let (target, (set, rest)) = beside(target, set_behind(alloc, Word::From, rest, room))?;
     let form = Statement::RemoveEnd {
         line,
         end,
@@ -269,8 +263,7 @@ fn remove_this_form(
     ensures { Gives (λ x. (view_statement x.0, x.1.now)) result (remove_this_at line room tokens.now) }
 {
     let (member, rest) = sum(alloc, tokens, room)?;
-    let rest = expect_word(rest, Word::From)?;
-    let (set, rest) = reference(alloc, skip_word(rest, Word::The), room)?;
+    let (member, (set, rest)) = beside(member, set_behind(alloc, Word::From, rest, room))?;
     Ok((Statement::Remove { line, member, set }, rest))
 }
 
@@ -305,8 +298,7 @@ fn schedule_the_form(
     let rest = expect_word(tokens, Word::The)?;
     let class = name(rest)?;
     let (called, rest) = called_value(alloc, behind_first(rest), room)?;
-    let (given, rest) = given(alloc, rest, room)?;
-    let (when, rest) = due(alloc, rest, room)?;
+    let (called, (given, when, rest)) = beside(called, given_and_due(alloc, rest, room))?;
     let form = Statement::Schedule {
         line,
         class,
@@ -330,8 +322,7 @@ fn schedule_a_form(
     let rest = expect_class(tokens, Class::Indefinite)?;
     let class = name(rest)?;
     let (called, rest) = called_target(alloc, behind_first(rest), room)?;
-    let (given, rest) = given(alloc, rest, room)?;
-    let (when, rest) = due(alloc, rest, room)?;
+    let (called, (given, when, rest)) = beside(called, given_and_due(alloc, rest, room))?;
     let form = Statement::ScheduleNew {
         line,
         class,
@@ -387,7 +378,7 @@ fn print_head(
     let (count, rest) = positive(tokens)?;
     let rest = expect_word(rest, Word::Line)?;
     let (items, rest) = items(alloc, rest, room)?;
-    let rest = trigger(rest)?;
+    let (items, rest) = beside(items, trigger(rest))?;
     Ok((count, items, rest))
 }
 
@@ -402,7 +393,7 @@ fn print_form(
     ensures { Gives (λ x. (view_statement x.0, x.1.now)) result (print_at line room tokens.now) }
 {
     let (count, items, rest) = print_head(alloc, tokens, room)?;
-    let (pictures, rest) = pictures(alloc, rest, count)?;
+    let (items, (pictures, rest)) = beside(items, pictures(alloc, rest, count))?;
     let form = Statement::Print {
         line,
         items,
@@ -422,7 +413,8 @@ fn skip_form(
     ensures { Gives (λ x. (view_statement x.0, x.1.now)) result (skip_at line room tokens.now) }
 {
     let (count, rest) = sum(alloc, tokens, room)?;
-    let rest = expect_word(skip_word(rest, Word::Output), Word::Line)?;
+    let rest = expect_word(skip_word(rest, Word::Output), Word::Line);
+    let (count, rest) = beside(count, rest)?;
     Ok((Statement::Skip { line, count }, rest))
 }
 

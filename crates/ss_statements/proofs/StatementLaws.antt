@@ -13,10 +13,11 @@ use Rattle.ss_tree.specs.declared.statement.FindOutcome.{FindOutcome}
 use Rattle.ss_tree.specs.Tree.{ConditionTree, HeadTree, over_range, over_members, over_class, guarded, StatementTree, let_statement, add_statement, subtract_statement, call_statement, return_statement, stop_statement, read_statement, start_simulation, if_statement, loop_statement, find_statement, find_if_statement, create_statement, create_every, destroy_statement, file_statement, remove_end, remove_statement, schedule_new, schedule_statement, cancel_statement, reset_statement, print_statement, skip_statement, StatementRow, no_statement, and_statement, statement_row}
 use Rattle.ss_grammar.specs.Openers.{opens, openers}
 use Rattle.ss_grammar.specs.Shapes.{Shape, ◌▷◌, nothing, either, optional, provided, noise, Word_is, Said, at, first_line, each, within}
-use Rattle.ss_grammar.specs.SpelledConditions.{phrase_of, guard_of, guard_word, head_word, Head_behind, Begins_with_for}
+use Rattle.ss_grammar.specs.SpelledConditions.{guard_word, head_word, Head_behind, Begins_with_for}
+use Rattle.ss_elements.specs.Words.{phrase_of, guard_of}
 use Rattle.ss_grammar.specs.Reading.{word, kind_of, is, is_some, begins, in_table, behind, closed, choose, comma, skip_comma}
 use Rattle.ss_grammar.specs.ReadWords.{fail, begins_noisy, expect_noisy}
-use Rattle.ss_grammar.specs.SpelledExpressions.{function_of}
+use Rattle.ss_elements.specs.Words.{function_of}
 use Rattle.ss_grammar.specs.ReadExpressions.{designator_of_word, begins_value, begins_sum}
 use Rattle.ss_grammar.specs.ReadHeads.{begins_guard, guard_tree}
 use Rattle.ss_grammar.proofs.Tools.{which, chosen, or_false}
@@ -27,7 +28,8 @@ use Rattle.ss_grammar.proofs.Rows.{rows_reads, Loop, loop_of}
 use Rattle.ss_grammar.proofs.WordLaws.{word_in_reads, done_reads, noisy_mark_reads, noisy_begins, noisy_less, noisy_stops, either_reads}
 use Rattle.ss_grammar.proofs.ConditionLaws.{In_condition, continues_condition, condition_in_reads, condition_begins}
 use Rattle.ss_grammar.proofs.HeadLaws.{head_more, continues_head, continues_for, continues_guarded, for_reads, Guarded_parts, guarded_reads}
-use Rattle.ss_statements.specs.SpelledStatements.{outcome_of, noisy, Find_words, first_word, May_be_governed, Behind, Statement_from, Statements_are, Else_part, Branches, Governed}
+use Rattle.ss_statements.specs.SpelledStatements.{noisy, Find_words, first_word, May_be_governed, Behind, Statement_from, Statements_are, Else_part, Branches, Governed}
+use Rattle.ss_elements.specs.Words.{outcome_of}
 use Rattle.ss_simple.specs.ReadSimple.{simple_at}
 use Rattle.ss_statements.specs.ReadStatements.{by_word, form_word, begins_form_kind, begins_form, begins_statement, begins_outcome, begins_find_if_form, begins_find_if, statements_with, else_with, branches_with, do_with, governed_with, body_with, find_words, if_with, loop_with, find_if_with, found_with, find_with, for_with, while_with, until_with, nested_word, nested_at, nested_in, form_in, statement_in, statements_in}
 use Rattle.ss_statements.proofs.FirstWords.{Form, plain_form, opening_form, by_word_reads, first_less}

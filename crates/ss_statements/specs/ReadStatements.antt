@@ -13,7 +13,7 @@ use Rattle.ss_grammar.specs.Reading.{Reader, ◌>>=◌, word, begins, begins_by,
 use Rattle.ss_grammar.specs.ReadWords.{done, fail, begins_noisy, expect_noisy}
 use Rattle.ss_grammar.specs.ReadConditions.{condition_in}
 use Rattle.ss_grammar.specs.ReadHeads.{begins_guard, for_in, guarded_in}
-use Rattle.ss_statements.specs.SpelledStatements.{outcome_of}
+use Rattle.ss_elements.specs.Words.{outcome_of}
 use Rattle.ss_simple.specs.ReadSimple.{behind_the, simple_at}
 
 -- ---- by the first word

@@ -2,24 +2,14 @@
 
 ghost use Rattle.std.specs.Prelude.{◌≡◌};
 ghost use Rattle.ss_grammar.specs.Reading.{Gives, taken, in_table};
-ghost use Rattle.ss_statements.specs.SpelledStatements.{outcome_of};
+ghost use Rattle.ss_elements.specs.Words.{outcome_of};
 ghost use Rattle.ss_statements.specs.ReadStatements.{begins_outcome};
 
+use ss_elements::words::outcome_of;
 use ss_grammar::failure::Failure;
 use ss_grammar::tokens::syntax;
 use ss_lex::{Token, TokenKind, Word};
 use ss_tree::statement::FindOutcome;
-
-/// The outcome that the word names.
-fn outcome_of(word: Word) -> Option<FindOutcome>
-    ensures { result ≡ outcome_of word }
-{
-    match word {
-        Word::Found => Some(FindOutcome::Found),
-        Word::None => Some(FindOutcome::None),
-        _ => None,
-    }
-}
 
 /// FOUND or NONE.
 pub fn outcome(tokens: &[Token]) -> Result<(FindOutcome, &[Token]), Failure>

@@ -3,8 +3,9 @@
 ghost use Rattle.std.specs.Prelude.{◌≡◌, map};
 ghost use Rattle.ss_tree.specs.Tree.{statement_row};
 ghost use Rattle.ss_tree.specs.View.{view_statement, view_head};
-ghost use Rattle.ss_grammar.specs.Reading.{Gives};
-ghost use Rattle.ss_grammar.specs.Reading.{word};
+ghost use Rattle.ss_elements.specs.Words.{outcome_of};
+ghost use Rattle.ss_lex.specs.declared.word.Word.TheVariants.{If};
+ghost use Rattle.ss_grammar.specs.Reading.{Gives, word, skip, skip_comma, behind, seq, taken, in_table};
 ghost use Rattle.ss_grammar.specs.ReadWords.{begins_noisy, expect_noisy};
 ghost use Rattle.ss_statements.specs.ReadStatements.{nested_word, begins_form, begins_statement, begins_find_if, statements_with, else_with, branches_with, do_with, governed_with, body_with, find_words, if_with, loop_with, find_if_with, found_with, find_with, for_with, while_with, until_with, nested_in, statement_in, statements_in};
 
@@ -13,11 +14,12 @@ use ss_base::Line;
 use ss_grammar::conditions::condition;
 use ss_grammar::failure::Failure;
 use ss_grammar::heads::{begins_guard, for_head, guarded_head};
+use ss_grammar::steps::{alone, beside};
 use ss_grammar::tokens::{begins_word, expect_word, skip_symbol, skip_word, syntax, too_deep};
 use ss_lex::{Symbol, Token, TokenKind, Word};
 use ss_simple::simple::simple_form;
 use ss_tree::head::{GuardKind, Head};
-use ss_tree::statement::Statement;
+use ss_tree::statement::{FindOutcome, Statement};
 use std::alloc::Global;
 
 /// Whether the word, with a comma before it or not, is first.
@@ -32,6 +34,13 @@ pub fn expect_noisy(tokens: &[Token], wanted: Word) -> Result<&[Token], Failure>
     ensures { Gives (λ rest. (tt, rest.now)) result (expect_noisy (word wanted) tokens.now) }
 {
     expect_word(skip_symbol(tokens, Symbol::Comma), wanted)
+}
+
+/// The tokens behind this word, which is first but for a comma.
+fn skip_noisy(tokens: &[Token], wanted: Word) -> &[Token]
+    ensures { result.now ≡ skip (word wanted) (skip_comma tokens.now) }
+{
+    skip_word(skip_symbol(tokens, Symbol::Comma), wanted)
 }
 
 /// Whether a statement that may have others in it begins with the word.
@@ -134,8 +143,7 @@ fn otherwise(
     if !begins_noisy(tokens, Word::Else) {
         return Ok((Vec::new(alloc), tokens));
     }
-    let rest = expect_noisy(tokens, Word::Else)?;
-    statements(alloc, rest, room)
+    statements(alloc, skip_noisy(tokens, Word::Else), room)
 }
 
 /// The statements of an IF, and those behind its ELSE.
@@ -149,8 +157,8 @@ fn branches(
     ensures { Gives (λ x. ((statement_row (map view_statement x.0.items), statement_row (map view_statement x.1.items)), x.2.now)) result (branches_with (statement_in room) tokens.now) }
 {
     let (then, rest) = statements(alloc, tokens, room)?;
-    let (otherwise, rest) = otherwise(alloc, rest, room)?;
-    let rest = expect_noisy(rest, Word::Always)?;
+    let (then, (otherwise, rest)) = beside(then, otherwise(alloc, rest, room))?;
+    let ((then, otherwise), rest) = beside((then, otherwise), expect_noisy(rest, Word::Always))?;
     Ok((then, otherwise, rest))
 }
 
@@ -162,7 +170,7 @@ fn do_body(alloc: Global, tokens: &[Token], room: u8) -> Result<(Vec<Statement>,
 {
     let rest = expect_noisy(tokens, Word::Do)?;
     let (body, rest) = statements(alloc, rest, room)?;
-    let rest = expect_noisy(rest, Word::Loop)?;
+    let (body, rest) = beside(body, expect_noisy(rest, Word::Loop))?;
     Ok((body, rest))
 }
 
@@ -181,9 +189,7 @@ fn governed(
         return Err(syntax(tokens));
     }
     let (statement, rest) = statement(alloc, tokens, room)?;
-    let mut body = Vec::new(alloc);
-    body.push(statement)?;
-    Ok((body, rest))
+    Ok((alone(alloc, statement)?, rest))
 }
 
 /// What a loop repeats.
@@ -211,7 +217,8 @@ fn if_form(
     ensures { Gives (λ x. (view_statement x.0, x.1.now)) result (if_with line room (statement_in room) tokens.now) }
 {
     let (condition, rest) = condition(alloc, tokens, room)?;
-    let (then, otherwise, rest) = branches(alloc, rest, room)?;
+    let branches = branches(alloc, rest, room);
+    let (condition, (then, otherwise, rest)) = beside(condition, branches)?;
     let form = Statement::If {
         line,
         condition,
@@ -233,8 +240,24 @@ fn loop_form(
 ) -> Result<(Statement, &[Token]), Failure>
     ensures { Gives (λ x. (view_statement x.0, x.1.now)) result (loop_with line room (statement_in room) (view_head head) tokens.now) }
 {
-    let (body, rest) = body(alloc, tokens, room)?;
+    let (head, (body, rest)) = beside(head, body(alloc, tokens, room))?;
     Ok((Statement::Loop { line, head, body }, rest))
+}
+
+/// What the IF of a FIND asks, and its branches.
+#[cycle(statements)]
+#[tactic(auto)]
+fn asked(
+    alloc: Global,
+    tokens: &[Token],
+    room: u8,
+) -> Result<(FindOutcome, (Vec<Statement>, Vec<Statement>), &[Token]), Failure>
+    ensures { Gives (λ x. ((x.0, (statement_row (map view_statement x.1.0.items), statement_row (map view_statement x.1.1.items))), x.2.now)) result (behind (expect_noisy (word If)) (seq (taken (in_table outcome_of)) (branches_with (statement_in room))) tokens.now) }
+{
+    let rest = expect_noisy(tokens, Word::If)?;
+    let (outcome, rest) = outcome(rest)?;
+    let (then, otherwise, rest) = branches(alloc, rest, room)?;
+    Ok((outcome, (then, otherwise), rest))
 }
 
 /// The IF of a FIND.
@@ -249,9 +272,7 @@ fn find_if_form(
 ) -> Result<(Statement, &[Token]), Failure>
     ensures { Gives (λ x. (view_statement x.0, x.1.now)) result (find_if_with line room (statement_in room) (view_head head) tokens.now) }
 {
-    let rest = expect_noisy(tokens, Word::If)?;
-    let (outcome, rest) = outcome(rest)?;
-    let (then, otherwise, rest) = branches(alloc, rest, room)?;
+    let (head, (outcome, (then, otherwise), rest)) = beside(head, asked(alloc, tokens, room))?;
     let form = Statement::FindIf {
         line,
         head,
@@ -274,7 +295,7 @@ fn find_form(
 ) -> Result<(Statement, &[Token]), Failure>
     ensures { Gives (λ x. (view_statement x.0, x.1.now)) result (find_with line room (statement_in room) (view_head head) tokens.now) }
 {
-    let rest = find_words(tokens)?;
+    let (head, rest) = beside(head, find_words(tokens))?;
     if begins_find_if(rest) {
         find_if_form(alloc, line, head, rest, room)
     } else {

@@ -2,16 +2,19 @@
 
 ghost use Rattle.std.specs.Prelude.{◌≡◌, None, map};
 ghost use Rattle.ss_tree.specs.View.{view_clause, view_order, view_preamble};
-ghost use Rattle.ss_grammar.specs.Reading.{Gives, word, begins, expect, behind, maybe_list, begins_by, begins_more, taken, in_table};
-ghost use Rattle.ss_lex.specs.declared.word.Word.TheVariants.{Include};
+ghost use Rattle.ss_grammar.specs.Reading.{Gives, word, begins, expect, behind, closed, maybe_list, begins_by, begins_more, taken, in_table};
+ghost use Rattle.ss_lex.specs.declared.word.Word.TheVariants.{Include, Variable};
 ghost use Rattle.ss_grammar.specs.ReadWords.{begins_name, names};
-ghost use Rattle.ss_parse.specs.SpelledPreambles.{mode_of, rank_of, statistic_of, group_behind};
+ghost use Rattle.ss_parse.specs.SpelledPreambles.{group_behind};
+ghost use Rattle.ss_elements.specs.Words.{mode_of, rank_of, statistic_of};
 ghost use Rattle.ss_parse.specs.ReadPreambles.{then_rank, keys, statistic_kind, found, clause, begins_clause, clause_list, clauses, ranking, order, permanent_at, temporary_at, notices_at, every_at, normally_at, system_at, define_end, define_at, priority_at, break_at, statistics_at, preamble_at, begins_preamble, preamble_in, preambles, whole_preamble};
 
 use ss_base::Line;
+use ss_elements::words::{mode_of, rank_of, statistic_of};
 use ss_grammar::classes::{Class, skip_class};
 use ss_grammar::failure::Failure;
 use ss_grammar::names::{begins_name, items, name, names};
+use ss_grammar::steps::{alone, beside};
 use ss_grammar::tokens::{
     begins_symbol, begins_word, behind_first, expect_word, skip_separator, skip_word, syntax,
 };
@@ -22,20 +25,8 @@ use ss_tree::preamble::{
 };
 use std::alloc::Global;
 
-/// The mode that the word names.
-fn mode_of(word: Word) -> Option<Mode>
-    ensures { result ≡ mode_of word }
-{
-    match word {
-        Word::Integer => Some(Mode::Integer),
-        Word::Alpha => Some(Mode::Alpha),
-        Word::Real => Some(Mode::Real),
-        _ => None,
-    }
-}
-
 /// A mode.
-pub fn mode(tokens: &[Token]) -> Result<(Mode, &[Token]), Failure>
+fn mode(tokens: &[Token]) -> Result<(Mode, &[Token]), Failure>
     ensures { Gives (λ x. (x.0, x.1.now)) result (taken (in_table mode_of) tokens.now) }
 {
     match tokens {
@@ -50,6 +41,15 @@ pub fn mode(tokens: &[Token]) -> Result<(Mode, &[Token]), Failure>
     }
 }
 
+/// The end of a DEFINE of variables: a mode.
+pub fn variable_mode(tokens: &[Token]) -> Result<(Mode, &[Token]), Failure>
+    ensures { Gives (λ x. (x.0, x.1.now)) result (closed (taken (in_table mode_of)) (expect (word Variable)) tokens.now) }
+{
+    let (mode, rest) = mode(tokens)?;
+    let rest = expect_word(rest, Word::Variable)?;
+    Ok((mode, rest))
+}
+
 /// Whether a mode is first.
 fn begins_mode(tokens: &[Token]) -> bool
     ensures { result ≡ begins_by (in_table mode_of) tokens.now }
@@ -60,17 +60,6 @@ fn begins_mode(tokens: &[Token]) -> bool
             TokenKind::Word(word) => mode_of(*word).is_some(),
             _ => false,
         },
-    }
-}
-
-/// Whether the word says that the highest value comes first.
-fn rank_of(word: Word) -> Option<bool>
-    ensures { result ≡ rank_of word }
-{
-    match word {
-        Word::High => Some(true),
-        Word::Low => Some(false),
-        _ => None,
     }
 }
 
@@ -96,12 +85,10 @@ fn clause(alloc: Global, tokens: &[Token]) -> Result<(Clause, &[Token]), Failure
     ensures { Gives (λ x. (view_clause x.0, x.1.now)) result (clause tokens.now) }
 {
     if begins_word(tokens, Word::Has) {
-        let rest = expect_word(tokens, Word::Has)?;
-        let (names, rest) = items(alloc, rest)?;
+        let (names, rest) = items(alloc, skip_word(tokens, Word::Has))?;
         Ok((Clause::Has(names), rest))
     } else if begins_word(tokens, Word::Owns) {
-        let rest = expect_word(tokens, Word::Owns)?;
-        let (names, rest) = items(alloc, rest)?;
+        let (names, rest) = items(alloc, skip_word(tokens, Word::Owns))?;
         Ok((Clause::Owns(names), rest))
     } else {
         let rest = expect_word(tokens, Word::May)?;
@@ -126,10 +113,9 @@ fn then_rank(tokens: &[Token]) -> Result<(bool, &[Token]), Failure>
 fn keys(alloc: Global, tokens: &[Token]) -> Result<(Vec<Key>, &[Token]), Failure>
     ensures { Gives (λ x. (x.0.items, x.1.now)) result (keys tokens.now) }
 {
-    let mut all = Vec::new(alloc);
     let (high, from) = rank(tokens)?;
     let first = name(from)?;
-    all.push(Key { high, name: first })?;
+    let mut all = alone(alloc, Key { high, name: first })?;
     let mut rest = behind_first(from);
     'more: while begins_noisy(rest, Word::Then) {
         let (higher, behind) = then_rank(rest)?;
@@ -141,19 +127,6 @@ fn keys(alloc: Global, tokens: &[Token]) -> Result<(Vec<Key>, &[Token]), Failure
         rest = behind_first(behind);
     }
     Ok((all, rest))
-}
-
-/// What a statistic tells, by a word.
-fn statistic_of(word: Word) -> Option<StatisticKind>
-    ensures { result ≡ statistic_of word }
-{
-    match word {
-        Word::Number => Some(StatisticKind::Number),
-        Word::Sum => Some(StatisticKind::Sum),
-        Word::Maximum => Some(StatisticKind::Maximum),
-        Word::Minimum => Some(StatisticKind::Minimum),
-        _ => None,
-    }
 }
 
 /// What a statistic tells.
@@ -193,10 +166,9 @@ fn begins_more_statistics(tokens: &[Token]) -> bool
 fn found(alloc: Global, tokens: &[Token]) -> Result<(Vec<Statistic>, &[Token]), Failure>
     ensures { Gives (λ x. (x.0.items, x.1.now)) result (found tokens.now) }
 {
-    let mut all = Vec::new(alloc);
     let first = name(tokens)?;
     let (kind, mut rest) = statistic_kind(behind_first(tokens))?;
-    all.push(Statistic { name: first, kind })?;
+    let mut all = alone(alloc, Statistic { name: first, kind })?;
     'more: while begins_more_statistics(rest) {
         let from = skip_separator(rest);
         let next = name(from)?;
@@ -235,9 +207,8 @@ fn begins_more_clauses(tokens: &[Token]) -> bool
 fn clause_list(alloc: Global, tokens: &[Token]) -> Result<(Vec<Clause>, &[Token]), Failure>
     ensures { Gives (λ x. (map view_clause x.0.items, x.1.now)) result (clause_list tokens.now) }
 {
-    let mut all = Vec::new(alloc);
     let (first, mut rest) = clause(alloc, tokens)?;
-    all.push(first)?;
+    let mut all = alone(alloc, first)?;
     'more: while begins_more_clauses(rest) {
         let (next, after) = clause(alloc, skip_separator(rest))?;
         all.push(next)?;
@@ -264,8 +235,7 @@ fn ranking(alloc: Global, tokens: &[Token]) -> Result<(SetOrder, &[Token]), Fail
     if !begins_word(tokens, Word::Ranked) {
         return Ok((SetOrder::Fifo, tokens));
     }
-    let rest = expect_word(tokens, Word::Ranked)?;
-    let rest = expect_word(rest, Word::By)?;
+    let rest = expect_word(skip_word(tokens, Word::Ranked), Word::By)?;
     let (keys, rest) = keys(alloc, rest)?;
     Ok((SetOrder::Ranked(keys), rest))
 }
@@ -276,12 +246,10 @@ fn order(alloc: Global, tokens: &[Token]) -> Result<(SetOrder, &[Token]), Failur
     ensures { Gives (λ x. (view_order x.0, x.1.now)) result (order tokens.now) }
 {
     if begins_word(tokens, Word::Fifo) {
-        let rest = expect_word(tokens, Word::Fifo)?;
-        let rest = expect_word(rest, Word::Set)?;
+        let rest = expect_word(skip_word(tokens, Word::Fifo), Word::Set)?;
         Ok((SetOrder::Fifo, rest))
     } else if begins_word(tokens, Word::Lifo) {
-        let rest = expect_word(tokens, Word::Lifo)?;
-        let rest = expect_word(rest, Word::Set)?;
+        let rest = expect_word(skip_word(tokens, Word::Lifo), Word::Set)?;
         Ok((SetOrder::Lifo, rest))
     } else {
         let rest = expect_word(tokens, Word::Set)?;
@@ -314,8 +282,7 @@ fn included(alloc: Global, tokens: &[Token]) -> Result<(Vec<Name>, &[Token]), Fa
     if !begins_word(tokens, Word::Include) {
         return Ok((Vec::new(alloc), tokens));
     }
-    let rest = expect_word(tokens, Word::Include)?;
-    names(alloc, rest)
+    names(alloc, skip_word(tokens, Word::Include))
 }
 
 /// EVENT NOTICES behind its first word.
@@ -394,14 +361,13 @@ fn define_end(
     ensures { Gives (λ x. (view_preamble x.0, x.1.now)) result (define_end line names.items tokens.now) }
 {
     if begins_mode(tokens) {
-        let (mode, rest) = mode(tokens)?;
-        let rest = expect_word(rest, Word::Variable)?;
+        let (names, (mode, rest)) = beside(names, variable_mode(tokens))?;
         Ok((
             PreambleStatement::DefineVariables { line, names, mode },
             rest,
         ))
     } else {
-        let (order, rest) = order(alloc, tokens)?;
+        let (names, (order, rest)) = beside(names, order(alloc, tokens))?;
         Ok((PreambleStatement::DefineSets { line, names, order }, rest))
     }
 }
@@ -416,7 +382,7 @@ fn define(
     ensures { Gives (λ x. (view_preamble x.0, x.1.now)) result (define_at line tokens.now) }
 {
     let (names, rest) = names(alloc, tokens)?;
-    let rest = expect_word(rest, Word::As)?;
+    let (names, rest) = beside(names, expect_word(rest, Word::As))?;
     define_end(alloc, line, names, skip_class(rest, Class::Article))
 }
 
@@ -462,8 +428,8 @@ fn statistics(
     ensures { Gives (λ x. (view_preamble x.0, x.1.now)) result (statistics_at line weighting tokens.now) }
 {
     let (statistics, rest) = found(alloc, tokens)?;
-    let rest = expect_word(rest, Word::Of)?;
-    let subject = name(rest)?;
+    let (statistics, rest) = beside(statistics, expect_word(rest, Word::Of))?;
+    let (statistics, subject) = beside(statistics, name(rest))?;
     let statement = PreambleStatement::Statistics {
         line,
         weighting,
@@ -585,8 +551,7 @@ pub fn preamble(
     if !begins_word(tokens, Word::Preamble) {
         return Ok((Vec::new(alloc), tokens));
     }
-    let rest = expect_word(tokens, Word::Preamble)?;
-    let (statements, rest) = preamble_statements(alloc, rest)?;
-    let rest = expect_word(rest, Word::End)?;
+    let (statements, rest) = preamble_statements(alloc, skip_word(tokens, Word::Preamble))?;
+    let (statements, rest) = beside(statements, expect_word(rest, Word::End))?;
     Ok((statements, rest))
 }

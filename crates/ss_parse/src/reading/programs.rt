@@ -2,25 +2,25 @@
 
 ghost use Rattle.std.specs.Prelude.{◌≡◌, map};
 ghost use Rattle.ss_grammar.specs.Shapes.{first_line};
-ghost use Rattle.ss_tree.specs.View.{view_definition, view_kind, view_section, view_program};
+ghost use Rattle.ss_tree.specs.View.{view_definition, view_kind, view_statement, view_section, view_program};
 ghost use Rattle.ss_grammar.specs.Reading.{Gives, word, begins, expect, behind, maybe_list, rows};
 ghost use Rattle.ss_grammar.specs.ReadWords.{names};
-ghost use Rattle.ss_parse.specs.ReadPrograms.{begins_section, saving, routine_kind, event_kind, kind_at, variables, definition, definitions, section_at, section_in, program_in, program_of};
+ghost use Rattle.ss_parse.specs.ReadPrograms.{begins_section, saving, routine_kind, event_kind, kind_at, variables, definition, definitions, body_in, section_at, section_in, program_in, program_of};
 
-use crate::reading::preambles::{mode, preamble};
+use crate::reading::preambles::{preamble, variable_mode};
 use ss_base::Line;
+use ss_elements::nesting::levels;
 use ss_grammar::classes::{Class, skip_class};
 use ss_grammar::failure::Failure;
 use ss_grammar::names::{name, names};
+use ss_grammar::steps::beside;
 use ss_grammar::tokens::{begins_word, behind_first, expect_word, skip_word, syntax};
 use ss_lex::{Name, Token, TokenKind, Word};
 use ss_statements::statements::statements;
 use ss_tree::preamble::Mode;
 use ss_tree::program::{LocalDefinition, Program, Section, SectionKind};
+use ss_tree::statement::Statement;
 use std::alloc::Global;
-
-/// The levels of nesting that may be open at a place.
-pub const LEVELS: u8 = 64;
 
 /// The line of the first token, or 0.
 fn line_at(tokens: &[Token]) -> Line
@@ -43,8 +43,7 @@ fn names_behind(
     if !begins_word(tokens, wanted) {
         return Ok((Vec::new(alloc), tokens));
     }
-    let rest = expect_word(tokens, wanted)?;
-    names(alloc, rest)
+    names(alloc, skip_word(tokens, wanted))
 }
 
 /// Whether SAVING THE EVENT NOTICE is first.
@@ -55,7 +54,7 @@ fn saving(tokens: &[Token]) -> Result<(bool, &[Token]), Failure>
     if !begins_word(tokens, Word::Saving) {
         return Ok((false, tokens));
     }
-    let rest = expect_word(tokens, Word::Saving)?;
+    let rest = skip_word(tokens, Word::Saving);
     let rest = expect_word(skip_word(rest, Word::The), Word::Event)?;
     let rest = expect_word(rest, Word::Notice)?;
     Ok((true, rest))
@@ -69,7 +68,8 @@ fn routine(alloc: Global, tokens: &[Token]) -> Result<(SectionKind, &[Token]), F
     let rest = skip_class(tokens, Class::Towards);
     let name = name(rest)?;
     let (given, rest) = names_behind(alloc, behind_first(rest), Word::Given)?;
-    let (yielding, rest) = names_behind(alloc, rest, Word::Yielding)?;
+    let yielding = names_behind(alloc, rest, Word::Yielding);
+    let (given, (yielding, rest)) = beside(given, yielding)?;
     let kind = SectionKind::Routine {
         name,
         given,
@@ -85,7 +85,7 @@ fn event(alloc: Global, tokens: &[Token]) -> Result<(SectionKind, &[Token]), Fai
 {
     let name = name(tokens)?;
     let (given, rest) = names_behind(alloc, behind_first(tokens), Word::Given)?;
-    let (saving, rest) = saving(rest)?;
+    let (given, (saving, rest)) = beside(given, saving(rest))?;
     let kind = SectionKind::Event {
         name,
         given,
@@ -116,9 +116,9 @@ fn variables(alloc: Global, tokens: &[Token]) -> Result<(Vec<Name>, Mode, &[Toke
     ensures { Gives (λ x. ((x.0.items, x.1), x.2.now)) result (variables tokens.now) }
 {
     let (names, rest) = names(alloc, tokens)?;
-    let rest = expect_word(rest, Word::As)?;
-    let (mode, rest) = mode(skip_class(rest, Class::Article))?;
-    let rest = expect_word(rest, Word::Variable)?;
+    let (names, rest) = beside(names, expect_word(rest, Word::As))?;
+    let mode = variable_mode(skip_class(rest, Class::Article));
+    let (names, (mode, rest)) = beside(names, mode)?;
     Ok((names, mode, rest))
 }
 
@@ -147,6 +147,20 @@ fn definitions(alloc: Global, tokens: &[Token]) -> Result<(Vec<LocalDefinition>,
     Ok((all, rest))
 }
 
+/// The body of a section, and the END behind it.
+fn body(
+    alloc: Global,
+    tokens: &[Token],
+    room: u8,
+) -> Result<(Vec<LocalDefinition>, Vec<Statement>, &[Token]), Failure>
+    ensures { Gives (λ x. ((map view_definition x.0.items, map view_statement x.1.items), x.2.now)) result (body_in room tokens.now) }
+{
+    let (definitions, rest) = definitions(alloc, tokens)?;
+    let (definitions, (body, rest)) = beside(definitions, statements(alloc, rest, room))?;
+    let ((definitions, body), rest) = beside((definitions, body), expect_word(rest, Word::End))?;
+    Ok((definitions, body, rest))
+}
+
 /// A section behind its first word.
 #[tactic(auto, unfolding(crate::specs::ReadPrograms::section_at))]
 fn section_behind(
@@ -159,9 +173,7 @@ fn section_behind(
     ensures { Gives (λ x. (view_section x.0, x.1.now)) result (section_at room line word tokens.now) }
 {
     let (kind, rest) = section_kind(alloc, word, tokens)?;
-    let (definitions, rest) = definitions(alloc, rest)?;
-    let (body, rest) = statements(alloc, rest, room)?;
-    let rest = expect_word(rest, Word::End)?;
+    let (kind, (definitions, body, rest)) = beside(kind, body(alloc, rest, room))?;
     let section = Section {
         line,
         kind,
@@ -217,7 +229,8 @@ pub fn program(alloc: Global, tokens: &[Token]) -> Result<Program, Failure>
     ensures { Gives view_program result (program_of 64 tokens.now) }
 {
     let (preamble, rest) = preamble(alloc, tokens)?;
-    let (sections, rest) = sections(alloc, rest, LEVELS + 1)?;
+    let sections = sections(alloc, rest, levels() + 1);
+    let (preamble, (sections, rest)) = beside(preamble, sections)?;
     match rest {
         [] => Ok(Program { preamble, sections }),
         _ => Err(syntax(rest)),

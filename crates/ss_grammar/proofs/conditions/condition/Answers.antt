@@ -8,7 +8,7 @@ use Rattle.ss_grammar.proofs.Rows.{grows, breaks, is_done}
 use Rattle.ss_grammar.proofs.conditions.condition.Goals as goal
 
 pub more-preserved : goal.more-preserved
-more-preserved c = grows view_conjunction (condition_loop c.args.room) _ _ c.in_ok-next.next _ _ _ c.in_ok-push-2.ensures.items (sym c.begins_word.ensures ∙ c.more-test.true) (ap (conjunction_in c.args.room) (sym c.skip_word.ensures) ∙ c.in_ok-next.ensures) c.more.invariant
+more-preserved c = grows view_conjunction (condition_loop c.args.room) _ _ c.in_ok-next.next _ _ _ c.in_ok-push.ensures.items (sym c.begins_word.ensures ∙ c.more-test.true) (ap (conjunction_in c.args.room) (sym c.skip_word.ensures) ∙ c.in_ok-next.ensures) c.more.invariant
 
 pub more-smaller : goal.more-smaller
 more-smaller c = ((condition_loop c.args.room)).shrinks _ _ _ (sym c.begins_word.ensures ∙ c.more-test.true) (ap (conjunction_in c.args.room) (sym c.skip_word.ensures) ∙ c.in_ok-next.ensures)

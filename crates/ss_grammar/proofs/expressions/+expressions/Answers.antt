@@ -38,7 +38,7 @@ further_terms-returns-in_err-next t c =
     rw (p.1, p.2) (breaks view_term (further_terms_loop c.args.room) _ _ _ _ (sym c.begins_sign.ensures ∙ c.more-test.true) c.in_err-next.ensures c.more.invariant)
 
 pub sums-more-preserved : goal.sums-more-preserved
-sums-more-preserved t c = grows view_expression (sums_loop c.args.room) _ _ c.in_ok-next.next _ _ _ c.in_ok-push-2.ensures.items (sym c.begins_more_sums.ensures ∙ c.more-test.true) (ap (sum_in c.args.room) (sym c.skip_separator.ensures) ∙ c.in_ok-next.ensures) c.more.invariant
+sums-more-preserved t c = grows view_expression (sums_loop c.args.room) _ _ c.in_ok-next.next _ _ _ c.in_ok-push.ensures.items (sym c.begins_more_sums.ensures ∙ c.more-test.true) (ap (sum_in c.args.room) (sym c.skip_separator.ensures) ∙ c.in_ok-next.ensures) c.more.invariant
 
 pub sums-more-smaller : goal.sums-more-smaller
 sums-more-smaller t c = (sums_loop c.args.room).shrinks _ _ _ (sym c.begins_more_sums.ensures ∙ c.more-test.true) (ap (sum_in c.args.room) (sym c.skip_separator.ensures) ∙ c.in_ok-next.ensures)

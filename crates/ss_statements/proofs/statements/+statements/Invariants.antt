@@ -26,17 +26,20 @@ decreases-body l = 16 * l.room + 4
 abbrev pub decreases-loop_form : goal.decreases-loop_form
 decreases-loop_form l = 16 * l.room + 5
 
+abbrev pub decreases-asked : goal.decreases-asked
+decreases-asked l = 16 * l.room + 4
+
 abbrev pub decreases-find_if_form : goal.decreases-find_if_form
-decreases-find_if_form l = 16 * l.room + 4
+decreases-find_if_form l = 16 * l.room + 5
 
 abbrev pub decreases-find_form : goal.decreases-find_form
-decreases-find_form l = 16 * l.room + 5
+decreases-find_form l = 16 * l.room + 6
 
 abbrev pub decreases-if_form : goal.decreases-if_form
 decreases-if_form l = 16 * l.room + 4
 
 abbrev pub decreases-for_form : goal.decreases-for_form
-decreases-for_form l = 16 * l.room + 6
+decreases-for_form l = 16 * l.room + 7
 
 abbrev pub decreases-while_form : goal.decreases-while_form
 decreases-while_form l = 16 * l.room + 6
@@ -45,7 +48,7 @@ abbrev pub decreases-until_form : goal.decreases-until_form
 decreases-until_form l = 16 * l.room + 6
 
 abbrev pub decreases-nested_form : goal.decreases-nested_form
-decreases-nested_form l = 16 * l.room + 7
+decreases-nested_form l = 16 * l.room + 8
 
 abbrev pub decreases-statement : goal.decreases-statement
 decreases-statement l = 16 * l.room + 0

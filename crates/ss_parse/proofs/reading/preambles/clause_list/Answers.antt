@@ -8,7 +8,7 @@ use Rattle.ss_grammar.proofs.Rows.{grows, breaks, is_done}
 use Rattle.ss_parse.proofs.reading.preambles.clause_list.Goals as goal
 
 pub more-preserved : goal.more-preserved
-more-preserved c = grows view_clause clauses_loop _ _ c.in_ok-next.next _ _ _ c.in_ok-push-2.ensures.items (sym c.begins_more_clauses.ensures ∙ c.more-test.true) (ap clause (sym c.skip_separator.ensures) ∙ c.in_ok-next.ensures) c.more.invariant
+more-preserved c = grows view_clause clauses_loop _ _ c.in_ok-next.next _ _ _ c.in_ok-push.ensures.items (sym c.begins_more_clauses.ensures ∙ c.more-test.true) (ap clause (sym c.skip_separator.ensures) ∙ c.in_ok-next.ensures) c.more.invariant
 
 pub more-smaller : goal.more-smaller
 more-smaller c = (clauses_loop).shrinks _ _ _ (sym c.begins_more_clauses.ensures ∙ c.more-test.true) (ap clause (sym c.skip_separator.ensures) ∙ c.in_ok-next.ensures)

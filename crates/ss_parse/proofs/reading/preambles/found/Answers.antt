@@ -5,7 +5,7 @@ use Rattle.ss_parse.proofs.PreambleLaws.{found_loop, statistic_read, statistic_n
 use Rattle.ss_parse.proofs.reading.preambles.found.Goals as goal
 
 pub more-preserved : goal.more-preserved
-more-preserved c = grows_plain found_loop _ _ _ _ _ _ c.in_ok-push-2.ensures.items (sym c.begins_more_statistics.ensures ∙ c.more-test.true) (statistic_read _ _ _ _ _ _ c.skip_separator-from.ensures c.in_ok-next.ensures c.behind_first-in-more.ensures c.in_ok-told.ensures) c.more.invariant
+more-preserved c = grows_plain found_loop _ _ _ _ _ _ c.in_ok-push.ensures.items (sym c.begins_more_statistics.ensures ∙ c.more-test.true) (statistic_read _ _ _ _ _ _ c.skip_separator-from.ensures c.in_ok-next.ensures c.behind_first-in-more.ensures c.in_ok-told.ensures) c.more.invariant
 
 pub more-smaller : goal.more-smaller
 more-smaller c = found_loop.shrinks _ _ _ (sym c.begins_more_statistics.ensures ∙ c.more-test.true) (statistic_read _ _ _ _ _ _ c.skip_separator-from.ensures c.in_ok-next.ensures c.behind_first-in-more.ensures c.in_ok-told.ensures)
