@@ -32,6 +32,7 @@ pub mod Numbers
 pub mod OtherSets
 pub mod Owning
 pub mod Paging
+pub mod Planned
 pub mod Planning
 pub mod Puts
 pub mod ReadBack
@@ -44,6 +45,7 @@ pub mod SameLayout
 pub mod Sharing
 pub mod Spared
 pub mod Splice
+pub mod Still
 pub mod Tied
 pub mod UnlinkWrites
 pub mod Values

@@ -1,12 +1,13 @@
-use Rattle.std.proofs.Common.{◌<◌, length, ap, sym, subst, ◌∙◌, Ok, pos, arith}
+use Rattle.std.proofs.Common.{◌<◌, length, ap, sym, subst, ◌∙◌, Ok, pos, arith, ◌≡◌, refl}
 use Rattle.std.proofs.lemmas.Int.{ints, to_z-of_z}
 use Rattle.ss_base.specs.declared.layout.SetLayout.{SetLayout}
 use Rattle.ss_records.specs.State.{and_then, modes_of, value_in}
 use Rattle.ss_records.specs.Sets.{member_in, companions, follower}
-use Rattle.ss_records.specs.Parts.{state, places}
+use Rattle.ss_records.specs.Parts.{state, places, held}
 use Rattle.ss_records.proofs.Assigns.{value_number, is_value}
 use Rattle.ss_records.proofs.Looks.{next_leads, next_fits, next_is}
 use Rattle.ss_records.proofs.Owning.{has_number, joins_found, not_joiner, kind_is}
+use Rattle.ss_records.proofs.Still.{kept_still, room_first, one_touch, no_touch, field_room}
 use Rattle.ss_records.proofs.records.Records.member.Goals as goal
 
 pub number-number-requires : goal.number-number-requires
@@ -53,3 +54,48 @@ returns-in-Err-clause-found c =
     let r = c.args.self.now in let fits = c.ranges.x in let f = simp to_z-of_z at c.in-Err.ensures.found in
     let k = kind_is r.layout c.args.s (λ (t : SetLayout). t.member) c.member_class-class.result c.requires.set c.member_class-class.ensures.is in
     ap (λ z. and_then z (λ n. Ok (pos (follower n (companions r.notes.lists c.args.s n))))) (not_joiner (state r) c.args.s c.member_class-class.result c.args.x c.in-Err.fault (ap member_in k.1 ∙ k.2) f)
+
+pub member_class-class-requires : goal.member_class-class-requires
+member_class-class-requires c = c.requires.set
+
+pub find-requires-clause-kept : goal.find-requires-clause-kept
+find-requires-clause-kept c = c.requires.kept
+
+pub find-requires-clause-class : goal.find-requires-clause-class
+find-requires-clause-class c = c.member_class-class.ensures.class
+
+pub mode-mode-requires-clause-class : goal.mode-mode-requires-clause-class
+mode-mode-requires-clause-class c = c.member_class-class.ensures.class
+
+pub overflow_add-field : goal.overflow_add-field
+overflow_add-field c = let r = c.args.self.now in field_room r.layout c.member_class-class.result c.args.field _ c.requires.kept.small c.mode-mode.ensures
+
+pub member_base-base-requires : goal.member_base-base-requires
+member_base-base-requires c = c.requires.set
+
+pub follow-next-requires-clause-room : goal.follow-next-requires-clause-room
+follow-next-requires-clause-room c = let r = c.args.self.now in room_first r.blocks.touches r.blocks.total 0 0 c.requires.touches
+
+pub returns-in-Ok-clause-kept : goal.returns-in-Ok-clause-kept
+returns-in-Ok-clause-kept c =
+    let r = c.args.self.now in let b = c.follow-next.new.self in let h : held (record r { blocks = b }) ≡ held r = λ i. record r { blocks = record { cells = c.follow-next.ensures.cells i; touches = 0; total = 0 } } in
+    kept_still r (record r { blocks = b }) h c.requires.kept
+
+pub returns-in-Ok-clause-same : goal.returns-in-Ok-clause-same
+returns-in-Ok-clause-same c =
+    let r = c.args.self.now in let b = c.follow-next.new.self in let h : held (record r { blocks = b }) ≡ held r = λ i. record r { blocks = record { cells = c.follow-next.ensures.cells i; touches = 0; total = 0 } } in
+    ap state h
+
+pub returns-in-Ok-clause-touches : goal.returns-in-Ok-clause-touches
+returns-in-Ok-clause-touches c =
+    let r = c.args.self.now in let b = c.follow-next.new.self in
+    one_touch r.blocks.touches r.blocks.total b.touches b.total c.requires.touches c.follow-next.ensures.touches
+
+pub returns-in-Err-clause-kept : goal.returns-in-Err-clause-kept
+returns-in-Err-clause-kept c = c.requires.kept
+
+pub returns-in-Err-clause-same : goal.returns-in-Err-clause-same
+returns-in-Err-clause-same c = refl
+
+pub returns-in-Err-clause-touches : goal.returns-in-Err-clause-touches
+returns-in-Err-clause-touches c = let r = c.args.self.now in no_touch r.blocks.touches r.blocks.total 0 0 c.requires.touches 1 1
