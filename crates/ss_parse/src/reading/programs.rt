@@ -223,16 +223,24 @@ fn sections(alloc: Global, tokens: &[Token], room: u8) -> Result<(Vec<Section>, 
     Ok((all, rest))
 }
 
+/// A program, where this many levels of nesting, a statement's own among them, may be opened.
+#[tactic(auto, unfolding(crate::specs::ReadPrograms::program_in))]
+fn parts(alloc: Global, tokens: &[Token], room: u8) -> Result<(Program, &[Token]), Failure>
+    ensures { Gives (λ x. (view_program x.0, x.1.now)) result (program_in room tokens.now) }
+{
+    let (preamble, rest) = preamble(alloc, tokens)?;
+    let (preamble, (sections, rest)) = beside(preamble, sections(alloc, rest, room))?;
+    Ok((Program { preamble, sections }, rest))
+}
+
 /// A program and nothing behind it.
-#[tactic(auto, unfolding(crate::specs::ReadPrograms::program_of, crate::specs::ReadPrograms::program_in))]
+#[tactic(auto, unfolding(crate::specs::ReadPrograms::program_of))]
 pub fn program(alloc: Global, tokens: &[Token]) -> Result<Program, Failure>
     ensures { Gives view_program result (program_of 64 tokens.now) }
 {
-    let (preamble, rest) = preamble(alloc, tokens)?;
-    let sections = sections(alloc, rest, levels() + 1);
-    let (preamble, (sections, rest)) = beside(preamble, sections)?;
+    let (program, rest) = parts(alloc, tokens, levels() + 1)?;
     match rest {
-        [] => Ok(Program { preamble, sections }),
+        [] => Ok(program),
         _ => Err(syntax(rest)),
     }
 }
