@@ -13,3 +13,4 @@ mod Good
 mod Reaching
 mod Bursts
 mod Resting
+mod Turning
