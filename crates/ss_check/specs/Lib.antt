@@ -1,1 +1,2 @@
 pub mod Checking
+pub use Rattle.ss_links.specs.Laws

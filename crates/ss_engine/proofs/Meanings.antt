@@ -8,7 +8,7 @@ use Rattle.ss_program.specs.Program.{Program}
 use Rattle.ss_program.specs.WellTyped.{WellTyped}
 use Rattle.ss_formed.specs.Laws.{SpelledTreesAreFormed}
 use Rattle.ss_check.specs.Checking.{program_of}
-use Rattle.ss_links.specs.Laws.{KeptProgramsResolve}
+use Rattle.ss_check.specs.Laws.{KeptProgramsResolve}
 use Rattle.ss_typed.specs.Laws.{NeverWrong}
 use Rattle.ss_engine.specs.Accepting.{nesting_limit}
 use Rattle.ss_engine.specs.Laws.{OneMeaning, EachHasOne, ProgramsAreTyped, NeverGoesWrong}

@@ -2,7 +2,7 @@
 use Rattle.std.specs.Prelude.{ℕ, List}
 use Rattle.std.specs.declared.option.Option.{Option}
 use Rattle.ss_program.specs.Program.{Program}
-use Rattle.ss_machine.specs.declared.stop.Stop.{Stop}
+use Rattle.ss_sessions.specs.Stop.{Stop}
 use Rattle.ss_engine.specs.declared.outcome.Outcome.{Outcome}
 use Rattle.ss_engine.specs.declared.outcome.Outcome.TheVariants.{Refused, Stopped}
 use Rattle.ss_engine.specs.Accepting.{IsProgramOf, RefusedFor, Compiles}

@@ -9,9 +9,9 @@ ghost use Rattle.ss_engine.specs.Laws.{EachHasOne, EndingsStay, NeverGoesWrong, 
 ghost use Rattle.ss_engine.specs.Simulation.{IsSimulated};
 
 use ss_base::{FaultyRead, FaultyWrite};
+use ss_check::kept_programs_resolve;
 use ss_formed::laws::spelled_trees_are_formed;
 use ss_lex::one_list;
-use ss_links::laws::kept_programs_resolve;
 use ss_machine_code::laws::laws as laws_of_runs;
 use ss_parse::one_tree;
 use ss_sessions::laws::sessions_are_meant as laws_of_sessions;

@@ -5,7 +5,7 @@ ghost use Rattle.ss_base.specs.Failures.{HasRisen};
 ghost use Rattle.ss_engine.specs.declared.refusal.Refusal.{Refusal as RefusalSeen};
 ghost use Rattle.ss_sessions.specs.Headline.{handed_out};
 ghost use Rattle.ss_engine.specs.Simulation.{ComesTo, StandsSo};
-ghost use Rattle.ss_machine.specs.declared.stop.Stop.{Stop as StopSeen};
+ghost use Rattle.ss_sessions.specs.Stop.{Stop as StopSeen};
 
 use crate::front::compile;
 use crate::laws::laws;

@@ -1,3 +1,4 @@
 pub mod Sessions
 pub mod Headline
 pub mod Standing
+pub use Rattle.ss_machine.specs.declared.stop.Stop
