@@ -1,5 +1,5 @@
 -- When a history takes no further value.
-use Rattle.std.proofs.Common.{◌≡◌, ℕ, zero, suc, true, false, ◌<◌, ◌+◌, if◌then◌else◌, ℤ, List, [], ◌∷◌, ◌++◌, length, map, take, get_or, Option, Some, None, Result, Ok, Err, is_ok, subst, sym, ap, ◌∙◌, refl, arith}
+use Rattle.std.proofs.Common.{◌≡◌, ℕ, zero, suc, true, false, ◌<◌, ◌+◌, if◌then◌else◌, ℤ, List, [], ◌∷◌, ◌++◌, length, map, take, get_or, Option, Some, None, is_some, slice_get, Result, Ok, Err, is_ok, subst, sym, ap, ◌∙◌, refl, arith}
 use Rattle.std.specs.Prelude.{⊤}
 use Rattle.std.specs.Option.{option_or}
 use Rattle.std.proofs.lemmas.List.{take_more}
@@ -45,3 +45,19 @@ pub has_within : (x : ℤ) (ks : List Recorded) (j : ℕ) → has_at x (map show
 has_within x [] j e = absurd (not_both (sym e))
 has_within x (k ∷ ks) zero e = omega arith
 has_within x (k ∷ ks) (suc j) e = omega (arith, has_within x ks j e)
+
+none_there : (k : Recorded) → None ≡ Some k → ⊥
+none_there k e = cc
+
+some_there : (n k : Recorded) → Some n ≡ Some k → n ≡ k
+some_there n k e = cc
+
+pub has_there : (x : ℤ) (ks : List Recorded) (j : ℕ) (k : Recorded) → slice_get ks j ≡ Some k → has_at x (map shown ks) j ≡ is_some (column_of k.rows x)
+has_there x [] j k e = absurd (none_there k e)
+has_there x (n ∷ ns) zero k e = ap (λ (r : Recorded). is_some (column_of r.rows x)) (some_there n k e)
+has_there x (n ∷ ns) (suc j) k e = has_there x ns j k e
+
+pub has_nowhere : (x : ℤ) (ks : List Recorded) (j : ℕ) → slice_get ks j ≡ None → has_at x (map shown ks) j ≡ false
+has_nowhere x [] j e = refl
+has_nowhere x (n ∷ ns) zero e = absurd (none_there n (sym e))
+has_nowhere x (n ∷ ns) (suc j) e = has_nowhere x ns j e

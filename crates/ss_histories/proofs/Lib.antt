@@ -5,3 +5,4 @@ pub mod Columns
 pub mod Fullness
 pub mod Noted
 pub mod Bare
+pub mod Unstarted

@@ -1,5 +1,5 @@
 -- What becomes of the histories, as the meaning says it.
-use Rattle.std.proofs.Common.{◌≡◌, ℕ, zero, suc, ◌<◌, length, All, arith, Bool, true, false, ◌||◌, if◌then◌else◌, ℤ, List, [], ◌∷◌, map, fold, Option, Some, None, is_some, Result, Ok, Err, slice_get, ◌∙◌, sym, ap, subst, refl}
+use Rattle.std.proofs.Common.{◌≡◌, ℕ, zero, suc, ◌<◌, length, All, arith, Bool, true, false, ◌||◌, if◌then◌else◌, ℤ, List, [], ◌∷◌, map, fold, Option, Some, None, is_some, Result, Ok, Err, MatchResult, slice_get, ◌∙◌, sym, ap, subst, refl}
 use Rattle.std.specs.List.{list_any}
 use Rattle.std.specs.Option.{option_map, option_or}
 use Rattle.ss_program.specs.declared.expression.Fold.{Fold}
@@ -20,9 +20,13 @@ use Rattle.ss_histories.specs.declared.unnoted.Unnoted.{Unnoted}
 use Rattle.ss_histories.specs.declared.unnoted.Unnoted.TheVariants.{Full}
 use Rattle.ss_histories.specs.declared.unnoted.Unnoted.TheVariants as unnoted
 use Rattle.ss_histories.specs.Places.{places, is_about, has_some}
-use Rattle.ss_histories.specs.Records.{Recorded, Rows, column_of, columns_of, statistics_of, rows_of, noted_to, renewed_to, figure_of, figured, why}
+use Rattle.ss_histories.specs.Records.{Records, Recorded, Rows, column_of, columns_of, statistics_of, rows_of, rooms_of, noted_to, renewed_to, figure_of, figured, why}
 use Rattle.ss_histories.specs.Each.{Shown, shown, bare, begun_shown, ended_shown, noted_by, renewed_one, changed_at, refused_in, refused_at, stops_at, first_at, has_at}
 use Rattle.ss_histories.proofs.Columns.{head_of, tail_of, not_none, joined}
+
+-- what a contract sees of the statistics and a moment
+abbrev pub records_of : List Recorded → (latest : ℤ) → Records
+records_of ks latest = record { statistics = statistics_of ks; rows = rows_of ks; latest = latest; room = rooms_of ks }
 
 -- ## Statistics of which each is changed
 
@@ -256,6 +260,18 @@ pub noted_known : (s : Subject) (x now : ℤ) (v : Value) (ks ns : List Recorded
     map shown ns ≡ fold (changed_at (noted_by x now v)) (map shown ks) ps → map shown ns ≡ map (noted_where s x now v) (map shown ks)
 noted_known s x now v ks ns about ps a p e =
     e ∙ ap (fold (changed_at (noted_by x now v)) (map shown ks)) (places_known s ks about ps a p) ∙ all_changed (noted_by x now v) (λ (z : Shown). is_about s z.0) (map shown ks)
+
+pub about_known : (s : Subject) (ks : List Recorded) (about : List Statistic) (ps : List ℕ) → about ≡ statistics_of ks → ps ≡ places (is_about s) about → ps ≡ places (is_about s) (statistics_of ks)
+about_known s ks about ps a p = p ∙ ap (places (is_about s)) a
+
+-- what noting ensures of the statistics and a moment, as records have it
+pub or_as_before : (s : Subject) (x now : ℤ) (v : Value) (ks ns : List Recorded) (latest later : ℤ) (r : Records) (result : Result Unit Unnoted) → records_of ks latest ≡ r →
+    MatchResult result (λ _. all_noting s x now v (statistics_of ks) (columns_of (rows_of ks)) ≡ Ok (columns_of (rows_of ns))) (λ e. (all_noting s x now v (statistics_of ks) (columns_of (rows_of ks)) ≡ Err (why e)) × (ns ≡ ks) × (later ≡ latest)) →
+    MatchResult result (λ _. all_noting s x now v r.statistics (columns_of r.rows) ≡ Ok (columns_of (rows_of ns))) (λ e. (all_noting s x now v r.statistics (columns_of r.rows) ≡ Err (why e)) × (records_of ns later ≡ r))
+or_as_before s x now v ks ns latest later r (Ok u) same n = sym (ap (λ (r : Records). all_noting s x now v r.statistics (columns_of r.rows)) same) ∙ n
+or_as_before s x now v ks ns latest later r (Err e) same n =
+    let like : records_of ns later ≡ records_of ks latest = λ i. records_of (n.1 i) (n.2 i) in
+    (sym (ap (λ (r : Records). all_noting s x now v r.statistics (columns_of r.rows)) same) ∙ n.0, like ∙ same)
 
 where_same : (b : Bool) (x now : ℤ) (v : Value) (z : Shown) → (if b then noted_by x now v z else z).0 ≡ z.0
 where_same true x now (Whole v) z = refl

@@ -90,9 +90,12 @@ impl About {
     pub(crate) fn new(alloc: Global, statistics: &[Statistic]) -> Result<About, AllocError>
         ensures { IfOk result (λ a. a ≡ statistics.now) }
     {
+        let copied = Vec::from_slice(alloc, statistics)?;
         let tables = tables_of(alloc, statistics)?;
-        let statistics = Vec::from_slice(alloc, statistics)?;
-        Ok(About { statistics, tables })
+        Ok(About {
+            statistics: copied,
+            tables,
+        })
     }
 
     /// Where the statistics of a subject stand.

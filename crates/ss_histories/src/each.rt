@@ -255,9 +255,9 @@ pub(crate) fn none_started(alloc: Global, statistics: &[Statistic]) -> Result<Ve
     ensures statistics { IfOk result (λ kept. statistics_of kept.items ≡ statistics.now) }
     ensures rows { IfOk result (λ kept. rows_of kept.items ≡ map none_in statistics.now) }
 {
-    let mut kept = Vec::new(alloc);
+    let mut kept = Vec::with_capacity(alloc, statistics.len())?;
     for statistic in statistics {
-        kept.push(Kept::new(alloc, *statistic))?;
+        kept.push_reserved(Kept::new(alloc, *statistic));
     }
     Ok(kept)
 }

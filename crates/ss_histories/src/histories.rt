@@ -1,17 +1,19 @@
 //! The histories of all statistics.
 
-ghost use Rattle.std.specs.Prelude.{◌≡◌, ◌≤ℤ◌, [], false, pos, slice_get, Ok, Err, IfOk, OnOk, MatchResult};
+ghost use Rattle.std.specs.Prelude.{◌≡◌, ◌≤ℤ◌, ◌<◌, [], false, pos, length, slice_get, Ok, Err, IfOk, OnOk, MatchResult};
 ghost use Rattle.std.specs.Bool.{IsFalse};
-ghost use Rattle.std.specs.List.{list_any};
+ghost use Rattle.std.specs.List.{All, list_any};
 ghost use Rattle.std.specs.Option.{option_map};
 ghost use Rattle.std.specs.Ordering.{int_eq};
 ghost use Rattle.ss_base.specs.declared.layout.Owner.TheVariants.{Class};
 ghost use Rattle.ss_program.specs.declared.sections.Statistic.{Statistic};
+ghost use Rattle.ss_program.specs.declared.sections.Subject.{Subject as TheSubject};
 ghost use Rattle.ss_program.specs.declared.sections.Subject.TheVariants.{OfAttribute};
 ghost use Rattle.ss_meaning.specs.Values.{if_ok};
 ghost use Rattle.ss_meaning.specs.Histories.{no_histories, starting, ending, all_noting, history_of, folded, renewed};
-ghost use Rattle.ss_histories.specs.Records.{columns_of, figured, HasRooms, is_up_to, why, renewed_where};
-ghost use Rattle.ss_histories.specs.Places.{is_about};
+ghost use Rattle.ss_histories.specs.Records.{columns_of, statistics_of, rows_of, figured, HasRooms, is_up_to, why, renewed_where};
+ghost use Rattle.ss_histories.specs.Each.{KeptUntil};
+ghost use Rattle.ss_histories.specs.Places.{is_about, places as places_of};
 
 use crate::about::About;
 use crate::each;
@@ -160,13 +162,7 @@ impl Histories {
             return Ok(());
         }
         let places = self.about.places(subject);
-        match each::note_all(&mut self.kept, places, entity, now, value) {
-            Ok(()) => {
-                self.latest = now;
-                Ok(())
-            }
-            Err(unnoted) => Err(unnoted),
-        }
+        note_at(&mut self.kept, &mut self.latest, places, entity, now, value)
     }
 
     /// The same of an attribute of a class.
@@ -187,13 +183,7 @@ impl Histories {
             return Ok(());
         }
         let places = self.about.attribute_places(class, field);
-        match each::note_all(&mut self.kept, places, entity, now, value) {
-            Ok(()) => {
-                self.latest = now;
-                Ok(())
-            }
-            Err(unnoted) => Err(unnoted),
-        }
+        note_at(&mut self.kept, &mut self.latest, places, entity, now, value)
     }
 
     /// What is asked of the history of an entity in a statistic, if it has one. Faults: 14 for a sum of more than 64
@@ -229,5 +219,34 @@ impl Histories {
         each::renew_at(&mut self.kept, statistic, entity, now, present);
         self.latest = now;
         true
+    }
+}
+
+// Notes a value of an entity, now, in the statistics at some places, which are those of a subject. The error is the first
+// in the order of the statistics; where there is one, everything is as it was.
+fn note_at(
+    kept: &mut [Kept],
+    latest: &mut i64,
+    places: &[usize],
+    entity: i64,
+    now: i64,
+    value: Value,
+) -> Result<(), Unnoted>
+    requires within { All (λ j. j < length kept.old) places.now }
+    requires until { All (KeptUntil latest.old) kept.old }
+    requires start { pos 0 ≤ℤ latest.old }
+    requires now { latest.old ≤ℤ now }
+    ensures noted { (s : TheSubject) → places.now ≡ places_of (is_about s) (statistics_of kept.old) → MatchResult result (λ _. all_noting s entity now value (statistics_of kept.old) (columns_of (rows_of kept.old)) ≡ Ok (columns_of (rows_of kept.new))) (λ e. (all_noting s entity now value (statistics_of kept.old) (columns_of (rows_of kept.old)) ≡ Err (why e)) × (kept.new ≡ kept.old) × (latest.new ≡ latest.old)) }
+    ensures statistics { (s : TheSubject) → places.now ≡ places_of (is_about s) (statistics_of kept.old) → statistics_of kept.new ≡ statistics_of kept.old }
+    ensures until { All (KeptUntil latest.new) kept.new }
+    ensures start { pos 0 ≤ℤ latest.new }
+    ensures latest { latest.new ≤ℤ now }
+{
+    match each::note_all(kept, places, entity, now, value) {
+        Ok(()) => {
+            *latest = now;
+            Ok(())
+        }
+        Err(unnoted) => Err(unnoted),
     }
 }
