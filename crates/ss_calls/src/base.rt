@@ -1,11 +1,10 @@
 use ss_base::{
-    Alpha, ClassKind, ClassLayout, Counted, Discipline, FaultKind, Faulty, FaultyRead, FaultyWrite,
-    Layout, Line, MemoryRead, MemoryWrite, Mode, Owner, Plan, RankKey, RankKeys, Refused,
-    SetLayout, Trouble, Value, div_f, minus, mod_f, plus, times,
+    Alpha, ClassKind, ClassLayout, Discipline, FaultKind, Faulty, FaultyRead, FaultyWrite, Layout,
+    Line, MemoryRead, MemoryWrite, Mode, Owner, Plan, RankKey, RankKeys, Refused, SetLayout,
+    Trouble, Value, div_f, minus, mod_f, plus, times,
 };
+use std::alloc::{AllocError, Global};
 use std::cmp::Ordering;
-use std::io;
-use std::test::Fail;
 
 static FAULTS: [(FaultKind, u32, &str); 22] = [
     (FaultKind::NoEntity, 1, "NO ENTITY"),
@@ -50,8 +49,8 @@ fn faults_have_their_numbers_and_words(rt: HostRuntime) {
 #[test]
 fn faults_and_lines_are_compared(rt: HostRuntime) {
     let index = Refused::Fault(FaultKind::Index);
-    assert_eq!(rt; Refused::from(FaultKind::Index), index);
-    assert_ne!(rt; Line(1), Line(2));
+    assert!(rt; Refused::from(FaultKind::Index) == index);
+    assert!(rt; Line(1) != Line(2));
 }
 
 static TEXTS: [(&[u8], &[u8]); 7] = [
@@ -118,13 +117,13 @@ fn rise(texts: &[&[u8]]) -> bool {
 fn values_are_ordered(rt: HostRuntime) {
     assert!(rt; rise(&RISING));
     assert!(rt; Value::Whole(-3) < Value::Whole(2));
-    assert_eq!(rt; Value::Whole(-3).mode(), Mode::Integer);
+    assert!(rt; Value::Whole(-3).mode() == Mode::Integer);
 }
 
 #[test]
 fn first_values_have_their_mode(rt: HostRuntime) {
-    assert_eq!(rt; Mode::Integer.first_value(), Value::Whole(0));
-    assert_eq!(rt; Mode::Alpha.first_value(), Value::Text(Alpha::empty()));
+    assert!(rt; Mode::Integer.first_value() == Value::Whole(0));
+    assert!(rt; Mode::Alpha.first_value() == Value::Text(Alpha::empty()));
 }
 
 // Two numbers and what comes of them.
@@ -216,74 +215,128 @@ fn results_fit_64_bits_or_are_faults(rt: HostRuntime) {
     assert!(rt; are_rests(&RESTS));
 }
 
-#[test]
-fn sets_name_classes_of_their_layout(rt: HostRuntime) -> Result<(), Fail> {
-    let machine = ClassLayout {
-        kind: ClassKind::Permanent,
-        fields: Vec::new(rt.alloc()),
-    };
-    let job = ClassLayout {
-        kind: ClassKind::Temporary,
-        fields: vec![in rt.alloc(); Mode::Integer, Mode::Alpha]?,
-    };
-    let queue = SetLayout {
+// A class: its kind, and the modes of its fields.
+pub type ClassRow = (ClassKind, &'static [Mode]);
+
+fn classes(alloc: Global, rows: &[ClassRow]) -> Result<Vec<ClassLayout>, AllocError> {
+    let mut classes = Vec::new(alloc);
+    for (kind, modes) in rows {
+        let class = ClassLayout {
+            kind: *kind,
+            fields: Vec::from_slice(alloc, modes)?,
+        };
+        classes.push(class)?;
+    }
+    Ok(classes)
+}
+
+// A layout of these classes and sets.
+pub fn laid_out(
+    alloc: Global,
+    rows: &[ClassRow],
+    sets: &[SetLayout],
+) -> Result<Layout, AllocError> {
+    let sets = Vec::from_slice(alloc, sets)?;
+    let classes = classes(alloc, rows)?;
+    Ok(Layout { classes, sets })
+}
+
+static MACHINES_AND_JOBS: [ClassRow; 2] = [
+    (ClassKind::Permanent, &[]),
+    (ClassKind::Temporary, &[Mode::Integer, Mode::Alpha]),
+];
+
+// Jobs in queues of machines, in a pool of the system, and in sets of a class that isn't there.
+static OF_JOBS: [SetLayout; 3] = [
+    SetLayout {
         owner: Owner::Class(0),
         member: 1,
-    };
-    let pool = SetLayout {
+    },
+    SetLayout {
         owner: Owner::System,
         member: 1,
-    };
-    let mut layout = Layout {
-        classes: vec![in rt.alloc(); machine, job]?,
-        sets: vec![in rt.alloc(); queue, pool]?,
-    };
-    assert!(rt; layout.is_sound());
-    layout.sets.push(SetLayout {
+    },
+    SetLayout {
         owner: Owner::Class(2),
         member: 1,
-    })?;
-    assert!(rt; !layout.is_sound());
+    },
+];
+
+// Whether sets of jobs are sound.
+fn are_sound(alloc: Global, sets: &[SetLayout]) -> Option<bool> {
+    match laid_out(alloc, &MACHINES_AND_JOBS, sets) {
+        Ok(layout) => Some(layout.is_sound()),
+        Err(_) => None,
+    }
+}
+
+// Whether a discipline of one key is neither of the plain ones.
+fn is_ranked(alloc: Global, key: RankKey) -> bool {
+    match Vec::from_slice(alloc, &[key]) {
+        Ok(keys) => {
+            !matches!(
+                Discipline::Ranked(RankKeys::new(keys)),
+                Discipline::Fifo | Discipline::Lifo
+            )
+        }
+        Err(_) => false,
+    }
+}
+
+#[test]
+fn sets_name_classes_of_their_layout(rt: HostRuntime) {
+    assert!(rt; are_sound(rt.alloc(), &OF_JOBS[..2]) == Some(true));
+    assert!(rt; are_sound(rt.alloc(), &OF_JOBS) == Some(false));
     let key = RankKey {
         field: 0,
         high: true,
     };
-    let ranked = Discipline::Ranked(RankKeys::new(vec![in rt.alloc(); key]?));
-    assert!(rt; !matches!(ranked, Discipline::Fifo | Discipline::Lifo));
-    Ok(())
+    assert!(rt; is_ranked(rt.alloc(), key));
 }
 
 // Whether reads of four bytes give these bytes in turn; None is an error.
-fn gives<R: FaultyRead>(reader: &mut R, wanted: &[Option<&[u8]>]) -> bool {
+pub fn gives<R: FaultyRead>(reader: &mut R, wanted: &[Option<&[u8]>]) -> bool {
     for bytes in wanted {
-        let mut buf = [0; 4];
-        let given = reader.read_some(&mut buf).ok().and_then(|n| buf.get(..n));
-        if given != *bytes {
+        if !reads(reader, *bytes) {
             return false;
         }
     }
     true
 }
 
-#[test]
-fn a_reader_over_memory_goes_by_its_plan(rt: HostRuntime) -> Result<(), Fail> {
-    let mut reader = MemoryRead::new(rt.alloc(), b"HELLO", Plan::smooth(3))?;
-    assert!(rt; gives(&mut reader, &[Some(b"HEL"), Some(b"LO"), Some(b"")]));
-    assert_eq!(rt; reader.faults(), 0);
-    Ok(())
+// Whether a read of four bytes gives these; None is an error.
+fn reads<R: FaultyRead>(reader: &mut R, wanted: Option<&[u8]>) -> bool {
+    let mut buf = [0; 4];
+    match reader.read_some(&mut buf) {
+        Ok(count) => buf.get(..count) == wanted,
+        Err(_) => wanted.is_none(),
+    }
 }
 
+// Whether a reader of five bytes that goes by this plan gives these, and fails so often.
+fn goes_by(alloc: Global, plan: Plan, wanted: &[Option<&[u8]>], faults: u64) -> bool {
+    match MemoryRead::new(alloc, b"HELLO", plan) {
+        Ok(mut reader) => gives(&mut reader, wanted) && reader.faults() == faults,
+        Err(_) => false,
+    }
+}
+
+static BY_THREES: [Option<&[u8]>; 3] = [Some(b"HEL"), Some(b"LO"), Some(b"")];
+
 #[test]
-fn a_failing_reader_over_memory_goes_by_its_plan(rt: HostRuntime) -> Result<(), Fail> {
-    let plan = Plan::wrong_after_bytes(9, 2);
-    let mut failing = MemoryRead::new(rt.alloc(), b"HELLO", plan)?;
-    assert!(rt; gives(&mut failing, &[Some(b"HE"), None, None]));
-    assert_eq!(rt; failing.faults(), 2);
-    Ok(())
+fn a_reader_over_memory_goes_by_its_plan(rt: HostRuntime) {
+    assert!(rt; goes_by(rt.alloc(), Plan::smooth(3), &BY_THREES, 0));
+}
+
+static BROKEN_OFF: [Option<&[u8]>; 3] = [Some(b"HE"), None, None];
+
+#[test]
+fn a_failing_reader_over_memory_goes_by_its_plan(rt: HostRuntime) {
+    assert!(rt; goes_by(rt.alloc(), Plan::wrong_after_bytes(9, 2), &BROKEN_OFF, 2));
 }
 
 // Whether writes of these bytes take so many in turn; None is an error.
-fn takes<W: FaultyWrite>(writer: &mut W, bytes: &[u8], wanted: &[Option<usize>]) -> bool {
+pub fn takes<W: FaultyWrite>(writer: &mut W, bytes: &[u8], wanted: &[Option<usize>]) -> bool {
     for taken in wanted {
         if writer.write_some(bytes).ok() != *taken {
             return false;
@@ -292,64 +345,50 @@ fn takes<W: FaultyWrite>(writer: &mut W, bytes: &[u8], wanted: &[Option<usize>])
     true
 }
 
-#[test]
-fn a_failing_writer_over_memory_goes_by_its_plan(rt: HostRuntime) -> Result<(), Fail> {
-    let plan = Plan::wrong_after_bytes(9, 3);
-    let mut failing = MemoryWrite::new(rt.alloc(), 9, plan, Trouble::Error)?;
-    assert!(rt; takes(&mut failing, b"HELLO", &[Some(3), None]));
-    assert!(rt; failing.bytes() == b"HEL".as_slice());
-    assert_eq!(rt; failing.faults(), 1);
-    Ok(())
+// What writes take in turn, what the writer has then, and how often it failed.
+struct Taken {
+    wanted: &'static [Option<usize>],
+    bytes: &'static [u8],
+    faults: u64,
 }
 
+// Whether writes of these bytes end so.
+fn end_so(writer: Result<MemoryWrite, AllocError>, bytes: &[u8], taken: &Taken) -> bool {
+    match writer {
+        Ok(mut writer) => {
+            takes(&mut writer, bytes, taken.wanted)
+                && writer.bytes() == taken.bytes
+                && writer.faults() == taken.faults
+        }
+        Err(_) => false,
+    }
+}
+
+static FAILED: Taken = Taken {
+    wanted: &[Some(3), None],
+    bytes: b"HEL",
+    faults: 1,
+};
+
 #[test]
-fn a_stalling_writer_over_memory_goes_by_its_plan(rt: HostRuntime) -> Result<(), Fail> {
+fn a_failing_writer_over_memory_goes_by_its_plan(rt: HostRuntime) {
+    let plan = Plan::wrong_after_bytes(9, 3);
+    let failing = MemoryWrite::new(rt.alloc(), 9, plan, Trouble::Error);
+    assert!(rt; end_so(failing, b"HELLO", &FAILED));
+}
+
+static STALLED: Taken = Taken {
+    wanted: &[Some(1), Some(0), Some(0), Some(1), Some(0)],
+    bytes: b"XX",
+    faults: 3,
+};
+
+#[test]
+fn a_stalling_writer_over_memory_goes_by_its_plan(rt: HostRuntime) {
     let plan = Plan {
         times: 2,
         ..Plan::wrong_from_call(1, 2)
     };
-    let mut stalling = MemoryWrite::new(rt.alloc(), 2, plan, Trouble::NoByte)?;
-    let taken = [Some(1), Some(0), Some(0), Some(1), Some(0)];
-    assert!(rt; takes(&mut stalling, b"XY", &taken));
-    assert!(rt; stalling.bytes() == b"XX".as_slice());
-    assert_eq!(rt; stalling.faults(), 3);
-    Ok(())
-}
-
-// It takes at most two bytes, and none once it holds four.
-#[derive(Drop)]
-struct Narrow(usize);
-
-impl io::Write for Narrow {
-    fn write(&mut self, buf: &[u8]) -> io::Result<usize> {
-        if self.0 >= 6 {
-            return Err(io::Error::from(io::ErrorKind::Other));
-        }
-        let taken = buf.len().min(2).min(4usize.saturating_sub(self.0));
-        self.0 += if taken == 0 { 2 } else { taken };
-        Ok(taken)
-    }
-
-    fn flush(&mut self) -> io::Result<()> {
-        Ok(())
-    }
-}
-
-#[test]
-fn counted_readers_count_what_failed(rt: HostRuntime) {
-    let mut reader = Counted::new(b"HELLO".as_slice());
-    assert!(rt; gives(&mut reader, &[Some(b"HELL")]));
-    assert_eq!(rt; reader.faults(), 0);
-    assert!(rt; reader.into_inner() == b"O".as_slice());
-}
-
-#[test]
-fn counted_writers_count_what_failed(rt: HostRuntime) {
-    let mut writer = Counted::new(Narrow(0));
-    assert!(rt; takes(&mut writer, b"HELLO", &[Some(2), Some(2)]));
-    assert_eq!(rt; writer.faults(), 0);
-    assert!(rt; takes(&mut writer, b"HELLO", &[Some(0)]));
-    assert_eq!(rt; writer.faults(), 1);
-    assert!(rt; takes(&mut writer, b"HELLO", &[None]));
-    assert_eq!(rt; writer.faults(), 2);
+    let stalling = MemoryWrite::new(rt.alloc(), 2, plan, Trouble::NoByte);
+    assert!(rt; end_so(stalling, b"XY", &STALLED));
 }

@@ -1,22 +1,23 @@
-use ss_base::{Counted, FaultyRead, FaultyWrite};
+use crate::base::{gives, takes};
+use ss_base::{Counted, Faulty, FaultyRead, FaultyWrite};
 use std::io;
 use std::io::ErrorKind;
 
 // What a stream answers to each call.
 type Answer = Result<usize, ErrorKind>;
 
-// It answers each call the same, and keeps how often it was called and how long the last buffer was.
+// It answers four calls so and fails behind them, and keeps how often it was called and how long the last buffer was.
 #[derive(Drop)]
 struct Recording {
-    answer: Answer,
-    calls: u32,
+    answers: [Answer; 4],
+    calls: usize,
     room: usize,
 }
 
 impl Recording {
-    fn new(answer: Answer) -> Recording {
+    fn new(answers: [Answer; 4]) -> Recording {
         Recording {
-            answer,
+            answers,
             calls: 0,
             room: 0,
         }
@@ -26,13 +27,20 @@ impl Recording {
     fn was_called_once(&self, room: usize) -> bool {
         self.calls == 1 && self.room == room
     }
+
+    // The answer to a call with this buffer.
+    fn answer(&mut self, room: usize) -> Answer {
+        let answer = self.answers.get(self.calls);
+        let answer = answer.copied().unwrap_or(Err(ErrorKind::Other));
+        self.calls = self.calls.saturating_add(1);
+        self.room = room;
+        answer
+    }
 }
 
 impl io::Read for Recording {
     fn read(&mut self, buf: &mut [u8]) -> io::Result<usize> {
-        self.calls = self.calls.saturating_add(1);
-        self.room = buf.len();
-        match self.answer {
+        match self.answer(buf.len()) {
             Ok(count) => Ok(count.min(buf.len())),
             Err(kind) => Err(io::Error::from(kind)),
         }
@@ -41,9 +49,7 @@ impl io::Read for Recording {
 
 impl io::Write for Recording {
     fn write(&mut self, buf: &[u8]) -> io::Result<usize> {
-        self.calls = self.calls.saturating_add(1);
-        self.room = buf.len();
-        match self.answer {
+        match self.answer(buf.len()) {
             Ok(count) => Ok(count.min(buf.len())),
             Err(kind) => Err(io::Error::from(kind)),
         }
@@ -75,7 +81,7 @@ static ANSWERS: [Answer; 6] = [
 // Whether each read is one read of the reader inside, with the whole buffer, and answers the same.
 fn are_single_reads(answers: &[Answer]) -> bool {
     for answer in answers {
-        let mut reader = Counted::new(Recording::new(*answer));
+        let mut reader = Counted::new(Recording::new([*answer; 4]));
         let given = reader.read_some(&mut [0; 5]);
         if !is_answer(&given, *answer) || !reader.into_inner().was_called_once(5) {
             return false;
@@ -87,7 +93,7 @@ fn are_single_reads(answers: &[Answer]) -> bool {
 // Whether each write is one write of the writer inside, with all bytes, and answers the same.
 fn are_single_writes(answers: &[Answer]) -> bool {
     for answer in answers {
-        let mut writer = Counted::new(Recording::new(*answer));
+        let mut writer = Counted::new(Recording::new([*answer; 4]));
         let taken = writer.write_some(b"HELLO");
         if !is_answer(&taken, *answer) || !writer.into_inner().was_called_once(5) {
             return false;
@@ -104,4 +110,34 @@ fn a_counted_read_is_one_read(rt: HostRuntime) {
 #[test]
 fn a_counted_write_is_one_write(rt: HostRuntime) {
     assert!(rt; are_single_writes(&ANSWERS));
+}
+
+static HELL: [Option<&[u8]>; 1] = [Some(b"HELL")];
+
+// Whether a reader counts no failure, and goes on behind what was read.
+fn counts_none(mut reader: Counted<&'static [u8]>) -> bool {
+    let counted = gives(&mut reader, &HELL) && reader.faults() == 0;
+    let rest = reader.into_inner();
+    counted && rest == b"O".as_slice()
+}
+
+#[test]
+fn counted_readers_count_what_failed(rt: HostRuntime) {
+    assert!(rt; counts_none(Counted::new(b"HELLO".as_slice())));
+}
+
+// Whether a writer that takes two bytes, two more and none, and then fails, counts the last two calls.
+fn counts_two(mut writer: Counted<Recording>) -> bool {
+    takes(&mut writer, b"HELLO", &[Some(2), Some(2)])
+        && writer.faults() == 0
+        && takes(&mut writer, b"HELLO", &[Some(0)])
+        && writer.faults() == 1
+        && takes(&mut writer, b"HELLO", &[None])
+        && writer.faults() == 2
+}
+
+#[test]
+fn counted_writers_count_what_failed(rt: HostRuntime) {
+    let narrow = Recording::new([Ok(2), Ok(2), Ok(0), Err(ErrorKind::Other)]);
+    assert!(rt; counts_two(Counted::new(narrow)));
 }

@@ -3,7 +3,6 @@
 use ss_base::{Alpha, FaultKind, Mode, Refused, Value};
 use ss_events::{Answer, Call, Key, Pending, Tie, TieShape};
 use std::alloc::{AllocError, Global};
-use std::test::Fail;
 
 const PLAIN: [TieShape; 0] = [];
 
@@ -22,6 +21,8 @@ const LOW_TEXT_AND_NUMBER: [TieShape; 2] = [
         high: false,
     },
 ];
+
+static PLAIN_ALONE: [&[TieShape]; 1] = [&PLAIN];
 
 // A list of classes with these ties, by rank.
 fn listed(alloc: Global, classes: &[&[TieShape]]) -> Result<Pending, AllocError> {
@@ -51,17 +52,14 @@ fn schedule(
 }
 
 // Whether calls answer this in turn.
-fn answer(
-    alloc: Global,
-    pending: &mut Pending,
-    calls: &[Call],
-    wanted: &[Answer],
-) -> Result<bool, AllocError> {
+fn answer(alloc: Global, pending: &mut Pending, calls: &[Call], wanted: &[Answer]) -> bool {
     if !pending.fit(calls) {
-        return Ok(false);
+        return false;
     }
-    let answers = pending.run(alloc, calls)?;
-    Ok(answers.as_slice() == wanted)
+    match pending.run(alloc, calls) {
+        Ok(answers) => answers.as_slice() == wanted,
+        Err(_) => false,
+    }
 }
 
 // Whether these come out in turn, each at its time, and then nothing.
@@ -74,17 +72,31 @@ fn come_out(pending: &mut Pending, notices: &[(i64, i64)]) -> bool {
     pending.take().is_none()
 }
 
+// Whether a new list of one plain class answers this, and these come out then.
+fn new_list_answers(
+    alloc: Global,
+    calls: &[Call],
+    wanted: &[Answer],
+    notices: &[(i64, i64)],
+) -> bool {
+    match listed(alloc, &PLAIN_ALONE) {
+        Ok(mut pending) => {
+            answer(alloc, &mut pending, calls, wanted) && come_out(&mut pending, notices)
+        }
+        Err(_) => false,
+    }
+}
+
+static NONE_THERE: [Answer; 3] = [
+    Answer::Next(None),
+    Answer::Next(None),
+    Answer::Faulted(FaultKind::NotScheduled),
+];
+
 #[test]
-fn new_list_is_empty(rt: HostRuntime) -> Result<(), Fail> {
-    let mut pending = listed(rt.alloc(), &[&PLAIN])?;
+fn new_list_is_empty(rt: HostRuntime) {
     let calls = [Call::Least, Call::Take, Call::Cancel(1)];
-    let wanted = [
-        Answer::Next(None),
-        Answer::Next(None),
-        Answer::Faulted(FaultKind::NotScheduled),
-    ];
-    assert!(rt; answer(rt.alloc(), &mut pending, &calls, &wanted)?);
-    Ok(())
+    assert!(rt; new_list_answers(rt.alloc(), &calls, &NONE_THERE, &[]));
 }
 
 // Whether the last call stayed within the bounds for 1,000 pending notices, of ten binary digits.
@@ -114,12 +126,19 @@ fn come_out_in_order(pending: &mut Pending) -> bool {
     pending.take().is_none()
 }
 
+// Whether a thousand notices at one time are scheduled and come out in that order.
+fn keep_their_order(alloc: Global, list: Result<Pending, AllocError>) -> bool {
+    match list {
+        Ok(mut pending) => {
+            are_scheduled(alloc, &mut pending) == Ok(true) && come_out_in_order(&mut pending)
+        }
+        Err(_) => false,
+    }
+}
+
 #[test]
-fn equals_come_out_in_order_of_scheduling(rt: HostRuntime) -> Result<(), Fail> {
-    let mut pending = listed(rt.alloc(), &[&PLAIN])?;
-    assert_eq!(rt; are_scheduled(rt.alloc(), &mut pending), Ok(true));
-    assert!(rt; come_out_in_order(&mut pending));
-    Ok(())
+fn equals_come_out_in_order_of_scheduling(rt: HostRuntime) {
+    assert!(rt; keep_their_order(rt.alloc(), listed(rt.alloc(), &PLAIN_ALONE)));
 }
 
 // A notice of the first class at time 9.
@@ -132,9 +151,20 @@ fn at_nine<'a>(notice: i64) -> Call<'a> {
     }
 }
 
+static CANCELLED_ONCE: [Answer; 7] = [
+    Answer::Done,
+    Answer::Done,
+    Answer::Done,
+    Answer::Faulted(FaultKind::AlreadyScheduled),
+    Answer::Done,
+    Answer::Faulted(FaultKind::NotScheduled),
+    Answer::Done,
+];
+
+static IN_NEW_ORDER: [(i64, i64); 3] = [(9, 1), (9, 3), (9, 2)];
+
 #[test]
-fn cancelled_and_scheduled_again_comes_last(rt: HostRuntime) -> Result<(), Fail> {
-    let mut pending = listed(rt.alloc(), &[&PLAIN])?;
+fn cancelled_and_scheduled_again_comes_last(rt: HostRuntime) {
     let calls = [
         at_nine(1),
         at_nine(2),
@@ -144,18 +174,7 @@ fn cancelled_and_scheduled_again_comes_last(rt: HostRuntime) -> Result<(), Fail>
         Call::Cancel(2),
         at_nine(2),
     ];
-    let wanted = [
-        Answer::Done,
-        Answer::Done,
-        Answer::Done,
-        Answer::Faulted(FaultKind::AlreadyScheduled),
-        Answer::Done,
-        Answer::Faulted(FaultKind::NotScheduled),
-        Answer::Done,
-    ];
-    assert!(rt; answer(rt.alloc(), &mut pending, &calls, &wanted)?);
-    assert!(rt; come_out(&mut pending, &[(9, 1), (9, 3), (9, 2)]));
-    Ok(())
+    assert!(rt; new_list_answers(rt.alloc(), &calls, &CANCELLED_ONCE, &IN_NEW_ORDER));
 }
 
 fn high(number: i64) -> [Tie; 1] {
@@ -231,16 +250,28 @@ static BY_TIME_RANK_AND_TIES: [(i64, i64); 9] = [
     (5, 1),
 ];
 
+static THREE_CLASSES: [&[TieShape]; 3] = [&PLAIN, &HIGH_NUMBER, &LOW_TEXT_AND_NUMBER];
+
+// Whether notices of three classes come out in this order.
+fn three_come_out(alloc: Global, a: Alpha, ab: Alpha, notices: &[(i64, i64)]) -> bool {
+    match listed(alloc, &THREE_CLASSES) {
+        Ok(mut pending) => {
+            schedule_three(alloc, &mut pending, a, ab).is_ok() && come_out(&mut pending, notices)
+        }
+        Err(_) => false,
+    }
+}
+
 #[test]
-fn times_then_ranks_then_ties(rt: HostRuntime) -> Result<(), Fail> {
-    let (Some(a), Some(ab)) = (Alpha::of(b"A"), Alpha::of(b"AB")) else {
-        return Err(Fail::from("a text"));
-    };
-    let classes: [&[TieShape]; 3] = [&PLAIN, &HIGH_NUMBER, &LOW_TEXT_AND_NUMBER];
-    let mut pending = listed(rt.alloc(), &classes)?;
-    assert!(rt; schedule_three(rt.alloc(), &mut pending, a, ab).is_ok());
-    assert!(rt; come_out(&mut pending, &BY_TIME_RANK_AND_TIES));
-    Ok(())
+fn times_then_ranks_then_ties(rt: HostRuntime) {
+    let texts = (Alpha::of(b"A"), Alpha::of(b"AB"));
+    let alloc = rt.alloc();
+    assert!(rt;
+        match texts {
+            (Some(a), Some(ab)) => three_come_out(alloc, a, ab, &BY_TIME_RANK_AND_TIES),
+            _ => false,
+        }
+    );
 }
 
 // Schedules notices at earlier and earlier times. Where memory is refused, for a key with its tie or for the list, the list
@@ -266,16 +297,28 @@ fn are_scheduled_in_spite_of_refusals(
     Ok(true)
 }
 
+static HIGH_NUMBER_ALONE: [&[TieShape]; 1] = [&HIGH_NUMBER];
+
+// A list of one class with a high number, where memory may be refused: then the next try succeeds.
+fn listed_in_spite(alloc: Global) -> Result<Pending, AllocError> {
+    match listed(alloc, &HIGH_NUMBER_ALONE) {
+        Ok(pending) => Ok(pending),
+        Err(_) => listed(alloc, &HIGH_NUMBER_ALONE),
+    }
+}
+
+// Whether notices are scheduled in a list in spite of refusals, and the last is the first to come.
+fn is_left(alloc: Global, list: Result<Pending, AllocError>) -> bool {
+    match list {
+        Ok(mut pending) => {
+            are_scheduled_in_spite_of_refusals(alloc, &mut pending) == Ok(true)
+                && pending.take() == Some((-100, 100))
+        }
+        Err(_) => false,
+    }
+}
+
 #[test]
-fn refused_memory_leaves_the_list(rt: HostRuntime) -> Result<(), Fail> {
-    let mut pending = match listed(rt.alloc(), &[&HIGH_NUMBER]) {
-        Ok(pending) => pending,
-        Err(_) => listed(rt.alloc(), &[&HIGH_NUMBER])?,
-    };
-    assert_eq!(rt;
-        are_scheduled_in_spite_of_refusals(rt.alloc(), &mut pending),
-        Ok(true)
-    );
-    assert_eq!(rt; pending.take(), Some((-100, 100)));
-    Ok(())
+fn refused_memory_leaves_the_list(rt: HostRuntime) {
+    assert!(rt; is_left(rt.alloc(), listed_in_spite(rt.alloc())));
 }

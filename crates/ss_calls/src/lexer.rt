@@ -1,7 +1,8 @@
 use ss_base::Line;
-use ss_lex::{LexError, NAME_LIMIT, Name, PictureLine, SOURCE_LIMIT, TokenKind, Word, tokens};
+use ss_lex::{
+    LexError, NAME_LIMIT, Name, PictureLine, SOURCE_LIMIT, Token, TokenKind, Word, tokens,
+};
 use std::alloc::{AllocError, Global};
-use std::test::Fail;
 
 /// What a text is refused for, or that it has so many tokens on so many lines.
 fn answer(alloc: Global, text: &[u8]) -> (u32, u32, usize) {
@@ -16,82 +17,87 @@ fn filled(alloc: Global, byte: u8, count: usize) -> Result<Vec<u8>, AllocError> 
     Ok(vec![in alloc; byte; count]?)
 }
 
-// The start and the line of each token of a text, and how many lines there are.
-fn places(alloc: Global, text: &[u8], wanted: &[(usize, u32)]) -> bool {
-    let Ok(found) = tokens(alloc, text) else {
-        return false;
-    };
-    let list = found.list();
-    if list.len() != wanted.len() {
-        return false;
+// What a token is to be.
+enum Kind {
+    Word(Word),
+    Name(&'static [u8]),
+    Number(i64),
+    Picture(&'static [u8]),
+}
+
+// A token: its start, its line, and what it is.
+type Row = (usize, u32, Kind);
+
+// What a token is to be, where there is a name or memory for it.
+fn kind_of(alloc: Global, kind: &Kind) -> Option<TokenKind> {
+    match kind {
+        Kind::Word(word) => Some(TokenKind::Word(*word)),
+        Kind::Name(bytes) => Some(TokenKind::Name(Name::of(bytes)?)),
+        Kind::Number(number) => Some(TokenKind::Number(*number)),
+        Kind::Picture(bytes) => Some(TokenKind::Picture(PictureLine::of(alloc, bytes).ok()?)),
     }
-    for (token, (start, line)) in list.iter().zip(wanted.iter()) {
-        if token.span.start != *start || token.line != Line(*line) {
+}
+
+fn is_kind(alloc: Global, kind: &TokenKind, wanted: &Kind) -> bool {
+    match kind_of(alloc, wanted) {
+        Some(wanted) => *kind == wanted,
+        None => false,
+    }
+}
+
+fn is_token(alloc: Global, token: &Token, row: &Row) -> bool {
+    let (start, line, kind) = row;
+    token.span.start == *start && token.line == Line(*line) && is_kind(alloc, &token.kind, kind)
+}
+
+// Whether these are the tokens.
+fn are_tokens(alloc: Global, tokens: &[Token], rows: &[Row]) -> bool {
+    for (token, row) in tokens.iter().zip(rows.iter()) {
+        if !is_token(alloc, token, row) {
             return false;
         }
     }
-    true
+    tokens.len() == rows.len()
 }
 
-// Whether a token of a text is this word.
-fn is_word(alloc: Global, text: &[u8], at: usize, word: Word) -> bool {
-    let Ok(found) = tokens(alloc, text) else {
-        return false;
-    };
-    match found.list().get(at) {
-        Some(token) => token.kind == TokenKind::Word(word),
-        None => false,
-    }
-}
-
-// Whether a token of a text is this name.
-fn is_name(alloc: Global, text: &[u8], at: usize, name: &[u8]) -> bool {
-    let (Ok(found), Some(name)) = (tokens(alloc, text), Name::of(name)) else {
-        return false;
-    };
-    match found.list().get(at) {
-        Some(token) => token.kind == TokenKind::Name(name),
-        None => false,
+// Whether a text has these tokens.
+fn has_tokens(alloc: Global, text: &[u8], rows: &[Row]) -> bool {
+    match tokens(alloc, text) {
+        Ok(found) => are_tokens(alloc, found.list(), rows),
+        Err(_) => false,
     }
 }
 
 static NOTED: &[u8] = b"main ''NOTE'' X. ... 12.A ''REST\nEND";
 
+static NOTED_TOKENS: [Row; 4] = [
+    (0, 1, Kind::Word(Word::Main)),
+    (14, 1, Kind::Name(b"X")),
+    (21, 1, Kind::Name(b"12.A")),
+    (33, 2, Kind::Word(Word::End)),
+];
+
 #[test]
 fn words_comments_and_periods(rt: HostRuntime) {
-    let alloc = rt.alloc();
-    assert!(rt; places(alloc, NOTED, &[(0, 1), (14, 1), (21, 1), (33, 2)]));
-    assert_eq!(rt; answer(alloc, NOTED), (0, 2, 4));
-    assert!(rt; is_word(alloc, NOTED, 0, Word::Main) && is_word(alloc, NOTED, 3, Word::End));
-    assert!(rt; is_name(alloc, NOTED, 1, b"X") && is_name(alloc, NOTED, 2, b"12.A"));
-}
-
-// Whether a token of a text is a picture of these bytes in this line.
-fn is_picture(
-    alloc: Global,
-    text: &[u8],
-    at: usize,
-    bytes: &[u8],
-    line: u32,
-) -> Result<bool, AllocError> {
-    let Ok(found) = tokens(alloc, text) else {
-        return Ok(false);
-    };
-    let picture = TokenKind::Picture(PictureLine::of(alloc, bytes)?);
-    match found.list().get(at) {
-        Some(token) => Ok(token.kind == picture && token.line == Line(line)),
-        None => Ok(false),
-    }
+    assert!(rt; has_tokens(rt.alloc(), NOTED, &NOTED_TOKENS));
+    assert!(rt; answer(rt.alloc(), NOTED) == (0, 2, 4));
 }
 
 static PICTURED: &[u8] = b"PRINT 2 LINES THUS\nA \"**\r\n\t'\r\r";
 
+static PICTURED_TOKENS: [Row; 6] = [
+    (0, 1, Kind::Word(Word::Print)),
+    (6, 1, Kind::Number(2)),
+    (8, 1, Kind::Word(Word::Line)),
+    (14, 1, Kind::Word(Word::Thus)),
+    (19, 2, Kind::Picture(b"A \"**")),
+    (26, 3, Kind::Picture(b"\t'\r")),
+];
+
 #[test]
 fn pictures_without_their_line_ends(rt: HostRuntime) {
-    let alloc = rt.alloc();
-    assert_eq!(rt; answer(alloc, PICTURED), (0, 3, 6));
-    assert_eq!(rt; is_picture(alloc, PICTURED, 4, b"A \"**", 2), Ok(true));
-    assert_eq!(rt; is_picture(alloc, PICTURED, 5, b"\t'\r", 3), Ok(true));
+    assert!(rt; has_tokens(rt.alloc(), PICTURED, &PICTURED_TOKENS));
+    assert!(rt; answer(rt.alloc(), PICTURED) == (0, 3, 6));
 }
 
 // A text, and what it is refused for or how many lines and tokens it has.
@@ -162,15 +168,18 @@ fn refusals_have_names_and_numbers(rt: HostRuntime) {
     assert!(rt; are_named(&REFUSALS));
 }
 
+// Whether a text of so many of these bytes is answered so.
+fn is_answered(alloc: Global, byte: u8, count: usize, wanted: (u32, u32, usize)) -> bool {
+    match filled(alloc, byte, count) {
+        Ok(text) => answer(alloc, &text) == wanted,
+        Err(_) => false,
+    }
+}
+
 #[test]
-fn limits_of_names_and_texts(rt: HostRuntime) -> Result<(), Fail> {
-    let name = filled(rt.alloc(), b'x', NAME_LIMIT)?;
-    assert_eq!(rt; answer(rt.alloc(), &name), (0, 1, 1));
-    let name = filled(rt.alloc(), b'x', NAME_LIMIT + 1)?;
-    assert_eq!(rt; answer(rt.alloc(), &name), (37, 1, 0));
-    let blanks = filled(rt.alloc(), b' ', SOURCE_LIMIT)?;
-    assert_eq!(rt; answer(rt.alloc(), &blanks), (0, 1, 0));
-    let blanks = filled(rt.alloc(), b' ', SOURCE_LIMIT + 1)?;
-    assert_eq!(rt; answer(rt.alloc(), &blanks), (31, 0, 0));
-    Ok(())
+fn limits_of_names_and_texts(rt: HostRuntime) {
+    assert!(rt; is_answered(rt.alloc(), b'x', NAME_LIMIT, (0, 1, 1)));
+    assert!(rt; is_answered(rt.alloc(), b'x', NAME_LIMIT + 1, (37, 1, 0)));
+    assert!(rt; is_answered(rt.alloc(), b' ', SOURCE_LIMIT, (0, 1, 0)));
+    assert!(rt; is_answered(rt.alloc(), b' ', SOURCE_LIMIT + 1, (31, 0, 0)));
 }

@@ -3,98 +3,114 @@ use ss_picture::{Picture, Sink, SinkError};
 use std::alloc::{AllocError, Global};
 use std::io;
 use std::io::ErrorKind;
-use std::process::Abort;
-use std::test::Fail;
 
-// A picture has these widths, and gives this line with these values in its fields.
-fn expect_line(
-    rt: &impl Abort,
+// Whether a picture has these widths, and gives this line with these values.
+fn gives(
     alloc: Global,
-    picture: &[u8],
+    picture: &Picture,
     widths: &[usize],
     values: &[Value],
     line: &[u8],
-) -> Result<(), AllocError> {
-    let picture = Picture::of(alloc, picture)?;
+) -> bool {
     let fields = picture.fields();
-    assert!(rt; fields == widths, "{fields:?}");
-    assert!(rt; fields.len() == values.len());
-    let filled = picture.fill(alloc, values)?;
-    assert!(rt; filled.as_slice() == line, "{filled:?}");
-    Ok(())
+    if fields != widths || fields.len() != values.len() {
+        return false;
+    }
+    match picture.fill(alloc, values) {
+        Ok(filled) => filled.as_slice() == line,
+        Err(_) => false,
+    }
+}
+
+// Whether the picture of these bytes does.
+fn is_line(alloc: Global, bytes: &[u8], widths: &[usize], values: &[Value], line: &[u8]) -> bool {
+    match Picture::of(alloc, bytes) {
+        Ok(picture) => gives(alloc, &picture, widths, values, line),
+        Err(_) => false,
+    }
+}
+
+// A picture of one field, its width, and the line that it gives with this number.
+type NumberRow = (&'static [u8], usize, i64, &'static [u8]);
+
+fn are_numbers(alloc: Global, rows: &[NumberRow]) -> bool {
+    for (picture, width, number, line) in rows {
+        if !is_line(alloc, picture, &[*width], &[Value::Whole(*number)], line) {
+            return false;
+        }
+    }
+    true
+}
+
+static NUMBERS: [NumberRow; 4] = [
+    (b"A**", 2, 7, b"A 7"),
+    (b"ANSWER ***", 3, 42, b"ANSWER  42"),
+    (b"**", 2, 100, b"**"),
+    (b"**", 2, -9, b"-9"),
+];
+
+static WIDEST: [NumberRow; 4] = [
+    (b"*******************", 19, i64::MAX, b"9223372036854775807"),
+    (b"*******************", 19, i64::MIN, b"*******************"),
+    (
+        b"********************",
+        20,
+        i64::MAX,
+        b" 9223372036854775807",
+    ),
+    (
+        b"********************",
+        20,
+        i64::MIN,
+        b"-9223372036854775808",
+    ),
+];
+
+#[test]
+fn numbers(rt: HostRuntime) {
+    assert!(rt; are_numbers(rt.alloc(), &NUMBERS));
+    assert!(rt; are_numbers(rt.alloc(), &WIDEST));
 }
 
 #[test]
-fn lines(rt: HostRuntime) -> Result<(), Fail> {
-    let alloc = rt.alloc();
-    let whole = |number: i64| [Value::Whole(number)];
-    expect_line(&rt, alloc, b"A**", &[2], &whole(7), b"A 7")?;
-    expect_line(&rt, alloc, b"ANSWER ***", &[3], &whole(42), b"ANSWER  42")?;
-    expect_line(&rt, alloc, b"**", &[2], &whole(100), b"**")?;
-    expect_line(&rt, alloc, b"**", &[2], &whole(-9), b"-9")?;
-    expect_line(&rt, alloc, b"", &[], &[], b"")?;
-    expect_line(&rt, alloc, b"BEFORE", &[], &[], b"BEFORE")?;
-    let several = [
+fn no_field_and_several(rt: HostRuntime) {
+    assert!(rt; is_line(rt.alloc(), b"", &[], &[], b""));
+    assert!(rt; is_line(rt.alloc(), b"BEFORE", &[], &[], b"BEFORE"));
+    let values = [
         Value::Whole(3),
         Value::Whole(9),
         Value::Whole(7),
         Value::Whole(-2),
     ];
-    expect_line(
-        &rt,
-        alloc,
-        b"** ** ** **",
-        &[2, 2, 2, 2],
-        &several,
-        b" 3  9  7 -2",
-    )?;
-    Ok(())
+    let widths = [2, 2, 2, 2];
+    assert!(rt; is_line(rt.alloc(), b"** ** ** **", &widths, &values, b" 3  9  7 -2"));
 }
 
-#[test]
-fn widest_numbers(rt: HostRuntime) -> Result<(), Fail> {
-    let alloc = rt.alloc();
-    let greatest = [Value::Whole(i64::MAX)];
-    let least = [Value::Whole(i64::MIN)];
-    let nineteen = b"*******************";
-    expect_line(
-        &rt,
-        alloc,
-        nineteen,
-        &[19],
-        &greatest,
-        b"9223372036854775807",
-    )?;
-    expect_line(&rt, alloc, nineteen, &[19], &least, nineteen)?;
-    let twenty = b"********************";
-    expect_line(
-        &rt,
-        alloc,
-        twenty,
-        &[20],
-        &greatest,
-        b" 9223372036854775807",
-    )?;
-    expect_line(&rt, alloc, twenty, &[20], &least, b"-9223372036854775808")?;
-    Ok(())
+// A picture of one field, its width, and the line that it gives with this text.
+type TextRow = (&'static [u8], usize, &'static [u8], &'static [u8]);
+
+fn are_texts(alloc: Global, rows: &[TextRow]) -> bool {
+    for (picture, width, text, line) in rows {
+        let Some(text) = Alpha::of(text) else {
+            return false;
+        };
+        if !is_line(alloc, picture, &[*width], &[Value::Text(text)], line) {
+            return false;
+        }
+    }
+    true
 }
 
+static TEXTS: [TextRow; 4] = [
+    (b"[*****]", 5, b"BOX", b"[BOX  ]"),
+    (b"[**]", 2, b"BOX", b"[**]"),
+    (b"***", 3, b"BOX", b"BOX"),
+    (b"[**]", 2, b"", b"[  ]"),
+];
+
 #[test]
-fn texts(rt: HostRuntime) -> Result<(), Fail> {
-    let alloc = rt.alloc();
-    let boxed = [Value::Text(Alpha::of(b"BOX").expect(&rt, "a text"))];
-    expect_line(&rt, alloc, b"[*****]", &[5], &boxed, b"[BOX  ]")?;
-    expect_line(&rt, alloc, b"[**]", &[2], &boxed, b"[**]")?;
-    expect_line(&rt, alloc, b"***", &[3], &boxed, b"BOX")?;
-    expect_line(
-        &rt,
-        alloc,
-        b"[**]",
-        &[2],
-        &[Value::Text(Alpha::empty())],
-        b"[  ]",
-    )?;
-    Ok(())
+fn texts(rt: HostRuntime) {
+    assert!(rt; are_texts(rt.alloc(), &TEXTS));
 }
 
 // A picture, where memory may be refused: then the next try succeeds.
@@ -116,13 +132,25 @@ fn filled(alloc: Global, picture: &Picture, values: &[Value]) -> Result<Vec<u8>,
     }
 }
 
+// Whether a picture makes this line of a number, where memory may be refused, and then has its one field of this width.
+fn is_filled(alloc: Global, picture: &Picture, number: i64, line: &[u8], width: usize) -> bool {
+    match filled(alloc, picture, &[Value::Whole(number)]) {
+        Ok(filled) => filled.as_slice() == line && picture.fields() == [width].as_slice(),
+        Err(_) => false,
+    }
+}
+
+// Whether the picture of these bytes does.
+fn is_kept(alloc: Global, picture: &[u8], number: i64, line: &[u8], width: usize) -> bool {
+    match pictured(alloc, picture) {
+        Ok(picture) => is_filled(alloc, &picture, number, line, width),
+        Err(_) => false,
+    }
+}
+
 #[test]
-fn refused_memory_leaves_the_picture(rt: HostRuntime) -> Result<(), Fail> {
-    let picture = pictured(rt.alloc(), b"A**")?;
-    let line = filled(rt.alloc(), &picture, &[Value::Whole(7)])?;
-    assert!(rt; line.as_slice() == b"A 7".as_slice());
-    assert!(rt; picture.fields() == [2].as_slice());
-    Ok(())
+fn refused_memory_leaves_the_picture(rt: HostRuntime) {
+    assert!(rt; is_kept(rt.alloc(), b"A**", 7, b"A 7", 2));
 }
 
 // Whether a picture with this value, or with none, adds a line to make these bytes.
@@ -137,20 +165,38 @@ fn adds(picture: &Picture, line: &mut Vec<u8>, value: Option<i64>, wanted: &[u8]
     filled.is_ok() && line.as_slice() == wanted
 }
 
-#[test]
-fn one_buffer_for_many_lines(rt: HostRuntime) -> Result<(), Fail> {
-    let alloc = rt.alloc();
-    let picture = Picture::of(alloc, b"<**>")?;
-    let mut line = Vec::from_slice(alloc, b"1: ")?;
-    assert!(rt; adds(&picture, &mut line, Some(5), b"1: < 5>"));
+// Whether a picture adds its lines to a buffer, also after that was cleared.
+fn adds_lines(picture: &Picture, line: &mut Vec<u8>) -> bool {
+    if !adds(picture, line, Some(5), b"1: < 5>") {
+        return false;
+    }
     line.clear();
-    assert!(rt; adds(&picture, &mut line, Some(-5), b"<-5>"));
-    assert!(rt; adds(&picture, &mut line, None, b"<-5><**>"));
-    Ok(())
+    adds(picture, line, Some(-5), b"<-5>") && adds(picture, line, None, b"<-5><**>")
+}
+
+// Whether the picture of these bytes does, and the buffer begins so.
+fn has_one_buffer(alloc: Global, picture: &[u8], start: &[u8]) -> bool {
+    match (Picture::of(alloc, picture), Vec::from_slice(alloc, start)) {
+        (Ok(picture), Ok(mut line)) => adds_lines(&picture, &mut line),
+        _ => false,
+    }
+}
+
+#[test]
+fn one_buffer_for_many_lines(rt: HostRuntime) {
+    assert!(rt; has_one_buffer(rt.alloc(), b"<**>", b"1: "));
 }
 
 // Bytes that are written, and what comes of it.
-type Written<'a> = (&'a [u8], Result<(), SinkError>);
+type Written = (&'static [u8], Result<(), SinkError>);
+
+// What is written in turn, how many bytes are sent of it, what the writer has then, and how often it failed.
+struct Sent {
+    lines: &'static [Written],
+    sent: u128,
+    bytes: &'static [u8],
+    faults: u64,
+}
 
 // Whether writes end so in turn, and so many bytes are sent in all.
 fn writes(sink: &mut Sink<MemoryWrite>, lines: &[Written], sent: u128) -> bool {
@@ -162,29 +208,45 @@ fn writes(sink: &mut Sink<MemoryWrite>, lines: &[Written], sent: u128) -> bool {
     sink.sent() == sent
 }
 
-// Whether a writer has these bytes, and failed so often.
-fn has(writer: &MemoryWrite, bytes: &[u8], faults: u64) -> bool {
-    writer.bytes() == bytes && writer.faults() == faults
-}
-
-#[test]
-fn a_byte_per_write(rt: HostRuntime) -> Result<(), Fail> {
-    let writer = MemoryWrite::new(rt.alloc(), 64, Plan::smooth(1), Trouble::Error)?;
+// Whether a sink to this writer does.
+fn sends_to(writer: MemoryWrite, wanted: &Sent) -> bool {
     let mut sink = Sink::new(writer);
-    let lines: [Written; 3] = [(b"ANSWER", Ok(())), (b"", Ok(())), (b"  42\n", Ok(()))];
-    assert!(rt; writes(&mut sink, &lines, 11));
-    assert!(rt; has(&sink.into_inner(), b"ANSWER  42\n", 0));
-    Ok(())
+    let written = writes(&mut sink, wanted.lines, wanted.sent);
+    let writer = sink.into_inner();
+    written && writer.bytes() == wanted.bytes && writer.faults() == wanted.faults
 }
 
+// Whether a sink to a writer over memory does, which goes by this plan.
+fn sends(alloc: Global, plan: Plan, trouble: Trouble, wanted: &Sent) -> bool {
+    match MemoryWrite::new(alloc, 64, plan, trouble) {
+        Ok(writer) => sends_to(writer, wanted),
+        Err(_) => false,
+    }
+}
+
+static BY_BYTES: Sent = Sent {
+    lines: &[(b"ANSWER", Ok(())), (b"", Ok(())), (b"  42\n", Ok(()))],
+    sent: 11,
+    bytes: b"ANSWER  42\n",
+    faults: 0,
+};
+
 #[test]
-fn three_bytes_and_then_an_error(rt: HostRuntime) -> Result<(), Fail> {
+fn a_byte_per_write(rt: HostRuntime) {
+    assert!(rt; sends(rt.alloc(), Plan::smooth(1), Trouble::Error, &BY_BYTES));
+}
+
+static BROKEN_OFF: Sent = Sent {
+    lines: &[(b"1\n", Ok(())), (b"2\n", Err(SinkError::Failed))],
+    sent: 3,
+    bytes: b"1\n2",
+    faults: 1,
+};
+
+#[test]
+fn three_bytes_and_then_an_error(rt: HostRuntime) {
     let plan = Plan::wrong_after_bytes(2, 3);
-    let mut sink = Sink::new(MemoryWrite::new(rt.alloc(), 64, plan, Trouble::Error)?);
-    let lines: [Written; 2] = [(b"1\n", Ok(())), (b"2\n", Err(SinkError::Failed))];
-    assert!(rt; writes(&mut sink, &lines, 3));
-    assert!(rt; has(&sink.into_inner(), b"1\n2", 1));
-    Ok(())
+    assert!(rt; sends(rt.alloc(), plan, Trouble::Error, &BROKEN_OFF));
 }
 
 // Writes that take no byte, so many from the second call on.
@@ -197,24 +259,28 @@ fn stalling(times: u64) -> Plan {
     }
 }
 
-#[test]
-fn a_thousand_writes_of_no_byte(rt: HostRuntime) -> Result<(), Fail> {
-    let writer = MemoryWrite::new(rt.alloc(), 64, stalling(u64::MAX), Trouble::NoByte)?;
-    let mut sink = Sink::new(writer);
-    let lines: [Written; 1] = [(b"AB", Err(SinkError::Stalled))];
-    assert!(rt; writes(&mut sink, &lines, 1));
-    assert!(rt; has(&sink.into_inner(), b"A", 1000));
-    Ok(())
-}
+static STALLED: Sent = Sent {
+    lines: &[(b"AB", Err(SinkError::Stalled))],
+    sent: 1,
+    bytes: b"A",
+    faults: 1000,
+};
 
 #[test]
-fn nearly_a_thousand_writes_of_no_byte(rt: HostRuntime) -> Result<(), Fail> {
-    let writer = MemoryWrite::new(rt.alloc(), 64, stalling(999), Trouble::NoByte)?;
-    let mut sink = Sink::new(writer);
-    let lines: [Written; 1] = [(b"AB", Ok(()))];
-    assert!(rt; writes(&mut sink, &lines, 2));
-    assert!(rt; has(&sink.into_inner(), b"AB", 999));
-    Ok(())
+fn a_thousand_writes_of_no_byte(rt: HostRuntime) {
+    assert!(rt; sends(rt.alloc(), stalling(u64::MAX), Trouble::NoByte, &STALLED));
+}
+
+static NEARLY_STALLED: Sent = Sent {
+    lines: &[(b"AB", Ok(()))],
+    sent: 2,
+    bytes: b"AB",
+    faults: 999,
+};
+
+#[test]
+fn nearly_a_thousand_writes_of_no_byte(rt: HostRuntime) {
+    assert!(rt; sends(rt.alloc(), stalling(999), Trouble::NoByte, &NEARLY_STALLED));
 }
 
 // It takes a byte at each thousandth call, and none at those between.
@@ -250,9 +316,8 @@ fn only_writes_in_a_row_count(rt: HostRuntime) {
         refused: 0,
         faults: 0,
     });
-    assert_eq!(rt; sink.write(b"ABC"), Ok(()));
-    assert_eq!(rt; sink.sent(), 3);
-    assert_eq!(rt; sink.into_inner().faults(), 2997);
+    assert!(rt; sink.write(b"ABC") == Ok(()) && sink.sent() == 3);
+    assert!(rt; sink.into_inner().faults() == 2997);
 }
 
 // Its first call is interrupted, and the others take all.
@@ -282,8 +347,6 @@ impl FaultyWrite for Interrupted {
 #[test]
 fn an_interruption_is_a_failure(rt: HostRuntime) {
     let mut sink = Sink::new(Interrupted { faults: 0 });
-    assert_eq!(rt; sink.write(b"A"), Err(SinkError::Failed));
-    assert_eq!(rt; sink.sent(), 0);
-    assert_eq!(rt; sink.write(b"A"), Ok(()));
-    assert_eq!(rt; sink.sent(), 1);
+    assert!(rt; sink.write(b"A") == Err(SinkError::Failed) && sink.sent() == 0);
+    assert!(rt; sink.write(b"A") == Ok(()) && sink.sent() == 1);
 }

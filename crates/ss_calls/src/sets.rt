@@ -1,11 +1,11 @@
+use crate::base::{ClassRow, laid_out};
+use crate::records::heap_of;
 use ss_base::{
-    Alpha, ClassKind, ClassLayout, Discipline, FaultKind, Layout, Mode, Owner, RankKey, RankKeys,
-    SetLayout, Value,
+    Alpha, ClassKind, Discipline, FaultKind, Mode, Owner, RankKey, RankKeys, SetLayout, Value,
 };
 use ss_records::Heap;
 use ss_sets::{file, fits, is_in, remove_first, remove_last};
-use std::rt::HostRuntime;
-use std::test::Fail;
+use std::alloc::{AllocError, Global};
 
 const JOB: usize = 0;
 
@@ -14,33 +14,54 @@ const LINE: usize = 0;
 // The system as the owner of a set.
 const SYSTEM: i64 = 0;
 
-// Jobs with two numbers and a name, and a line of the system that they may be in.
-fn yard(rt: &HostRuntime) -> Result<Heap, Fail> {
-    let alloc = rt.alloc();
-    let job = ClassLayout {
-        kind: ClassKind::Temporary,
-        fields: vec![in alloc; Mode::Integer, Mode::Integer, Mode::Alpha]?,
-    };
-    let mut classes = Vec::new(alloc);
-    classes.push(job).map_err(|_| "memory")?;
-    let line = SetLayout {
-        owner: Owner::System,
-        member: JOB,
-    };
-    let sets = vec![in alloc; line]?;
-    Ok(Heap::new(alloc, Layout { classes, sets })?)
+// Jobs with two numbers and a name.
+static CLASSES: [ClassRow; 1] = [(
+    ClassKind::Temporary,
+    &[Mode::Integer, Mode::Integer, Mode::Alpha],
+)];
+
+// A line of the system that they may be in.
+static SETS: [SetLayout; 1] = [SetLayout {
+    owner: Owner::System,
+    member: JOB,
+}];
+
+// What a line goes by.
+#[derive(Clone, Copy)]
+enum By {
+    Fifo,
+    Lifo,
+    Keys(&'static [RankKey]),
 }
 
-// A discipline by keys, each a field and whether a high value comes first.
-fn ranked(rt: &HostRuntime, keys: &[(usize, bool)]) -> Result<Discipline, Fail> {
-    let mut all = Vec::new(rt.alloc());
-    for (field, high) in keys {
-        all.push(RankKey {
-            field: *field,
-            high: *high,
-        })?;
+const HIGH: RankKey = RankKey {
+    field: 0,
+    high: true,
+};
+
+const LOW_SECOND: RankKey = RankKey {
+    field: 1,
+    high: false,
+};
+
+const LOW_NAME: RankKey = RankKey {
+    field: 2,
+    high: false,
+};
+
+fn discipline(alloc: Global, by: By) -> Result<Discipline, AllocError> {
+    match by {
+        By::Fifo => Ok(Discipline::Fifo),
+        By::Lifo => Ok(Discipline::Lifo),
+        By::Keys(keys) => ranked(Vec::from_slice(alloc, keys)),
     }
-    Ok(Discipline::Ranked(RankKeys::new(all)))
+}
+
+fn ranked(keys: Result<Vec<RankKey>, AllocError>) -> Result<Discipline, AllocError> {
+    match keys {
+        Ok(keys) => Ok(Discipline::Ranked(RankKeys::new(keys))),
+        Err(error) => Err(error),
+    }
 }
 
 fn create(heap: &mut Heap) -> Option<i64> {
@@ -75,16 +96,13 @@ fn put(heap: &mut Heap, discipline: &Discipline, x: i64) -> Option<Result<(), Fa
     Some(file(heap, discipline, LINE, SYSTEM, x))
 }
 
-// Files a new job with these values, and answers its number.
-fn arrive(heap: &mut Heap, discipline: &Discipline, values: &[Value; 3]) -> Option<i64> {
+// Files a new job with these values. They are made as 1, 2 and so on.
+fn arrive(heap: &mut Heap, discipline: &Discipline, values: &[Value; 3]) -> Option<()> {
     let x = create(heap)?;
     for field in 0..3 {
         set_value(heap, field, x, values[field])?;
     }
-    match put(heap, discipline, x)? {
-        Ok(()) => Some(x),
-        Err(_) => None,
-    }
+    put(heap, discipline, x)?.ok()
 }
 
 // Files a new job with these numbers and no name.
@@ -97,14 +115,13 @@ fn arrive_numbered(heap: &mut Heap, discipline: &Discipline, first: i64, second:
     arrive(heap, discipline, &values).is_some()
 }
 
-// Files jobs with these numbers, which are made as 1, 2 and so on.
-fn arrive_all(heap: &mut Heap, discipline: &Discipline, numbers: &[(i64, i64)]) -> bool {
-    for (first, second) in numbers {
-        if !arrive_numbered(heap, discipline, *first, *second) {
-            return false;
-        }
-    }
-    true
+// Files a new job with this name.
+fn arrive_named(heap: &mut Heap, discipline: &Discipline, name: &[u8]) -> bool {
+    let Some(text) = Alpha::of(name) else {
+        return false;
+    };
+    let values = [Value::Whole(0), Value::Whole(0), Value::Text(text)];
+    arrive(heap, discipline, &values).is_some()
 }
 
 // The first of the line, or the one behind x.
@@ -131,59 +148,6 @@ fn is_order(heap: &mut Heap, wanted: &[i64]) -> bool {
     at == Some(0)
 }
 
-#[test]
-fn high_values_come_first_and_ties_in_order_of_filing(rt: HostRuntime) -> Result<(), Fail> {
-    let mut heap = yard(&rt)?;
-    let high = ranked(&rt, &[(0, true)])?;
-    let numbers = [(5, 0), (7, 0), (5, 0), (9, 0), (7, 0), (-1, 0)];
-    assert!(rt; arrive_all(&mut heap, &high, &numbers));
-    assert!(rt; is_order(&mut heap, &[4, 2, 5, 1, 3, 6]));
-    assert!(rt; put(&mut heap, &high, 3) == Some(Err(FaultKind::FiledTwice)));
-    assert!(rt; put(&mut heap, &high, 7) == Some(Err(FaultKind::NeverCreated)));
-    assert!(rt; is_order(&mut heap, &[4, 2, 5, 1, 3, 6]));
-    let mut pool = yard(&rt)?;
-    assert!(rt; arrive_all(&mut pool, &high, &[(2, 0), (1, 0), (2, 0), (3, 0)]));
-    assert!(rt; is_order(&mut pool, &[4, 1, 3, 2]));
-    Ok(())
-}
-
-#[test]
-fn the_second_key_decides_among_equals_in_the_first(rt: HostRuntime) -> Result<(), Fail> {
-    let mut heap = yard(&rt)?;
-    let high_then_low = ranked(&rt, &[(0, true), (1, false)])?;
-    let numbers = [(2, 5), (2, 3), (3, 9), (2, 5), (1, 0), (3, 1)];
-    assert!(rt; arrive_all(&mut heap, &high_then_low, &numbers));
-    assert!(rt; is_order(&mut heap, &[6, 3, 2, 1, 4, 5]));
-    Ok(())
-}
-
-#[test]
-fn texts_rank_by_their_characters(rt: HostRuntime) -> Result<(), Fail> {
-    let mut heap = yard(&rt)?;
-    let low = ranked(&rt, &[(2, false)])?;
-    let names = ["MILL", "LATHE", "MILL", "", "LATHES", "A"];
-    for name in names {
-        let text = Alpha::of(name.as_bytes()).ok_or("text")?;
-        let values = [Value::Whole(0), Value::Whole(0), Value::Text(text)];
-        assert!(rt; arrive(&mut heap, &low, &values).is_some());
-    }
-    assert!(rt; is_order(&mut heap, &[4, 6, 2, 5, 1, 3]));
-    Ok(())
-}
-
-#[test]
-fn a_value_that_changes_later_moves_nothing(rt: HostRuntime) -> Result<(), Fail> {
-    let mut heap = yard(&rt)?;
-    let high = ranked(&rt, &[(0, true)])?;
-    assert!(rt; arrive_all(&mut heap, &high, &[(3, 0), (2, 0), (1, 0)]));
-    assert!(rt; set_value(&mut heap, 0, 3, Value::Whole(100)).is_some());
-    assert!(rt; is_order(&mut heap, &[1, 2, 3]));
-    // 50 goes before the 3, which ranks after it. 2 ranks with the second, and passes the third, now of 100.
-    assert!(rt; arrive_all(&mut heap, &high, &[(50, 0), (2, 0)]));
-    assert!(rt; is_order(&mut heap, &[4, 1, 2, 3, 5]));
-    Ok(())
-}
-
 // Takes the first or the last out of the line, where it is there.
 fn take(heap: &mut Heap, first: bool) -> Option<Result<i64, FaultKind>> {
     let layout = heap.layout();
@@ -205,25 +169,6 @@ fn is_waiting(heap: &mut Heap, x: i64) -> Option<Result<bool, FaultKind>> {
     Some(is_in(heap, LINE, SYSTEM, x))
 }
 
-#[test]
-fn first_come_and_last_come(rt: HostRuntime) -> Result<(), Fail> {
-    let same = [(0, 0), (0, 0), (0, 0), (0, 0)];
-    let mut queue = yard(&rt)?;
-    assert!(rt; arrive_all(&mut queue, &Discipline::Fifo, &same));
-    assert!(rt; is_order(&mut queue, &[1, 2, 3, 4]));
-    assert!(rt; take(&mut queue, true) == Some(Ok(1)));
-    assert!(rt; take(&mut queue, false) == Some(Ok(4)));
-    assert!(rt; is_order(&mut queue, &[2, 3]));
-    assert!(rt; is_waiting(&mut queue, 2) == Some(Ok(true)));
-    assert!(rt; is_waiting(&mut queue, 1) == Some(Ok(false)));
-    let mut stack = yard(&rt)?;
-    assert!(rt; take(&mut stack, true) == Some(Err(FaultKind::EmptySet)));
-    assert!(rt; take(&mut stack, false) == Some(Err(FaultKind::EmptySet)));
-    assert!(rt; arrive_all(&mut stack, &Discipline::Lifo, &same));
-    assert!(rt; is_order(&mut stack, &[4, 3, 2, 1]));
-    Ok(())
-}
-
 // Files a thousand jobs in order of their coming, and answers the most touches that one took.
 fn most_touches(heap: &mut Heap) -> Option<u64> {
     let mut most = 0;
@@ -237,11 +182,174 @@ fn most_touches(heap: &mut Heap) -> Option<u64> {
     Some(most)
 }
 
+// What is done with the line or asked of it, and what comes of it.
+#[derive(Clone, Copy)]
+enum Step {
+    // A new job with two numbers is filed, or with a name.
+    Arrive(i64, i64),
+    ArriveNamed(&'static [u8]),
+    // A job is filed once more.
+    Refused(i64, FaultKind),
+    SetFirst(i64, i64),
+    TakeFirst(Result<i64, FaultKind>),
+    TakeLast(Result<i64, FaultKind>),
+    IsIn(i64, bool),
+    // The members, from the first to the last.
+    Order(&'static [i64]),
+    // A thousand jobs are filed, with touches from the first number to the second at most.
+    Thousand(u64, u64),
+}
+
+// Whether that comes of a step.
+fn comes(heap: &mut Heap, by: &Discipline, step: Step) -> bool {
+    match step {
+        Step::Arrive(first, second) => arrive_numbered(heap, by, first, second),
+        Step::ArriveNamed(name) => arrive_named(heap, by, name),
+        Step::Refused(x, fault) => put(heap, by, x) == Some(Err(fault)),
+        Step::SetFirst(x, number) => set_value(heap, 0, x, Value::Whole(number)).is_some(),
+        Step::TakeFirst(wanted) => take(heap, true) == Some(wanted),
+        Step::TakeLast(wanted) => take(heap, false) == Some(wanted),
+        Step::IsIn(x, wanted) => is_waiting(heap, x) == Some(Ok(wanted)),
+        Step::Order(wanted) => is_order(heap, wanted),
+        Step::Thousand(least, limit) => match most_touches(heap) {
+            Some(most) => least <= most && most <= limit,
+            None => false,
+        },
+    }
+}
+
+// Whether that comes of steps in turn.
+fn all_come(heap: &mut Heap, by: &Discipline, steps: &[Step]) -> bool {
+    for step in steps {
+        if !comes(heap, by, *step) {
+            return false;
+        }
+    }
+    true
+}
+
+// Whether that comes of steps in turn in a line of its own.
+fn come_in_line(alloc: Global, by: &Discipline, steps: &[Step]) -> bool {
+    match heap_of(alloc, laid_out(alloc, &CLASSES, &SETS)) {
+        Some(mut heap) => all_come(&mut heap, by, steps),
+        None => false,
+    }
+}
+
+// Whether that comes of steps in turn in a line of its own that goes by this.
+fn come(alloc: Global, by: By, steps: &[Step]) -> bool {
+    match discipline(alloc, by) {
+        Ok(by) => come_in_line(alloc, &by, steps),
+        Err(_) => false,
+    }
+}
+
+static HIGH_FIRST: [Step; 10] = [
+    Step::Arrive(5, 0),
+    Step::Arrive(7, 0),
+    Step::Arrive(5, 0),
+    Step::Arrive(9, 0),
+    Step::Arrive(7, 0),
+    Step::Arrive(-1, 0),
+    Step::Order(&[4, 2, 5, 1, 3, 6]),
+    Step::Refused(3, FaultKind::FiledTwice),
+    Step::Refused(7, FaultKind::NeverCreated),
+    Step::Order(&[4, 2, 5, 1, 3, 6]),
+];
+
+static HIGH_FIRST_OF_FOUR: [Step; 5] = [
+    Step::Arrive(2, 0),
+    Step::Arrive(1, 0),
+    Step::Arrive(2, 0),
+    Step::Arrive(3, 0),
+    Step::Order(&[4, 1, 3, 2]),
+];
+
 #[test]
-fn a_long_queue_costs_no_more(rt: HostRuntime) -> Result<(), Fail> {
-    let mut heap = yard(&rt)?;
-    let most = most_touches(&mut heap).ok_or("filing")?;
-    assert!(rt; 4 <= most && most <= 16);
-    assert!(rt; take(&mut heap, false) == Some(Ok(1000)));
-    Ok(())
+fn high_values_come_first_and_ties_in_order_of_filing(rt: HostRuntime) {
+    assert!(rt; come(rt.alloc(), By::Keys(&[HIGH]), &HIGH_FIRST));
+    assert!(rt; come(rt.alloc(), By::Keys(&[HIGH]), &HIGH_FIRST_OF_FOUR));
+}
+
+static SECOND_KEYS: [Step; 7] = [
+    Step::Arrive(2, 5),
+    Step::Arrive(2, 3),
+    Step::Arrive(3, 9),
+    Step::Arrive(2, 5),
+    Step::Arrive(1, 0),
+    Step::Arrive(3, 1),
+    Step::Order(&[6, 3, 2, 1, 4, 5]),
+];
+
+#[test]
+fn the_second_key_decides_among_equals_in_the_first(rt: HostRuntime) {
+    assert!(rt; come(rt.alloc(), By::Keys(&[HIGH, LOW_SECOND]), &SECOND_KEYS));
+}
+
+static NAMES: [Step; 7] = [
+    Step::ArriveNamed(b"MILL"),
+    Step::ArriveNamed(b"LATHE"),
+    Step::ArriveNamed(b"MILL"),
+    Step::ArriveNamed(b""),
+    Step::ArriveNamed(b"LATHES"),
+    Step::ArriveNamed(b"A"),
+    Step::Order(&[4, 6, 2, 5, 1, 3]),
+];
+
+#[test]
+fn texts_rank_by_their_characters(rt: HostRuntime) {
+    assert!(rt; come(rt.alloc(), By::Keys(&[LOW_NAME]), &NAMES));
+}
+
+// At the end 50 goes before the 3, which ranks after it. 2 ranks with the second, and passes the third, now of 100.
+static CHANGED: [Step; 8] = [
+    Step::Arrive(3, 0),
+    Step::Arrive(2, 0),
+    Step::Arrive(1, 0),
+    Step::SetFirst(3, 100),
+    Step::Order(&[1, 2, 3]),
+    Step::Arrive(50, 0),
+    Step::Arrive(2, 0),
+    Step::Order(&[4, 1, 2, 3, 5]),
+];
+
+#[test]
+fn a_value_that_changes_later_moves_nothing(rt: HostRuntime) {
+    assert!(rt; come(rt.alloc(), By::Keys(&[HIGH]), &CHANGED));
+}
+
+static FIRST_COME: [Step; 10] = [
+    Step::Arrive(0, 0),
+    Step::Arrive(0, 0),
+    Step::Arrive(0, 0),
+    Step::Arrive(0, 0),
+    Step::Order(&[1, 2, 3, 4]),
+    Step::TakeFirst(Ok(1)),
+    Step::TakeLast(Ok(4)),
+    Step::Order(&[2, 3]),
+    Step::IsIn(2, true),
+    Step::IsIn(1, false),
+];
+
+static LAST_COME: [Step; 7] = [
+    Step::TakeFirst(Err(FaultKind::EmptySet)),
+    Step::TakeLast(Err(FaultKind::EmptySet)),
+    Step::Arrive(0, 0),
+    Step::Arrive(0, 0),
+    Step::Arrive(0, 0),
+    Step::Arrive(0, 0),
+    Step::Order(&[4, 3, 2, 1]),
+];
+
+#[test]
+fn first_come_and_last_come(rt: HostRuntime) {
+    assert!(rt; come(rt.alloc(), By::Fifo, &FIRST_COME));
+    assert!(rt; come(rt.alloc(), By::Lifo, &LAST_COME));
+}
+
+static THOUSAND: [Step; 2] = [Step::Thousand(4, 16), Step::TakeLast(Ok(1000))];
+
+#[test]
+fn a_long_queue_costs_no_more(rt: HostRuntime) {
+    assert!(rt; come(rt.alloc(), By::Fifo, &THOUSAND));
 }

@@ -1,92 +1,156 @@
+ghost use Rattle.std.specs.Prelude.{◌≤ℤ◌};
+
 use ss_base::FaultKind;
 use ss_stats::{TALLY_LIMIT, Totals};
-use std::test::Fail;
 
-#[test]
-fn tallies_values(rt: HostRuntime) -> Result<(), Fail> {
-    let mut totals = Totals::tally();
-    assert_eq!(rt; totals.number(0), 0);
-    assert_eq!(rt; totals.sum(0)?, 0);
-    totals.note(0, 4)?;
-    totals.note(0, -2)?;
-    totals.note(0, 7)?;
-    assert_eq!(rt; totals.number(0), 3);
-    assert_eq!(rt; totals.sum(0)?, 9);
-    assert_eq!(rt; totals.maximum(), 7);
-    assert_eq!(rt; totals.minimum(), -2);
-    totals.reset(0, 7);
-    assert_eq!(rt; totals.number(0), 0);
-    assert_eq!(rt; totals.sum(0)?, 0);
-    assert_eq!(rt; totals.maximum(), 0);
-    assert_eq!(rt; totals.minimum(), 0);
-    Ok(())
+// A call of totals, and what it answers.
+#[derive(Clone, Copy)]
+enum Call {
+    Note(i64),
+    Reset(i64),
+    Number(i64),
+    Sum(Result<i64, FaultKind>),
+    Maximum(i64),
+    Minimum(i64),
 }
 
-#[test]
-fn accumulates_over_time(rt: HostRuntime) -> Result<(), Fail> {
-    let mut totals = Totals::accumulate(0, 0);
-    totals.note(0, 2)?;
-    totals.note(5, 4)?;
-    assert_eq!(rt; totals.number(10), 10);
-    assert_eq!(rt; totals.sum(10)?, 30);
-    assert_eq!(rt; totals.maximum(), 4);
-    assert_eq!(rt; totals.minimum(), 0);
-    Ok(())
+// A moment, and a call then.
+type Moment = (i64, Call);
+
+// Whether a call now answers this.
+fn answers(totals: &mut Totals, now: i64, call: Call) -> bool
+    requires { totals.old.last_moment ≤ℤ now }
+    ensures { totals.new.last_moment ≤ℤ now }
+{
+    match call {
+        Call::Note(value) => totals.note(now, value).is_ok(),
+        Call::Reset(value) => {
+            totals.reset(now, value);
+            true
+        }
+        Call::Number(wanted) => totals.number(now) == wanted,
+        Call::Sum(wanted) => totals.sum(now) == wanted,
+        Call::Maximum(wanted) => totals.maximum() == wanted,
+        Call::Minimum(wanted) => totals.minimum() == wanted,
+    }
 }
 
-#[test]
-fn keeps_a_sum_that_does_not_fit(rt: HostRuntime) -> Result<(), Fail> {
-    let mut totals = Totals::tally();
-    totals.note(0, i64::MAX)?;
-    assert_eq!(rt; totals.sum(0), Ok(i64::MAX));
-    totals.note(0, 1)?;
-    assert_eq!(rt; totals.sum(0), Err(FaultKind::Overflow));
-    totals.note(0, -5)?;
-    assert_eq!(rt; totals.sum(0), Ok(9_223_372_036_854_775_803));
-    Ok(())
+// Whether calls answer this in turn, each at the moment of the last one or later, from this moment on.
+fn answer(totals: &mut Totals, start: i64, calls: &[Moment]) -> bool
+    requires { totals.old.last_moment ≤ℤ start }
+{
+    let mut last = start;
+    for (now, call) in calls {
+        if *now < last || !answers(totals, *now, *call) {
+            return false;
+        }
+        last = *now;
+    }
+    true
 }
 
-#[test]
-fn keeps_a_sum_over_time_that_does_not_fit(rt: HostRuntime) -> Result<(), Fail> {
-    let mut totals = Totals::accumulate(0, i64::MIN);
-    assert_eq!(rt; totals.sum(1), Ok(i64::MIN));
-    assert_eq!(rt; totals.sum(2), Err(FaultKind::Overflow));
-    totals.note(2, i64::MAX)?;
-    assert_eq!(rt; totals.sum(4), Ok(-2));
-    assert_eq!(rt; totals.sum(i64::MAX), Err(FaultKind::Overflow));
-    Ok(())
-}
+static TALLIED: [Moment; 14] = [
+    (0, Call::Number(0)),
+    (0, Call::Sum(Ok(0))),
+    (0, Call::Note(4)),
+    (0, Call::Note(-2)),
+    (0, Call::Note(7)),
+    (0, Call::Number(3)),
+    (0, Call::Sum(Ok(9))),
+    (0, Call::Maximum(7)),
+    (0, Call::Minimum(-2)),
+    (0, Call::Reset(7)),
+    (0, Call::Number(0)),
+    (0, Call::Sum(Ok(0))),
+    (0, Call::Maximum(0)),
+    (0, Call::Minimum(0)),
+];
 
 #[test]
-fn starts_afresh_between_changes(rt: HostRuntime) -> Result<(), Fail> {
-    let mut totals = Totals::accumulate(0, 3);
-    totals.note(4, -1)?;
-    totals.reset(6, -1);
-    assert_eq!(rt; totals.number(6), 0);
-    assert_eq!(rt; totals.sum(6), Ok(0));
-    totals.note(8, -7)?;
-    assert_eq!(rt; totals.number(10), 4);
-    assert_eq!(rt; totals.sum(10), Ok(-16));
-    assert_eq!(rt; totals.maximum(), -1);
-    assert_eq!(rt; totals.minimum(), -7);
-    Ok(())
+fn tallies_values(rt: HostRuntime) {
+    assert!(rt; answer(&mut Totals::tally(), 0, &TALLIED));
 }
 
+static TOO_LARGE: [Moment; 6] = [
+    (0, Call::Note(i64::MAX)),
+    (0, Call::Sum(Ok(i64::MAX))),
+    (0, Call::Note(1)),
+    (0, Call::Sum(Err(FaultKind::Overflow))),
+    (0, Call::Note(-5)),
+    (0, Call::Sum(Ok(9_223_372_036_854_775_803))),
+];
+
 #[test]
-fn takes_changes_at_one_moment(rt: HostRuntime) -> Result<(), Fail> {
-    let mut totals = Totals::accumulate(5, -2);
-    totals.note(5, 7)?;
-    totals.note(5, -9)?;
-    totals.note(8, 1)?;
-    assert_eq!(rt; totals.number(8), 3);
-    assert_eq!(rt; totals.sum(8), Ok(-27));
-    assert_eq!(rt; totals.maximum(), 7);
-    assert_eq!(rt; totals.minimum(), -9);
-    Ok(())
+fn keeps_a_sum_that_does_not_fit(rt: HostRuntime) {
+    assert!(rt; answer(&mut Totals::tally(), 0, &TOO_LARGE));
+}
+
+// Whether totals over time, which start with this value at this moment, answer this.
+fn accumulate(start: i64, value: i64, calls: &[Moment]) -> bool {
+    start >= 0 && answer(&mut Totals::accumulate(start, value), start, calls)
+}
+
+static OVER_TIME: [Moment; 6] = [
+    (0, Call::Note(2)),
+    (5, Call::Note(4)),
+    (10, Call::Number(10)),
+    (10, Call::Sum(Ok(30))),
+    (10, Call::Maximum(4)),
+    (10, Call::Minimum(0)),
+];
+
+#[test]
+fn accumulates_over_time(rt: HostRuntime) {
+    assert!(rt; accumulate(0, 0, &OVER_TIME));
+}
+
+static TOO_LARGE_OVER_TIME: [Moment; 5] = [
+    (1, Call::Sum(Ok(i64::MIN))),
+    (2, Call::Sum(Err(FaultKind::Overflow))),
+    (2, Call::Note(i64::MAX)),
+    (4, Call::Sum(Ok(-2))),
+    (i64::MAX, Call::Sum(Err(FaultKind::Overflow))),
+];
+
+#[test]
+fn keeps_a_sum_over_time_that_does_not_fit(rt: HostRuntime) {
+    assert!(rt; accumulate(0, i64::MIN, &TOO_LARGE_OVER_TIME));
+}
+
+static AFRESH: [Moment; 9] = [
+    (4, Call::Note(-1)),
+    (6, Call::Reset(-1)),
+    (6, Call::Number(0)),
+    (6, Call::Sum(Ok(0))),
+    (8, Call::Note(-7)),
+    (10, Call::Number(4)),
+    (10, Call::Sum(Ok(-16))),
+    (10, Call::Maximum(-1)),
+    (10, Call::Minimum(-7)),
+];
+
+#[test]
+fn starts_afresh_between_changes(rt: HostRuntime) {
+    assert!(rt; accumulate(0, 3, &AFRESH));
+}
+
+static AT_ONE_MOMENT: [Moment; 7] = [
+    (5, Call::Note(7)),
+    (5, Call::Note(-9)),
+    (8, Call::Note(1)),
+    (8, Call::Number(3)),
+    (8, Call::Sum(Ok(-27))),
+    (8, Call::Maximum(7)),
+    (8, Call::Minimum(-9)),
+];
+
+#[test]
+fn takes_changes_at_one_moment(rt: HostRuntime) {
+    assert!(rt; accumulate(5, -2, &AT_ONE_MOMENT));
 }
 
 // That a tally refuses the value behind these is proved; no test can note so many.
 #[test]
 fn a_tally_holds_as_many_values(rt: HostRuntime) {
-    assert_eq!(rt; TALLY_LIMIT, 4_611_686_018_427_387_903);
+    assert!(rt; TALLY_LIMIT == 4_611_686_018_427_387_903);
 }
