@@ -6,7 +6,7 @@ ghost use Rattle.ss_engine.specs.Refusals.{refusal_number, refusal_name, refusal
 use ss_base::Line;
 
 /// Why a text is refused, with the line in which that shows.
-#[derive(Clone, Copy, PartialEq, Debug)]
+#[derive(Clone, Copy)]
 pub enum Refusal {
     /// The text has more bytes than may be. Its line is 0.
     TooLong(Line),
