@@ -2,5 +2,6 @@ pub mod Finding
 pub mod Keeping
 pub mod Telling
 pub mod Classing
-pub mod Counting
-pub mod Ordering
+pub mod Listing
+pub mod Ranking
+pub mod Reading

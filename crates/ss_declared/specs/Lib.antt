@@ -16,5 +16,6 @@ pub mod Broken
 pub mod Things
 pub mod Globals
 pub mod Classes
-pub mod Counts
+pub mod Ranks
+pub mod Laws
 pub mod Examples

@@ -79,7 +79,7 @@ impl Globals {
     }
 
     /// The first line where a name is declared as another thing.
-    pub fn clash(&self) -> Option<Line>
+    pub(crate) fn clash(&self) -> Option<Line>
         ensures { result ≡ self.now.clash }
     {
         self.clash
@@ -92,7 +92,7 @@ impl Globals {
     }
 
     /// What a name stands for.
-    pub fn standing(&self, name: &Name) -> Option<Standing>
+    pub(crate) fn standing(&self, name: &Name) -> Option<Standing>
         ensures { result ≡ found_in self.now name.now }
     {
         self.find(Spelling::of_name(name))
@@ -203,6 +203,9 @@ fn globals_with(
 }
 
 /// What some sayings declare.
+///
+/// # Errors
+/// `AllocError` where memory is refused.
 pub fn globals_of(alloc: Global, sayings: &[Saying]) -> Result<Globals, AllocError>
     ensures { IfOk result (Tells (declarations sayings.now)) }
 {

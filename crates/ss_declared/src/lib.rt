@@ -1,9 +1,10 @@
 //! The rules on what a program declares.
 #![tactic(auto)]
 
-mod broken;
 mod classes;
 mod globals;
+mod kinds;
+pub mod laws;
 mod lines;
 mod missing;
 mod no_member;
@@ -11,14 +12,16 @@ mod no_owner;
 mod rank_key;
 mod real_mode;
 mod rule;
-mod tally_twice;
+pub mod rules;
 mod things;
 mod tie_key;
-mod too_many;
 mod topic;
 mod twice;
 mod unknown_class;
 mod unknown_set;
 
-pub use broken::refusal_of;
+pub use globals::{Globals, globals_of};
+pub use kinds::{class_lines, set_lines};
+pub use lines::{sooner, sooner_if};
 pub use rule::{Broken, Rule};
+pub use topic::Topic;

@@ -11,6 +11,9 @@ use ss_sayings::Saying;
 use std::alloc::{AllocError, Global};
 
 /// The first line of a statement that owns what no class may belong to.
+///
+/// # Errors
+/// `AllocError` where memory is refused.
 pub fn no_member(alloc: Global, sayings: &[Saying]) -> Result<Option<Line>, AllocError>
     ensures { IfOk result (λ line. line ≡ first_line (no_member sayings.now)) }
 {

@@ -11,6 +11,9 @@ use ss_sayings::Saying;
 use std::alloc::{AllocError, Global};
 
 /// The first line of an EVERY that may belong to what nobody owns.
+///
+/// # Errors
+/// `AllocError` where memory is refused.
 pub fn no_owner(alloc: Global, sayings: &[Saying]) -> Result<Option<Line>, AllocError>
     ensures { IfOk result (λ line. line ≡ first_line (no_owner sayings.now)) }
 {

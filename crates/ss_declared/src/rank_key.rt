@@ -5,7 +5,7 @@ ghost use Rattle.ss_sayings.specs.declared.saying.Saying.{Saying};
 ghost use Rattle.ss_sayings.specs.Sayings.{NameBytes};
 ghost use Rattle.ss_declared.specs.declared.topic.Topic.TheVariants as topics;
 ghost use Rattle.ss_declared.specs.Classes.{AreClasses};
-ghost use Rattle.ss_declared.specs.Counts.{is_foreign_to, members_of, AreRanks};
+ghost use Rattle.ss_declared.specs.Ranks.{is_foreign_to, members_of, AreRanks};
 ghost use Rattle.ss_declared.specs.Lines.{first_line};
 ghost use Rattle.ss_declared.specs.RankKey.{is_foreign, is_misranked, rank_key};
 
@@ -146,6 +146,9 @@ fn ranks_said(alloc: Global, sayings: &[Saying]) -> Result<Ranks, AllocError>
 }
 
 /// The first line of a DEFINE with a key that isn't an attribute of the class of a set's members.
+///
+/// # Errors
+/// `AllocError` where memory is refused.
 pub fn rank_key(alloc: Global, sayings: &[Saying]) -> Result<Option<Line>, AllocError>
     ensures { IfOk result (λ line. line ≡ first_line (rank_key sayings.now)) }
 {

@@ -150,6 +150,9 @@ fn unmoded(
 }
 
 /// The first line of a DEFINE that says REAL, or of a name that gets no mode.
+///
+/// # Errors
+/// `AllocError` where memory is refused.
 pub fn real_mode(
     alloc: Global,
     globals: &Globals,

@@ -44,6 +44,9 @@ fn mistied(attributes: &Classes, sayings: &[Saying]) -> Option<Line>
 }
 
 /// The first line of a BREAK with a key that isn't an attribute of its class.
+///
+/// # Errors
+/// `AllocError` where memory is refused.
 pub fn tie_key(alloc: Global, sayings: &[Saying]) -> Result<Option<Line>, AllocError>
     ensures { IfOk result (λ line. line ≡ first_line (tie_key sayings.now)) }
 {

@@ -26,6 +26,9 @@ pub fn is_of_one(topic: Topic, saying: &Saying, things: &Things) -> bool
 }
 
 /// What was found so far, or the first line of a saying about this of a thing of which an earlier one is.
+///
+/// # Errors
+/// `AllocError` where memory is refused.
 pub fn again(
     alloc: Global,
     topic: Topic,
@@ -182,6 +185,9 @@ fn hidings(globals: &Globals, sayings: &[Saying], found: Option<Line>) -> Option
 }
 
 /// The first line where a name is declared twice, or what may be said once is said again.
+///
+/// # Errors
+/// `AllocError` where memory is refused.
 pub fn twice(
     alloc: Global,
     globals: &Globals,

@@ -11,6 +11,9 @@ use ss_sayings::Saying;
 use std::alloc::{AllocError, Global};
 
 /// The first line of a PRIORITY ORDER or a BREAK with what is no class of event notices.
+///
+/// # Errors
+/// `AllocError` where memory is refused.
 pub fn unknown_class(alloc: Global, sayings: &[Saying]) -> Result<Option<Line>, AllocError>
     ensures { IfOk result (λ line. line ≡ first_line (unknown_class sayings.now)) }
 {

@@ -11,6 +11,9 @@ use ss_sayings::Saying;
 use std::alloc::{AllocError, Global};
 
 /// The first line of a DEFINE as a set of what has neither owner nor members.
+///
+/// # Errors
+/// `AllocError` where memory is refused.
 pub fn unknown_set(alloc: Global, sayings: &[Saying]) -> Result<Option<Line>, AllocError>
     ensures { IfOk result (λ line. line ≡ first_line (unknown_set sayings.now)) }
 {

@@ -11,7 +11,7 @@ ghost use Rattle.ss_tables.specs.Tables.{AreTables, AreTablesOf, Tells};
 
 use crate::error::{TableError, error_of};
 use ss_base::Layout;
-use ss_declared::refusal_of;
+use ss_breaches::refusal_of;
 use ss_laid::laws::layouts_are_there;
 use ss_names::laws::names_stand_once;
 use ss_names::{NameId, Names};

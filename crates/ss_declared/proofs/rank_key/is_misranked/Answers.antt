@@ -2,7 +2,7 @@ use Rattle.std.proofs.Common.{Option, ap, sym, ◌∙◌}
 use Rattle.ss_sayings.specs.Sayings.{NameBytes}
 use Rattle.ss_declared.specs.declared.topic.Topic.TheVariants as topics
 use Rattle.ss_declared.specs.Classes.{class_kept, kept_of}
-use Rattle.ss_declared.specs.Counts.{is_foreign_to, members_of}
+use Rattle.ss_declared.specs.Ranks.{is_foreign_to, members_of}
 use Rattle.ss_declared.specs.RankKey.{is_bad_rank}
 use Rattle.ss_declared.specs.Topics.{thing_of, class_of}
 use Rattle.ss_declared.proofs.Classing.{class_is}

@@ -1,7 +1,7 @@
 use Rattle.std.proofs.Common.{◌≡◌, take}
 use Rattle.ss_declared.specs.declared.topic.Topic.TheVariants as topics
 use Rattle.ss_declared.specs.Classes.{AreClasses}
-use Rattle.ss_declared.specs.Counts.{AreRanks}
+use Rattle.ss_declared.specs.Ranks.{AreRanks}
 use Rattle.ss_declared.specs.Lines.{first_line, lines_where}
 use Rattle.ss_declared.specs.RankKey.{is_misranked}
 use Rattle.ss_declared.specs.Topics.{line_of}

@@ -1,4 +1,4 @@
-use Rattle.ss_declared.proofs.Counting.{next_ranked}
+use Rattle.ss_declared.proofs.Ranking.{next_ranked}
 use Rattle.ss_declared.proofs.rank_key.ranks_of.Goals as goal
 
 pub loop-saying-preserved : goal.loop-saying-preserved

@@ -2,7 +2,7 @@ use Rattle.std.proofs.Common.{List, ap, ◌∙◌}
 use Rattle.ss_walk.specs.declared.mention.Mention.{Mention}
 use Rattle.ss_declared.specs.Lines.{soonest, lines_where}
 use Rattle.ss_declared.specs.RealMode.{lacks_mode, mentioned_at}
-use Rattle.ss_declared.proofs.Ordering.{next_section}
+use Rattle.ss_declared.proofs.Reading.{next_section}
 use Rattle.ss_declared.proofs.real_mode.unmoded_in.Goals as goal
 
 pub loop-number-preserved : goal.loop-number-preserved

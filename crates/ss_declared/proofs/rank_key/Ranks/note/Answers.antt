@@ -3,7 +3,7 @@ use Rattle.ss_declared.specs.declared.topic.Topic.TheVariants as topics
 use Rattle.ss_declared.specs.Classes.{class_kept, kept_of}
 use Rattle.ss_declared.specs.Topics.{thing_of}
 use Rattle.ss_declared.proofs.Classing.{class_is}
-use Rattle.ss_declared.proofs.Counting.{ranked}
+use Rattle.ss_declared.proofs.Ranking.{ranked}
 use Rattle.ss_declared.proofs.rank_key.Ranks.note.Goals as goal
 
 pub returns-in_ok-add-in-Some : goal.returns-in_ok-add-in-Some

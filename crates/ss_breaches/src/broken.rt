@@ -1,0 +1,122 @@
+//! The first rule that a program breaks by what it declares.
+
+ghost use Rattle.std.specs.Prelude.{◌≡◌, map, IfOk};
+ghost use Rattle.ss_tree.specs.View.{view_section};
+ghost use Rattle.ss_declared.specs.Broken.{broken_by, told, first_of, first_broken, refusal_by};
+ghost use Rattle.ss_declared.specs.Declarations.{declarations};
+ghost use Rattle.ss_declared.specs.Globals.{Tells};
+ghost use Rattle.ss_declared.specs.Lines.{first_line};
+
+use crate::tally_twice::tally_twice;
+use crate::too_many::too_many;
+use ss_base::Line;
+use ss_declared::rules::{
+    no_member, no_owner, rank_key, real_mode, tie_key, twice, unknown_class, unknown_set,
+};
+use ss_declared::{Broken, Globals, Rule, globals_of};
+use ss_sayings::Saying;
+use ss_tree::program::Section;
+use std::alloc::{AllocError, Global};
+
+/// The first line where a rule is broken.
+fn place_of(
+    alloc: Global,
+    globals: &Globals,
+    rule: Rule,
+    sayings: &[Saying],
+    sections: &[Section],
+) -> Result<Option<Line>, AllocError>
+    requires { Tells (declarations sayings.now) globals.now }
+    ensures { IfOk result (λ line. line ≡ first_line (broken_by sayings.now (map view_section sections.now) rule)) }
+{
+    match rule {
+        Rule::Twice => twice(alloc, globals, sayings),
+        Rule::RealMode => real_mode(alloc, globals, sayings, sections),
+        Rule::UnknownClass => unknown_class(alloc, sayings),
+        Rule::UnknownSet => unknown_set(alloc, sayings),
+        Rule::NoOwner => no_owner(alloc, sayings),
+        Rule::NoMember => no_member(alloc, sayings),
+        Rule::RankKey => rank_key(alloc, sayings),
+        Rule::TallyTwice => tally_twice(alloc, sayings),
+        Rule::TooMany => too_many(alloc, sayings),
+        Rule::TieKey => tie_key(alloc, sayings),
+    }
+}
+
+/// A rule with the line where it is broken first.
+fn told(rule: Rule, line: Option<Line>) -> Option<Broken>
+    ensures { result ≡ told rule line }
+{
+    match line {
+        None => None,
+        Some(line) => Some(Broken { rule, line }),
+    }
+}
+
+/// What was found so far, or else a rule, where it is broken.
+fn or_broken(
+    alloc: Global,
+    globals: &Globals,
+    rule: Rule,
+    sayings: &[Saying],
+    sections: &[Section],
+    found: Option<Broken>,
+) -> Result<Option<Broken>, AllocError>
+    requires { Tells (declarations sayings.now) globals.now }
+    ensures { IfOk result (λ b. b ≡ first_of found (told rule (first_line (broken_by sayings.now (map view_section sections.now) rule)))) }
+{
+    match found {
+        Some(broken) => Ok(Some(broken)),
+        None => {
+            let line = place_of(alloc, globals, rule, sayings, sections)?;
+            Ok(told(rule, line))
+        }
+    }
+}
+
+/// The first of some rules that is broken.
+fn first_broken(
+    alloc: Global,
+    globals: &Globals,
+    rules: &[Rule],
+    sayings: &[Saying],
+    sections: &[Section],
+) -> Result<Option<Broken>, AllocError>
+    requires { Tells (declarations sayings.now) globals.now }
+    ensures { IfOk result (λ b. b ≡ first_broken sayings.now (map view_section sections.now) rules.now) }
+{
+    let mut found = None;
+    for rule in rules {
+        found = or_broken(alloc, globals, *rule, sayings, sections, found)?;
+    }
+    Ok(found)
+}
+
+/// The first rule that a program breaks by what it declares, in the order of the rules' numbers, with the
+/// first line where it does; None where it keeps them all. The sayings are those of the program
+/// (`sayings_of` of ss_sayings), the sections its sections.
+///
+/// # Errors
+/// `AllocError` where memory is refused.
+pub fn refusal_of(
+    alloc: Global,
+    sayings: &[Saying],
+    sections: &[Section],
+) -> Result<Option<Broken>, AllocError>
+    ensures { IfOk result (λ b. b ≡ refusal_by sayings.now (map view_section sections.now)) }
+{
+    let globals = globals_of(alloc, sayings)?;
+    let rules = [
+        Rule::Twice,
+        Rule::RealMode,
+        Rule::UnknownClass,
+        Rule::UnknownSet,
+        Rule::NoOwner,
+        Rule::NoMember,
+        Rule::RankKey,
+        Rule::TallyTwice,
+        Rule::TooMany,
+        Rule::TieKey,
+    ];
+    first_broken(alloc, &globals, &rules, sayings, sections)
+}

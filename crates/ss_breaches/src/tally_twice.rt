@@ -1,0 +1,18 @@
+//! A name has one TALLY or ACCUMULATE.
+
+ghost use Rattle.std.specs.Prelude.{◌≡◌, IfOk};
+ghost use Rattle.ss_declared.specs.Lines.{first_line};
+ghost use Rattle.ss_declared.specs.TallyTwice.{tally_twice};
+
+use ss_base::Line;
+use ss_declared::Topic;
+use ss_declared::rules::again;
+use ss_sayings::Saying;
+use std::alloc::{AllocError, Global};
+
+/// The first line of a second TALLY or ACCUMULATE of one name.
+pub fn tally_twice(alloc: Global, sayings: &[Saying]) -> Result<Option<Line>, AllocError>
+    ensures { IfOk result (λ line. line ≡ first_line (tally_twice sayings.now)) }
+{
+    again(alloc, Topic::Subject, sayings, None)
+}
