@@ -7,7 +7,7 @@ ghost use Rattle.ss_input.specs.Inputs.{source_block, source_missed, source_read
 ghost use Rattle.ss_machine.specs.Held.{IsFirst, Continues, answer_again, kept_after};
 ghost use Rattle.ss_machine.specs.Runs.{Ran};
 
-use crate::beginning::first_working;
+use crate::beginning::{beside, first_parts};
 use crate::running::{Counts, run};
 use crate::stop::Stop;
 use ss_base::{FaultyRead, FaultyWrite};
@@ -73,8 +73,8 @@ impl Machine {
     {
         laws();
         let _sound = code.len();
-        let working = first_working(alloc, &code)?;
-        let fused = Fused::of(alloc, code.instructions())?;
+        let parts = first_parts(alloc, &code);
+        let (code, (fused, working)) = beside(code, parts)?;
         Ok(Machine {
             code,
             fused,

@@ -18,6 +18,11 @@ next_piece pieces rest first i e lt =
     let longer : i + 1 < length (first ∷ rest) = omega (arith, lt) in
     subst (λ l. sum (take (i + 1 + 1) l) ≡ sum (take (i + 1) l) + get_or rest i 0) (sym e) (next_sum (first ∷ rest) (i + 1) longer ∙ ap (λ n. sum (take (i + 1) (first ∷ rest)) + n) (behind_first first rest i))
 
+-- no piece at all
+pub no_sum : (pieces : List ℕ) → length pieces ≡ 0 → sum pieces ≡ 0
+no_sum [] e = refl
+no_sum (p ∷ ps) e = absurd cc
+
 pub more_used : (s n u v t : ℕ) → n ≡ s + t → u ≤ s → v ≤ u + t → v ≤ n
 more_used s n u v t e h g = omega (arith, e, h, g)
 

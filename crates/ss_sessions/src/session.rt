@@ -91,10 +91,11 @@ impl<R: FaultyRead, W: FaultyWrite> Session<R, W> {
         ensures { result ≡ (session_reader self, session_writer self) }
     {
         let Session {
-            machine: _,
+            machine,
             source,
             sink,
         } = self;
+        drop(machine);
         (source.into_inner(), sink.into_inner())
     }
 }

@@ -1,8 +1,8 @@
-use Rattle.std.proofs.Common.{rules, arith, ◌≡◌, ◌+◌, ◌++◌, [], sym, ap, ◌∙◌, take, ◌∷◌}
+use Rattle.std.proofs.Common.{rules, arith, ◌≡◌, ◌+◌, ◌++◌, [], sym, ap, ◌∙◌, take, length, ◌∷◌}
 use Rattle.std.specs.List.{sum}
 use Rattle.ss_machine.specs.declared.stop.Stop.TheVariants.{Paused}
 use Rattle.ss_sessions.specs.Sessions.{session_machine, stands_so}
-use Rattle.ss_sessions.proofs.Handing.{next_piece, more_used, all_used}
+use Rattle.ss_sessions.proofs.Handing.{next_piece, more_used, all_used, no_sum}
 use Rattle.ss_sessions.proofs.Running.{kept_stands, last_some}
 use Rattle.ss_sessions.proofs.run.run_pieces.Goals as goal
 
@@ -43,10 +43,36 @@ loop-ticks-init g c =
       paused = λ p. omega (arith, e.paused on p, one, c.requires.first);
     }
 
-pub returns-in_default-clause-was_run : goal.returns-in_default-clause-was_run
-returns-in_default-clause-was_run g c code reader writer h =
-    record { pieces = [] ++ 0 ∷ []; some = last_some [] 0; run = c.run.ensures.has_run code reader writer [] h }
+-- there is no piece
+pub returns-in_default : goal.returns-in_default
+returns-in_default g c =
+    let e = c.run.ensures in
+    let on = c.requires.goes_on in
+    let empty : length c.args.pieces.now ≡ 0 = search rules in
+    record {
+      was_run = λ code reader writer h. record { pieces = [] ++ 0 ∷ []; some = last_some [] 0; run = e.has_run code reader writer [] h };
+      stopped = kept_stands c.run.result ∙ ap stands_so (sym (e.stopped on));
+      never_failed = e.never_failed on;
+      used = omega (arith, e.used.1, c.requires.first);
+      paused = λ p. omega (arith, e.paused on p, c.requires.first, no_sum c.args.pieces.now empty);
+    }
 
-pub returns-in_default-clause-stopped : goal.returns-in_default-clause-stopped
-returns-in_default-clause-stopped g c =
-    kept_stands c.run.result ∙ ap stands_so (sym (c.run.ensures.stopped c.requires.goes_on))
+-- a run stopped before the last piece
+pub returns-then-ne-clause-was_run : goal.returns-then-ne-clause-was_run
+returns-then-ne-clause-was_run g c = c.loop-ticks.invariant.was_run
+
+pub returns-then-ne-clause-stopped : goal.returns-then-ne-clause-stopped
+returns-then-ne-clause-stopped g c = c.loop-ticks.invariant.stopped
+
+pub returns-then-ne-clause-never_failed : goal.returns-then-ne-clause-never_failed
+returns-then-ne-clause-never_failed g c = c.loop-ticks.invariant.right
+
+-- no piece is left
+pub returns-after-loop-ticks-clause-was_run : goal.returns-after-loop-ticks-clause-was_run
+returns-after-loop-ticks-clause-was_run g c = c.loop-ticks.invariant.was_run
+
+pub returns-after-loop-ticks-clause-stopped : goal.returns-after-loop-ticks-clause-stopped
+returns-after-loop-ticks-clause-stopped g c = c.loop-ticks.invariant.stopped
+
+pub returns-after-loop-ticks-clause-never_failed : goal.returns-after-loop-ticks-clause-never_failed
+returns-after-loop-ticks-clause-never_failed g c = c.loop-ticks.invariant.right
