@@ -42,6 +42,9 @@ base_room n h = omega (arith, h)
 pub base_room2 : (n : ℕ) → n ≤ 4194307 → Fits w64 (n + 2)
 base_room2 n h = omega (arith, h)
 
+pub owner_room : (n : ℕ) → n ≤ 8388614 → Fits w64 (n + 1)
+owner_room n h = omega (arith, h)
+
 -- ## Touches, by this call and by all calls
 
 module _ (a A b B : ℕ) (none : a ≡ 0) where
@@ -74,6 +77,12 @@ module _ (a A b B : ℕ) (none : a ≡ 0) where
 
     pub one_refused : (b ≤ 12) × (false ≡ true → 4 ≤ b) × (B ≡ A + b)
     one_refused = (omega (arith, none, one.0), λ z. absurd (false_is_not_true z), omega (arith, none, one.0, one.1))
+
+    pub one_then_few : (d D : ℕ) → (d ≡ b + 1) × (D ≡ B + 1) → d ≤ 16
+    one_then_few d D two = omega (arith, none, one.0, two.0)
+
+    pub one_then_linked : (d D f F : ℕ) → (d ≡ b + 1) × (D ≡ B + 1) → (f ≡ d + 7) × (F ≡ D + 7) → {Q : Type 0} → (f ≤ 12) × (Q → 4 ≤ f) × (F ≡ A + f)
+    one_then_linked d D f F two link = (omega (arith, none, one.0, two.0, link.0), λ z. omega (arith, two.0, link.0), omega (arith, none, one.0, one.1, two.0, two.1, link.0, link.1))
 
     pub two_touches : (d D : ℕ) → (d ≡ b + 1) × (D ≡ B + 1) → {Q : Type 0} → (d ≤ 2) × (Q → 1 ≤ d) × (D ≡ A + d)
     two_touches d D two = (omega (arith, none, one.0, two.0), λ z. omega (arith, none, one.0, two.0), omega (arith, none, one.0, one.1, two.0, two.1))
@@ -109,3 +118,17 @@ module _ (a A b B : ℕ) (none : a ≡ 0) where
 
       pub two_then_linked : (f F : ℕ) → (f ≡ e + 7) × (F ≡ E + 7) → {Q : Type 0} → (f ≤ 12) × (Q → 4 ≤ f) × (F ≡ A + f)
       two_then_linked f F link = (omega (arith, none, more.0, first.0, second.0, link.0), λ z. omega (arith, second.0, link.0), omega (arith, none, more.1, first.0, first.1, second.0, second.1, link.0, link.1))
+
+-- of looks at each set
+pub start_ties : (a : ℕ) → a ≡ 0 → a ≤ 2 ^ 32
+start_ties a none = omega (arith, none)
+
+pub more_ties : (a b : ℕ) → a ≡ 0 → b ≤ a + 1048576 → b ≤ 2 ^ 33
+more_ties a b none few = omega (arith, none, few)
+
+module _ (a A b B d D : ℕ) where
+  pub after_ties : B + a ≡ A + b → D + b ≡ B + d → D + a ≡ A + d
+  after_ties one two = omega (arith, one, two)
+
+  pub as_many : B + a ≡ A + b → (d ≡ b) × (D ≡ B) → D + a ≡ A + d
+  as_many one same = omega (arith, one, same.0, same.1)
