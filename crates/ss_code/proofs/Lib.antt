@@ -1,4 +1,2 @@
-mod Looped
-mod Rows
 mod Sizes
 mod Whole

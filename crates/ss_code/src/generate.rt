@@ -6,7 +6,7 @@ ghost use Rattle.ss_program.specs.Nodes.{nodes};
 ghost use Rattle.ss_program.specs.View.{view_routine, view_event, view_program};
 ghost use Rattle.ss_program.specs.WellTyped.{WellTyped};
 ghost use Rattle.ss_machine_code.specs.Running.{Behaves, Lands};
-ghost use Rattle.ss_code.specs.Limits.{instruction_limit, small_program};
+ghost use Rattle.ss_code.specs.Limits.{instruction_limit as most_instructions, small_program};
 ghost use Rattle.ss_machine_code.specs.Translation.{code_of, sections_code, sections_pictures, routine_bodies, event_bodies, routine_entry, event_entry, routine_entries, event_entries};
 
 use crate::code::Code;
@@ -18,12 +18,10 @@ use ss_base::Mode;
 use ss_machine_code::entry::Entry;
 use ss_machine_code::instruction::Instruction;
 use ss_machine_code::laws::laws;
+use ss_machine_code::limit::instruction_limit;
 use ss_program::checked::Checked;
 use ss_program::sections::{Event, Program, Routine};
 use std::alloc::{AllocError, Global};
-
-/// The most instructions of a program.
-pub const INSTRUCTION_LIMIT: usize = 1_048_576;
 
 // Modes and further ones behind them.
 fn joined(alloc: Global, first: &[Mode], second: &[Mode]) -> Result<Vec<Mode>, AllocError>
@@ -99,7 +97,7 @@ fn made(alloc: Global, program: &Program) -> Result<Code, CodeError>
     ensures behaves { IfOk result (λ code. Behaves (view_program program.now) code) }
     ensures lands { IfOk result (λ code. Lands code) }
     ensures limit { IfOk result (λ code. length code.instructions ≤ instruction_limit) }
-    ensures too_long { result ≡ Err CodeError.CodeTooLong → instruction_limit < length (code_of (view_program program.now)).instructions }
+    ensures too_long { result ≡ Err CodeError.CodeTooLong → most_instructions < length (code_of (view_program program.now)).instructions }
     ensures small { nodes (view_program program.now) ≤ small_program → result ≡ Err CodeError.CodeTooLong → ⊥ }
 {
     laws();
@@ -122,7 +120,8 @@ fn made(alloc: Global, program: &Program) -> Result<Code, CodeError>
         &mut events,
         &program.events,
     )?;
-    if instructions.len() > INSTRUCTION_LIMIT {
+    let limit = instruction_limit();
+    if instructions.len() > limit {
         return Err(CodeError::CodeTooLong);
     }
     let said = sayings(alloc, program)?;
@@ -142,14 +141,14 @@ fn made(alloc: Global, program: &Program) -> Result<Code, CodeError>
 /// The code of a program. It does with each input and each number of ticks what the program means, and nothing else, and
 /// each jump back in it leads to an instruction that takes a tick.
 ///
-/// `CodeTooLong` comes only where the code has more than `INSTRUCTION_LIMIT` instructions, and never
+/// `CodeTooLong` comes only where the code has more than 1,048,576 instructions, and never
 /// for a program of at most 16,384 nodes; `Memory` where memory was refused.
 pub fn generate(alloc: Global, checked: &Checked) -> Result<Code, CodeError>
     ensures code { IfOk result (λ code. code ≡ code_of (view_program (program_in checked.now))) }
     ensures behaves { IfOk result (λ code. Behaves (view_program (program_in checked.now)) code) }
     ensures lands { IfOk result (λ code. Lands code) }
     ensures limit { IfOk result (λ code. length code.instructions ≤ instruction_limit) }
-    ensures too_long { result ≡ Err CodeError.CodeTooLong → instruction_limit < length (code_of (view_program (program_in checked.now))).instructions }
+    ensures too_long { result ≡ Err CodeError.CodeTooLong → most_instructions < length (code_of (view_program (program_in checked.now))).instructions }
     ensures small { nodes (view_program (program_in checked.now)) ≤ small_program → result ≡ Err CodeError.CodeTooLong → ⊥ }
 {
     made(alloc, checked.program())

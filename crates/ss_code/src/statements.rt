@@ -6,17 +6,17 @@ ghost use Rattle.ss_program.specs.View.{view_expression, view_condition, view_pl
 ghost use Rattle.ss_machine_code.specs.declared.instruction.Instruction.TheVariants.{Call, Destroy, Cancel, Skip, Print};
 ghost use Rattle.ss_machine_code.specs.Translation.{expression_code, values_code, gives_code, if_code, statement_code, statement_pictures, block_code, block_pictures, section_code};
 
-use crate::conditions::{emit_condition, emit_phrases};
-use crate::emit::{emit_expression, emit_values, put};
-use crate::events::{emit_restarts, emit_schedule, emit_schedule_new};
 use crate::lines::Lines;
-use crate::loops::{emit_find, emit_for, emit_loop};
-use crate::places::{
+use ss_base::Line;
+use ss_loops::events::{emit_restarts, emit_schedule, emit_schedule_new};
+use ss_loops::loops::{emit_find, emit_for, emit_loop};
+use ss_machine_code::instruction::Instruction;
+use ss_pieces::conditions::{emit_condition, emit_phrases};
+use ss_pieces::emit::{emit_expression, emit_values, put};
+use ss_pieces::places::{
     emit_change, emit_create, emit_creates, emit_gives, emit_let, emit_reads, emit_remove_end,
 };
-use crate::sets::{emit_file, emit_remove};
-use ss_base::Line;
-use ss_machine_code::instruction::Instruction;
+use ss_pieces::sets::{emit_file, emit_remove};
 use ss_program::condition::Condition;
 use ss_program::expression::Expression;
 use ss_program::statement::{Place, Statement};

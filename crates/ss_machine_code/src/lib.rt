@@ -4,3 +4,4 @@
 pub mod entry;
 pub mod instruction;
 pub mod laws;
+pub mod limit;

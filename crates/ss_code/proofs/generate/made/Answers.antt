@@ -7,12 +7,12 @@ use Rattle.ss_code.proofs.Sizes.{code_size}
 use Rattle.ss_code.proofs.Whole.{whole_code, made_whole}
 use Rattle.ss_code.proofs.generate.made.Goals as goal
 
-pub returns-then-len-gt-INSTRUCTION_LIMIT-clause-small : goal.returns-then-len-gt-INSTRUCTION_LIMIT-clause-small
-returns-then-len-gt-INSTRUCTION_LIMIT-clause-small c = λ small q.
+pub returns-then-len-gt-limit-clause-small : goal.returns-then-len-gt-limit-clause-small
+returns-then-len-gt-limit-clause-small c = λ small q.
     let p = view_program c.args.program.now in
     let e : c.emit_events.new.code.items ≡ (code_of p).instructions =
     rw (c.in_ok-emit_events.ensures.code, c.in_ok-emit_routines.ensures.code, c.in_ok-emit_routines.ensures.pictures, c.in_ok-emit_section.ensures.code, c.in_ok-emit_section.ensures.pictures, c.new-instructions.ensures.items, c.new-pictures.ensures.items, c.deref.ensures.value, c.deref-2.ensures.value, c.deref-3.ensures.value) (whole_code p) in
-    omega (arith, ap length e, code_size p, small, c.if-len-gt-INSTRUCTION_LIMIT.true)
+    omega (arith, ap length e, code_size p, small, c.if-len-gt-limit.true, c.instruction_limit.ensures)
 
 pub new-requires : goal.new-requires
 new-requires c =

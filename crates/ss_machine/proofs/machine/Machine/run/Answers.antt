@@ -1,4 +1,4 @@
-use Rattle.std.proofs.Common.{◌-◌, sym, subst, inr}
+use Rattle.std.proofs.Common.{◌-◌, sym, ap, subst, inr, arith}
 use Rattle.ss_machine.specs.Held.{Held, Continues}
 use Rattle.ss_machine.specs.Runs.{Ran}
 use Rattle.ss_machine.proofs.Reaching.{continues_read, read_on, never_failed}
@@ -30,3 +30,9 @@ returns-clause-never_failed g c = λ none h q.
     let goes : Continues m.code m.working c.args.source.now = subst (λ (v : Held). Continues v.code v.working c.args.source.now) (sym c.self.view_is) h in
     never_failed m.code rem c.laws.ensures.steps_go_on m.working new.working c.args.source.now new.source before after taken made (continues_read m.code m.working c.args.source.now goes)
     c.laws.ensures.never_stuck c.laws.ensures.code_behaves c.laws-2.ensures.never_wrong c.len-sound.ensures.made c.len-sound.ensures.small ran
+
+pub returns-clause-used : goal.returns-clause-used
+returns-clause-used g c =
+    let same = ap (λ (v : Held). v.used) c.self.view_is in
+    let e = c.run-halt.ensures.used in
+    (omega (arith, same, e.0), omega (arith, same, e.1, c.saturating_add-last.ensures))

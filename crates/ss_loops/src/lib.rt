@@ -1,0 +1,5 @@
+//! The code of loops around the code of their bodies, and of schedulings.
+#![tactic(auto)]
+
+pub mod events;
+pub mod loops;
