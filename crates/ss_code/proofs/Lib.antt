@@ -1,3 +1,4 @@
+mod Emitted
 mod Looped
 mod Rows
 mod Sizes
