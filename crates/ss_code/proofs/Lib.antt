@@ -1,2 +1,3 @@
+mod Emitted
 mod Sizes
 mod Whole

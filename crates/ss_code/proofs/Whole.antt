@@ -1,9 +1,12 @@
 -- The parts of the code of a program, one behind the other.
-use Rattle.std.proofs.Common.{◌≡◌, ◌+◌, ◌++◌, length, map, ap, ◌∙◌, append_assoc, length-append}
+use Rattle.std.proofs.Common.{◌≡◌, ℕ, List, [], Result, Ok, Err, IfOk, IsErrAnd, ◌+◌, ◌++◌, length, map, ap, ◌∙◌, append_assoc, length-append}
 use Rattle.ss_meaning.specs.Meaning.{setting_of, tie_shapes}
-use Rattle.ss_program.specs.Program.{Program}
-use Rattle.ss_machine_code.specs.Machine.{Code}
-use Rattle.ss_machine_code.specs.Translation.{block_pictures, sections_pictures, sections_code, routine_bodies, event_bodies, routine_entries, event_entries, main_code, routines_code, prints_of_main, code_of}
+use Rattle.ss_base.specs.declared.layout.Mode.{Mode}
+use Rattle.ss_program.specs.Program.{Program, Routine, Event, Block}
+use Rattle.ss_code.specs.Emitted.{Said, said_by}
+use Rattle.ss_machine_code.specs.declared.instruction.Instruction.{Instruction}
+use Rattle.ss_machine_code.specs.Machine.{Entry, Code}
+use Rattle.ss_machine_code.specs.Translation.{section_code, block_pictures, sections_pictures, sections_code, routine_bodies, event_bodies, routine_entries, event_entries, main_code, routines_code, prints_of_main, code_of}
 
 -- how many PRINTs stand before the events
 before_events : (p : Program) → length (block_pictures p.main ++ sections_pictures (routine_bodies p.routines)) ≡ prints_of_main p + length (sections_pictures (routine_bodies p.routines))
@@ -21,6 +24,10 @@ whole_events : (p : Program) → event_entries (length (main_code p ++ routines_
 whole_events p =
     ap (λ k. event_entries k (length (block_pictures p.main ++ sections_pictures (routine_bodies p.routines))) p.events) (length-append (main_code p) (routines_code p))
     ∙ ap (λ k. event_entries (length (main_code p) + length (routines_code p)) k p.events) (before_events p)
+
+-- code of these parts
+abbrev pub code_with : List Instruction → List (List (List ℕ)) → (routines events : List Entry) → Said → (globals locals : List Mode) → Code
+code_with instructions pictures routines events said globals locals = record { instructions = instructions; pictures = pictures; routines = routines; events = events; layout = said.layout; setting = said.setting; ties = said.ties; globals = globals; locals = locals }
 
 -- the code as it is made
 abbrev pub code_made : Program → Code
@@ -41,3 +48,18 @@ made_whole p =
     ap (λ x. record (code_made p) { instructions = x }) (whole_code p)
     ∙ ap (λ x. record (code_made p) { instructions = (code_of p).instructions; pictures = x }) (whole_pictures p)
     ∙ ap (λ x. record (code_made p) { instructions = (code_of p).instructions; pictures = (code_of p).pictures; events = x }) (whole_events p)
+
+-- the instructions of MAIN, behind them those of the routines, and behind them those of the events' routines
+pub instructions_whole : (p : Program) (m : Block) (rs : List Routine) (es : List Event) (c0 c1 c2 c3 : List Instruction) (p0 p1 p2 : List (List (List ℕ))) → m ≡ p.main → rs ≡ p.routines → es ≡ p.events → c0 ≡ [] → p0 ≡ [] → c1 ≡ c0 ++ section_code (length p0) m → p1 ≡ p0 ++ block_pictures m → c2 ≡ c1 ++ sections_code (length p1) (routine_bodies rs) → p2 ≡ p1 ++ sections_pictures (routine_bodies rs) → c3 ≡ c2 ++ sections_code (length p2) (event_bodies es) → c3 ≡ (code_of p).instructions
+instructions_whole p m rs es c0 c1 c2 c3 p0 p1 p2 main routines events no_code no_pictures first first_pictures second second_pictures third =
+    rw (third, second, second_pictures, first, first_pictures, no_code, no_pictures, main, routines, events) (whole_code p)
+
+-- all that was made, one part after the other
+pub code_whole : (p : Program) (m : Block) (rs : List Routine) (es : List Event) (c0 c1 c2 c3 : List Instruction) (p0 p1 p2 p3 : List (List (List ℕ))) (r0 r e0 e : List Entry) (said : Said) (globals locals : List Mode) → m ≡ p.main → rs ≡ p.routines → es ≡ p.events → c0 ≡ [] → p0 ≡ [] → r0 ≡ [] → e0 ≡ [] → c1 ≡ c0 ++ section_code (length p0) m → p1 ≡ p0 ++ block_pictures m → c2 ≡ c1 ++ sections_code (length p1) (routine_bodies rs) → p2 ≡ p1 ++ sections_pictures (routine_bodies rs) → r ≡ r0 ++ routine_entries (length c1) (length p1) rs → c3 ≡ c2 ++ sections_code (length p2) (event_bodies es) → p3 ≡ p2 ++ sections_pictures (event_bodies es) → e ≡ e0 ++ event_entries (length c2) (length p2) es → said ≡ said_by p → globals ≡ p.globals → locals ≡ p.locals → code_with c3 p3 r e said globals locals ≡ code_of p
+code_whole p m rs es c0 c1 c2 c3 p0 p1 p2 p3 r0 r e0 e said globals locals main routines events no_code no_pictures no_routines no_events first first_pictures second second_pictures second_entries third third_pictures third_entries says global local =
+    rw (third, third_pictures, third_entries, second, second_pictures, second_entries, first, first_pictures, no_code, no_pictures, no_routines, no_events, says, global, local, main, routines, events) (made_whole p)
+
+-- there is none where something was refused
+pub no_code : {T E : Type 0} (P : T → Type 0) (Q : E → Type 0) (r : Result T E) → IsErrAnd r Q → IfOk r P
+no_code P Q (Ok x) h = absurd h
+no_code P Q (Err e) h = tt
