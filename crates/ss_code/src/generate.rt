@@ -96,7 +96,7 @@ fn made(alloc: Global, program: &Program) -> Result<Code, CodeError>
     ensures code { IfOk result (λ code. code ≡ code_of (view_program program.now)) }
     ensures behaves { IfOk result (λ code. Behaves (view_program program.now) code) }
     ensures lands { IfOk result (λ code. Lands code) }
-    ensures limit { IfOk result (λ code. length code.instructions ≤ instruction_limit) }
+    ensures limit { IfOk result (λ code. length code.instructions ≤ most_instructions) }
     ensures too_long { result ≡ Err CodeError.CodeTooLong → most_instructions < length (code_of (view_program program.now)).instructions }
     ensures small { nodes (view_program program.now) ≤ small_program → result ≡ Err CodeError.CodeTooLong → ⊥ }
 {
@@ -147,7 +147,7 @@ pub fn generate(alloc: Global, checked: &Checked) -> Result<Code, CodeError>
     ensures code { IfOk result (λ code. code ≡ code_of (view_program (program_in checked.now))) }
     ensures behaves { IfOk result (λ code. Behaves (view_program (program_in checked.now)) code) }
     ensures lands { IfOk result (λ code. Lands code) }
-    ensures limit { IfOk result (λ code. length code.instructions ≤ instruction_limit) }
+    ensures limit { IfOk result (λ code. length code.instructions ≤ most_instructions) }
     ensures too_long { result ≡ Err CodeError.CodeTooLong → most_instructions < length (code_of (view_program (program_in checked.now))).instructions }
     ensures small { nodes (view_program (program_in checked.now)) ≤ small_program → result ≡ Err CodeError.CodeTooLong → ⊥ }
 {

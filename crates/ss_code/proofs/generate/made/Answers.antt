@@ -7,17 +7,17 @@ use Rattle.ss_code.proofs.Sizes.{code_size}
 use Rattle.ss_code.proofs.Whole.{no_code, instructions_whole, code_whole}
 use Rattle.ss_code.proofs.generate.made.Goals as goal
 
-pub returns-then-len-gt-limit-clause-too_long : goal.returns-then-len-gt-limit-clause-too_long
-returns-then-len-gt-limit-clause-too_long c = λ q.
+pub returns-then-len-limit-clause-too_long : goal.returns-then-len-limit-clause-too_long
+returns-then-len-limit-clause-too_long c = λ q.
     let p = view_program c.args.program.now in
     let e : c.emit_events.new.code.items ≡ (code_of p).instructions = instructions_whole p _ _ _ _ _ _ _ _ _ _ (ap view_body c.deref.ensures.value) (ap (λ rs. map view_routine rs) c.deref-2.ensures.value) (ap (λ es. map view_event es) c.deref-3.ensures.value) c.new-instructions.ensures.items c.new-pictures.ensures.items c.in_ok-emit_section.ensures.code c.in_ok-emit_section.ensures.pictures c.in_ok-emit_routines.ensures.code c.in_ok-emit_routines.ensures.pictures c.in_ok-emit_events.ensures.code in
-    omega (arith, ap length e, c.if-len-gt-limit.true, c.instruction_limit.ensures)
+    omega (arith, ap length e, c.if-len-limit.true, c.instruction_limit-limit.ensures)
 
-pub returns-then-len-gt-limit-clause-small : goal.returns-then-len-gt-limit-clause-small
-returns-then-len-gt-limit-clause-small c = λ small q.
+pub returns-then-len-limit-clause-small : goal.returns-then-len-limit-clause-small
+returns-then-len-limit-clause-small c = λ small q.
     let p = view_program c.args.program.now in
     let e : c.emit_events.new.code.items ≡ (code_of p).instructions = instructions_whole p _ _ _ _ _ _ _ _ _ _ (ap view_body c.deref.ensures.value) (ap (λ rs. map view_routine rs) c.deref-2.ensures.value) (ap (λ es. map view_event es) c.deref-3.ensures.value) c.new-instructions.ensures.items c.new-pictures.ensures.items c.in_ok-emit_section.ensures.code c.in_ok-emit_section.ensures.pictures c.in_ok-emit_routines.ensures.code c.in_ok-emit_routines.ensures.pictures c.in_ok-emit_events.ensures.code in
-    omega (arith, ap length e, code_size p, small, c.if-len-gt-limit.true, c.instruction_limit.ensures)
+    omega (arith, ap length e, code_size p, small, c.if-len-limit.true, c.instruction_limit-limit.ensures)
 
 pub new-requires : goal.new-requires
 new-requires c =
@@ -114,4 +114,4 @@ pub returns-in_err-locals-clause-limit : goal.returns-in_err-locals-clause-limit
 returns-in_err-locals-clause-limit c = no_code _ _ c.from_residual-in_err-locals.result c.from_residual-in_err-locals.ensures.1
 
 pub returns-clause-limit : goal.returns-clause-limit
-returns-clause-limit c = omega (arith, ap (λ k. length k.instructions) c.new.ensures, c.if-len-gt-limit.false, c.instruction_limit.ensures)
+returns-clause-limit c = omega (arith, ap (λ k. length k.instructions) c.new.ensures, c.if-len-limit.false, c.instruction_limit-limit.ensures)
