@@ -46,6 +46,7 @@ pub mod Sharing
 pub mod Spared
 pub mod Splice
 pub mod Still
+pub mod Telling
 pub mod Tied
 pub mod UnlinkWrites
 pub mod Values

@@ -132,3 +132,13 @@ module _ (a A b B d D : ℕ) where
 
   pub as_many : B + a ≡ A + b → (d ≡ b) × (D ≡ B) → D + a ≡ A + d
   as_many one same = omega (arith, one, same.0, same.1)
+
+-- within a loop over the sets
+pub early_room : (t i s n m : ℕ) → i ≤ 2 ^ 32 → t ≤ i + s → s < n → n ≡ m → m ≤ 2 ^ 20 → t + 1 < 2 ^ 64
+early_room t i s n m start few small end sets = omega (arith, start, few, small, end, sets)
+
+pub later_room : (t i s n m : ℕ) → i ≤ 2 ^ 33 → t ≤ i + s → s < n → n ≡ m → m ≤ 2 ^ 20 → t + 1 < 2 ^ 64
+later_room t i s n m start few small end sets = omega (arith, start, few, small, end, sets)
+
+pub last_look : (t T i I s n m d D : ℕ) → (t ≤ i + s) × (T + i ≡ I + t) → s < n → n ≡ m → m ≤ 2 ^ 20 → (d ≡ t + 1) × (D ≡ T + 1) → (d ≤ i + 1048576) × (D + i ≡ I + d)
+last_look t T i I s n m d D few small end sets look = (omega (arith, few.0, small, end, sets, look.0), omega (arith, few.1, look.0, look.1))

@@ -1,5 +1,5 @@
 // The records: where each lies, and what its block says.
-ghost use Rattle.std.specs.Prelude.{◌≡◌, ℕ, ◌+◌, ◌-◌, ◌*◌, ◌^◌, ◌<◌, ◌≤◌, length, IsTrue, MatchResult, Ok, Err, Some, None, slice_get, true, ⊤, suc};
+ghost use Rattle.std.specs.Prelude.{◌≡◌, ℕ, ◌+◌, ◌-◌, ◌*◌, ◌^◌, ◌<◌, ◌≤◌, length, IsTrue, MatchResult, IfOk, Ok, Err, Some, None, slice_get, true, ⊤, suc};
 ghost use Rattle.ss_records.specs.State.{entity, notice, numbered, and_then, of_class, kind_of, modes_of, is_notice, first_state, living_numbers, living_records, value_in, time_in, in_a_set, owns_members, destroyed, created, created_all, with_made, assigned, timed, RefusedFor};
 ghost use Rattle.ss_records.specs.Cells.{words_at, number};
 ghost use Rattle.ss_records.specs.Reading.{record_of};
@@ -41,20 +41,12 @@ impl Records {
         ensures { MatchResult result (λ r. IsKept r × (state r ≡ first_state layout)) (λ _. ⊤) }
     {
         let layout = Plan::new(alloc, layout)?;
-        let mut blocks = Blocks::new();
         let words = layout.block_words(Owner::System);
-        let Ok(directory) = Directory::new(alloc) else {
-            blocks.close();
-            return Err(AllocError);
-        };
-        let Ok(permanents) = row::not_made(alloc, layout.classes()) else {
-            blocks.close();
-            return Err(AllocError);
-        };
-        let Ok(system) = blocks.place(&alloc, words) else {
-            blocks.close();
-            return Err(AllocError);
-        };
+        let permanents = row::not_made(alloc, layout.classes());
+        let tables = beside(layout, permanents)?;
+        let tables = beside(tables, Directory::new(alloc))?;
+        let held = beside(tables, Blocks::with_one(&alloc, words))?;
+        let (((layout, permanents), directory), (mut blocks, system)) = held;
         laying::lay_system(&mut blocks, &layout, system);
         Ok(Records {
             layout,
@@ -507,5 +499,15 @@ fn give_rows_back(
         let words = layout.block_words(Owner::Class(class));
         let places = permanents[class].places();
         placing::give_places_back(blocks, alloc, places, words);
+    }
+}
+
+// What was made first, beside what was made next, unless memory was refused for that.
+fn beside<A: Drop, B>(first: A, next: Result<B, AllocError>) -> Result<(A, B), AllocError>
+    ensures { IfOk result (λ both. (both.0 ≡ first) × (next ≡ Ok both.1)) }
+{
+    match next {
+        Ok(next) => Ok((first, next)),
+        Err(e) => Err(e),
     }
 }

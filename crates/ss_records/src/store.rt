@@ -1,5 +1,5 @@
 // The functions with a pointer.
-ghost use Rattle.std.specs.Prelude.{◌≡◌, ℕ, ◌+◌, ◌*◌, ◌^◌, ◌<◌, List, [], ◌∷◌, length, MatchResult};
+ghost use Rattle.std.specs.Prelude.{◌≡◌, ℕ, ◌+◌, ◌*◌, ◌^◌, ◌<◌, List, [], ◌∷◌, length, MatchResult, IfOk};
 ghost use Rattle.ss_records.specs.Cells.{Word, blank, number, counter, link, Cells, words_at, word_at, put_word, without, blanks, IsNumber, IsCounter, IsLink, MayBeNumber, MayBeCounter, MayBeLink};
 ghost use Rattle.ss_records.specs.Ownership.{store_owns, store_lent};
 
@@ -156,6 +156,21 @@ impl Blocks {
             store: Store::new(),
             touches: 0,
             placed: 0,
+        }
+    }
+
+    /// One new block of so many words, and no other.
+    pub(crate) fn with_one(alloc: &Global, words: usize) -> Result<(Blocks, Place), AllocError>
+        requires size { (0 < words) × (words * 8 < 2 ^ 63) }
+        ensures { IfOk result (λ b. (b.0.cells ≡ (b.1.at, blanks words) ∷ []) × (b.0.touches ≡ 0)) }
+    {
+        let mut blocks = Blocks::new();
+        match blocks.place(alloc, words) {
+            Ok(place) => Ok((blocks, place)),
+            Err(e) => {
+                blocks.close();
+                Err(e)
+            }
         }
     }
 

@@ -1,5 +1,8 @@
-use Rattle.std.proofs.Common.{sym, ◌∙◌, arith}
+use Rattle.std.proofs.Common.{sym, ap, subst, ◌∙◌, arith}
+use Rattle.ss_records.specs.Kept.{Kept}
+use Rattle.ss_records.specs.Places.{class_at, lying}
 use Rattle.ss_records.proofs.Filed.{get_there, in_here, in_not_filed, in_other}
+use Rattle.ss_records.proofs.Still.{early_room, last_look}
 use Rattle.ss_records.proofs.ties.in_a_set.Goals as goal
 use Rattle.ss_records.proofs.ties.in_a_set.Goals.{then-member_class-class+else-filed_in, else-member_class-class}
 
@@ -23,3 +26,22 @@ loop-s-preserved c =
         touches = rw w.blocks-is (omega (arith, h.touches.0), h.touches.1);
       }
     ]
+
+pub filed_in-requires-clause-kept : goal.filed_in-requires-clause-kept
+filed_in-requires-clause-kept c =
+    subst (λ bs. Kept c.args.layout.now bs c.args.system.at (lying c.args.directory.now.places c.args.permanents.now) c.args.notes.now.lists) (sym c.loop-s.invariant.cells) c.requires.kept
+
+pub filed_in-requires-clause-entry : goal.filed_in-requires-clause-entry
+filed_in-requires-clause-entry c = c.requires.entry
+
+pub filed_in-requires-clause-class : goal.filed_in-requires-clause-class
+filed_in-requires-clause-class c = λ t g. ap (λ bs. class_at bs c.args.place) c.loop-s.invariant.cells ∙ c.requires.class ∙ sym c.if-member_class-class.true ∙ c.member_class.ensures.is t g
+
+pub filed_in-requires-clause-touches : goal.filed_in-requires-clause-touches
+filed_in-requires-clause-touches c = early_room _ _ _ _ _ c.requires.touches c.loop-s.invariant.touches.0 c.loop-s-test.true c.names-s-end.ensures c.requires.kept.small.sets
+
+pub returns-then-filed_in-clause-cells : goal.returns-then-filed_in-clause-cells
+returns-then-filed_in-clause-cells c = c.filed_in.ensures.cells ∙ c.loop-s.invariant.cells
+
+pub returns-then-filed_in-clause-touches : goal.returns-then-filed_in-clause-touches
+returns-then-filed_in-clause-touches c = last_look _ _ _ _ _ _ _ _ _ c.loop-s.invariant.touches c.loop-s-test.true c.names-s-end.ensures c.requires.kept.small.sets c.filed_in.ensures.touches

@@ -1,7 +1,9 @@
-use Rattle.std.proofs.Common.{sym, ap, ◌∙◌, arith}
+use Rattle.std.proofs.Common.{sym, ap, subst, ◌∙◌, arith}
+use Rattle.ss_records.specs.Kept.{Kept}
 use Rattle.ss_base.specs.declared.layout.Owner.TheVariants.{Class}
-use Rattle.ss_records.specs.Places.{class_at}
+use Rattle.ss_records.specs.Places.{class_at, lying}
 use Rattle.ss_records.proofs.Filed.{get_there, owns_here, owns_not, owns_other, class_of_owner}
+use Rattle.ss_records.proofs.Still.{later_room, last_look}
 use Rattle.ss_records.proofs.ties.owns_members.Goals as goal
 use Rattle.ss_records.proofs.ties.owns_members.Goals.{then-is_owner+else-owns_in, else-is_owner}
 
@@ -29,3 +31,19 @@ loop-s-preserved c =
         touches = rw w.blocks-is (omega (arith, h.touches.0), h.touches.1);
       }
     ]
+
+pub owns_in-requires-clause-kept : goal.owns_in-requires-clause-kept
+owns_in-requires-clause-kept c =
+    subst (λ bs. Kept c.args.layout.now bs c.args.system.at (lying c.args.directory.now.places c.args.permanents.now) c.args.notes.now.lists) (sym c.loop-s.invariant.cells) c.requires.kept
+
+pub owns_in-requires-clause-entry : goal.owns_in-requires-clause-entry
+owns_in-requires-clause-entry c = c.requires.entry
+
+pub owns_in-requires-clause-touches : goal.owns_in-requires-clause-touches
+owns_in-requires-clause-touches c = later_room _ _ _ _ _ c.requires.touches c.loop-s.invariant.touches.0 c.loop-s-test.true c.names-s-end.ensures c.requires.kept.small.sets
+
+pub returns-then-owns_in-clause-cells : goal.returns-then-owns_in-clause-cells
+returns-then-owns_in-clause-cells c = c.owns_in.ensures.cells ∙ c.loop-s.invariant.cells
+
+pub returns-then-owns_in-clause-touches : goal.returns-then-owns_in-clause-touches
+returns-then-owns_in-clause-touches c = last_look _ _ _ _ _ _ _ _ _ c.loop-s.invariant.touches c.loop-s-test.true c.names-s-end.ensures c.requires.kept.small.sets c.owns_in.ensures.touches
