@@ -13,6 +13,7 @@ pub mod Files
 pub mod Fills
 pub mod Frees
 pub mod Indexing
+pub mod Issuing
 pub mod Keeps
 pub mod Leading
 pub mod LinkWrites

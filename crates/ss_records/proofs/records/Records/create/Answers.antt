@@ -1,4 +1,4 @@
-use Rattle.std.proofs.Common.{◌≡◌, ◌∷◌, ◌+◌, ◌<◌, length, ap, subst, ◌∙◌, arith}
+use Rattle.std.proofs.Common.{◌≡◌, sym, ◌∷◌, ◌+◌, ◌<◌, length, ap, subst, ◌∙◌, arith}
 use Rattle.std.specs.Prelude.{pos}
 use Rattle.std.proofs.lemmas.Int.{ints}
 use Rattle.std.specs.Int.{cast_signed}
@@ -6,9 +6,11 @@ use mir.Syntax.{w64}
 use Rattle.ss_records.specs.Laid.{Laid}
 use Rattle.ss_records.specs.Cells.{blanks}
 use Rattle.ss_records.specs.State.{LAST_NUMBER}
+use Rattle.ss_records.specs.Kept.{Kept, state_of}
 use Rattle.ss_records.specs.Parts.{places}
 use Rattle.ss_records.proofs.Puts.{words_new}
 use Rattle.ss_records.proofs.Creates.{word_blank, length-blanks, room_for_one, kept_created, is_created}
+use Rattle.ss_records.proofs.Issuing.{block_fits, at_rest, rests, one_left}
 use Rattle.ss_records.proofs.records.Records.create.Goals as goal
 
 pub place-requires-clause-room : goal.place-requires-clause-room
@@ -44,3 +46,41 @@ give_back-requires c = record {
     omega (arith, c.block_words-words.ensures.bound.0),
   );
 }
+
+pub place-requires-clause-size : goal.place-requires-clause-size
+place-requires-clause-size c = block_fits c.block_words-words.result c.block_words-words.ensures.bound
+
+pub lay-requires-clause-small : goal.lay-requires-clause-small
+lay-requires-clause-small c = c.requires.kept.small
+
+pub lay-requires-clause-class : goal.lay-requires-clause-class
+lay-requires-clause-class c = c.requires.class
+
+pub returns-then-i-ge-LAST_NUMBER-clause-kept : goal.returns-then-i-ge-LAST_NUMBER-clause-kept
+returns-then-i-ge-LAST_NUMBER-clause-kept c = c.requires.kept
+
+pub returns-then-i-ge-LAST_NUMBER-clause-touches : goal.returns-then-i-ge-LAST_NUMBER-clause-touches
+returns-then-i-ge-LAST_NUMBER-clause-touches c = let r = c.args.self.now in at_rest r.blocks.touches r.blocks.total c.requires.touches
+
+pub returns-in_default-clause-kept : goal.returns-in_default-clause-kept
+returns-in_default-clause-kept c =
+    let r = c.args.self.now in
+    subst (λ bs. Kept r.layout bs r.system.at (places r) r.notes.lists) (sym c.in_default.ensures.placed) c.requires.kept
+
+pub returns-in_default-clause-done : goal.returns-in_default-clause-done
+returns-in_default-clause-done c =
+    let r = c.args.self.now in
+    (ap (λ bs. state_of r.layout bs (places r) r.notes.lists) c.in_default.ensures.placed, one_left r.layout r.blocks.cells (places r) r.notes.lists c.args.class c.len-i.result c.len-i.ensures c.if-i-ge-LAST_NUMBER.false)
+
+pub returns-in_default-clause-touches : goal.returns-in_default-clause-touches
+returns-in_default-clause-touches c =
+    let r = c.args.self.now in let b = c.place.new.self in
+    rests r.blocks.touches r.blocks.total b.touches b.total c.requires.touches c.in_default.ensures.touches
+
+pub push-requires : goal.push-requires
+push-requires c = record { room = c.requires.kept.issued }
+
+pub returns-in-Err-clause-touches : goal.returns-in-Err-clause-touches
+returns-in-Err-clause-touches c =
+    let r = c.args.self.now in let b = c.give_back.new.self in let placed = c.in-Ok.ensures.touches in let back = c.give_back.ensures.touches in
+    rests r.blocks.touches r.blocks.total b.touches b.total c.requires.touches (back.0 ∙ placed.0, back.1 ∙ placed.1)
