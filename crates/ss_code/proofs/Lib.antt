@@ -2,4 +2,5 @@ mod Emitted
 mod Looped
 mod Rows
 mod Sizes
+mod Steps
 mod Whole

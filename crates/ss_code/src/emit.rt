@@ -21,7 +21,7 @@ pub(crate) fn put(code: &mut Vec<Instruction>, instruction: Instruction) -> Resu
 }
 
 /// An expression: its value goes on top of the stack.
-#[tactic(auto, unfolding(ss_program::specs::View::view_expression), using(ss_program::specs::Views::view_calculate_made, crate::proofs::Rows::calculated_code))]
+#[tactic(auto, unfolding(ss_program::specs::View::view_expression))]
 #[cycle(expressions)]
 pub(crate) fn emit_expression(
     code: &mut Vec<Instruction>,
