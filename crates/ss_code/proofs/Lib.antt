@@ -1,3 +1,4 @@
 mod Emitted
 mod Sizes
+mod Steps
 mod Whole
