@@ -5,5 +5,6 @@ pub mod code;
 pub mod error;
 pub mod generate;
 pub mod lines;
+pub mod model;
 mod sayings;
 mod statements;

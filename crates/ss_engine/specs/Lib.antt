@@ -1,5 +1,5 @@
-pub mod Refusals
+pub use Rattle.ss_compile.specs.Refusals
+pub use Rattle.ss_compile.specs.Accepting
 pub mod Outcomes
-pub mod Accepting
 pub mod Simulation
-pub mod Laws
+pub use Rattle.ss_compile.specs.Laws

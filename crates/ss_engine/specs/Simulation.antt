@@ -5,7 +5,7 @@ use Rattle.ss_program.specs.Program.{Program}
 use Rattle.ss_sessions.specs.Stop.{Stop}
 use Rattle.ss_engine.specs.declared.outcome.Outcome.{Outcome}
 use Rattle.ss_engine.specs.declared.outcome.Outcome.TheVariants.{Refused, Stopped}
-use Rattle.ss_engine.specs.Accepting.{IsProgramOf, RefusedFor, Compiles}
+use Rattle.ss_compile.specs.Accepting.{IsProgramOf, RefusedFor, Compiles}
 use Rattle.ss_machine_code.specs.Machine.{Code}
 use Rattle.ss_sessions.specs.Headline.{Simulated}
 use Rattle.ss_sessions.specs.Standing.{Stood}

@@ -3,8 +3,8 @@
 ghost use Rattle.std.specs.Prelude.{◌≡◌, IfOk};
 ghost use Rattle.ss_engine.specs.Outcomes.{stop_status, status_of, told, stop_told, outcome_told};
 
-use crate::refusal::Refusal;
 use itoa::Buffer;
+use ss_compile::Refusal;
 use ss_sessions::Stop;
 use std::alloc::{AllocError, Global};
 

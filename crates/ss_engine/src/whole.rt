@@ -2,15 +2,15 @@
 
 ghost use Rattle.std.specs.Prelude.{◌≡◌, ◌≤◌, ℕ};
 ghost use Rattle.ss_base.specs.Failures.{HasRisen};
-ghost use Rattle.ss_engine.specs.declared.refusal.Refusal.{Refusal as RefusalSeen};
+ghost use Rattle.ss_compile.specs.declared.refusal.Refusal.{Refusal as RefusalSeen};
 ghost use Rattle.ss_sessions.specs.Headline.{handed_out};
 ghost use Rattle.ss_engine.specs.Simulation.{ComesTo, StandsSo};
 ghost use Rattle.ss_sessions.specs.Stop.{Stop as StopSeen};
 
-use crate::front::compile;
 use crate::laws::laws;
 use crate::outcome::Outcome;
 use ss_base::{FaultyRead, FaultyWrite};
+use ss_compile::compile;
 use ss_sessions::{Stop, run_model};
 use std::alloc::Global;
 

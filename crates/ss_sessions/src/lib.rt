@@ -2,11 +2,10 @@
 #![tactic(auto)]
 
 pub mod laws;
-mod model;
 mod run;
 mod session;
 
-pub use model::Model;
 pub use run::run_model;
 pub use session::Session;
+pub use ss_code::model::Model;
 pub use ss_machine::Stop;

@@ -12,9 +12,9 @@ ghost use Rattle.ss_sessions.specs.Sessions.{GoesOn, HasRun, WasRun, session_mac
 ghost use Rattle.ss_sessions.specs.Standing.{Stood};
 
 use crate::laws::{sessions_are_meant, sessions_stand};
-use crate::model::Model;
 use crate::session::Session;
 use ss_base::{FaultyRead, FaultyWrite};
+use ss_code::model::Model;
 use ss_machine::Stop;
 use std::alloc::Global;
 

@@ -9,8 +9,8 @@ ghost use Rattle.ss_machine.specs.Held.{answer_again, kept_after};
 ghost use Rattle.ss_machine.specs.Runs.{Ran};
 ghost use Rattle.ss_sessions.specs.Sessions.{Begins, GoesOn, HasRun, session_machine, session_reader, session_source, session_writer};
 
-use crate::model::Model;
 use ss_base::{FaultyRead, FaultyWrite};
+use ss_code::model::Model;
 use ss_machine::{Machine, Source, Stop};
 use ss_machine_code::laws::laws;
 use ss_picture::Sink;

@@ -10,8 +10,8 @@ use Rattle.ss_formed.specs.Laws.{SpelledTreesAreFormed}
 use Rattle.ss_check.specs.Checking.{program_of}
 use Rattle.ss_check.specs.Laws.{KeptProgramsResolve}
 use Rattle.ss_typed.specs.Laws.{NeverWrong}
-use Rattle.ss_engine.specs.Accepting.{nesting_limit}
-use Rattle.ss_engine.specs.Laws.{OneMeaning, EachHasOne, ProgramsAreTyped, NeverGoesWrong}
+use Rattle.ss_compile.specs.Accepting.{nesting_limit}
+use Rattle.ss_compile.specs.Laws.{OneMeaning, EachHasOne, ProgramsAreTyped, NeverGoesWrong}
 
 same_program : (p q : Program) → Some p ≡ Some q → p ≡ q
 same_program p q e = cc

@@ -1,7 +1,7 @@
 //! Why a text is refused.
 
 ghost use Rattle.std.specs.Prelude.{◌≡◌};
-ghost use Rattle.ss_engine.specs.Refusals.{refusal_number, refusal_name, refusal_line};
+ghost use Rattle.ss_compile.specs.Refusals.{refusal_number, refusal_name, refusal_line};
 
 use ss_base::Line;
 

@@ -1,9 +1,9 @@
 use Rattle.std.proofs.Common.{ap, sym, ◌∙◌, Err, subst}
 use Rattle.ss_tree.specs.View.{view_program as tree_seen}
 use Rattle.ss_program.specs.View.{view_program}
-use Rattle.ss_engine.specs.Accepting.{IsTreeOf, IsKeptBy, IsProgramOf, Compiles, RefusedFor}
-use Rattle.ss_engine.proofs.Fronts.{tables_refused, checker_refused, generator_refused}
-use Rattle.ss_engine.proofs.front.compile.Goals as goal
+use Rattle.ss_compile.specs.Accepting.{IsTreeOf, IsKeptBy, IsProgramOf, Compiles, RefusedFor}
+use Rattle.ss_compile.proofs.Fronts.{tables_refused, checker_refused, generator_refused}
+use Rattle.ss_compile.proofs.front.compile.Goals as goal
 
 pub returns-in-Err-of-clause-refused : goal.returns-in-Err-of-clause-refused
 returns-in-Err-of-clause-refused c =

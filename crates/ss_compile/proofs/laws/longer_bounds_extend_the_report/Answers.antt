@@ -1,5 +1,5 @@
 use Rattle.std.proofs.Common.{◌+◌}
-use Rattle.ss_engine.proofs.laws.longer_bounds_extend_the_report.Goals as goal
+use Rattle.ss_compile.proofs.laws.longer_bounds_extend_the_report.Goals as goal
 
 pub returns-clause-reports_grow : goal.returns-clause-reports_grow
 returns-clause-reports_grow c text p m input n more =

@@ -4,7 +4,7 @@ use Rattle.ss_program.specs.Program.{Program}
 use Rattle.ss_program.specs.WellTyped.{WellTyped}
 use Rattle.ss_meaning.specs.Meaning.{Paused, WentWrong, meaning}
 use Rattle.ss_machine_code.specs.Laws.{Grows}
-use Rattle.ss_engine.specs.Accepting.{IsProgramOf, IsWellFormed}
+use Rattle.ss_compile.specs.Accepting.{IsProgramOf, IsWellFormed}
 
 -- two programs of one text are equal
 abbrev pub OneMeaning : Type 0

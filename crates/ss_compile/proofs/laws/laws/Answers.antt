@@ -1,5 +1,5 @@
-use Rattle.ss_engine.proofs.Meanings.{one_meaning, each_has_one, programs_are_typed, never_goes_wrong}
-use Rattle.ss_engine.proofs.laws.laws.Goals as goal
+use Rattle.ss_compile.proofs.Meanings.{one_meaning, each_has_one, programs_are_typed, never_goes_wrong}
+use Rattle.ss_compile.proofs.laws.laws.Goals as goal
 
 pub returns-clause-one_meaning : goal.returns-clause-one_meaning
 returns-clause-one_meaning c = one_meaning c.one_list.ensures c.one_tree.ensures

@@ -22,8 +22,8 @@ use Rattle.ss_machine_code.specs.Machine.{Code}
 use Rattle.ss_machine_code.specs.Running.{Behaves}
 use Rattle.ss_machine_code.specs.Translation.{code_of}
 use Rattle.ss_code.specs.Limits.{instruction_limit, small_program}
-use Rattle.ss_engine.specs.declared.refusal.Refusal.{Refusal}
-use Rattle.ss_engine.specs.declared.refusal.Refusal.TheVariants.{TooLong, NotAscii, BadNumber, OpenText, AlphaTooLong, PictureCut, NameTooLong, Syntax, TooDeep, Twice, RealMode, UnknownClass, UnknownSet, NoOwner, NoMember, RankKey, TallyTwice, TooMany, TieKey, NoMain, NoEventRoutine, Mode, Arguments, Subscript, NotAssignable, Fields, StartPlace, Unknown, CodeTooLong, Memory}
+use Rattle.ss_compile.specs.declared.refusal.Refusal.{Refusal}
+use Rattle.ss_compile.specs.declared.refusal.Refusal.TheVariants.{TooLong, NotAscii, BadNumber, OpenText, AlphaTooLong, PictureCut, NameTooLong, Syntax, TooDeep, Twice, RealMode, UnknownClass, UnknownSet, NoOwner, NoMember, RankKey, TallyTwice, TooMany, TieKey, NoMain, NoEventRoutine, Mode, Arguments, Subscript, NotAssignable, Fields, StartPlace, Unknown, CodeTooLong, Memory}
 
 -- how deep parentheses, IFs and loops may stand in one another
 abbrev pub nesting_limit : ℕ

@@ -1,17 +1,17 @@
 //! From a text to a model.
 
 ghost use Rattle.std.specs.Prelude.{◌≡◌, IfOk, IfErr};
-ghost use Rattle.ss_engine.specs.Accepting.{Compiles, RefusedFor};
-ghost use Rattle.ss_engine.specs.Refusals.{refusal_of_lexer, refusal_of_parser, refusal_of_tables, refusal_of_checker, refusal_of_generator};
+ghost use Rattle.ss_compile.specs.Accepting.{Compiles, RefusedFor};
+ghost use Rattle.ss_compile.specs.Refusals.{refusal_of_lexer, refusal_of_parser, refusal_of_tables, refusal_of_checker, refusal_of_generator};
 
 use crate::refusal::Refusal;
 use ss_check::{CheckError, check};
 use ss_code::error::CodeError;
 use ss_code::generate::generate;
+use ss_code::model::Model;
 use ss_formed::laws::spelled_trees_are_formed;
 use ss_lex::{LexError, tokens};
 use ss_parse::{ParseError, parse};
-use ss_sessions::Model;
 use ss_tables::{TableError, Tables};
 use std::alloc::Global;
 

@@ -3,7 +3,7 @@
 ghost use Rattle.std.specs.Prelude.{◌≡◌, IfOk};
 ghost use Rattle.ss_code.specs.Listing.{listing_of};
 
-use ss_code::code::Code;
+use crate::code::Code;
 use std::alloc::{AllocError, Global};
 
 /// A program that may be run. A contract sees it as its code.
@@ -28,8 +28,8 @@ impl Model {
         Model { code }
     }
 
-    // The code of the model.
-    pub(crate) fn into_code(self) -> Code
+    /// The code of the model.
+    pub fn into_code(self) -> Code
         ensures { result ≡ self }
     {
         self.code

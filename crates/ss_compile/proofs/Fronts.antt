@@ -23,8 +23,8 @@ use Rattle.ss_code.specs.declared.error.CodeError.{CodeError}
 use Rattle.ss_code.specs.declared.error.CodeError.TheVariants as generating
 use Rattle.ss_code.specs.Limits.{instruction_limit, small_program}
 use Rattle.ss_machine_code.specs.Translation.{code_of}
-use Rattle.ss_engine.specs.Refusals.{refusal_of_lexer, refusal_of_parser, refusal_of_tables, refusal_of_checker, refusal_of_generator}
-use Rattle.ss_engine.specs.Accepting.{IsTreeOf, IsProgramOf, RefusedFor}
+use Rattle.ss_compile.specs.Refusals.{refusal_of_lexer, refusal_of_parser, refusal_of_tables, refusal_of_checker, refusal_of_generator}
+use Rattle.ss_compile.specs.Accepting.{IsTreeOf, IsProgramOf, RefusedFor}
 
 pub lexer_refused : (text : List ℕ) (e : LexError) → (e ≢ lexical.Memory → IsRefused text e) → RefusedFor text (refusal_of_lexer e)
 lexer_refused text (lexical.TooLong line) h = h (λ q. cc)
