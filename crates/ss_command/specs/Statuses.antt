@@ -2,15 +2,8 @@
 use Rattle.std.specs.Prelude.{ℕ, Result, Ok, Err}
 use Rattle.ss_engine.specs.Outcomes.{status_of}
 use Rattle.ss_engine.specs.declared.outcome.Outcome.{Outcome}
-use Rattle.ss_command.specs.declared.trouble.Trouble.{Trouble}
-use Rattle.ss_command.specs.declared.trouble.Trouble.TheVariants as trouble
-
--- what stops the program before a run has an outcome
-abbrev pub trouble_status : Trouble → ℕ
-trouble_status trouble.Source = 6
-trouble_status trouble.Input = 6
-trouble_status trouble.Report = 6
-trouble_status trouble.Memory = 5
+use Rattle.ss_files.specs.declared.trouble.Trouble.{Trouble}
+use Rattle.ss_files.specs.Statuses.{trouble_status}
 
 -- an order that was obeyed, or what stopped it
 abbrev pub ended_status : Result Outcome Trouble → ℕ

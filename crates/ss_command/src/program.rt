@@ -1,29 +1,20 @@
 //! The program over any files and streams.
 ghost use Rattle.std.specs.Prelude.{◌≡◌, ◌⊎◌};
 ghost use Rattle.ss_engine.specs.Outcomes.{status_of};
-ghost use Rattle.ss_command.specs.Statuses.{ended_status, trouble_status};
+ghost use Rattle.ss_command.specs.Statuses.{ended_status};
 
-use crate::files::FileStore;
-use crate::trouble::Trouble;
 use ss_base::Counted;
 use ss_engine::{Outcome, Stop, compile, outcome_line, outcome_status, simulate};
-use ss_order::{Misuse, Order};
+use ss_files::{
+    FileStore, Streams, Trouble, explain, open, read_file, read_source, tell_trouble, write_whole,
+};
+use ss_order::Order;
 use std::alloc::{AllocError, Global};
 use std::convert::AsStr;
-use std::io::{BufReader, BufWriter, ErrorKind, Read, Write};
-
-/// The most bytes of a text that are read: one more than a text may have.
-const SOURCE_READ: u64 = 1_048_577;
+use std::io::{BufReader, BufWriter, Read, Write};
 
 /// The ticks of a run whose words name none.
 const TICKS: u64 = 1_000_000;
-
-/// The standard streams of a process.
-pub struct Streams<I, O, E> {
-    pub input: I,
-    pub output: O,
-    pub errors: E,
-}
 
 /// Does what the words of a command line ask for, the program's name first, and answers the exit
 /// status: 0 where it was done or help was asked for, 1 for a refused text, 2 for wrong words, 3 for
@@ -88,34 +79,6 @@ fn run_text<F: FileStore, O: Write + Drop>(
             let input = open(files, name, Trouble::Input)?;
             run_with_input(alloc, text, input, output, ticks)
         }
-    }
-}
-
-// The file of this name, open for reading.
-fn open<F: FileStore>(files: &F, name: &str, trouble: Trouble) -> Result<F::File, Trouble> {
-    files.open(name).map_err(|_error| trouble)
-}
-
-// The text in the file of this name, or as much of it as shows that it is too long.
-fn read_file<F: FileStore>(alloc: Global, files: &F, name: &str) -> Result<Vec<u8>, Trouble> {
-    read_source(alloc, open(files, name, Trouble::Source)?)
-}
-
-// The text that this reader gives, or as much of it as shows that it is too long.
-fn read_source<R: Read + Drop>(alloc: Global, reader: R) -> Result<Vec<u8>, Trouble> {
-    let mut text = Vec::new(alloc);
-    match reader.take(SOURCE_READ).read_to_end(&mut text) {
-        Ok(_) => Ok(text),
-        Err(error) => Err(unread(error.kind())),
-    }
-}
-
-// What stops the program where a text can't be read.
-fn unread(kind: ErrorKind) -> Trouble {
-    if kind == ErrorKind::OutOfMemory {
-        Trouble::Memory
-    } else {
-        Trouble::Source
     }
 }
 
@@ -192,11 +155,10 @@ fn print_listing<O: Write + Drop>(
 }
 
 // Prints these bytes, with which all is done.
-fn print<O: Write + Drop>(mut output: O, bytes: &[u8]) -> Result<Outcome, Trouble> {
-    let written = output.write_all(bytes).and_then(|()| output.flush());
-    match written {
+fn print<O: Write + Drop>(output: O, bytes: &[u8]) -> Result<Outcome, Trouble> {
+    match write_whole(output, bytes) {
         Ok(()) => Ok(Outcome::Stopped(Stop::Ended, 0)),
-        Err(_) => Err(Trouble::Report),
+        Err(trouble) => Err(trouble),
     }
 }
 
@@ -221,27 +183,5 @@ fn tell_outcome<E: Write + Drop>(alloc: Global, outcome: &Outcome, mut errors: E
             outcome_status(outcome)
         }
         Err(_) => tell_trouble(Trouble::Memory, errors),
-    }
-}
-
-// Tells of what stopped the program.
-fn tell_trouble<E: Write + Drop>(trouble: Trouble, mut errors: E) -> u8
-    ensures { result ≡ trouble_status trouble }
-{
-    let text = trouble.text();
-    let _ = writeln!(errors, "{text}");
-    trouble.status()
-}
-
-// Gives the help that was asked for, or says what is wrong with the words.
-fn explain<O: Write + Drop, E: Write + Drop>(misuse: &Misuse, mut output: O, mut errors: E) -> u8 {
-    if misuse.status() != 0 {
-        let _ = write!(errors, "{misuse}");
-        return misuse.status();
-    }
-    let written = write!(output, "{misuse}").and_then(|()| output.flush());
-    match written {
-        Ok(()) => 0,
-        Err(_) => tell_trouble(Trouble::Report, errors),
     }
 }

@@ -1,6 +1,6 @@
 //! What stops the program before a run has an outcome.
 ghost use Rattle.std.specs.Prelude.{◌≡◌};
-ghost use Rattle.ss_command.specs.Statuses.{trouble_status};
+ghost use Rattle.ss_files.specs.Statuses.{trouble_status};
 
 /// Why the program stops with no outcome of a run.
 #[derive(Clone, Copy)]
