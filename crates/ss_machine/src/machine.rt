@@ -16,8 +16,8 @@ use ss_fused::fused::Fused;
 use ss_input::Source;
 use ss_machine_code::laws::laws;
 use ss_picture::Sink;
-use ss_runner::working::Working;
 use ss_typed::laws::laws as typed_laws;
+use ss_working::working::Working;
 use std::alloc::{AllocError, Global};
 use std::marker::Model;
 

@@ -7,116 +7,116 @@ ghost use Rattle.ss_meaning.specs.Store.{Store as StoreSeen};
 ghost use Rattle.ss_machine_code.specs.Machine.{Code as CodeSeen, act, due_at};
 ghost use Rattle.ss_population.specs.Told.{told};
 ghost use Rattle.ss_store.specs.Seen.{with_seen};
-ghost use Rattle.ss_runner.specs.Holding.{core_of, Told};
+ghost use Rattle.ss_working.specs.Holding.{core_of, Told};
 
-use crate::effects::{made, made_value};
-use crate::working::{Outcome, Working};
 use ss_base::{Line, Value};
 use ss_machine_code::instruction::Instruction;
 use ss_population::trouble::Trouble;
 use ss_store::scene::Scene;
+use ss_working::effects::{made, made_value};
+use ss_working::working::{Outcome, Working};
 use std::alloc::AllocError;
 
-impl Working {
-    /// Puts the time that a value says or, if later, that is so many units from now, in its place.
-    #[inline(always)]
-    pub fn when(&mut self, later: bool, line: Line) -> Result<Outcome, AllocError>
-        requires { self.old.place + 1 < 2 ^ 64 }
-        ensures { IfOk result (λ outcome. (code : CodeSeen) (input : List ℕ) → Told outcome (act code (Instruction.When later line) (core_of self.old input)) (core_of self.new input)) }
-    {
-        let Some(value) = self.operands.pop() else {
-            return Ok(Outcome::Missing);
-        };
-        let answer = due_at(&self.scene, later, value);
-        self.answer(answer, line)
-    }
+/// Puts the time that a value says or, if later, that is so many units from now, in its place.
+#[inline(always)]
+pub fn when(working: &mut Working, later: bool, line: Line) -> Result<Outcome, AllocError>
+    requires { working.old.place + 1 < 2 ^ 64 }
+    ensures { IfOk result (λ outcome. (code : CodeSeen) (input : List ℕ) → Told outcome (act code (Instruction.When later line) (core_of working.old input)) (core_of working.new input)) }
+{
+    let Some(value) = working.operands.pop() else {
+        return Ok(Outcome::Missing);
+    };
+    let answer = due_at(&working.scene, later, value);
+    working.answer(answer, line)
+}
 
-    /// Makes a new notice with the time on top and so many values below it, and puts its number on top of the time.
-    pub fn make_notice(
-        &mut self,
-        class: u32,
-        given: usize,
-        line: Line,
-    ) -> Result<Outcome, AllocError>
-        requires { self.old.place + 1 < 2 ^ 64 }
-        ensures { IfOk result (λ outcome. (code : CodeSeen) (input : List ℕ) → Told outcome (act code (Instruction.MakeNotice class given line) (core_of self.old input)) (core_of self.new input)) }
-    {
-        let Some(time) = self.operands.pop_number() else {
-            return Ok(Outcome::Missing);
-        };
-        let Some(values) = self.operands.last(given) else {
-            return Ok(Outcome::Missing);
-        };
-        let notice = self.scene.make_notice(class, values, time.value);
-        self.operands.forget(given);
-        self.operands.push(Value::Whole(time.value))?;
-        let answer = made_value(notice)?;
-        self.gather(answer, line)
-    }
+/// Makes a new notice with the time on top and so many values below it, and puts its number on top of the time.
+pub fn make_notice(
+    working: &mut Working,
+    class: u32,
+    given: usize,
+    line: Line,
+) -> Result<Outcome, AllocError>
+    requires { working.old.place + 1 < 2 ^ 64 }
+    ensures { IfOk result (λ outcome. (code : CodeSeen) (input : List ℕ) → Told outcome (act code (Instruction.MakeNotice class given line) (core_of working.old input)) (core_of working.new input)) }
+{
+    let Some(time) = working.operands.pop_number() else {
+        return Ok(Outcome::Missing);
+    };
+    let Some(values) = working.operands.last(given) else {
+        return Ok(Outcome::Missing);
+    };
+    let notice = working.scene.make_notice(class, values, time.value);
+    working.operands.forget(given);
+    working.operands.push(Value::Whole(time.value))?;
+    let answer = made_value(notice)?;
+    working.gather(answer, line)
+}
 
-    /// Files the notice on top among those that are pending, for the time below it.
-    pub fn file_notice(&mut self, class: u32, line: Line) -> Result<Outcome, AllocError>
-        requires { self.old.place + 1 < 2 ^ 64 }
-        ensures { IfOk result (λ outcome. (code : CodeSeen) (input : List ℕ) → Told outcome (act code (Instruction.FileNotice class line) (core_of self.old input)) (core_of self.new input)) }
-    {
-        let Some(x) = self.operands.pop() else {
-            return Ok(Outcome::Missing);
-        };
-        let Some(time) = self.operands.pop_number() else {
-            return Ok(Outcome::Missing);
-        };
-        let filed = self.scene.file_notice(self.alloc, class, x, time.value);
-        let answer = made(filed)?;
-        Ok(self.settle(answer, line))
-    }
+/// Files the notice on top among those that are pending, for the time below it.
+pub fn file_notice(working: &mut Working, class: u32, line: Line) -> Result<Outcome, AllocError>
+    requires { working.old.place + 1 < 2 ^ 64 }
+    ensures { IfOk result (λ outcome. (code : CodeSeen) (input : List ℕ) → Told outcome (act code (Instruction.FileNotice class line) (core_of working.old input)) (core_of working.new input)) }
+{
+    let Some(x) = working.operands.pop() else {
+        return Ok(Outcome::Missing);
+    };
+    let Some(time) = working.operands.pop_number() else {
+        return Ok(Outcome::Missing);
+    };
+    let filed = working
+        .scene
+        .file_notice(working.alloc, class, x, time.value);
+    let answer = made(filed)?;
+    Ok(working.settle(answer, line))
+}
 
-    /// Gives a notice that there is the time on top and so many values below it, and files it. It lies below these.
-    pub fn reschedule(
-        &mut self,
-        class: u32,
-        given: usize,
-        line: Line,
-    ) -> Result<Outcome, AllocError>
-        requires { self.old.place + 1 < 2 ^ 64 }
-        ensures { IfOk result (λ outcome. (code : CodeSeen) (input : List ℕ) → Told outcome (act code (Instruction.Reschedule class given line) (core_of self.old input)) (core_of self.new input)) }
-    {
-        let Some(time) = self.operands.pop_number() else {
-            return Ok(Outcome::Missing);
-        };
-        let Some(x) = self.operands.under(given) else {
-            return Ok(Outcome::Missing);
-        };
-        let Some(values) = self.operands.last(given) else {
-            return Ok(Outcome::Missing);
-        };
-        let filed = self
-            .scene
-            .reschedule(self.alloc, class, x, values, time.value);
-        self.operands.forget(given);
-        let _ = self.operands.pop();
-        let answer = made(filed)?;
-        Ok(self.settle(answer, line))
-    }
+/// Gives a notice that there is the time on top and so many values below it, and files it. It lies below these.
+pub fn reschedule(
+    working: &mut Working,
+    class: u32,
+    given: usize,
+    line: Line,
+) -> Result<Outcome, AllocError>
+    requires { working.old.place + 1 < 2 ^ 64 }
+    ensures { IfOk result (λ outcome. (code : CodeSeen) (input : List ℕ) → Told outcome (act code (Instruction.Reschedule class given line) (core_of working.old input)) (core_of working.new input)) }
+{
+    let Some(time) = working.operands.pop_number() else {
+        return Ok(Outcome::Missing);
+    };
+    let Some(x) = working.operands.under(given) else {
+        return Ok(Outcome::Missing);
+    };
+    let Some(values) = working.operands.last(given) else {
+        return Ok(Outcome::Missing);
+    };
+    let filed = working
+        .scene
+        .reschedule(working.alloc, class, x, values, time.value);
+    working.operands.forget(given);
+    let _ = working.operands.pop();
+    let answer = made(filed)?;
+    Ok(working.settle(answer, line))
+}
 
-    /// Goes on where a notice is pending, and jumps otherwise.
-    #[inline(always)]
-    pub fn await_event(&mut self, skip: usize) -> Outcome
-        requires { self.old.place + 1 < 2 ^ 64 }
-        ensures { (code : CodeSeen) (input : List ℕ) → Told result (act code (Instruction.Await skip) (core_of self.old input)) (core_of self.new input) }
-    {
-        let holds = self.scene.is_awaited();
-        self.choose(holds, skip)
-    }
+/// Goes on where a notice is pending, and jumps otherwise.
+#[inline(always)]
+pub fn await_event(working: &mut Working, skip: usize) -> Outcome
+    requires { working.old.place + 1 < 2 ^ 64 }
+    ensures { (code : CodeSeen) (input : List ℕ) → Told result (act code (Instruction.Await skip) (core_of working.old input)) (core_of working.new input) }
+{
+    let holds = working.scene.is_awaited();
+    working.choose(holds, skip)
+}
 
-    /// Jumps back where a notice is pending, and goes on otherwise.
-    #[inline(always)]
-    pub fn next_event(&mut self, back: usize) -> Outcome
-        requires { self.old.place + 1 < 2 ^ 64 }
-        ensures { (code : CodeSeen) (input : List ℕ) → Told result (act code (Instruction.NextEvent back) (core_of self.old input)) (core_of self.new input) }
-    {
-        let again = self.scene.is_awaited();
-        self.turn_back(again, back)
-    }
+/// Jumps back where a notice is pending, and goes on otherwise.
+#[inline(always)]
+pub fn next_event(working: &mut Working, back: usize) -> Outcome
+    requires { working.old.place + 1 < 2 ^ 64 }
+    ensures { (code : CodeSeen) (input : List ℕ) → Told result (act code (Instruction.NextEvent back) (core_of working.old input)) (core_of working.new input) }
+{
+    let again = working.scene.is_awaited();
+    working.turn_back(again, back)
 }
 
 // The time for which a notice is scheduled.

@@ -2,28 +2,26 @@
 
 ghost use Rattle.std.specs.Prelude.{◌≡◌, IfOk, ℕ, List};
 ghost use Rattle.ss_machine_code.specs.Machine.{Code as CodeSeen, act};
-ghost use Rattle.ss_runner.specs.Holding.{core_of, Told};
+ghost use Rattle.ss_working.specs.Holding.{core_of, Told};
 
-use crate::working::{Outcome, Working};
 use ss_machine_code::instruction::Instruction;
 use ss_stack::given::yielded;
+use ss_working::working::{Outcome, Working};
 use std::alloc::AllocError;
 
-impl Working {
-    /// Leaves a routine, or MAIN.
-    pub fn leave(&mut self) -> Result<Outcome, AllocError>
-        ensures { IfOk result (λ outcome. (code : CodeSeen) (input : List ℕ) → Told outcome (act code Instruction.Leave (core_of self.old input)) (core_of self.new input)) }
-    {
-        let Some(frame) = self.frames.pop() else {
-            return Ok(Outcome::Ends);
-        };
-        let Some(values) = yielded(self.locals.values(), frame.first, frame.count) else {
-            return Ok(Outcome::Missing);
-        };
-        self.operands.leave(frame.operands);
-        self.operands.push_all(values)?;
-        self.locals.leave(frame.locals);
-        self.place = frame.back;
-        Ok(Outcome::Went)
-    }
+/// Leaves a routine, or MAIN.
+pub fn leave(working: &mut Working) -> Result<Outcome, AllocError>
+    ensures { IfOk result (λ outcome. (code : CodeSeen) (input : List ℕ) → Told outcome (act code Instruction.Leave (core_of working.old input)) (core_of working.new input)) }
+{
+    let Some(frame) = working.frames.pop() else {
+        return Ok(Outcome::Ends);
+    };
+    let Some(values) = yielded(working.locals.values(), frame.first, frame.count) else {
+        return Ok(Outcome::Missing);
+    };
+    working.operands.leave(frame.operands);
+    working.operands.push_all(values)?;
+    working.locals.leave(frame.locals);
+    working.place = frame.back;
+    Ok(Outcome::Went)
 }

@@ -1,9 +1,8 @@
-//! The machine that runs the code of a program: what it holds, and what each instruction does to that.
+//! What each instruction does to what the machine holds.
 #![tactic(auto)]
 
 pub mod beginning;
 pub mod calling;
-pub mod effects;
 pub mod entities;
 pub mod events;
 pub mod filing;
@@ -11,7 +10,4 @@ pub mod leaving;
 pub mod looping;
 pub mod members;
 pub mod perform;
-pub mod references;
-pub mod spots;
 pub mod statistics;
-pub mod working;

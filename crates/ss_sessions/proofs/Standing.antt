@@ -10,8 +10,8 @@ use Rattle.ss_machine_code.specs.Running.{Underway, start, steps}
 use Rattle.ss_machine.specs.declared.stop.Stop.{Stop}
 use Rattle.ss_machine.specs.declared.stop.Stop.TheVariants.{Ended, Fault, Paused, Memory, Output, Input, Failed}
 use Rattle.ss_meaning.specs.Meaning.{Ended as EndedThere, Fault as FaultThere}
-use Rattle.ss_runner.specs.declared.working.Working.{Working}
-use Rattle.ss_runner.specs.Holding.{state_of}
+use Rattle.ss_working.specs.declared.working.Working.{Working}
+use Rattle.ss_working.specs.Holding.{state_of}
 use Rattle.ss_machine.specs.Runs.{Comes, Finishes, IsCut, IsCutAt, IsLostAfter, Ran, TookLast, does_read, does_write}
 use Rattle.ss_sessions.specs.Sessions.{CameTo, stands_so}
 use Rattle.ss_sessions.specs.Standing.{StandsAt, Stood}

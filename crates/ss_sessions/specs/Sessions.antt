@@ -6,8 +6,8 @@ use Rattle.ss_meaning.specs.Meaning.{Paused as PausedThere}
 use Rattle.ss_machine_code.specs.Machine.{Code, Over, step}
 use Rattle.ss_input.specs.declared.source.Source.{Source}
 use Rattle.ss_input.specs.Inputs.{IsFresh, source_block, source_missed, source_reader}
-use Rattle.ss_runner.specs.declared.working.Working.{Working}
-use Rattle.ss_runner.specs.Holding.{state_of}
+use Rattle.ss_working.specs.declared.working.Working.{Working}
+use Rattle.ss_working.specs.Holding.{state_of}
 use Rattle.ss_machine.specs.declared.stop.Stop.{Stop}
 use Rattle.ss_machine.specs.declared.stop.Stop.TheVariants.{Paused, Output, Input, Failed}
 use Rattle.ss_machine.specs.Held.{Held, IsFirst, IsAtStart, Continues}

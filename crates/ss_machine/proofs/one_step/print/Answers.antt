@@ -3,7 +3,7 @@ use Rattle.std.specs.Prelude.{slice_get}
 use Rattle.ss_meaning.specs.Values.{lines_with, fields_in}
 use Rattle.ss_machine_code.specs.declared.instruction.Instruction.TheVariants.{Print}
 use Rattle.ss_machine_code.specs.States.{Taken, take_off, core_of as core_with}
-use Rattle.ss_runner.specs.Holding.{core_of, frames_of, store_of}
+use Rattle.ss_working.specs.Holding.{core_of, frames_of, store_of}
 use Rattle.std.specs.Io.KnownBytes.{Appends}
 use Rattle.ss_machine.specs.Sent.{TookPart}
 use Rattle.ss_machine.proofs.Found.{found as at_index}

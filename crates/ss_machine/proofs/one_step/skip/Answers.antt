@@ -2,7 +2,7 @@ use Rattle.std.proofs.Common.{rules, ◌≡◌, ◌+◌, Ok, replicate, refl, ap
 use Rattle.ss_meaning.specs.Values.{empty_lines, line_end}
 use Rattle.ss_machine_code.specs.declared.instruction.Instruction.TheVariants.{Skip}
 use Rattle.ss_machine_code.specs.States.{Sends, did, with_top, core_of as core_with}
-use Rattle.ss_runner.specs.Holding.{frames_of, store_of}
+use Rattle.ss_working.specs.Holding.{frames_of, store_of}
 use Rattle.ss_machine.specs.Sent.{TookPart, lines_told}
 use Rattle.ss_machine.proofs.Stepping.{sends_cut}
 use Rattle.ss_machine.proofs.one_step.skip.Goals as goal

@@ -1,7 +1,7 @@
 use Rattle.std.proofs.Common.{Err, refl, ap, ◌∙◌, subst, List, ℕ, ◌+◌}
 use Rattle.ss_machine_code.specs.declared.instruction.Instruction.TheVariants.{TestData}
 use Rattle.ss_machine_code.specs.States.{To, past, core_of as core_with}
-use Rattle.ss_runner.specs.Holding.{core_of, frames_of, store_of, Told}
+use Rattle.ss_working.specs.Holding.{core_of, frames_of, store_of, Told}
 use Rattle.ss_machine.proofs.Worded.{missed_step, test_fault, test_step}
 use Rattle.ss_machine.proofs.one_step.test_data.Goals as goal
 

@@ -1,8 +1,8 @@
 use Rattle.std.proofs.Common.{◌≡◌, [], IfOk, List, subst}
 use Rattle.ss_fused.specs.declared.fused.Micro.{Micro}
 use Rattle.ss_fused.specs.Fused.{AreFused}
-use Rattle.ss_runner.specs.declared.working.Working.{Working}
-use Rattle.ss_runner.specs.Holding.{frames_of}
+use Rattle.ss_working.specs.declared.working.Working.{Working}
+use Rattle.ss_working.specs.Holding.{frames_of}
 use Rattle.ss_machine.proofs.First.{first_ready}
 use Rattle.ss_machine.proofs.machine.Machine.new.Goals as goal
 

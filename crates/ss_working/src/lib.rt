@@ -1,0 +1,7 @@
+//! What the machine holds as it runs the code of a program, and what instructions on values, variables and places do to that.
+#![tactic(auto)]
+
+pub mod effects;
+pub mod references;
+pub mod spots;
+pub mod working;
