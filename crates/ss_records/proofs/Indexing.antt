@@ -8,7 +8,7 @@ use Rattle.ss_base.specs.declared.layout.Layout.{Layout}
 use Rattle.ss_records.specs.declared.records.Records.{Records}
 use Rattle.ss_records.specs.declared.store.Place.{Place}
 use Rattle.ss_records.specs.Cells.{Cells, words_at}
-use Rattle.ss_records.specs.State.{State, Members, entity, entity_of_kind, kind_of, indexed, indexed_record, records_in}
+use Rattle.ss_states.specs.State.{State, Members, entity, entity_of_kind, kind_of, indexed, indexed_record, records_in}
 use Rattle.ss_records.specs.Reading.{record_of, records_at}
 use Rattle.ss_records.specs.Places.{Made, Directory}
 use Rattle.ss_records.specs.Kept.{IsPermanent, state_of, row_in, place_or, indexed_place}

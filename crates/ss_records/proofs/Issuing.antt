@@ -4,7 +4,7 @@ use Rattle.std.specs.Prelude.{IsOk, nat_lt}
 use Rattle.std.proofs.lemmas.Bool.{lt-ltb}
 use Rattle.ss_base.specs.declared.layout.Layout.{Layout}
 use Rattle.ss_records.specs.Cells.{Cells}
-use Rattle.ss_records.specs.State.{Members, LAST_NUMBER, created}
+use Rattle.ss_states.specs.State.{Members, LAST_NUMBER, created}
 use Rattle.ss_records.specs.Reading.{record_at}
 use Rattle.ss_records.specs.Kept.{state_of}
 use Rattle.ss_records.specs.Places.{Numbers, Directory}
