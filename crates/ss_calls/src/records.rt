@@ -1,6 +1,7 @@
 use crate::base::{ClassRow, laid_out};
 use ss_base::{ClassKind, FaultKind, Layout, Mode, Owner, Refused, SetLayout, Value};
-use ss_records::{Answer, Command, Heap};
+use ss_commands::{Answer, Command};
+use ss_records::Heap;
 use std::alloc::{AllocError, Global};
 use std::rt::HostRuntime;
 
@@ -550,10 +551,10 @@ fn a_million_linked_records_are_let_go(rt: HostRuntime) {
 
 // Whether calls fit a heap and answer this.
 fn answers(alloc: Global, heap: &mut Heap, commands: &[Command], wanted: &[Answer]) -> bool {
-    if !heap.fit(commands) {
+    if !ss_commands::fit(heap, commands) {
         return false;
     }
-    match heap.run(alloc, commands) {
+    match ss_commands::run(heap, alloc, commands) {
         Ok(answers) => answers.as_slice() == wanted,
         Err(_) => false,
     }
@@ -622,7 +623,7 @@ fn commands_go_on_after_faults(rt: HostRuntime) {
 // Whether calls fit a heap.
 fn fit(alloc: Global, commands: &[Command]) -> Option<bool> {
     match yard(alloc) {
-        Some(heap) => Some(heap.fit(commands)),
+        Some(heap) => Some(ss_commands::fit(&heap, commands)),
         None => None,
     }
 }

@@ -1,7 +1,7 @@
 //! What a program says of its classes and sets, its notices and its statistics, copied for its code.
 
 ghost use Rattle.std.specs.Prelude.{◌≡◌, slice_get, map, IfOk};
-ghost use Rattle.ss_records.specs.State.{modes_of};
+ghost use Rattle.ss_states.specs.State.{modes_of};
 ghost use Rattle.ss_meaning.specs.Meaning.{tie_shapes, said_of};
 ghost use Rattle.ss_program.specs.View.{view_event, view_program};
 ghost use Rattle.ss_code.specs.Emitted.{said_by};

@@ -7,8 +7,8 @@ use Rattle.ss_base.specs.declared.layout.ClassKind.TheVariants.{Permanent, Tempo
 use Rattle.ss_base.specs.declared.layout.Layout.{Layout}
 use Rattle.ss_records.specs.declared.store.Place.{Place}
 use Rattle.ss_records.specs.Cells.{Cells, words_at}
-use Rattle.ss_records.specs.State.{State, Members, and_then, of_class, entity, entity_of_kind, kind_of, numbered, indexed, number_in, members_of, owner_of}
-use Rattle.ss_records.specs.Sets.{member_in, member_class, Apart}
+use Rattle.ss_states.specs.State.{State, Members, and_then, of_class, entity, entity_of_kind, kind_of, numbered, indexed, number_in, members_of, owner_of}
+use Rattle.ss_states.specs.Sets.{member_in, member_class, Apart}
 use Rattle.ss_records.specs.Reading.{record_of}
 use Rattle.ss_records.specs.Places.{Directory, Lists, class_at}
 use Rattle.ss_records.specs.Kept.{Kept, IsPermanent, state_of, issued_place, numbered_place}

@@ -15,7 +15,7 @@ use Rattle.ss_base.specs.declared.layout.ClassLayout.{ClassLayout}
 use Rattle.ss_base.specs.declared.layout.Layout.{Layout}
 use Rattle.ss_records.specs.declared.store.Place.{Place}
 use Rattle.ss_records.specs.Cells.{Word, blank, number, counter, link, Cells, IsNumber, MayBeNumber, words_at, word_of, word_at, with_word, put_word}
-use Rattle.ss_records.specs.State.{Record, State, Members, and_then, entity, numbered, of_notice, notice, value_in, time_in, number_in, kind_in, kind_of, modes_of, is_notice, with_value, with_time, with_indexed, with_entity, with_entity_of_kind, assigned, timed}
+use Rattle.ss_states.specs.State.{Record, State, Members, and_then, entity, numbered, of_notice, notice, value_in, time_in, number_in, kind_in, kind_of, modes_of, is_notice, with_value, with_time, with_indexed, with_entity, with_entity_of_kind, assigned, timed}
 use Rattle.ss_records.specs.Shape.{values_end, links_start}
 use Rattle.ss_records.specs.Reading.{plain, value_of, class_of, record_of, record_at, records_at}
 use Rattle.ss_records.specs.Kept.{Kept, Formed, IsPermanent, state_of}

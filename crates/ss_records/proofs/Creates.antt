@@ -12,7 +12,7 @@ use Rattle.ss_base.specs.declared.layout.Owner.TheVariants.{System, Class}
 use Rattle.ss_base.specs.Layout.{first_value}
 use Rattle.ss_records.specs.declared.store.Place.{Place}
 use Rattle.ss_records.specs.Cells.{Word, blank, number, Cells, IsNumber, words_at, word_of, word_at, blanks}
-use Rattle.ss_records.specs.State.{Record, Members, kind_of, modes_of, is_notice, first_record, created, LAST_NUMBER}
+use Rattle.ss_states.specs.State.{Record, Members, kind_of, modes_of, is_notice, first_record, created, LAST_NUMBER}
 use Rattle.ss_records.specs.Shape.{values_end, links_start, block_words}
 use Rattle.ss_records.specs.Reading.{plain, value_of, values_from, class_of, record_of, record_at, records_at}
 use Rattle.ss_records.specs.Kept.{Kept, Formed, IsPermanent, state_of}

@@ -8,9 +8,9 @@ use Rattle.ss_base.specs.declared.layout.SetLayout.{SetLayout}
 use Rattle.ss_records.specs.declared.records.Records.{Records}
 use Rattle.ss_records.specs.declared.links.Entry.{Entry}
 use Rattle.ss_records.specs.Cells.{number, link, word_at}
-use Rattle.ss_records.specs.State.{State, and_then, members_of, contains, is_filed}
-use Rattle.ss_records.specs.Sets.{joiner, owner, put_before, put_after, less, with_list_of, put_in, put_beside, taken_out}
-use Rattle.ss_records.specs.Lists.{head0, last_or, succ, pred_from, In, NotIn, Distinct}
+use Rattle.ss_states.specs.State.{State, and_then, members_of, contains, is_filed}
+use Rattle.ss_states.specs.Sets.{joiner, owner, put_before, put_after, less, with_list_of, put_in, put_beside, taken_out}
+use Rattle.ss_states.specs.Lists.{head0, last_or, succ, pred_from, In, NotIn, Distinct}
 use Rattle.ss_records.specs.Places.{entity_at}
 use Rattle.ss_records.specs.Links.{Leads}
 use Rattle.ss_records.specs.Slotted.{member_base, owner_base}

@@ -7,7 +7,7 @@ use Rattle.ss_base.specs.declared.layout.SetLayout.{SetLayout}
 use Rattle.ss_base.specs.declared.layout.Owner.TheVariants.{Class}
 use Rattle.ss_records.specs.declared.store.Place.{Place}
 use Rattle.ss_records.specs.Cells.{Cells, words_at, word_of, without}
-use Rattle.ss_records.specs.State.{Members, members_of, kind_of, and_then, entity, number_in, in_a_set, owns_members, let_go, destroyed}
+use Rattle.ss_states.specs.State.{Members, members_of, kind_of, and_then, entity, number_in, in_a_set, owns_members, let_go, destroyed}
 use Rattle.ss_records.specs.Shape.{block_words}
 use Rattle.ss_records.specs.Reading.{class_of, record_of, record_at, records_at}
 use Rattle.ss_records.specs.Kept.{Kept, Formed, IsPermanent, state_of}
@@ -17,7 +17,7 @@ use Rattle.ss_records.proofs.Puts.{words_without}
 use Rattle.ss_records.proofs.Listing.{listed}
 use Rattle.ss_records.proofs.Keeps.{made_same, entry_is}
 use Rattle.ss_records.proofs.NamesGone.{name_gone}
-use Rattle.ss_records.specs.Lists.{NotIn}
+use Rattle.ss_states.specs.Lists.{NotIn}
 use Rattle.ss_base.specs.declared.fault.FaultKind.TheVariants.{InASet, OwnsMembers}
 use Rattle.ss_records.proofs.Count.{blocks_without}
 

@@ -10,7 +10,7 @@ use Rattle.ss_base.specs.declared.layout.SetLayout.{SetLayout}
 use Rattle.ss_base.specs.declared.layout.Layout.{Layout}
 use Rattle.ss_records.specs.declared.store.Place.{Place}
 use Rattle.ss_records.specs.Cells.{Word, Cells, words_at, put_word}
-use Rattle.ss_records.specs.State.{Members}
+use Rattle.ss_states.specs.State.{Members}
 use Rattle.ss_records.specs.Shape.{links_start, owned_start, block_words, joins, owned_by, same_owner, count_before, count_sets}
 use Rattle.ss_records.specs.Places.{Directory, listing, Lists, place_in, entity_at, owner_at, class_at}
 use Rattle.ss_records.specs.Kept.{Kept}

@@ -7,10 +7,10 @@ use Rattle.ss_base.specs.declared.layout.Owner.TheVariants.{System, Class}
 use Rattle.ss_base.specs.declared.layout.SetLayout.{SetLayout}
 use Rattle.ss_base.specs.declared.layout.Layout.{Layout}
 use Rattle.ss_records.specs.Cells.{number, link, Cells, word_at}
-use Rattle.ss_records.specs.State.{Members, members_of, contains, owner_among, owner_of, is_filed, has_members, in_a_set, owns_members, is_owner_class}
+use Rattle.ss_states.specs.State.{Members, members_of, contains, owner_among, owner_of, is_filed, has_members, in_a_set, owns_members, is_owner_class}
 use Rattle.ss_records.specs.Places.{Directory, place_in, entity_at, owner_at}
 use Rattle.ss_records.specs.Kept.{Kept}
-use Rattle.ss_records.specs.Lists.{succ, In, NotIn}
+use Rattle.ss_states.specs.Lists.{succ, In, NotIn}
 use Rattle.ss_records.specs.Slotted.{slots_of, IsOf, MayOwn}
 use Rattle.ss_records.proofs.Same.{same, differs, by_same}
 use Rattle.ss_records.proofs.Splice.{not_and_in, succ_is, succ_differs}

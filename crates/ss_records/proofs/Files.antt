@@ -6,9 +6,9 @@ use Rattle.ss_base.specs.declared.layout.SetLayout.{SetLayout}
 use Rattle.ss_records.specs.declared.records.Records.{Records}
 use Rattle.ss_records.specs.declared.links.Entry.{Entry}
 use Rattle.ss_records.specs.Cells.{Cells, Memory, IsLink, IsCounter, word_at}
-use Rattle.ss_records.specs.State.{Members, members_of, contains, is_filed, with_members}
-use Rattle.ss_records.specs.Sets.{member_in, owner_in, put_before, less, with_list_of}
-use Rattle.ss_records.specs.Lists.{head0, last_or, In, NotIn, Distinct}
+use Rattle.ss_states.specs.State.{Members, members_of, contains, is_filed, with_members}
+use Rattle.ss_states.specs.Sets.{member_in, owner_in, put_before, less, with_list_of}
+use Rattle.ss_states.specs.Lists.{head0, last_or, In, NotIn, Distinct}
 use Rattle.ss_records.specs.Places.{entity_at, owner_at}
 use Rattle.ss_records.specs.Kept.{Kept, state_of}
 use Rattle.ss_records.specs.Links.{linked_in, unlinked_in, slots_at}

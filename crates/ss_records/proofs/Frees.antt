@@ -7,7 +7,7 @@ use Rattle.ss_base.specs.declared.layout.Layout.{Layout}
 use Rattle.ss_records.specs.declared.records.Records.{Records}
 use Rattle.ss_records.specs.declared.store.Place.{Place}
 use Rattle.ss_records.specs.Cells.{Cells}
-use Rattle.ss_records.specs.State.{Members, kind_of, members_of, is_filed, has_members, in_a_set, owns_members}
+use Rattle.ss_states.specs.State.{Members, kind_of, members_of, is_filed, has_members, in_a_set, owns_members}
 use Rattle.ss_records.specs.Places.{Directory, Lists, class_at}
 use Rattle.ss_records.specs.Kept.{Kept, IsPermanent}
 use Rattle.ss_records.specs.Parts.{IsKept, places, Found}

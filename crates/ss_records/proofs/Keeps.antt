@@ -9,7 +9,7 @@ use Rattle.ss_base.specs.declared.fault.FaultKind.TheVariants.{WrongClass}
 use Rattle.ss_base.specs.declared.layout.Layout.{Layout}
 use Rattle.ss_records.specs.declared.store.Place.{Place}
 use Rattle.ss_records.specs.Cells.{number, Cells, IsNumber, words_at, word_of, word_at}
-use Rattle.ss_records.specs.State.{Record, Members, issued_record, numbered, and_then, of_class, of_notice, notice, is_notice, kind_of}
+use Rattle.ss_states.specs.State.{Record, Members, issued_record, numbered, and_then, of_class, of_notice, notice, is_notice, kind_of}
 use Rattle.ss_records.specs.Reading.{plain, class_of, record_of, record_at, records_at}
 use Rattle.ss_records.specs.Kept.{Kept, Written, IsPermanent, Formed, MadeOf, state_of, issued_place, numbered_place}
 use Rattle.ss_records.specs.Places.{Numbers, Made, Directory, IsMade, Lists, class_at}

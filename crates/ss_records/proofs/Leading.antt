@@ -7,12 +7,12 @@ use Rattle.ss_base.specs.declared.layout.Owner.TheVariants.{System, Class}
 use Rattle.ss_base.specs.declared.layout.SetLayout.{SetLayout}
 use Rattle.ss_base.specs.declared.layout.Layout.{Layout}
 use Rattle.ss_records.specs.Cells.{Word, number, counter, link, Cells, IsLink, IsCounter, word_at}
-use Rattle.ss_records.specs.State.{Members, members_of, owner_of, is_filed}
-use Rattle.ss_records.specs.Sets.{member_in, owner_in, member_class, owner_kind, follower, precursor, members_by, companions}
+use Rattle.ss_states.specs.State.{Members, members_of, owner_of, is_filed}
+use Rattle.ss_states.specs.Sets.{member_in, owner_in, member_class, owner_kind, follower, precursor, members_by, companions}
 use Rattle.ss_records.specs.Reading.{plain}
 use Rattle.ss_records.specs.Places.{Directory, listing, entity_at, owner_at}
 use Rattle.ss_records.specs.Kept.{Kept}
-use Rattle.ss_records.specs.Lists.{head0, last_or, succ, pred_from, In, NotIn}
+use Rattle.ss_states.specs.Lists.{head0, last_or, succ, pred_from, In, NotIn}
 use Rattle.ss_records.specs.Links.{Leads}
 use Rattle.ss_records.specs.Slotted.{member_base, owner_base, IsOf, MayOwn}
 use Rattle.ss_records.proofs.Same.{by_same}

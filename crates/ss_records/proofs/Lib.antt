@@ -2,7 +2,6 @@ pub mod Apart
 pub mod Assigns
 pub mod Blocks
 pub mod Calls
-pub mod Changed
 pub mod Count
 pub mod Creates
 pub mod Cuts
@@ -30,7 +29,6 @@ pub mod NamesCreated
 pub mod NamesGone
 pub mod NamesKept
 pub mod Numbers
-pub mod OtherSets
 pub mod Owning
 pub mod Paging
 pub mod Planned
@@ -39,15 +37,11 @@ pub mod Puts
 pub mod ReadBack
 pub mod ReadWords
 pub mod Relinked
-pub mod Relisted
-pub mod Running
 pub mod Same
-pub mod SameLayout
 pub mod Sharing
 pub mod Spared
 pub mod Splice
 pub mod Still
-pub mod Telling
 pub mod Tied
 pub mod UnlinkWrites
 pub mod Values

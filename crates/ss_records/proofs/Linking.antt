@@ -2,7 +2,7 @@
 use Rattle.std.proofs.Common.{◌≡◌, ℕ, ◌+◌, ◌-◌, true, false, cond, ◌==◌, List, ◌∷◌, ◌++◌, length, ◌⊎◌, inl, inr, refl, sym, ap, subst, ◌∙◌, arith}
 use denote.RawPtr.{Ptr}
 use Rattle.ss_records.specs.Cells.{counter, link}
-use Rattle.ss_records.specs.Lists.{head0, last_or, succ, pred_from, In, NotIn, Distinct, with_list}
+use Rattle.ss_states.specs.Lists.{head0, last_or, succ, pred_from, In, NotIn, Distinct, with_list}
 use Rattle.ss_records.specs.Links.{Words, Shows, Linked, Unlinked}
 use Rattle.ss_records.proofs.Same.{same, differs, by_same}
 use Rattle.ss_records.proofs.Splice.{succ_splice, pred_splice, in_left, in_mid, in_splice, not_and_in, not_in, before_in, after_in, distinct_splice, distinct_less, length_splice, head_splice, tail_splice, not_in_mid, head_less, tail_less, succ_last, pred_head}

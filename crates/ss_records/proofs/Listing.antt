@@ -4,7 +4,7 @@ use denote.RawPtr.{Ptr}
 use Rattle.ss_base.specs.declared.layout.Layout.{Layout}
 use Rattle.ss_records.specs.declared.store.Place.{Place}
 use Rattle.ss_records.specs.Cells.{Cells}
-use Rattle.ss_records.specs.State.{Members}
+use Rattle.ss_states.specs.State.{Members}
 use Rattle.ss_records.specs.Places.{Directory, own_or, listing, Lists, class_at}
 use Rattle.ss_records.specs.Kept.{Kept}
 

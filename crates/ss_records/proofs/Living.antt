@@ -7,7 +7,7 @@ use Rattle.ss_base.specs.declared.layout.Layout.{Layout}
 use Rattle.ss_base.specs.declared.layout.Owner.TheVariants.{System, Class}
 use Rattle.ss_records.specs.declared.store.Place.{Place}
 use Rattle.ss_records.specs.Cells.{Cells, words_at, blanks, without}
-use Rattle.ss_records.specs.State.{Members, not_made as unmade, living_numbers, made_entities, living_records}
+use Rattle.ss_states.specs.State.{Members, not_made as unmade, living_numbers, made_entities, living_records}
 use Rattle.ss_records.specs.Shape.{block_words}
 use Rattle.ss_records.specs.Reading.{class_of, record_of, record_at, records_at}
 use Rattle.ss_records.specs.Kept.{Kept, Small, RowsHeld, row_in, state_of}

@@ -9,9 +9,9 @@ use Rattle.ss_base.specs.declared.layout.SetLayout.{SetLayout}
 use Rattle.ss_records.specs.declared.records.Records.{Records}
 use Rattle.ss_records.specs.declared.links.Entry.{Entry}
 use Rattle.ss_records.specs.Cells.{number, counter, link, IsCounter, word_at}
-use Rattle.ss_records.specs.State.{and_then, members_of, owner_of, is_filed}
-use Rattle.ss_records.specs.Sets.{joiner, owner, as_number, companions, follower, precursor, first_in, last_in, count_in, next_in, previous_in, owner_of_member}
-use Rattle.ss_records.specs.Lists.{head0, last_or, succ, pred_from, In}
+use Rattle.ss_states.specs.State.{and_then, members_of, owner_of, is_filed}
+use Rattle.ss_states.specs.Sets.{joiner, owner, as_number, companions, follower, precursor, first_in, last_in, count_in, next_in, previous_in, owner_of_member}
+use Rattle.ss_states.specs.Lists.{head0, last_or, succ, pred_from, In}
 use Rattle.ss_records.specs.Places.{entity_at, owner_at}
 use Rattle.ss_records.specs.Links.{Leads}
 use Rattle.ss_records.specs.Slotted.{member_base, owner_base}

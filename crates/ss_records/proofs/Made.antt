@@ -6,7 +6,7 @@ use Rattle.ss_base.specs.declared.layout.Layout.{Layout}
 use Rattle.ss_base.specs.declared.layout.Owner.TheVariants.{System, Class}
 use Rattle.ss_records.specs.declared.store.Place.{Place}
 use Rattle.ss_records.specs.Cells.{Cells, words_at, word_of}
-use Rattle.ss_records.specs.State.{Record, Members, kind_of, first_record, with_made}
+use Rattle.ss_states.specs.State.{Record, Members, kind_of, first_record, with_made}
 use Rattle.ss_records.specs.Shape.{block_words}
 use Rattle.ss_records.specs.Reading.{plain, class_of, record_of, record_at, records_at}
 use Rattle.ss_records.specs.Places.{Made, Directory, lying, own_or, listing, IsMade, Lists, class_at, made_count}

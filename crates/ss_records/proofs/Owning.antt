@@ -8,8 +8,8 @@ use Rattle.ss_base.specs.declared.layout.Layout.{Layout}
 use Rattle.ss_records.specs.declared.records.Records.{Records}
 use Rattle.ss_records.specs.declared.store.Place.{Place}
 use Rattle.ss_records.specs.Cells.{number, IsNumber, word_at}
-use Rattle.ss_records.specs.State.{State, and_then, entity, number_in}
-use Rattle.ss_records.specs.Sets.{member_class, owner_kind, joiner, owner_by, owner}
+use Rattle.ss_states.specs.State.{State, and_then, entity, number_in}
+use Rattle.ss_states.specs.Sets.{member_class, owner_kind, joiner, owner_by, owner}
 use Rattle.ss_records.specs.Reading.{plain}
 use Rattle.ss_records.specs.Places.{listing, place_in, entity_at, owner_at}
 use Rattle.ss_records.specs.Slotted.{IsOf, MayOwn}

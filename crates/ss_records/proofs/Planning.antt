@@ -8,7 +8,7 @@ use Rattle.ss_base.specs.declared.layout.SetLayout.{SetLayout}
 use Rattle.ss_base.specs.declared.layout.Layout.{Layout}
 use Rattle.ss_records.specs.declared.plan.Extent.{Extent}
 use Rattle.ss_records.specs.declared.plan.Bases.{Bases}
-use Rattle.ss_records.specs.State.{kind_of, is_notice}
+use Rattle.ss_states.specs.State.{kind_of, is_notice}
 use Rattle.ss_records.specs.Shape.{links_start, owned_start, joins, owned_by, count_before, count_sets}
 use Rattle.ss_records.specs.Kept.{Small}
 use Rattle.ss_records.specs.Slotted.{member_base, owner_base}

@@ -6,7 +6,7 @@ use Rattle.ss_base.specs.declared.layout.SetLayout.{SetLayout}
 use Rattle.ss_base.specs.declared.layout.Layout.{Layout}
 use Rattle.ss_records.specs.declared.store.Place.{Place}
 use Rattle.ss_records.specs.Cells.{Cells, IsNumber, words_at, word_at}
-use Rattle.ss_records.specs.State.{Members, kind_of, members_of}
+use Rattle.ss_states.specs.State.{Members, kind_of, members_of}
 use Rattle.ss_records.specs.Shape.{links_start}
 use Rattle.ss_records.specs.Reading.{plain, record_of, record_at, records_at}
 use Rattle.ss_records.specs.Places.{Directory, Lists, entity_at, owner_at, class_at}

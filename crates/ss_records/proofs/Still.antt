@@ -5,7 +5,7 @@ use Rattle.ss_base.specs.declared.layout.Layout.{Layout}
 use Rattle.ss_base.specs.declared.layout.Mode.{Mode}
 use Rattle.ss_records.specs.declared.records.Records.{Records}
 use Rattle.ss_records.specs.declared.links.Entry.{Entry}
-use Rattle.ss_records.specs.State.{modes_of, is_filed}
+use Rattle.ss_states.specs.State.{modes_of, is_filed}
 use Rattle.ss_records.specs.Kept.{Small}
 use Rattle.ss_records.specs.Parts.{IsKept, held, Owns, Joins}
 use Rattle.ss_records.proofs.Same.{false_is_not_true}

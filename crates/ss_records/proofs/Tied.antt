@@ -7,7 +7,7 @@ use Rattle.ss_base.specs.declared.layout.SetLayout.{SetLayout}
 use Rattle.ss_base.specs.declared.layout.Layout.{Layout}
 use Rattle.ss_records.specs.declared.store.Place.{Place}
 use Rattle.ss_records.specs.Cells.{Word, number, counter, link, Cells, IsLink, IsCounter, word_at}
-use Rattle.ss_records.specs.State.{Members, members_of, is_filed, has_members}
+use Rattle.ss_states.specs.State.{Members, members_of, is_filed, has_members}
 use Rattle.ss_records.specs.Shape.{count_before, count_sets}
 use Rattle.ss_records.specs.Reading.{plain}
 use Rattle.ss_records.specs.Places.{Directory, Lists, listing, place_in, entity_at, owner_at, class_at}

@@ -10,7 +10,7 @@ use Rattle.ss_base.specs.declared.layout.Owner.TheVariants.{System, Class}
 use Rattle.ss_base.specs.Layout.{is_sound}
 use Rattle.ss_records.specs.declared.store.Place.{Place}
 use Rattle.ss_records.specs.Cells.{Word, number, Cells, IsNumber, words_at, word_of}
-use Rattle.ss_records.specs.State.{Record, State, Members, entity, kind_of, modes_of}
+use Rattle.ss_states.specs.State.{Record, State, Members, entity, kind_of, modes_of}
 use Rattle.ss_records.specs.Shape.{links_start, block_words}
 use Rattle.ss_records.specs.Reading.{record_at, records_at}
 use Rattle.ss_records.specs.Places.{Numbers, Made, Directory, IsMade, Lists, class_at, living, made_count}

@@ -2,7 +2,7 @@
 use Rattle.std.specs.Prelude.{◌≡◌, ℕ, ◌+◌, ◌-◌, ◌<◌, Bool, cond, ◌==◌, List, length, ◌⊎◌}
 use denote.RawPtr.{Ptr}
 use Rattle.ss_records.specs.Cells.{Word, number, counter, link, Cells, words_at, word_at, put_word}
-use Rattle.ss_records.specs.Lists.{head0, last_or, succ, pred_from, In, NotIn, Distinct}
+use Rattle.ss_states.specs.Lists.{head0, last_or, succ, pred_from, In, NotIn, Distinct}
 
 -- where the words of one name stand: three in a member's block, three in an owner's
 pub record Slots : Type 0 where

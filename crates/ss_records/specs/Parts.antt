@@ -3,9 +3,9 @@ use Rattle.std.specs.Prelude.{◌≡◌, ℕ, suc, ℤ, pos, List, ◌∷◌, �
 use Rattle.ss_records.specs.declared.store.Place.{Place}
 use Rattle.ss_records.specs.declared.records.Records.{Records}
 use Rattle.ss_records.specs.declared.links.Entry.{Entry}
-use Rattle.ss_records.specs.State.{State, Heaped, entity, notice, members_of}
-use Rattle.ss_records.specs.Sets.{member_class, owner_kind}
-use Rattle.ss_records.specs.Lists.{head0, last_or}
+use Rattle.ss_states.specs.State.{State, Heaped, entity, notice, members_of}
+use Rattle.ss_states.specs.Sets.{member_class, owner_kind}
+use Rattle.ss_states.specs.Lists.{head0, last_or}
 use Rattle.ss_records.specs.Cells.{words_at}
 use Rattle.ss_records.specs.Reading.{record_of}
 use Rattle.ss_records.specs.Kept.{Kept, state_of}

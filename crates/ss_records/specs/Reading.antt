@@ -12,7 +12,7 @@ use Rattle.ss_base.specs.declared.layout.Mode.TheVariants.{Integer, Alpha}
 use Rattle.ss_base.specs.declared.layout.Layout.{Layout}
 use Rattle.ss_records.specs.declared.store.Place.{Place}
 use Rattle.ss_records.specs.Cells.{Word, blank, number, counter, link, Cells, words_at, word_of}
-use Rattle.ss_records.specs.State.{Record, kind_of, modes_of, is_notice}
+use Rattle.ss_states.specs.State.{Record, kind_of, modes_of, is_notice}
 use Rattle.ss_records.specs.Shape.{values_end}
 
 -- the number in a word

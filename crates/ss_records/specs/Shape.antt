@@ -5,7 +5,7 @@ use Rattle.ss_base.specs.declared.layout.Owner.{Owner}
 use Rattle.ss_base.specs.declared.layout.Owner.TheVariants.{System, Class}
 use Rattle.ss_base.specs.declared.layout.SetLayout.{SetLayout}
 use Rattle.ss_base.specs.declared.layout.Layout.{Layout}
-use Rattle.ss_records.specs.State.{kind_of, modes_of, is_notice}
+use Rattle.ss_states.specs.State.{kind_of, modes_of, is_notice}
 
 -- where the values end
 abbrev pub values_end : Layout → ℕ → ℕ

@@ -7,7 +7,7 @@ use Rattle.ss_base.specs.declared.layout.SetLayout.{SetLayout}
 use Rattle.ss_base.specs.declared.layout.Layout.{Layout}
 use Rattle.ss_records.specs.declared.store.Place.{Place}
 use Rattle.ss_records.specs.Cells.{Cells, words_at, word_at}
-use Rattle.ss_records.specs.State.{Members, members_of}
+use Rattle.ss_states.specs.State.{Members, members_of}
 use Rattle.ss_records.specs.Shape.{links_start, owned_start, joins, owned_by, count_before}
 use Rattle.ss_records.specs.Places.{Directory, listing, entity_at, owner_at, class_at}
 use Rattle.ss_records.specs.Links.{Slots, Shows, words_of, OfMember, OfOwner}

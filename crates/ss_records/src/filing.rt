@@ -1,7 +1,7 @@
 // Filing and removing.
 ghost use Rattle.std.specs.Prelude.{◌≡◌, ℕ, ◌+◌, ◌<◌, ◌≤◌, List, ◌∷◌, ◌++◌, length, false, true, Result, MatchResult, IsOk, Ok, Err};
-ghost use Rattle.ss_records.specs.State.{State, and_then, is_filed, contains, members_of};
-ghost use Rattle.ss_records.specs.Sets.{joiner, owner, with_list_of, put_in, put_beside, taken_out, filed_first, filed_last, filed_before, filed_after, removed};
+ghost use Rattle.ss_states.specs.State.{State, and_then, is_filed, contains, members_of};
+ghost use Rattle.ss_states.specs.Sets.{joiner, owner, with_list_of, put_in, put_beside, taken_out, filed_first, filed_last, filed_before, filed_after, removed};
 ghost use Rattle.ss_records.specs.Parts.{IsKept, state, held, Owns, Joins, Between, Around};
 
 use crate::links::Entry;

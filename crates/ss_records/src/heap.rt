@@ -1,7 +1,7 @@
 ghost use Rattle.std.specs.Prelude.{◌≡◌, ◌+◌, ◌<◌, ◌≤◌, length, IsTrue, MatchResult, Ok, Err, Some, IsOk, slice_get, ⊤};
 ghost use Rattle.ss_base.specs.Layout.{mode_of, is_sound};
-ghost use Rattle.ss_records.specs.State.{State, first_state, known_in, known_notice_in, kind_of, modes_of, value_in, time_in, created, created_all, destroyed, assigned, timed, RefusedFor, living_numbers, living_records};
-ghost use Rattle.ss_records.specs.Sets.{member_class, first_in, last_in, count_in, next_in, previous_in, owner_of_member, filed_first, filed_last, filed_before, filed_after, removed, Apart};
+ghost use Rattle.ss_states.specs.State.{State, first_state, known_in, known_notice_in, kind_of, modes_of, value_in, time_in, created, created_all, destroyed, assigned, timed, RefusedFor, living_numbers, living_records};
+ghost use Rattle.ss_states.specs.Sets.{member_class, first_in, last_in, count_in, next_in, previous_in, owner_of_member, filed_first, filed_last, filed_before, filed_after, removed, Apart};
 ghost use Rattle.ss_records.specs.Kept.{IsPermanent};
 
 use crate::records::Records;
@@ -22,7 +22,7 @@ pub struct Heap {
 }
 
 impl Model for Heap {
-    ghost use Rattle.ss_records.specs.State.{Heaped};
+    ghost use Rattle.ss_states.specs.State.{Heaped};
     ghost use Rattle.ss_records.specs.Parts.{IsKept, heaped};
 
     ghost Value = { Heaped };

@@ -1,7 +1,6 @@
 //! Records of a simulation as raw blocks, with links between them.
 #![tactic(auto)]
 
-mod commands;
 pub(crate) mod directory;
 pub(crate) mod filing;
 mod heap;
@@ -19,9 +18,6 @@ pub(crate) mod store;
 pub(crate) mod ties;
 pub(crate) mod words;
 
-pub use commands::{
-    Answer, Command, commands_leave_other_sets, filing_changes_its_set, filing_leaves_other_sets,
-    filing_leaves_the_records, other_calls_leave_the_sets,
-};
 pub use heap::Heap;
 pub use sets::Member;
+pub use shape::kind;

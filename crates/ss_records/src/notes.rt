@@ -1,8 +1,8 @@
 // The lists that the links show, for contracts alone.
 ghost use Rattle.std.specs.Prelude.{◌≡◌, List, []};
 ghost use base.Fml.{ftrue};
-ghost use Rattle.ss_records.specs.State.{Members, members_of, with_members};
-ghost use Rattle.ss_records.specs.Sets.{put_before, less};
+ghost use Rattle.ss_states.specs.State.{Members, members_of, with_members};
+ghost use Rattle.ss_states.specs.Sets.{put_before, less};
 
 use std::marker::Model;
 

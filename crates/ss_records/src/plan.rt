@@ -1,7 +1,7 @@
 // Where the words of the blocks stand, worked out once.
 ghost use Rattle.std.specs.Prelude.{◌≡◌, ℕ, ◌+◌, ◌^◌, ◌<◌, ◌≤◌, length, slice_get, Some, MatchResult, ⊤};
 ghost use Rattle.ss_base.specs.declared.layout.SetLayout.{SetLayout};
-ghost use Rattle.ss_records.specs.State.{kind_of, modes_of, is_owner_class};
+ghost use Rattle.ss_states.specs.State.{kind_of, modes_of, is_owner_class};
 ghost use Rattle.ss_records.specs.Shape.{values_end, links_start, owned_start, block_words, owned_by, count_sets};
 ghost use Rattle.ss_records.specs.Kept.{Small};
 ghost use Rattle.ss_records.specs.Slotted.{member_base, owner_base};

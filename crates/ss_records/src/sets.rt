@@ -1,7 +1,7 @@
 // The sets: their ends, the neighbours of a member, and its owner.
 ghost use Rattle.std.specs.Prelude.{◌≡◌, ℕ, ◌+◌, ◌^◌, ◌<◌, ◌≤◌, length, MatchResult, IsOk, Ok, Err};
-ghost use Rattle.ss_records.specs.State.{State, is_filed, modes_of, value_in};
-ghost use Rattle.ss_records.specs.Sets.{joiner, owner, member_class, first_in, last_in, count_in, next_in, previous_in, owner_of_member, Apart};
+ghost use Rattle.ss_states.specs.State.{State, is_filed, modes_of, value_in};
+ghost use Rattle.ss_states.specs.Sets.{joiner, owner, member_class, first_in, last_in, count_in, next_in, previous_in, owner_of_member, Apart};
 ghost use Rattle.ss_records.specs.Parts.{IsKept, state, Owns, Joins};
 
 use crate::links::Entry;

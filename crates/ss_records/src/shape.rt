@@ -1,6 +1,6 @@
 // Where the words of a block stand, as it follows from a layout.
 ghost use Rattle.std.specs.Prelude.{◌≡◌, ℕ, ◌+◌, ◌*◌, ◌<◌, ◌≤◌, length, IsTrue, slice_get, Some};
-ghost use Rattle.ss_records.specs.State.{kind_of, modes_of};
+ghost use Rattle.ss_states.specs.State.{kind_of, modes_of};
 ghost use Rattle.ss_records.specs.Shape.{values_end, links_start, owned_start, joins, owned_by, count_sets};
 ghost use Rattle.ss_records.specs.Kept.{Small};
 ghost use Rattle.ss_records.specs.Slotted.{member_base, owner_base};
@@ -32,8 +32,8 @@ pub(crate) fn is_small(layout: &Layout) -> bool
     true
 }
 
-/// The kind of a class.
-pub(crate) fn kind(layout: &Layout, class: usize) -> ClassKind
+/// The kind of a class, by which a caller knows which calls of a heap serve it.
+pub fn kind(layout: &Layout, class: usize) -> ClassKind
     requires class { class < length layout.now.classes }
     ensures { result ≡ kind_of layout.now class }
 {

@@ -1,7 +1,7 @@
 // Whether an entity is in a set, and whether it has members.
 ghost use Rattle.std.specs.Prelude.{◌≡◌, ℕ, suc, ◌+◌, ◌^◌, ◌<◌, ◌≤◌, Some, slice_get, length};
 ghost use Rattle.ss_base.specs.declared.layout.SetLayout.{SetLayout};
-ghost use Rattle.ss_records.specs.State.{in_a_set, owns_members, is_filed, has_members, members_of};
+ghost use Rattle.ss_states.specs.State.{in_a_set, owns_members, is_filed, has_members, members_of};
 ghost use Rattle.ss_records.specs.Kept.{Kept};
 ghost use Rattle.ss_records.specs.Places.{class_at, lying};
 

@@ -1,7 +1,7 @@
 -- Whether an entity is in a set, by the lists.
 use Rattle.std.proofs.Common.{◌≡◌, ℕ, Bool, true, false, ◌==◌, List, [], ◌∷◌, Some, inl, inr, refl, sym, subst, ◌∙◌}
-use Rattle.ss_records.specs.State.{Members, members_of, contains, owner_among}
-use Rattle.ss_records.specs.Lists.{In}
+use Rattle.ss_states.specs.State.{Members, members_of, contains, owner_among}
+use Rattle.ss_states.specs.Lists.{In}
 use Rattle.ss_sets.proofs.Same.{by_same}
 
 pub contains_in : (l : List ℕ) (x : ℕ) → contains l x ≡ true → In x l

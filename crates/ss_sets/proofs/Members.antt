@@ -2,10 +2,10 @@
 use Rattle.std.proofs.Common.{◌≡◌, ℕ, ◌<◌, Bool, true, false, length, Option, Some, None, Ok, Err, refl, sym, ap, ◌∙◌}
 use Rattle.std.specs.Prelude.{ℤ, pos, Result, IsTrue}
 use Rattle.ss_base.specs.declared.fault.FaultKind.{FaultKind}
-use Rattle.ss_records.specs.State.{State, and_then, members_of, contains, owner_of}
-use Rattle.ss_records.specs.Sets.{joiner, owner, as_number, count_in, owner_of_member, Apart}
+use Rattle.ss_states.specs.State.{State, and_then, members_of, contains, owner_of}
+use Rattle.ss_states.specs.Sets.{joiner, owner, as_number, count_in, owner_of_member, Apart}
 use Rattle.ss_sets.proofs.Filed.{contains_in, owner_some}
-use Rattle.ss_sets.specs.Disciplines.{member_test}
+use Rattle.ss_states.specs.Disciplines.{member_test}
 
 pub went_on : {A B : Type 0} (r : Result A FaultKind) (f : A → Result B FaultKind) (b : B) → Ok b ≡ and_then r f → (a : A) × (r ≡ Ok a) × (f a ≡ Ok b)
 went_on (Ok a) f b h = (a, refl, sym h)

@@ -1,2 +1,2 @@
-pub mod Disciplines
+pub use Rattle.ss_states.specs.Disciplines
 pub mod Walks

@@ -1,9 +1,9 @@
 // Filing by discipline.
 ghost use Rattle.std.specs.Prelude.{◌≡◌, ◌+◌, ◌<◌, ◌≤◌, ◌∷◌, not, length, IsOk, MatchResult, Ok, Err};
 ghost use Rattle.std.specs.Ordering.{match_ordering};
-ghost use Rattle.ss_records.specs.State.{and_then, modes_of};
-ghost use Rattle.ss_records.specs.Sets.{owner, member_class, first_in};
-ghost use Rattle.ss_sets.specs.Disciplines.{value_of, ranks_after, passed, passed_by, owned, filed_ranked, filed, AreFields, Fits};
+ghost use Rattle.ss_states.specs.State.{and_then, modes_of};
+ghost use Rattle.ss_states.specs.Sets.{owner, member_class, first_in};
+ghost use Rattle.ss_states.specs.Disciplines.{value_of, ranks_after, passed, passed_by, owned, filed_ranked, filed, AreFields, Fits};
 ghost use Rattle.ss_sets.specs.Walks.{first_after, as_member, filed_at};
 
 use ss_base::{Discipline, FaultKind, RankKey, Value};

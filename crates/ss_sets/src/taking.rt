@@ -1,7 +1,7 @@
 // Taking out the first or the last member, and the test of membership.
 ghost use Rattle.std.specs.Prelude.{◌≡◌, ℕ, pos, ◌+◌, ◌<◌, ◌≤◌, length, IsTrue, MatchResult, Ok, Err, Some};
-ghost use Rattle.ss_records.specs.Sets.{owner};
-ghost use Rattle.ss_sets.specs.Disciplines.{first_removed, last_removed, member_test};
+ghost use Rattle.ss_states.specs.Sets.{owner};
+ghost use Rattle.ss_states.specs.Disciplines.{first_removed, last_removed, member_test};
 
 use ss_base::{FaultKind, Owner};
 use ss_records::Heap;

@@ -16,7 +16,7 @@ use Rattle.ss_base.specs.declared.layout.ClassLayout.{ClassLayout}
 use Rattle.ss_base.specs.declared.value.Value.{Value}
 use Rattle.ss_base.specs.declared.value.Value.TheVariants.{Whole, Text}
 use Rattle.ss_base.specs.Layout.{mode_of}
-use Rattle.ss_records.specs.State.{Record, State, kind_of, modes_of, known_in, no_value, entity as entity_in, time_in, assigned, created, created_all, destroyed, is_made, value_in}
+use Rattle.ss_states.specs.State.{Record, State, kind_of, modes_of, known_in, no_value, entity as entity_in, time_in, assigned, created, created_all, destroyed, is_made, value_in}
 use Rattle.ss_events.specs.declared.entry.Entry.{Entry}
 use Rattle.ss_events.specs.PendingList.{is_pending}
 use Rattle.ss_program.specs.declared.expression.Variable.{Variable}
@@ -63,7 +63,7 @@ field_said p c f m q = by (slice_get p.layout.classes c) refl q
   where
     by : (o : Option ClassLayout) → slice_get p.layout.classes c ≡ o → option_and_then (λ modes. slice_get modes f) (option_map (λ (d : ClassLayout). d.fields) o) ≡ Some m → HasField p c f m
     by None g h = absurd cc
-    by (Some d) g h = record { class = d; there = g; field = ap (λ o. slice_get (Rattle.ss_records.specs.State.modes_in o) f) g ∙ h }
+    by (Some d) g h = record { class = d; there = g; field = ap (λ o. slice_get (Rattle.ss_states.specs.State.modes_in o) f) g ∙ h }
 
 -- the kind of a class whose entities are created one by one
 pub single_said : (p : Program) (c : ℕ) → comes_alone (kind_said p c) ≡ true → (cl : ClassLayout) × (slice_get p.layout.classes c ≡ Some cl) × (comes_singly cl.kind ≡ true)
@@ -148,7 +148,7 @@ module _ (p : Program) (typed : WellTyped p) (ms : List Mode) where
 
   single_kind : (s : Store) (c : ℕ) (cl : ClassLayout) → Fits p ms s → slice_get p.layout.classes c ≡ Some cl → comes_singly cl.kind ≡ true → kind_of s.scene.heap.layout c ≡ Permanent → ⊥
   single_kind s c cl f q g h =
-      let same : cl.kind ≡ Permanent = sym (ap (λ o. Rattle.ss_records.specs.State.kind_in o) (class_here s c cl f q)) ∙ h in
+      let same : cl.kind ≡ Permanent = sym (ap (λ o. Rattle.ss_states.specs.State.kind_in o) (class_here s c cl f q)) ∙ h in
       let no_way : true ≡ false = sym g ∙ ap comes_singly same in
       absurd cc
 

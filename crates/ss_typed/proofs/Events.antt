@@ -18,7 +18,7 @@ use Rattle.ss_base.specs.declared.value.Value.{Value}
 use Rattle.ss_base.specs.declared.value.Value.TheVariants.{Whole}
 use Rattle.ss_base.specs.Layout.{mode_of}
 use Rattle.ss_base.specs.Arithmetic.{plus_of}
-use Rattle.ss_records.specs.State.{Record, State, kind_of, kind_in, and_then, issued_record, of_notice, is_notice, notice, timed}
+use Rattle.ss_states.specs.State.{Record, State, kind_of, kind_in, and_then, issued_record, of_notice, is_notice, notice, timed}
 use Rattle.ss_events.specs.declared.entry.Entry.{Entry}
 use Rattle.ss_events.specs.SortKey.{SortKey}
 use Rattle.ss_events.specs.Order.{comes_before}

@@ -5,9 +5,9 @@ use Rattle.ss_base.specs.declared.fault.FaultKind.{FaultKind}
 use Rattle.ss_base.specs.declared.fault.FaultKind.TheVariants as faults
 use Rattle.ss_base.specs.declared.layout.Discipline.{Discipline}
 use Rattle.ss_base.specs.declared.layout.Discipline.TheVariants.{Fifo, Lifo, Ranked}
-use Rattle.ss_records.specs.State.{State, Members, and_then, is_filed, contains, members_of}
-use Rattle.ss_records.specs.Sets.{joiner, owner, put_in, put_beside, put_before, put_after, taken_out, with_list_of, filed_first, filed_last, filed_before, filed_after, removed, first_in, last_in, member_class, less}
-use Rattle.ss_sets.specs.Disciplines.{take, first_removed, last_removed, filed, put_ranked}
+use Rattle.ss_states.specs.State.{State, Members, and_then, is_filed, contains, members_of}
+use Rattle.ss_states.specs.Sets.{joiner, owner, put_in, put_beside, put_before, put_after, taken_out, with_list_of, filed_first, filed_last, filed_before, filed_after, removed, first_in, last_in, member_class, less}
+use Rattle.ss_states.specs.Disciplines.{take, first_removed, last_removed, filed, put_ranked}
 use Rattle.ss_typed.specs.Fitting.{HeapFits, living}
 use Rattle.ss_typed.proofs.Fine.{Sane, Any, sane_then}
 use Rattle.ss_typed.proofs.Heaps.{Changed}

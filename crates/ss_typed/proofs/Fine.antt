@@ -3,7 +3,7 @@ use Rattle.std.proofs.Common.{◌≡◌, Bool, true, false, Option, Some, None, 
 use Rattle.std.specs.Prelude.{Result}
 use Rattle.ss_base.specs.declared.fault.FaultKind.{FaultKind}
 use Rattle.ss_meaning.specs.Values.{Trouble, Fails, Misfit, if_ok, turned, due, sure, where_fit, unless_fault}
-use Rattle.ss_records.specs.State.{and_then}
+use Rattle.ss_states.specs.State.{and_then}
 
 -- there is a value, which is so, or a fault of the run
 abbrev pub Fine : {A : Type 0} → (A → Type 0) → Result A Trouble → Type 0

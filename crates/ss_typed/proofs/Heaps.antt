@@ -11,7 +11,7 @@ use Rattle.ss_base.specs.declared.layout.Mode.TheVariants.{Integer, Alpha}
 use Rattle.ss_base.specs.declared.layout.Layout.{Layout}
 use Rattle.ss_base.specs.declared.value.Value.{Value}
 use Rattle.ss_base.specs.Layout.{mode_of, first_value}
-use Rattle.ss_records.specs.State.{Record, State, kind_of, modes_of, and_then, issued_record, numbered, indexed_record, indexed, records_in, of_class, of_notice, is_notice, entity, entity_of_kind, notice, number_in, with_value, with_time, with_entity, with_entity_of_kind, with_indexed, value_in, assigned, timed, created, with_created, first_record, created_all, is_made, with_made, made_many, destroyed, let_go, in_a_set, owns_members, LAST_NUMBER, MOST_ENTITIES}
+use Rattle.ss_states.specs.State.{Record, State, kind_of, modes_of, and_then, issued_record, numbered, indexed_record, indexed, records_in, of_class, of_notice, is_notice, entity, entity_of_kind, notice, number_in, with_value, with_time, with_entity, with_entity_of_kind, with_indexed, value_in, assigned, timed, created, with_created, first_record, created_all, is_made, with_made, made_many, destroyed, let_go, in_a_set, owns_members, LAST_NUMBER, MOST_ENTITIES}
 use Rattle.ss_typed.specs.Fitting.{Hold, RecordFits, HeapFits, class_in, living, made, IsIndex, LivesAs, Lives}
 use Rattle.ss_typed.proofs.Fine.{Sane, sane_then}
 use Rattle.ss_typed.proofs.Lists.{every_get, every_set, every_both, every_replicate}

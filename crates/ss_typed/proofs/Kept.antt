@@ -14,7 +14,7 @@ use Rattle.ss_base.specs.declared.value.Value.{Value}
 use Rattle.ss_base.specs.declared.value.Value.TheVariants.{Whole, Text}
 use Rattle.ss_base.specs.declared.fault.FaultKind.TheVariants.{Overflow}
 use Rattle.ss_base.specs.Layout.{mode_of}
-use Rattle.ss_records.specs.State.{State, kind_of}
+use Rattle.ss_states.specs.State.{State, kind_of}
 use Rattle.ss_stats.specs.History.{History, is_full, with_value, restarted}
 use Rattle.ss_program.specs.declared.sections.Subject.{Subject}
 use Rattle.ss_program.specs.declared.sections.Subject.TheVariants.{OfVariable, OfAttribute, OfCount}

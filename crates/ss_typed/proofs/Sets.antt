@@ -16,9 +16,9 @@ use Rattle.ss_base.specs.declared.layout.Discipline.TheVariants.{Fifo, Lifo, Ran
 use Rattle.ss_base.specs.declared.value.Value.{Value}
 use Rattle.ss_base.specs.declared.value.Value.TheVariants.{Whole, Text}
 use Rattle.ss_base.specs.Layout.{mode_of}
-use Rattle.ss_records.specs.State.{State, modes_of, members_of, entity as entity_in, number_in}
-use Rattle.ss_records.specs.Sets.{member_class, owner_kind, owner_by as owner_of_kind, joiner, owner, first_in, last_in, count_in, next_in, previous_in, owner_of_member, filed_first, filed_last, filed_before, filed_after, removed}
-use Rattle.ss_sets.specs.Disciplines.{member_test, filed}
+use Rattle.ss_states.specs.State.{State, modes_of, members_of, entity as entity_in, number_in}
+use Rattle.ss_states.specs.Sets.{member_class, owner_kind, owner_by as owner_of_kind, joiner, owner, first_in, last_in, count_in, next_in, previous_in, owner_of_member, filed_first, filed_last, filed_before, filed_after, removed}
+use Rattle.ss_states.specs.Disciplines.{member_test, filed}
 use Rattle.ss_program.specs.declared.expression.Fold.{Fold}
 use Rattle.ss_program.specs.declared.expression.Fold.TheVariants.{Number, Sum, Maximum, Minimum}
 use Rattle.ss_program.specs.declared.expression.SetQuery.{SetQuery}
@@ -97,7 +97,7 @@ module _ (p : Program) (typed : WellTyped p) (ms : List Mode) where
       let t = set_of set o q in
       let here : set_at set s ≡ Some t.0 = set_here set t.0 s t.1 f in
       let said : owner_of p set ≡ Some t.0.owner = ap (λ l. option_map (λ (u : SetLayout). u.owner) l) t.1 in
-      let kind : owner_kind s.scene.heap.layout set ≡ t.0.owner = ap (λ l. Rattle.ss_records.specs.Sets.owner_in l) here in
+      let kind : owner_kind s.scene.heap.layout set ≡ t.0.owner = ap (λ l. Rattle.ss_states.specs.Sets.owner_in l) here in
       subst (λ l. Fine (IsOwnerNumber s.scene.heap set) (owner_by l o)) (sym here)
       (fine_weaker (IsOwnerNumber s.scene.heap set) (owner_as t.0.owner o) (as_fine t.0.owner o set said q) (λ n h e. h (sym kind ∙ e)))
 
@@ -170,7 +170,7 @@ module _ (p : Program) (typed : WellTyped p) (ms : List Mode) where
   discipline_fits : (set : ℕ) (t : SetLayout) (d : Discipline) → slice_get p.layout.sets set ≡ Some t → GoodDiscipline p t d → is_fit p.layout set d ≡ true
   discipline_fits set t Fifo q g = refl
   discipline_fits set t Lifo q g = refl
-  discipline_fits set t (Ranked keys) q g = ap (λ l. list_all (is_field p.layout (Rattle.ss_records.specs.Sets.member_in l)) keys) q ∙ keys_fit t.member keys g
+  discipline_fits set t (Ranked keys) q g = ap (λ l. list_all (is_field p.layout (Rattle.ss_states.specs.Sets.member_in l)) keys) q ∙ keys_fit t.member keys g
 
   abbrev pub FilingOk : Filing → Type 0
   FilingOk ByRule = Unit {0}

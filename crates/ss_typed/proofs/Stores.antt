@@ -13,7 +13,7 @@ use Rattle.ss_base.specs.declared.layout.Owner.{Owner}
 use Rattle.ss_base.specs.declared.layout.Owner.TheVariants.{System, Class}
 use Rattle.ss_base.specs.declared.value.Value.{Value}
 use Rattle.ss_base.specs.Layout.{mode_of}
-use Rattle.ss_records.specs.State.{State, kind_of}
+use Rattle.ss_states.specs.State.{State, kind_of}
 use Rattle.ss_program.specs.declared.sections.Subject.{Subject}
 use Rattle.ss_program.specs.declared.sections.Statistic.{Statistic}
 use Rattle.ss_program.specs.Program.{Program}

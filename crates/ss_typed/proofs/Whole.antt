@@ -14,7 +14,7 @@ use Rattle.ss_base.specs.declared.layout.ClassLayout.{ClassLayout}
 use Rattle.ss_base.specs.declared.layout.Layout.{Layout}
 use Rattle.ss_base.specs.declared.value.Value.{Value}
 use Rattle.ss_base.specs.Layout.{mode_of, first_value}
-use Rattle.ss_records.specs.State.{Record, kind_of, first_state, not_made, records_in}
+use Rattle.ss_states.specs.State.{Record, kind_of, first_state, not_made, records_in}
 use Rattle.ss_program.specs.declared.sections.Statistic.{Statistic}
 use Rattle.ss_program.specs.Program.{Routine, Event, Program, Block}
 use Rattle.ss_program.specs.WellTyped.{WellTyped, GoodRoutine, GoodEvent, GoodBlock}

@@ -1,5 +1,5 @@
 use Rattle.std.proofs.Common.{ℕ, ◌≤◌, ◌<◌, length}
-use Rattle.ss_records.specs.State.{modes_of}
+use Rattle.ss_states.specs.State.{modes_of}
 use Rattle.ss_records.proofs.shape.is_small.Given as goal
 
 abbrev pub invariant-loop-class : goal.invariant-loop-class

@@ -1,5 +1,5 @@
 use Rattle.std.proofs.Common.{◌≡◌, ◌+◌, ◌≤◌, drop}
-use Rattle.ss_records.specs.State.{in_a_set}
+use Rattle.ss_states.specs.State.{in_a_set}
 use Rattle.ss_records.proofs.ties.in_a_set.Given as goal
 
 abbrev pub invariant-loop-s : goal.invariant-loop-s

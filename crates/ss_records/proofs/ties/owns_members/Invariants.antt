@@ -1,5 +1,5 @@
 use Rattle.std.proofs.Common.{◌≡◌, ◌+◌, ◌≤◌, drop}
-use Rattle.ss_records.specs.State.{owns_members}
+use Rattle.ss_states.specs.State.{owns_members}
 use Rattle.ss_records.proofs.ties.owns_members.Given as goal
 
 abbrev pub invariant-loop-s : goal.invariant-loop-s

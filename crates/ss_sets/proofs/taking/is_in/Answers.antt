@@ -1,8 +1,8 @@
 use Rattle.std.proofs.Common.{◌≡◌, ℕ, Some, Ok, Err, subst, ◌∙◌}
 use Rattle.std.specs.Prelude.{pos}
 use Rattle.std.proofs.lemmas.Int.{to_z-of_z}
-use Rattle.ss_records.specs.State.{State}
-use Rattle.ss_records.specs.Sets.{count_in, owner}
+use Rattle.ss_states.specs.State.{State}
+use Rattle.ss_states.specs.Sets.{count_in, owner}
 use Rattle.ss_sets.proofs.Members.{no_member, no_owner, is_in_is}
 use Rattle.ss_sets.proofs.taking.is_in.Goals as goal
 

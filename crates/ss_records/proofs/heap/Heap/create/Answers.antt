@@ -1,6 +1,6 @@
 use Rattle.std.proofs.Common.{◌≡◌, ap, subst, ◌∙◌}
 use Rattle.std.specs.Prelude.{MatchResult, Ok}
-use Rattle.ss_records.specs.State.{Heaped, State, RefusedFor, created}
+use Rattle.ss_states.specs.State.{Heaped, State, RefusedFor, created}
 use Rattle.ss_records.specs.Parts.{state}
 use Rattle.ss_records.proofs.heap.Heap.create.Goals as goal
 

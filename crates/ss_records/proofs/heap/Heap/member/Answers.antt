@@ -1,8 +1,8 @@
 use Rattle.std.proofs.Common.{◌≡◌, Ok, Err, ap, subst, ◌∙◌}
 use Rattle.std.specs.Prelude.{MatchResult}
 use Rattle.std.proofs.lemmas.Int.{to_z-of_z}
-use Rattle.ss_records.specs.State.{Heaped, State, value_in}
-use Rattle.ss_records.specs.Sets.{member_class, next_in}
+use Rattle.ss_states.specs.State.{Heaped, State, value_in}
+use Rattle.ss_states.specs.Sets.{member_class, next_in}
 use Rattle.ss_records.specs.Parts.{state}
 use Rattle.ss_records.proofs.heap.Heap.member.Goals as goal
 

@@ -1,7 +1,7 @@
 use Rattle.std.proofs.Common.{◌≡◌, ap, subst, ◌∙◌}
 use Rattle.std.proofs.lemmas.Int.{to_z-of_z}
-use Rattle.ss_records.specs.State.{Heaped, State}
-use Rattle.ss_records.specs.Sets.{previous_in}
+use Rattle.ss_states.specs.State.{Heaped, State}
+use Rattle.ss_states.specs.Sets.{previous_in}
 use Rattle.ss_records.specs.Parts.{state}
 use Rattle.ss_records.proofs.heap.Heap.previous.Goals as goal
 

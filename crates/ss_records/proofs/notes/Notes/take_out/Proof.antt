@@ -17,8 +17,8 @@ use denote.Triple.Entry.{alive}
 use denote.Triple.Walked.{Stays, stay_ref, stay_dropped, walk_of, Goes-ref, Goes-dropped}
 use denote.Builtin.{usize, u64}
 use denote.Exit.{yes}
-use Rattle.ss_records.specs.State.{members_of, with_members}
-use Rattle.ss_records.specs.Sets.{less}
+use Rattle.ss_states.specs.State.{members_of, with_members}
+use Rattle.ss_states.specs.Sets.{less}
 use Rattle.std.proofs.raw_atomic.Walks.{proved_at, leaves}
 use Rattle.ss_records.specs.contracts.notes.Notes as S
 use Rattle.ss_records.specs.contracts.notes.Notes.take_out.{ended, clauses}

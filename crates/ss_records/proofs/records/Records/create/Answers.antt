@@ -5,7 +5,7 @@ use Rattle.std.specs.Int.{cast_signed}
 use mir.Syntax.{w64}
 use Rattle.ss_records.specs.Laid.{Laid}
 use Rattle.ss_records.specs.Cells.{blanks}
-use Rattle.ss_records.specs.State.{LAST_NUMBER}
+use Rattle.ss_states.specs.State.{LAST_NUMBER}
 use Rattle.ss_records.specs.Kept.{Kept, state_of}
 use Rattle.ss_records.specs.Parts.{places}
 use Rattle.ss_records.proofs.Puts.{words_new}

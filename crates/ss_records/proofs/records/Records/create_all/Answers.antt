@@ -1,4 +1,10 @@
-use Rattle.ss_records.proofs.Issuing.{at_rest}
+use Rattle.std.proofs.Common.{Ok, Some, length, w64, to_z, of_z, refl, sym, ap, subst, ◌∙◌}
+use Rattle.std.specs.Prelude.{ℤ, IsOk}
+use Rattle.std.proofs.lemmas.Int.{to_z-of_z}
+use Rattle.std.proofs.lemmas.Option.{slice_get_read}
+use Rattle.ss_states.specs.State.{created_all}
+use Rattle.ss_records.specs.Parts.{places, state}
+use Rattle.ss_records.proofs.Issuing.{at_rest, none_is, made_twice, made_once}
 use Rattle.ss_records.proofs.records.Records.create_all.Goals as goal
 
 pub make-requires-clause-kept : goal.make-requires-clause-kept
@@ -36,3 +42,30 @@ returns-in-Err-clause-kept c = c.make.ensures.kept
 
 pub returns-in-Err-clause-touches : goal.returns-in-Err-clause-touches
 returns-in-Err-clause-touches c = c.make.ensures.touches
+
+pub returns-then-is_made-clause-done : goal.returns-then-is_made-clause-done
+returns-then-is_made-clause-done c =
+    let r = c.args.self.now in let row = c.index.result.now in
+    let there = slice_get_read r.permanents.items (length r.layout.classes) c.args.class row (sym c.requires.kept.width) c.requires.class c.index.ensures in
+    (refl, made_twice r.layout r.blocks.cells (places r) r.notes.lists c.args.class row there c.args.n (sym c.is_made.ensures ∙ c.if-is_made.true))
+
+pub make-requires-clause-free : goal.make-requires-clause-free
+make-requires-clause-free c =
+    let r = c.args.self.now in let row = c.index.result.now in
+    let there = slice_get_read r.permanents.items (length r.layout.classes) c.args.class row (sym c.requires.kept.width) c.requires.class c.index.ensures in
+    there ∙ ap Some (none_is row (sym c.is_made.ensures ∙ c.if-is_made.false))
+
+pub returns-in-Ok-clause-done : goal.returns-in-Ok-clause-done
+returns-in-Ok-clause-done c =
+    let r = c.args.self.now in let row = c.index.result.now in
+    let there = slice_get_read r.permanents.items (length r.layout.classes) c.args.class row (sym c.requires.kept.width) c.requires.class c.index.ensures in
+    let made = made_once r.layout r.blocks.cells (places r) r.notes.lists c.args.class row there (to_z w64 (of_z w64 c.args.n)) (sym c.is_made.ensures ∙ c.if-is_made.false) c.if-n-lt0.false c.if-n-gt-MOST_ENTITIES.false in
+    ap (λ (z : ℤ). created_all (state r) c.args.class z) (sym (to_z-of_z w64 c.args.n c.ranges.n)) ∙ made ∙ ap Ok (sym c.in-Ok.ensures.done)
+
+pub returns-in-Err-clause-done : goal.returns-in-Err-clause-done
+returns-in-Err-clause-done c =
+    let r = c.args.self.now in let row = c.index.result.now in
+    let there = slice_get_read r.permanents.items (length r.layout.classes) c.args.class row (sym c.requires.kept.width) c.requires.class c.index.ensures in
+    let made = made_once r.layout r.blocks.cells (places r) r.notes.lists c.args.class row there (to_z w64 (of_z w64 c.args.n)) (sym c.is_made.ensures ∙ c.if-is_made.false) c.if-n-lt0.false c.if-n-gt-MOST_ENTITIES.false in
+    let fine = subst (λ (z : ℤ). IsOk (created_all (state r) c.args.class z)) (to_z-of_z w64 c.args.n c.ranges.n) (rw made refl) in
+    (c.in-Err.ensures.done, fine)

@@ -9,7 +9,7 @@ use Rattle.ss_records.specs.Cells.{without, words_at}
 use Rattle.ss_records.specs.Places.{lying, class_at}
 use Rattle.ss_records.specs.Shape.{block_words}
 use Rattle.ss_records.specs.Kept.{Kept, state_of}
-use Rattle.ss_records.specs.State.{and_then, let_go, number_in, in_a_set, owns_members, destroyed}
+use Rattle.ss_states.specs.State.{and_then, let_go, number_in, in_a_set, owns_members, destroyed}
 use Rattle.ss_records.specs.Parts.{places, state, held}
 use Rattle.ss_records.proofs.Destroys.{its_size, kept_destroyed, is_destroyed, in_a_set_is, owns_members_is}
 use Rattle.ss_records.proofs.Files.{unmoved}

@@ -2,8 +2,8 @@ use Rattle.std.proofs.Common.{◌≡◌, ◌+◌, ◌∷◌, ◌++◌, refl, sym
 use Rattle.std.proofs.lemmas.Int.{to_z-of_z}
 use Rattle.ss_records.specs.declared.records.Records.{Records}
 use Rattle.ss_records.specs.Cells.{link, number, word_at}
-use Rattle.ss_records.specs.State.{State, members_of, contains}
-use Rattle.ss_records.specs.Sets.{with_list_of, put_beside, put_before}
+use Rattle.ss_states.specs.State.{State, members_of, contains}
+use Rattle.ss_states.specs.Sets.{with_list_of, put_beside, put_before}
 use Rattle.ss_records.specs.Parts.{state, held}
 use Rattle.ss_records.proofs.Files.{unmoved, looked, still_between}
 use Rattle.ss_records.proofs.Cuts.{parts, prev_found, before_it, list_before, beside_twice, not_beside, beside_done}

@@ -2,7 +2,7 @@ use Rattle.std.proofs.Common.{ap, ◌∙◌}
 use Rattle.std.proofs.lemmas.Int.{to_z-of_z}
 use Rattle.ss_base.specs.declared.layout.SetLayout.{SetLayout}
 use Rattle.ss_records.specs.Parts.{state}
-use Rattle.ss_records.specs.Sets.{member_in}
+use Rattle.ss_states.specs.Sets.{member_in}
 use Rattle.ss_records.proofs.Owning.{has_number, joins_found, not_joiner, kind_is}
 use Rattle.ss_records.proofs.records.Records.joiner.Goals as goal
 

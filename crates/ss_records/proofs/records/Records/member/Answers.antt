@@ -1,8 +1,8 @@
 use Rattle.std.proofs.Common.{◌<◌, length, ap, sym, subst, ◌∙◌, Ok, pos, arith, ◌≡◌, refl}
 use Rattle.std.proofs.lemmas.Int.{ints, to_z-of_z}
 use Rattle.ss_base.specs.declared.layout.SetLayout.{SetLayout}
-use Rattle.ss_records.specs.State.{and_then, modes_of, value_in}
-use Rattle.ss_records.specs.Sets.{member_in, companions, follower}
+use Rattle.ss_states.specs.State.{and_then, modes_of, value_in}
+use Rattle.ss_states.specs.Sets.{member_in, companions, follower}
 use Rattle.ss_records.specs.Parts.{state, places, held}
 use Rattle.ss_records.proofs.Assigns.{value_number, is_value}
 use Rattle.ss_records.proofs.Looks.{next_leads, next_fits, next_is}

@@ -4,7 +4,7 @@ use Rattle.std.proofs.lemmas.Result.{IfOk-at_ok, MatchResult-at_ok}
 use Rattle.ss_base.specs.declared.layout.Layout.{Layout}
 use Rattle.ss_base.specs.declared.layout.Owner.TheVariants.{System}
 use Rattle.ss_records.specs.Cells.{blanks}
-use Rattle.ss_records.specs.State.{first_state}
+use Rattle.ss_states.specs.State.{first_state}
 use Rattle.ss_records.specs.Shape.{block_words}
 use Rattle.ss_records.specs.Kept.{Small}
 use Rattle.ss_records.specs.Laid.{LaidSystem}

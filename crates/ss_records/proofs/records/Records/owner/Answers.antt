@@ -3,7 +3,7 @@ use Rattle.std.proofs.lemmas.Int.{to_z-of_z}
 use Rattle.ss_base.specs.declared.layout.Owner.TheVariants.{Class}
 use Rattle.ss_base.specs.declared.layout.SetLayout.{SetLayout}
 use Rattle.ss_records.specs.Parts.{state}
-use Rattle.ss_records.specs.Sets.{owner_in}
+use Rattle.ss_states.specs.Sets.{owner_in}
 use Rattle.ss_records.proofs.Owning.{has_number, owns_found, not_owner, system_owns, kind_is}
 use Rattle.ss_records.proofs.records.Records.owner.Goals as goal
 

@@ -1,8 +1,8 @@
 use Rattle.std.proofs.Common.{◌≡◌, ◌+◌, ◌++◌, refl, sym, ap, ◌∙◌}
 use Rattle.std.proofs.lemmas.Int.{to_z-of_z}
 use Rattle.ss_records.specs.Cells.{link, number, word_at}
-use Rattle.ss_records.specs.State.{State}
-use Rattle.ss_records.specs.Sets.{with_list_of, taken_out}
+use Rattle.ss_states.specs.State.{State}
+use Rattle.ss_states.specs.Sets.{with_list_of, taken_out}
 use Rattle.ss_records.specs.Parts.{state, held}
 use Rattle.ss_records.proofs.Files.{unmoved, looked, still_around}
 use Rattle.ss_records.proofs.Cuts.{parts, prev_found, next_found, around_it, list_less, not_out, out_done}

@@ -1,7 +1,7 @@
 use Rattle.std.proofs.Common.{ap, ◌∙◌}
 use Rattle.std.proofs.lemmas.Int.{to_z-of_z}
-use Rattle.ss_records.specs.State.{and_then}
-use Rattle.ss_records.specs.Sets.{joiner, owner}
+use Rattle.ss_states.specs.State.{and_then}
+use Rattle.ss_states.specs.Sets.{joiner, owner}
 use Rattle.ss_records.specs.Parts.{state}
 use Rattle.ss_records.proofs.records.Records.triple.Goals as goal
 

@@ -1,0 +1,4 @@
+pub mod Lists
+pub mod State
+pub mod Sets
+pub mod Disciplines
