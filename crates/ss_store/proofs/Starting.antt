@@ -18,7 +18,7 @@ use Rattle.ss_meaning.specs.Histories.{starting}
 use Rattle.ss_meaning.specs.Entities.{is_permanent, with_all}
 use Rattle.ss_population.proofs.Counting.{length_replicate}
 use Rattle.ss_store.specs.Seen.{Seen, with_seen, class_in, created_all_known}
-use Rattle.ss_store.specs.Times.{Times}
+use Rattle.ss_timeline.specs.Times.{Times}
 
 -- ## All entities of a class
 

@@ -13,6 +13,8 @@ use Rattle.ss_base.specs.declared.layout.Discipline.{Discipline}
 use Rattle.ss_base.specs.declared.value.Value.{Value}
 use Rattle.ss_base.specs.declared.value.Value.TheVariants.{Whole}
 use Rattle.ss_histories.specs.Records.{Rows, columns_of}
+use Rattle.ss_histories.specs.declared.unnoted.Unnoted.{Unnoted}
+use Rattle.ss_histories.specs.declared.unnoted.Unnoted.TheVariants as unnoted
 use Rattle.ss_records.specs.State.{State, modes_of, is_made, created_all}
 use Rattle.ss_events.specs.PendingList.{PendingList, cancelled}
 use Rattle.ss_meaning.specs.Values.{Trouble as Meant, if_ok, turned, due, where_fit, unless_fault}
@@ -100,6 +102,12 @@ abbrev pub settled : Result (Unit {0}) Refused → Result (Unit {0}) Unmade
 settled (Ok u) = Ok u
 settled (Err (refusals.Fault kind)) = Err (unmade.Fault kind)
 settled (Err refusals.Memory) = Err unmade.Memory
+
+-- what noting a value comes to
+abbrev pub or_unnoted : Result (Unit {0}) Unnoted → Result (Unit {0}) Trouble
+or_unnoted (Ok u) = Ok u
+or_unnoted (Err unnoted.Full) = Err (Fault Overflow)
+or_unnoted (Err unnoted.Misfit) = Err Misfit
 
 -- the kind of a class, and the mode of a field
 abbrev pub kind_at : PlainLayout → ℕ → Option ClassKind
