@@ -140,12 +140,7 @@ impl Timeline {
 
     /// Notes a value of a subject in each history of it that an entity has. Faults: 14 where one of them is full.
     #[inline(always)]
-    pub fn note(
-        &mut self,
-        subject: Subject,
-        entity: i64,
-        value: Value,
-    ) -> Result<(), Unnoted>
+    pub fn note(&mut self, subject: Subject, entity: i64, value: Value) -> Result<(), Unnoted>
         ensures { Noted subject entity value self.old self.new result }
     {
         if !self.has_statistics() {
@@ -175,12 +170,7 @@ impl Timeline {
     /// Makes room for so many more histories of each statistic of what the entities of a class have. The error comes
     /// where memory was refused.
     #[inline(always)]
-    pub fn reserve(
-        &mut self,
-        layout: &Layout,
-        class: usize,
-        count: i64,
-    ) -> Result<(), AllocError>
+    pub fn reserve(&mut self, layout: &Layout, class: usize, count: i64) -> Result<(), AllocError>
         ensures same { self.new ≡ record self.old { histories = record self.old.histories { room = self.new.histories.room } } }
         ensures room { OnOk result (HasRooms layout.now (Class class) count self.new.histories.statistics self.new.histories.room) }
     {
