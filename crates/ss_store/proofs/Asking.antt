@@ -12,7 +12,8 @@ use Rattle.ss_records.specs.Sets.{joiner}
 use Rattle.ss_meaning.specs.Values.{Trouble as Meant, if_ok, turned, due, where_fit, number_of}
 use Rattle.ss_meaning.specs.Store.{Store}
 use Rattle.ss_meaning.specs.Sets.{is_one, of_member, owner_by}
-use Rattle.ss_store.specs.Seen.{Seen, with_seen, set_in, told_of_member}
+use Rattle.ss_classes.specs.Layouts.{set_in}
+use Rattle.ss_store.specs.Seen.{Seen, with_seen, told_of_member}
 
 asked_once : {B : Type 0} (r : OkOr ℤ Meant) (b : Bool) (j : ℤ → OkOr ℕ FaultKind) (go : ℤ → ℕ → OkOr B FaultKind) (f : B → Value) → if_ok (if_ok r (λ n. where_fit b (turned (λ _. n) (due (j n))))) (λ n. turned f (due (S.and_then (j n) (go n)))) ≡ if_ok r (λ n. where_fit b (turned f (due (S.and_then (j n) (go n)))))
 asked_once (Err t) b j go f = refl

@@ -9,7 +9,8 @@ use Rattle.ss_meaning.specs.Values.{Trouble as Meant, Fails, if_ok, turned, due,
 use Rattle.ss_meaning.specs.Store.{Store}
 use Rattle.ss_meaning.specs.Sets.{owner_number}
 use Rattle.ss_population.specs.declared.trouble.Trouble.{Trouble}
-use Rattle.ss_store.specs.Seen.{Seen, with_seen, set_in, Gains}
+use Rattle.ss_classes.specs.Layouts.{set_in}
+use Rattle.ss_store.specs.Seen.{Seen, with_seen, Gains}
 use Rattle.ss_store.proofs.Asking.{owned_there}
 
 -- ## An owner

@@ -15,7 +15,7 @@ use Rattle.ss_population.specs.declared.known.Known.{Known}
 use Rattle.ss_population.specs.declared.trouble.Trouble.{Trouble}
 use Rattle.ss_population.specs.Told.{told}
 use Rattle.ss_store.specs.Seen.{Seen, with_seen, Looks, Changes, ChangesWhere}
-use Rattle.ss_store.specs.Figures.{subject_in, variable_in, held_in, held_by, present_with, renewed_known, reset_of}
+use Rattle.ss_timeline.specs.Figures.{subject_in, variable_in, held_in, held_by, present_with, renewed_known, reset_of}
 
 -- the subject of a statistic that there is
 pub subject_there : (e : Seen) (j : ℕ) (t : Subject) (s : Store) → Some t ≡ subject_in e.statistics j → subject_of j (with_seen s e) ≡ Ok t

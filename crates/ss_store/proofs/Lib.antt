@@ -8,7 +8,6 @@ pub mod Fitting
 pub mod Joined
 pub mod Stepping
 pub mod Taking
-pub mod Timely
 pub mod Noting
 pub mod Rehoming
 pub mod Starting

@@ -18,7 +18,8 @@ use Rattle.ss_program.specs.declared.sections.Subject.TheVariants.{OfAttribute}
 use Rattle.ss_population.specs.declared.trouble.Trouble.{Trouble}
 use Rattle.ss_population.specs.declared.trouble.Trouble.TheVariants.{Fault, Misfit}
 use Rattle.ss_population.specs.Told.{meant}
-use Rattle.ss_store.specs.Seen.{Seen, with_seen, class_in, mode_at, IsEarlier}
+use Rattle.ss_classes.specs.Layouts.{class_in, mode_in}
+use Rattle.ss_store.specs.Seen.{Seen, with_seen, mode_at, IsEarlier}
 use Rattle.ss_store.proofs.Late.{look_first}
 
 -- a value that is a number
@@ -67,6 +68,11 @@ module _ (e : Seen) (class : ℕ) (n : ℤ) where
       ∙ ap (λ b. where_fit b (turned (with_none class n (with_seen s e)) (due (S.destroyed e.heap class n)))) many) h
 
 -- ## What the layout has
+
+pub mode_is : (c : Option ClassLayout) (field : ℕ) → mode_in c field ≡ slice_get (S.modes_in c) field
+mode_is None zero = refl
+mode_is None (suc k) = refl
+mode_is (Some c) field = refl
 
 field_there : (c : Option ClassLayout) (field : ℕ) → is_some (slice_get (S.modes_in c) field) ≡ true → is_some c ≡ true
 field_there None zero e = absurd cc

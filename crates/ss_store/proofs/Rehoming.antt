@@ -10,7 +10,8 @@ use Rattle.ss_meaning.specs.Store.{Store}
 use Rattle.ss_meaning.specs.Sets.{member, owner_number, recounted}
 use Rattle.ss_population.specs.declared.known.Known.{Known}
 use Rattle.ss_population.specs.declared.trouble.Trouble.{Trouble}
-use Rattle.ss_store.specs.Seen.{Seen, with_seen, set_in, Changes, Notes, Gains}
+use Rattle.ss_classes.specs.Layouts.{set_in}
+use Rattle.ss_store.specs.Seen.{Seen, with_seen, Changes, Notes, Gains}
 use Rattle.ss_store.specs.Filed.{IsCountable, IsEarliest, Rehomes, Resettles, Gives, recounted_now, end_out, end_counted, end_removed_known}
 use Rattle.ss_store.proofs.Asking.{owned_there}
 use Rattle.ss_store.proofs.Late.{late_trouble}

@@ -17,8 +17,9 @@ use Rattle.ss_meaning.specs.Store.{Notices, Column, Store, with_heap, with_histo
 use Rattle.ss_meaning.specs.Histories.{starting}
 use Rattle.ss_meaning.specs.Entities.{is_permanent, with_all}
 use Rattle.ss_population.proofs.Counting.{length_replicate}
-use Rattle.ss_store.specs.Seen.{Seen, with_seen, class_in, created_all_known}
-use Rattle.ss_store.specs.Times.{Times}
+use Rattle.ss_classes.specs.Layouts.{class_in}
+use Rattle.ss_store.specs.Seen.{Seen, with_seen, created_all_known}
+use Rattle.ss_timeline.specs.Times.{Times}
 
 -- ## All entities of a class
 

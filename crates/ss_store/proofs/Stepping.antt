@@ -1,6 +1,6 @@
 -- Operations in several steps.
-use Rattle.std.proofs.Common.{◌≡◌, ℕ, zero, suc, ◌+◌, ◌==◌, ℤ, true, false, List, [], ◌∷◌, ◌++◌, drop, Option, Some, None, Ok, Err, refl, ap, sym, ◌∙◌}
-use Rattle.std.specs.Prelude.{slice_get, if◌then◌else◌, Result as OkOr}
+use Rattle.std.proofs.Common.{◌≡◌, ℕ, ℤ, false, List, ◌∷◌, ◌++◌, Option, Some, None, Ok, Err, refl, ap, sym, ◌∙◌}
+use Rattle.std.specs.Prelude.{Result as OkOr}
 use Rattle.ss_base.specs.declared.value.Value.{Value}
 use Rattle.ss_base.specs.declared.layout.RankKey.{RankKey}
 use Rattle.ss_base.specs.declared.fault.FaultKind.TheVariants.{AlreadyScheduled}
@@ -8,16 +8,16 @@ use Rattle.ss_events.specs.declared.key.Tie.{Tie}
 use Rattle.ss_events.specs.SortKey.{SortKey}
 use Rattle.ss_events.specs.PendingList.{is_pending}
 use Rattle.ss_meaning.specs.Values.{Trouble as Meant, if_ok, turned, sure, unless_fault}
-use Rattle.ss_meaning.specs.Store.{Notices, Store}
+use Rattle.ss_meaning.specs.Store.{Store}
 use Rattle.ss_meaning.specs.Entities.{entity, attribute}
-use Rattle.ss_meaning.specs.Events.{Ranked, ranked, ranked_from, ties_of, prepared, filed_notice, rescheduled}
+use Rattle.ss_meaning.specs.Events.{Ranked, ranked, ties_of, prepared, filed_notice, rescheduled}
 use Rattle.ss_population.specs.declared.trouble.Trouble.{Trouble}
 use Rattle.ss_population.specs.declared.trouble.Trouble.TheVariants.{Fault, Misfit}
 use Rattle.ss_population.specs.declared.trouble.Unmade.{Unmade}
 use Rattle.ss_population.specs.declared.trouble.Unmade.TheVariants as unmade
 use Rattle.ss_population.specs.Told.{told}
 use Rattle.ss_store.specs.Seen.{Seen, with_seen, Changes, Grows}
-use Rattle.ss_store.specs.Scheduled.{Leads, Forms, Goes, Finds, put_there, lacking, ranked_at, key_ranked, key_meant, scheduled_known, scheduled_anew}
+use Rattle.ss_store.specs.Scheduled.{Leads, Forms, Goes, Finds, put_there, lacking, key_ranked, key_meant, scheduled_known, scheduled_anew}
 
 -- ## Steps
 
@@ -58,26 +58,6 @@ finds_alike f g e (Ok a) alike h = λ s. alike s ∙ h s
 finds_alike f g e (Err (unmade.Fault kind)) alike h = λ s. alike s ∙ h s
 finds_alike f g e (Err unmade.Misfit) alike h = λ s. alike s ∙ h s
 finds_alike f g e (Err unmade.Memory) alike h = h
-
--- ## The rank of a class
-
-one : {A : Type 0} {x y : A} → Some x ≡ Some y → x ≡ y
-one e = cc
-
-pub next_ranked : (es : List Notices) (rank k class : ℕ) (e : Notices) → slice_get es rank ≡ Some e → ranked_from k (drop rank es) class ≡ (if e.class == class then Some (record { rank = k; said = e }) else ranked_from (k + 1) (drop (suc rank) es) class)
-next_ranked [] zero k class e h = absurd cc
-next_ranked [] (suc rank) k class e h = absurd cc
-next_ranked (d ∷ es) zero k class e h = ap (λ (e : Notices). if e.class == class then Some (record { rank = k; said = e }) else ranked_from (k + 1) es class) (one h)
-next_ranked (d ∷ es) (suc rank) k class e h = next_ranked es rank k class e h
-
-pub found_rank : (es : List Notices) (rank class : ℕ) (e : Notices) → slice_get es rank ≡ Some e → (e.class == class) ≡ true → ranked_from 0 es class ≡ ranked_from rank (drop rank es) class → ranked_from 0 es class ≡ ranked_at es (Some rank)
-found_rank es rank class e h same before =
-    before ∙ next_ranked es rank rank class e h ∙ ap (λ b. if b then Some (record { rank = rank; said = e }) else ranked_from (rank + 1) (drop (suc rank) es) class) same
-    ∙ sym (ap (λ (o : Option Notices). ranked_in rank o) h)
-  where
-    ranked_in : (rank : ℕ) → Option Notices → Option Ranked
-    ranked_in rank None = None
-    ranked_in rank (Some said) = Some (record { rank = rank; said = said })
 
 -- ## Ties
 

@@ -17,7 +17,7 @@ use Rattle.ss_meaning.specs.Store.{Notices, Store}
 use Rattle.ss_meaning.specs.Entities.{attribute}
 use Rattle.ss_meaning.specs.Events.{ranked_from, ranked_as, attributes}
 use Rattle.ss_store.specs.declared.coming.Event.{Event}
-use Rattle.ss_store.specs.Scheduled.{ranked_at}
+use Rattle.ss_classes.specs.Ranks.{ranked_at}
 use Rattle.ss_store.specs.Events.{ranked_meant, ties_in, ties_at, is_notice_kind, is_there, is_of, first_of, First, Told}
 use Rattle.ss_store.specs.Seen.{Seen, with_seen}
 

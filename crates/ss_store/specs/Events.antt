@@ -20,7 +20,8 @@ use Rattle.ss_population.specs.declared.trouble.Trouble.TheVariants.{Fault, Misf
 use Rattle.ss_population.specs.declared.trouble.Unmade.{Unmade}
 use Rattle.ss_population.specs.declared.trouble.Unmade.TheVariants as unmade
 use Rattle.ss_population.specs.Told.{told}
-use Rattle.ss_store.specs.Seen.{Seen, with_seen, kind_at}
+use Rattle.ss_classes.specs.Layouts.{kind_at}
+use Rattle.ss_store.specs.Seen.{Seen, with_seen}
 
 -- ## What comes next
 

@@ -18,7 +18,8 @@ use Rattle.ss_population.specs.declared.known.Known.{Known}
 use Rattle.ss_population.specs.declared.known.Membership.{Membership}
 use Rattle.ss_population.specs.declared.trouble.Trouble.{Trouble}
 use Rattle.ss_population.specs.Told.{told}
-use Rattle.ss_store.specs.Seen.{Seen, with_seen, set_in}
+use Rattle.ss_classes.specs.Layouts.{set_in}
+use Rattle.ss_store.specs.Seen.{Seen, with_seen}
 
 -- where a member is filed, as the meaning tells it
 abbrev pub filing_meant : Filing → MeantFiling

@@ -2,5 +2,4 @@ pub mod Seen
 pub mod Filed
 pub mod Scheduled
 pub mod Events
-pub mod Figures
-pub mod Times
+pub use Rattle.ss_timeline.specs.Figures

@@ -1,12 +1,11 @@
 -- What scheduling does once the number of the notice is known, and what is said of operations in several steps.
-use Rattle.std.specs.Prelude.{◌≡◌, ℕ, Bool, true, false, List, ℤ, int_lt, Option, Some, None, Result, Ok, Err, slice_get}
-use Rattle.std.specs.Option.{option_map}
+use Rattle.std.specs.Prelude.{◌≡◌, ℕ, Bool, true, false, List, ℤ, int_lt, Option, Result, Ok, Err}
 use Rattle.ss_base.specs.declared.fault.FaultKind.TheVariants.{PastTime}
 use Rattle.ss_base.specs.declared.value.Value.{Value}
 use Rattle.ss_events.specs.SortKey.{SortKey}
 use Rattle.ss_events.specs.PendingList.{scheduled}
 use Rattle.ss_meaning.specs.Values.{Trouble as Meant, if_ok, turned, due, sure, unless_fault}
-use Rattle.ss_meaning.specs.Store.{Notices, Store, with_pending}
+use Rattle.ss_meaning.specs.Store.{Store, with_pending}
 use Rattle.ss_meaning.specs.Events.{Moment, AtTime, Later, Ranked, ranked, ties_of, not_past, prepared, filed_notice}
 use Rattle.ss_base.specs.Arithmetic.{plus_of}
 use Rattle.ss_population.specs.declared.trouble.Trouble.{Trouble}
@@ -64,11 +63,6 @@ moment_of false v = AtTime v
 -- so many units from now
 abbrev pub time_after : (units : ℤ) → Store → Result ℤ Meant
 time_after units s = if_ok (due (plus_of s.scene.time units)) (λ t. not_past t s)
-
--- the place of a class among those of notices, by its number there
-abbrev pub ranked_at : List Notices → Option ℕ → Option Ranked
-ranked_at es None = None
-ranked_at es (Some rank) = option_map (λ said. record { rank = rank; said = said }) (slice_get es rank)
 
 -- the key of a notice: its time, the rank of its class, and the values of its attributes
 abbrev pub key_ranked : Option Ranked → (class : ℕ) → (x : Value) → (time : ℤ) → Store → Result SortKey Meant

@@ -1,18 +1,17 @@
 -- What is seen of a scene, and what is said of an operation on it.
 use Rattle.std.specs.Prelude.{◌≡◌, ℕ, slice_get, List, ℤ, pos, Option, Result, Ok, Err}
-use Rattle.std.specs.Option.{option_map}
 use Rattle.ss_base.specs.declared.fault.FaultKind.{FaultKind}
 use Rattle.ss_base.specs.declared.fault.FaultKind.TheVariants.{CreatedTwice, Overflow}
 use Rattle.ss_base.specs.declared.fault.Refused.{Refused}
 use Rattle.ss_base.specs.declared.fault.Refused.TheVariants as refusals
-use Rattle.ss_base.specs.declared.layout.ClassKind.{ClassKind}
 use Rattle.ss_base.specs.declared.layout.Mode.{Mode}
-use Rattle.ss_base.specs.declared.layout.SetLayout.{SetLayout}
-use Rattle.ss_base.specs.Plain.{PlainClass, PlainLayout}
+use Rattle.ss_base.specs.Plain.{PlainLayout}
 use Rattle.ss_base.specs.declared.layout.Discipline.{Discipline}
 use Rattle.ss_base.specs.declared.value.Value.{Value}
 use Rattle.ss_base.specs.declared.value.Value.TheVariants.{Whole}
 use Rattle.ss_histories.specs.Records.{Rows, columns_of}
+use Rattle.ss_histories.specs.declared.unnoted.Unnoted.{Unnoted}
+use Rattle.ss_histories.specs.declared.unnoted.Unnoted.TheVariants as unnoted
 use Rattle.ss_records.specs.State.{State, modes_of, is_made, created_all}
 use Rattle.ss_events.specs.PendingList.{PendingList, cancelled}
 use Rattle.ss_meaning.specs.Values.{Trouble as Meant, if_ok, turned, due, where_fit, unless_fault}
@@ -101,20 +100,15 @@ settled (Ok u) = Ok u
 settled (Err (refusals.Fault kind)) = Err (unmade.Fault kind)
 settled (Err refusals.Memory) = Err unmade.Memory
 
--- the kind of a class, and the mode of a field
-abbrev pub kind_at : PlainLayout → ℕ → Option ClassKind
-kind_at l class = option_map (λ c. c.kind) (slice_get l.classes class)
+-- what noting a value comes to
+abbrev pub or_unnoted : Result (Unit {0}) Unnoted → Result (Unit {0}) Trouble
+or_unnoted (Ok u) = Ok u
+or_unnoted (Err unnoted.Full) = Err (Fault Overflow)
+or_unnoted (Err unnoted.Misfit) = Err Misfit
 
+-- the mode of a field
 abbrev pub mode_at : PlainLayout → ℕ → ℕ → Option Mode
 mode_at l class field = slice_get (modes_of l class) field
-
--- a class of a layout
-abbrev pub class_in : PlainLayout → ℕ → Option PlainClass
-class_in l class = slice_get l.classes class
-
--- a set of a layout
-abbrev pub set_in : PlainLayout → ℕ → Option SetLayout
-set_in l set = slice_get l.sets set
 
 -- the trouble that a look at an entity comes to, by its number, or else one that came later
 abbrev pub IsEarlier : (class : ℕ) → (number : ℤ) → Seen → (later first : Trouble) → Type 0

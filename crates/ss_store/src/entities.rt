@@ -7,10 +7,12 @@ ghost use Rattle.ss_meaning.specs.Events.{with_time};
 ghost use Rattle.ss_meaning.specs.Store.{Store as StoreSeen};
 ghost use Rattle.ss_meaning.specs.Places.{is_of_mode, assigned_attribute};
 ghost use Rattle.ss_population.specs.Told.{numbered};
-ghost use Rattle.ss_store.specs.Seen.{Looks, Changes, Notes, Makes, Grows, IsEarlier, settled, count_open, number_made, created_all_known, class_in, kind_at, mode_at, with_seen};
+ghost use Rattle.ss_classes.specs.Layouts.{class_in, kind_at};
+ghost use Rattle.ss_store.specs.Seen.{Looks, Changes, Notes, Makes, Grows, IsEarlier, settled, count_open, number_made, created_all_known, mode_at, with_seen};
 
 use crate::scene::Scene;
 use ss_base::{ClassKind, FaultKind, Mode, Refused, Value};
+use ss_classes::{class_kind, field_mode, fits, is_permanent, is_single};
 use ss_population::known::{Known, known_number};
 use ss_population::trouble::{Trouble, Unmade, number_of};
 
@@ -20,10 +22,7 @@ impl Scene {
     pub(crate) fn kind(&self, class: u32) -> Option<ClassKind>
         ensures { result ≡ kind_at self.now.heap.layout class }
     {
-        match self.population.layout().classes.get(class as usize) {
-            None => None,
-            Some(class) => Some(class.kind),
-        }
+        class_kind(self.population.layout(), class)
     }
 
     // The mode of a field, where the layout has it.
@@ -31,8 +30,7 @@ impl Scene {
     fn mode(&self, class: u32, field: usize) -> Option<Mode>
         ensures { result ≡ mode_at self.now.heap.layout class field }
     {
-        let class = self.population.layout().classes.get(class as usize)?;
-        class.fields.get(field).copied()
+        field_mode(self.population.layout(), class, field)
     }
 
     // A number as that of an entity of a class.
@@ -142,11 +140,7 @@ impl Scene {
     fn fits(&self, class: u32, field: usize, value: &Value) -> bool
         ensures { result ≡ is_of_mode value.now (mode_at self.now.heap.layout class field) }
     {
-        match self.mode(class, field) {
-            None => false,
-            Some(Mode::Integer) => matches!(value, Value::Whole(_)),
-            Some(Mode::Alpha) => matches!(value, Value::Text(_)),
-        }
+        fits(self.population.layout(), class, field, value)
     }
 
     // Assigns a value to an attribute by its number in the class, of an entity by its number; histories note it.
@@ -209,10 +203,7 @@ impl Scene {
     fn is_single(&self, class: u32) -> bool
         ensures { result ≡ is_single (class_in self.now.heap.layout class) }
     {
-        match self.population.layout().classes.get(class as usize) {
-            None => false,
-            Some(class) => class.kind != ClassKind::Permanent,
-        }
+        is_single(self.population.layout(), class)
     }
 
     /// The number of a new entity of a class, whose histories start. Faults: 14 after the last number.
@@ -307,10 +298,7 @@ impl Scene {
     fn is_permanent(&self, class: u32) -> bool
         ensures { result ≡ is_permanent (class_in self.now.heap.layout class) }
     {
-        match self.population.layout().classes.get(class as usize) {
-            None => false,
-            Some(class) => class.kind == ClassKind::Permanent,
-        }
+        is_permanent(self.population.layout(), class)
     }
 
     /// Whether N. of a permanent class may be assigned a value. Faults: 18 where its entities are made.

@@ -12,6 +12,5 @@ pub mod scene;
 mod scheduling;
 mod sets;
 mod statistics;
-mod timeline;
 
 pub use ss_population::trouble;

@@ -6,7 +6,8 @@ ghost use Rattle.ss_sets.specs.Disciplines.{member_test};
 ghost use Rattle.ss_meaning.specs.Sets.{member, known_owner, is_in, outset, beside, begun, coming, from_or_after, begun_at, or_gone, goes_on};
 ghost use Rattle.ss_meaning.specs.Values.{due, turned, where_fit};
 ghost use Rattle.ss_population.specs.Told.{told, numbered};
-ghost use Rattle.ss_store.specs.Seen.{Looks, set_in};
+ghost use Rattle.ss_classes.specs.Layouts.{set_in};
+ghost use Rattle.ss_store.specs.Seen.{Looks};
 ghost use Rattle.ss_store.specs.Filed.{both_known, paired, with_owner, tested, IsEarliest, begun_from};
 
 use crate::scene::Scene;

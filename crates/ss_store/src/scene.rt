@@ -9,12 +9,12 @@ ghost use Rattle.ss_events.specs.PendingList.{none_pending};
 ghost use Rattle.ss_histories.specs.Records.{columns_of};
 ghost use Rattle.ss_meaning.specs.Histories.{no_histories, starting};
 
-use crate::timeline::Timeline;
 use ss_base::{Discipline, Layout};
 use ss_events::TieShape;
 use ss_notices::NoticeClass;
 use ss_population::population::Population;
 use ss_program::sections::Statistic;
+use ss_timeline::Timeline;
 use std::alloc::{AllocError, Global};
 use std::marker::Model;
 

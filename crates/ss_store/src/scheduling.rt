@@ -1,15 +1,16 @@
 //! Scheduling: the time of an event, making notices, and filing them among those that are pending.
 
 ghost use Rattle.std.specs.Prelude.{◌≡◌, Some};
-ghost use Rattle.ss_meaning.specs.Events.{time_at, not_past, endowed, prepared, made_notice, ranked_from, ties_of, filed_notice, rescheduled};
+ghost use Rattle.ss_classes.specs.Ranks.{ranked_at};
+ghost use Rattle.ss_meaning.specs.Events.{time_at, not_past, endowed, prepared, made_notice, ties_of, filed_notice, rescheduled};
 ghost use Rattle.ss_store.specs.Seen.{Looks, Grows};
-ghost use Rattle.ss_store.specs.Scheduled.{Leads, Forms, Goes, Finds, put_there, lacking, moment_of, time_after, ranked_at, key_ranked, key_meant, scheduled_known, scheduled_anew};
+ghost use Rattle.ss_store.specs.Scheduled.{Leads, Forms, Goes, Finds, put_there, lacking, moment_of, time_after, key_ranked, key_meant, scheduled_known, scheduled_anew};
 
 use crate::entities::settled;
 use crate::scene::Scene;
 use ss_base::{FaultKind, RankKey, Value, plus};
+use ss_classes::rank_of;
 use ss_events::{Key, Tie};
-use ss_notices::NoticeClass;
 use ss_population::known::Known;
 use ss_population::trouble::{Trouble, Unmade, number_of};
 use std::alloc::Global;
@@ -253,19 +254,6 @@ impl Scene {
     {
         self.schedule_again(alloc, class, &x, given, time)
     }
-}
-
-// The place of a class among those of notices.
-#[inline(always)]
-fn rank_of(notices: &[NoticeClass], class: u32) -> Option<usize>
-    ensures { ranked_from 0 notices.now class ≡ ranked_at notices.now result }
-{
-    for rank in 0..notices.len() {
-        if notices[rank].class() == class {
-            return Some(rank);
-        }
-    }
-    None
 }
 
 // A trouble where memory might have been wanting.

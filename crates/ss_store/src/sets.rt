@@ -6,12 +6,14 @@ ghost use Rattle.ss_meaning.specs.Sets.{told_of_set, owner_number, of_set, of_me
 ghost use Rattle.ss_records.specs.Sets.{count_in};
 ghost use Rattle.ss_meaning.specs.Values.{due, turned, where_fit};
 ghost use Rattle.ss_population.specs.Told.{told, numbered};
-ghost use Rattle.ss_store.specs.Seen.{Looks, set_in, told_of_member};
+ghost use Rattle.ss_classes.specs.Layouts.{set_in};
+ghost use Rattle.ss_store.specs.Seen.{Looks, told_of_member};
 
 use crate::scene::Scene;
-use ss_base::{FaultKind, Owner, Value};
+use ss_base::{FaultKind, Value};
+use ss_classes::{has_set, owner_of};
 use ss_population::known::{Known, known_number};
-use ss_population::trouble::{Trouble, number_of};
+use ss_population::trouble::Trouble;
 use ss_program::expression::{MemberQuery, SetQuery};
 
 impl Scene {
@@ -21,7 +23,7 @@ impl Scene {
         ensures value { result ≡ is_some (set_in self.now.heap.layout set) }
         ensures within { IsTrue result → set < length self.now.heap.layout.sets }
     {
-        (set as usize) < self.population.layout().sets.len()
+        has_set(self.population.layout(), set)
     }
 
     // The owner of a set, 0 for the system, by who owns the sets of its name.
@@ -29,21 +31,9 @@ impl Scene {
     pub(crate) fn owner(&self, set: u32, owner: Option<Value>) -> Result<Known, Trouble>
         ensures { Looks (owner_number set owner) self.now (numbered result) }
     {
-        match self.population.layout().sets.get(set as usize) {
+        match owner_of(self.population.layout(), set, owner) {
             None => Err(Trouble::Misfit),
-            Some(layout) => match layout.owner {
-                Owner::System => match owner {
-                    None => Ok(Known { number: 0 }),
-                    Some(_) => Err(Trouble::Misfit),
-                },
-                Owner::Class(_) => match owner {
-                    None => Err(Trouble::Misfit),
-                    Some(x) => {
-                        let number = number_of(x)?;
-                        Ok(Known { number })
-                    }
-                },
-            },
+            Some(number) => Ok(Known { number }),
         }
     }
 

@@ -6,12 +6,13 @@ ghost use Rattle.ss_meaning.specs.Statistics.{bearer, figure, reset};
 ghost use Rattle.ss_histories.specs.Records.{figured};
 ghost use Rattle.ss_population.specs.Told.{told, numbered};
 ghost use Rattle.ss_program.specs.declared.sections.Subject.TheVariants.{OfVariable, OfAttribute};
-ghost use Rattle.ss_store.specs.Figures.{subject_in, variable_in, variable_of, held_by, present_with, renewed_known, reset_of};
+ghost use Rattle.ss_timeline.specs.Figures.{subject_in, variable_in, variable_of, held_by, present_with, renewed_known, reset_of};
 ghost use Rattle.ss_store.specs.Filed.{IsCountable, CountsWatched, recounted_now};
-ghost use Rattle.ss_store.specs.Seen.{Looks, Changes, ChangesWhere};
+ghost use Rattle.ss_store.specs.Seen.{Looks, Changes, ChangesWhere, or_unnoted};
 
 use crate::scene::Scene;
 use ss_base::{FaultKind, Value};
+use ss_histories::Unnoted;
 use ss_population::known::{Known, known_number};
 use ss_population::trouble::Trouble;
 use ss_program::expression::{Fold, SetQuery};
@@ -31,7 +32,7 @@ impl Scene {
     fn note(&mut self, subject: Subject, known: Known, value: Value) -> Result<(), Trouble>
         ensures { Changes (noted subject known.number value) self.old self.new result }
     {
-        self.timeline.note(subject, known.number, value)
+        or_unnoted(self.timeline.note(subject, known.number, value))
     }
 
     // The same of an attribute.
@@ -45,8 +46,10 @@ impl Scene {
     ) -> Result<(), Trouble>
         ensures { Changes (noted (OfAttribute class field) known.number value) self.old self.new result }
     {
-        self.timeline
-            .note_attribute(class as usize, field, known.number, value)
+        or_unnoted(
+            self.timeline
+                .note_attribute(class as usize, field, known.number, value),
+        )
     }
 
     /// Notes the value that a global variable has now in its histories. Faults: 14 where one of them is full.
@@ -237,6 +240,18 @@ fn variable_in(subject: Option<Subject>) -> Option<u32>
     match subject {
         Some(Subject::OfVariable { number }) => Some(number),
         _ => None,
+    }
+}
+
+// What noting a value comes to.
+#[inline(always)]
+fn or_unnoted(answer: Result<(), Unnoted>) -> Result<(), Trouble>
+    ensures { result ≡ or_unnoted answer }
+{
+    match answer {
+        Ok(()) => Ok(()),
+        Err(Unnoted::Full) => Err(Trouble::Fault(FaultKind::Overflow)),
+        Err(Unnoted::Misfit) => Err(Trouble::Misfit),
     }
 }
 

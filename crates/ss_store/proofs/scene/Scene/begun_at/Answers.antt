@@ -5,7 +5,8 @@ use Rattle.ss_sets.specs.Disciplines.{member_test}
 use Rattle.ss_meaning.specs.Values.{due, number_of}
 use Rattle.ss_meaning.specs.Sets.{member, owner_number, from_or_after}
 use Rattle.ss_population.specs.Told.{told}
-use Rattle.ss_store.specs.Seen.{Seen, with_seen, set_in}
+use Rattle.ss_classes.specs.Layouts.{set_in}
+use Rattle.ss_store.specs.Seen.{Seen, with_seen}
 use Rattle.ss_store.specs.Filed.{begun_from}
 use Rattle.ss_store.proofs.Belonging.{found_both, read_after}
 use Rattle.ss_store.proofs.scene.Scene.begun_at.Goals as goal

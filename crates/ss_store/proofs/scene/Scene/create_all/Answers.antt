@@ -6,8 +6,9 @@ use Rattle.ss_records.specs.State.{created_all, records_in}
 use Rattle.ss_histories.specs.Records.{HasRooms, is_up_to}
 use Rattle.ss_meaning.specs.Entities.{is_permanent}
 use Rattle.ss_meaning.specs.Histories.{starting}
-use Rattle.ss_store.specs.Seen.{Seen, with_seen, class_in, created_all_known}
-use Rattle.ss_store.specs.Times.{Times, columns}
+use Rattle.ss_classes.specs.Layouts.{class_in}
+use Rattle.ss_store.specs.Seen.{Seen, with_seen, created_all_known}
+use Rattle.ss_timeline.specs.Times.{Times, columns}
 use Rattle.ss_store.proofs.Starting.{all_made, less_room, many_made, seen_of, seen_moved}
 use Rattle.ss_store.proofs.scene.Scene.create_all.Goals as goal
 

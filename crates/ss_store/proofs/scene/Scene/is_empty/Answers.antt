@@ -2,7 +2,7 @@ use Rattle.std.proofs.Common.{ap, sym, ◌∙◌}
 use Rattle.ss_records.specs.Sets.{count_in}
 use Rattle.ss_meaning.specs.Sets.{is_none}
 use Rattle.ss_meaning.specs.Values.{if_ok, due, turned, where_fit}
-use Rattle.ss_store.specs.Seen.{set_in}
+use Rattle.ss_classes.specs.Layouts.{set_in}
 use Rattle.ss_store.proofs.Asking.{owned_there}
 use Rattle.ss_store.proofs.scene.Scene.is_empty.Goals as goal
 

@@ -1,12 +1,11 @@
-use Rattle.std.proofs.Common.{Option, sym, ap, ◌∙◌}
-use Rattle.std.proofs.lemmas.Option.{slice_get_past}
-use Rattle.ss_base.specs.Plain.{PlainClass, PlainLayout}
+use Rattle.std.proofs.Common.{ap, ◌∙◌}
+use Rattle.ss_base.specs.Plain.{PlainLayout}
+use Rattle.ss_classes.specs.Layouts.{class_in}
 use Rattle.ss_meaning.specs.Entities.{is_single}
-use Rattle.ss_store.specs.Seen.{Seen, class_in}
+use Rattle.ss_store.specs.Seen.{Seen}
 use Rattle.ss_store.proofs.scene.Scene.is_single.Goals as goal
 
-pub returns-in-None : goal.returns-in-None
-returns-in-None c =
-    let g = rw c.deref.ensures.value at c.in-None.ensures.lookup in
-    let there = c.behind-self.view_is ∙ c.layout.ensures ∙ ap (λ (e : Seen). e.heap.layout) c.self.view_is in
-    ap (λ (o : Option PlainClass). is_single o) (sym (slice_get_past c.behind-self.inside.classes.items c.args.class g.3)) ∙ ap (λ (l : PlainLayout). is_single (class_in l c.args.class)) there
+pub returns : goal.returns
+returns c =
+    let there = c.layout.ensures ∙ ap (λ (e : Seen). e.heap.layout) c.self.view_is in
+    c.is_single.ensures ∙ ap (λ (l : PlainLayout). is_single (class_in l c.args.class)) there

@@ -1,7 +1,8 @@
 use Rattle.std.proofs.Common.{rules, ◌≡◌, ℤ, Some, ap, subst, to_z, of_z, w64}
 use Rattle.ss_meaning.specs.Events.{ranked_from}
 use Rattle.ss_store.specs.Seen.{with_seen}
-use Rattle.ss_store.specs.Scheduled.{Finds, ranked_at, key_ranked, key_meant}
+use Rattle.ss_classes.specs.Ranks.{ranked_at}
+use Rattle.ss_store.specs.Scheduled.{Finds, key_ranked, key_meant}
 use Rattle.ss_store.proofs.Stepping.{finds_alike}
 use Rattle.ss_store.proofs.scene.Scene.key.Goals as goal
 

@@ -3,7 +3,8 @@ use Rattle.std.specs.Prelude.{is_some, pos}
 use Rattle.ss_records.specs.State.{State, members_of}
 use Rattle.ss_records.specs.Sets.{owner, count_in}
 use Rattle.ss_population.specs.Told.{told, numbered}
-use Rattle.ss_store.specs.Seen.{Seen, set_in}
+use Rattle.ss_classes.specs.Layouts.{set_in}
+use Rattle.ss_store.specs.Seen.{Seen}
 use Rattle.ss_store.proofs.Belonging.{owner_there, owner_not}
 use Rattle.ss_store.proofs.scene.Scene.look_owner.Goals as goal
 use Rattle.ss_store.proofs.scene.Scene.look_owner.Goals.{in-Ok, in-Err}

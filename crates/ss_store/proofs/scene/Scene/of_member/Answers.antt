@@ -1,7 +1,8 @@
 use Rattle.std.proofs.Common.{ap, sym, ◌∙◌}
 use Rattle.std.specs.Prelude.{is_some}
 use Rattle.ss_meaning.specs.Values.{if_ok, where_fit}
-use Rattle.ss_store.specs.Seen.{set_in, told_of_member}
+use Rattle.ss_classes.specs.Layouts.{set_in}
+use Rattle.ss_store.specs.Seen.{told_of_member}
 use Rattle.ss_store.proofs.Asking.{asked_is}
 use Rattle.ss_store.proofs.scene.Scene.of_member.Goals as goal
 

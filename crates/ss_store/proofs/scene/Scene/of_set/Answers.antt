@@ -2,7 +2,7 @@ use Rattle.std.proofs.Common.{ap, sym, ◌∙◌}
 use Rattle.ss_base.specs.declared.value.Value.TheVariants.{Whole}
 use Rattle.ss_meaning.specs.Sets.{told_of_set}
 use Rattle.ss_meaning.specs.Values.{if_ok, due, turned, where_fit}
-use Rattle.ss_store.specs.Seen.{set_in}
+use Rattle.ss_classes.specs.Layouts.{set_in}
 use Rattle.ss_store.proofs.Asking.{owned_there}
 use Rattle.ss_store.proofs.scene.Scene.of_set.Goals as goal
 

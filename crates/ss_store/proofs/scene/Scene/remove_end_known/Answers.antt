@@ -1,6 +1,6 @@
 use Rattle.std.proofs.Common.{rules, ◌≡◌, ◌<◌, true, length, sym, ◌∙◌}
 use Rattle.std.specs.Prelude.{is_some}
-use Rattle.ss_store.specs.Seen.{set_in}
+use Rattle.ss_classes.specs.Layouts.{set_in}
 use Rattle.ss_store.proofs.Noting.{no_store}
 use Rattle.ss_store.proofs.Recounting.{countable, end_due_refiled}
 use Rattle.ss_store.proofs.Rehoming.{taken, taken_not, not_taken}

@@ -1,8 +1,8 @@
 use Rattle.std.proofs.Common.{rules, ◌≡◌, ◌∙◌, ℤ, sym, subst, to_z, of_z, w64}
 use Rattle.ss_events.specs.PendingList.{PendingList}
-use Rattle.ss_store.specs.Times.{IsTimely}
-use Rattle.ss_store.proofs.Timely.{timely_passed}
-use Rattle.ss_store.proofs.timeline.Timeline.pass.Goals as goal
+use Rattle.ss_timeline.specs.Times.{IsTimely}
+use Rattle.ss_timeline.proofs.Timely.{timely_passed}
+use Rattle.ss_timeline.proofs.timeline.Timeline.pass.Goals as goal
 
 pub invariant_of-self : goal.invariant_of-self
 invariant_of-self c =

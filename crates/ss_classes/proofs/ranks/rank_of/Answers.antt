@@ -1,7 +1,7 @@
 use Rattle.std.proofs.Common.{rules, ◌≡◌, ◌==◌, true, length, refl}
 use Rattle.std.proofs.lemmas.Option.{slice_get_read}
-use Rattle.ss_store.proofs.Stepping.{found_rank}
-use Rattle.ss_store.proofs.scheduling.rank_of.Goals as goal
+use Rattle.ss_classes.proofs.Ranking.{found_rank}
+use Rattle.ss_classes.proofs.ranks.rank_of.Goals as goal
 
 pub returns-then-class : goal.returns-then-class
 returns-then-class c =

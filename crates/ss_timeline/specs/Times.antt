@@ -2,7 +2,7 @@
 use Rattle.std.specs.Prelude.{◌≡◌, List, ℤ, pos, int_lt, ◌≤ℤ◌, Option, Some, None, Result, Ok, Err, if◌then◌else◌}
 use Rattle.std.specs.List.{All}
 use Rattle.ss_base.specs.declared.fault.FaultKind.{FaultKind}
-use Rattle.ss_base.specs.declared.fault.FaultKind.TheVariants.{PastTime, Overflow}
+use Rattle.ss_base.specs.declared.fault.FaultKind.TheVariants.{PastTime}
 use Rattle.ss_base.specs.declared.fault.Refused.{Refused}
 use Rattle.ss_base.specs.declared.fault.Refused.TheVariants.{Fault, Memory}
 use Rattle.ss_base.specs.declared.value.Value.{Value}
@@ -10,14 +10,10 @@ use Rattle.ss_program.specs.declared.sections.Subject.{Subject}
 use Rattle.ss_events.specs.SortKey.{SortKey}
 use Rattle.ss_events.specs.declared.entry.Entry.{Entry}
 use Rattle.ss_events.specs.PendingList.{PendingList, scheduled, after_next}
-use Rattle.ss_histories.specs.Records.{Records, columns_of}
+use Rattle.ss_histories.specs.Records.{Records, columns_of, why}
 use Rattle.ss_meaning.specs.Store.{Column}
 use Rattle.ss_meaning.specs.Histories.{all_noting}
 use Rattle.ss_histories.specs.declared.unnoted.Unnoted.{Unnoted}
-use Rattle.ss_histories.specs.declared.unnoted.Unnoted.TheVariants as unnoted
-use Rattle.ss_population.specs.declared.trouble.Trouble.{Trouble}
-use Rattle.ss_population.specs.declared.trouble.Trouble.TheVariants as troubles
-use Rattle.ss_population.specs.Told.{told}
 
 -- the time, the notices that are pending, and the histories
 pub record Times : Type 0 where
@@ -57,12 +53,6 @@ Schedules key n old new (Err (Fault kind)) = (placed key n old ≡ Err kind) × 
 Schedules key n old new (Err Memory) = new ≡ old
 
 -- histories note a value, or they don't, and nothing changes
-abbrev pub Noted : Subject → (entity : ℤ) → Value → (old new : Times) → Result (Unit {0}) Trouble → Type 0
+abbrev pub Noted : Subject → (entity : ℤ) → Value → (old new : Times) → Result (Unit {0}) Unnoted → Type 0
 Noted subject x v old new (Ok u) = (all_noting subject x old.time v old.histories.statistics (columns old) ≡ Ok (columns new)) × IsAt old new
-Noted subject x v old new (Err t) = (all_noting subject x old.time v old.histories.statistics (columns old) ≡ told {A = List Column} (Err t)) × (new ≡ old)
-
--- what noting a value comes to
-abbrev pub or_unnoted : Result (Unit {0}) Unnoted → Result (Unit {0}) Trouble
-or_unnoted (Ok u) = Ok u
-or_unnoted (Err unnoted.Full) = Err (troubles.Fault Overflow)
-or_unnoted (Err unnoted.Misfit) = Err troubles.Misfit
+Noted subject x v old new (Err t) = (all_noting subject x old.time v old.histories.statistics (columns old) ≡ Err (why t)) × (new ≡ old)

@@ -1,5 +1,5 @@
-use Rattle.ss_store.proofs.Timely.{timely_cancelled}
-use Rattle.ss_store.proofs.timeline.Timeline.cancel.Goals as goal
+use Rattle.ss_timeline.proofs.Timely.{timely_cancelled}
+use Rattle.ss_timeline.proofs.timeline.Timeline.cancel.Goals as goal
 
 pub invariant_of-self : goal.invariant_of-self
 invariant_of-self c =

@@ -1,4 +1,4 @@
-//! What passes in time: TIME.V, the notices that are pending, and the histories that statistics are taken of.
+//! TIME.V, the notices that are pending, and the histories.
 
 ghost use Rattle.std.specs.Prelude.{◌≡◌, ◌≤ℤ◌, [], map, pos, false, Ok, Err, MatchResult, IfOk, OnOk};
 ghost use Rattle.std.specs.List.{list_any};
@@ -10,13 +10,12 @@ ghost use Rattle.ss_histories.specs.Records.{HasRooms, is_up_to, renewed_where, 
 ghost use Rattle.ss_meaning.specs.Histories.{no_histories, starting, ending, history_of, folded, renewed};
 ghost use Rattle.ss_meaning.specs.Values.{if_ok};
 ghost use Rattle.ss_program.specs.declared.sections.Subject.TheVariants.{OfAttribute};
-ghost use Rattle.ss_store.specs.Figures.{subject_in};
-ghost use Rattle.ss_store.specs.Times.{IsAt, Schedules, Noted, columns, passed_by, or_unnoted};
+ghost use Rattle.ss_timeline.specs.Figures.{subject_in};
+ghost use Rattle.ss_timeline.specs.Times.{IsAt, Schedules, Noted, columns, passed_by};
 
 use ss_base::{FaultKind, Layout, Owner, Refused, Value};
 use ss_events::{Key, Pending, TieShape};
 use ss_histories::{Histories, Unnoted};
-use ss_population::trouble::Trouble;
 use ss_program::expression::Fold;
 use ss_program::sections::{Statistic, Subject};
 use std::alloc::{AllocError, Global};
@@ -24,14 +23,14 @@ use std::marker::Model;
 
 /// TIME.V, the notices that are pending, and the histories. No notice is pending for a time that is past.
 #[derive(Drop)]
-pub(crate) struct Timeline {
+pub struct Timeline {
     time: i64,
     pending: Pending,
     histories: Histories,
 }
 
 impl Model for Timeline {
-    ghost use Rattle.ss_store.specs.Times.{Times, IsTimely};
+    ghost use Rattle.ss_timeline.specs.Times.{Times, IsTimely};
 
     ghost Value = { Times };
 
@@ -43,7 +42,7 @@ impl Model for Timeline {
 impl Timeline {
     /// At the time 0, with nothing pending, ties of these shapes, and the histories of what the system has. The error
     /// comes where memory was refused.
-    pub(crate) fn new(
+    pub fn new(
         alloc: Global,
         layout: &Layout,
         shapes: &[Vec<TieShape>],
@@ -65,14 +64,14 @@ impl Timeline {
 
     /// TIME.V.
     #[inline(always)]
-    pub(crate) fn time(&self) -> i64
+    pub fn time(&self) -> i64
         ensures { result ≡ self.now.time }
     {
         self.time
     }
 
     /// The time and the number of the notice that comes next, if one is pending.
-    pub(crate) fn least(&mut self) -> Option<(i64, i64)>
+    pub fn least(&mut self) -> Option<(i64, i64)>
         ensures next { result ≡ next self.old.pending }
         ensures same { self.new ≡ self.old }
     {
@@ -80,7 +79,7 @@ impl Timeline {
     }
 
     /// Takes out the notice that comes next, and TIME.V is its time.
-    pub(crate) fn pass(&mut self)
+    pub fn pass(&mut self)
         ensures { self.new ≡ passed_by (next self.old.pending) self.old }
     {
         match self.pending.take() {
@@ -93,7 +92,7 @@ impl Timeline {
 
     /// Whether a notice is pending.
     #[inline(always)]
-    pub(crate) fn is_scheduled(&self, notice: i64) -> bool
+    pub fn is_scheduled(&self, notice: i64) -> bool
         ensures { result ≡ is_pending notice self.now.pending.entries }
     {
         self.pending.is_scheduled(notice)
@@ -101,7 +100,7 @@ impl Timeline {
 
     /// A notice is pending under a key. Faults: 13 where its time is before TIME.V, then 11, then 14 after the last
     /// scheduling.
-    pub(crate) fn schedule(&mut self, key: Key, notice: i64) -> Result<(), Refused>
+    pub fn schedule(&mut self, key: Key, notice: i64) -> Result<(), Refused>
         ensures { Schedules key notice self.old self.new result }
     {
         if key.is_before(self.time) {
@@ -111,7 +110,7 @@ impl Timeline {
     }
 
     /// A notice is pending no longer. Faults: 12.
-    pub(crate) fn cancel(&mut self, notice: i64) -> Result<(), FaultKind>
+    pub fn cancel(&mut self, notice: i64) -> Result<(), FaultKind>
         ensures { MatchResult result (λ _. (cancelled notice self.old.pending ≡ Ok self.new.pending) × (self.new ≡ record self.old { pending = self.new.pending })) (λ e. (cancelled notice self.old.pending ≡ Err e) × (self.new ≡ self.old)) }
     {
         self.pending.cancel(notice)
@@ -119,21 +118,21 @@ impl Timeline {
 
     /// Whether there are statistics.
     #[inline(always)]
-    pub(crate) fn has_statistics(&self) -> bool
+    pub fn has_statistics(&self) -> bool
         ensures { result ≡ false → self.now.histories.statistics ≡ [] }
     {
         self.histories.has_statistics()
     }
 
     /// Whether a statistic is about a subject.
-    pub(crate) fn watches(&self, subject: Subject) -> bool
+    pub fn watches(&self, subject: Subject) -> bool
         ensures { result ≡ list_any (is_about subject) self.now.histories.statistics }
     {
         self.histories.watches(subject)
     }
 
     /// What a statistic is about.
-    pub(crate) fn subject(&self, statistic: usize) -> Option<Subject>
+    pub fn subject(&self, statistic: usize) -> Option<Subject>
         ensures { result ≡ subject_in self.now.histories.statistics statistic }
     {
         self.histories.subject(statistic)
@@ -141,49 +140,37 @@ impl Timeline {
 
     /// Notes a value of a subject in each history of it that an entity has. Faults: 14 where one of them is full.
     #[inline(always)]
-    pub(crate) fn note(
-        &mut self,
-        subject: Subject,
-        entity: i64,
-        value: Value,
-    ) -> Result<(), Trouble>
+    pub fn note(&mut self, subject: Subject, entity: i64, value: Value) -> Result<(), Unnoted>
         ensures { Noted subject entity value self.old self.new result }
     {
         if !self.has_statistics() {
             return Ok(());
         }
-        or_unnoted(self.histories.note(subject, entity, self.time, value))
+        self.histories.note(subject, entity, self.time, value)
     }
 
     /// The same of an attribute.
     #[inline(always)]
-    pub(crate) fn note_attribute(
+    pub fn note_attribute(
         &mut self,
         class: usize,
         field: usize,
         entity: i64,
         value: Value,
-    ) -> Result<(), Trouble>
+    ) -> Result<(), Unnoted>
         ensures { Noted (OfAttribute class field) entity value self.old self.new result }
     {
         if !self.has_statistics() {
             return Ok(());
         }
-        or_unnoted(
-            self.histories
-                .note_attribute(class, field, entity, self.time, value),
-        )
+        self.histories
+            .note_attribute(class, field, entity, self.time, value)
     }
 
     /// Makes room for so many more histories of each statistic of what the entities of a class have. The error comes
     /// where memory was refused.
     #[inline(always)]
-    pub(crate) fn reserve(
-        &mut self,
-        layout: &Layout,
-        class: usize,
-        count: i64,
-    ) -> Result<(), AllocError>
+    pub fn reserve(&mut self, layout: &Layout, class: usize, count: i64) -> Result<(), AllocError>
         ensures same { self.new ≡ record self.old { histories = record self.old.histories { room = self.new.histories.room } } }
         ensures room { OnOk result (HasRooms layout.now (Class class) count self.new.histories.statistics self.new.histories.room) }
     {
@@ -195,7 +182,7 @@ impl Timeline {
 
     /// Starts the histories of an entity of a class, as it comes into being.
     #[inline(always)]
-    pub(crate) fn start(&mut self, layout: &Layout, class: usize, entity: i64)
+    pub fn start(&mut self, layout: &Layout, class: usize, entity: i64)
         requires room { HasRooms layout.now (Class class) (pos 1) self.old.histories.statistics self.old.histories.room }
         ensures started { columns self.new ≡ starting layout.now (Class class) (int_eq entity) self.old.time self.old.histories.statistics (columns self.old) }
         ensures same { IsAt self.old self.new }
@@ -207,7 +194,7 @@ impl Timeline {
     }
 
     /// Starts the histories of the entities 1 to a number of a class.
-    pub(crate) fn start_all(&mut self, layout: &Layout, class: usize, count: i64)
+    pub fn start_all(&mut self, layout: &Layout, class: usize, count: i64)
         requires room { HasRooms layout.now (Class class) count self.old.histories.statistics self.old.histories.room }
         ensures started { columns self.new ≡ starting layout.now (Class class) (is_up_to count) self.old.time self.old.histories.statistics (columns self.old) }
         ensures same { IsAt self.old self.new }
@@ -217,7 +204,7 @@ impl Timeline {
 
     /// Ends the histories of an entity of a class, as it goes.
     #[inline(always)]
-    pub(crate) fn end(&mut self, layout: &Layout, class: usize, entity: i64)
+    pub fn end(&mut self, layout: &Layout, class: usize, entity: i64)
         ensures ended { columns self.new ≡ ending layout.now class entity self.old.histories.statistics (columns self.old) }
         ensures same { IsAt self.old self.new }
     {
@@ -227,7 +214,7 @@ impl Timeline {
     }
 
     /// What is asked of the history of an entity in a statistic, if it has one. Faults: 14.
-    pub(crate) fn figure(
+    pub fn figure(
         &self,
         fold: Fold,
         statistic: usize,
@@ -239,7 +226,7 @@ impl Timeline {
     }
 
     /// Starts the history of an entity in a statistic afresh, with the present value, if it has one: whether it has.
-    pub(crate) fn renew(&mut self, statistic: usize, entity: i64, present: i64) -> bool
+    pub fn renew(&mut self, statistic: usize, entity: i64, present: i64) -> bool
         ensures renewed { renewed statistic entity self.old.time present (columns self.old) ≡ renewed_where result (columns self.new) }
         ensures unchanged { (result ≡ false) → self.new ≡ self.old }
         ensures same { IsAt self.old self.new }
@@ -262,16 +249,4 @@ fn system_started(
     histories.reserve(layout, Owner::System, 1)?;
     histories.start(layout, Owner::System, 0, 0);
     Ok(histories)
-}
-
-// What noting a value comes to.
-#[inline(always)]
-fn or_unnoted(answer: Result<(), Unnoted>) -> Result<(), Trouble>
-    ensures { result ≡ or_unnoted answer }
-{
-    match answer {
-        Ok(()) => Ok(()),
-        Err(Unnoted::Full) => Err(Trouble::Fault(FaultKind::Overflow)),
-        Err(Unnoted::Misfit) => Err(Trouble::Misfit),
-    }
 }

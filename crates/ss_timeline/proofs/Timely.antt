@@ -16,7 +16,7 @@ use Rattle.ss_base.specs.declared.fault.FaultKind.TheVariants.{NotScheduled}
 use Rattle.ss_events.specs.declared.entry.Entry.{Entry}
 use Rattle.ss_events.specs.Order.{comes_before, tie_order}
 use Rattle.ss_events.specs.PendingList.{PendingList, is_pending, earlier, least, next, after_next, without, cancelled}
-use Rattle.ss_store.specs.Times.{IsAhead, IsTimely}
+use Rattle.ss_timeline.specs.Times.{IsAhead, IsTimely}
 
 -- ## The entry that comes out first has the least time
 

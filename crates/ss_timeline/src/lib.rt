@@ -1,0 +1,6 @@
+//! What passes in time: TIME.V, the notices that are pending, and the histories that statistics are taken of.
+#![tactic(auto)]
+
+mod timeline;
+
+pub use timeline::Timeline;
