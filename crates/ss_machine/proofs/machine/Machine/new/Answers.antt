@@ -1,5 +1,5 @@
 use Rattle.std.proofs.Common.{◌≡◌, [], IfOk, List, subst}
-use Rattle.ss_fused.specs.declared.fused.Micro.{Micro}
+use Rattle.ss_joins.specs.declared.fused.Micro.{Micro}
 use Rattle.ss_fused.specs.Fused.{AreFused}
 use Rattle.ss_working.specs.declared.working.Working.{Working}
 use Rattle.ss_working.specs.Holding.{frames_of}
