@@ -1,16 +1,6 @@
 mod Found
-mod Known
-mod Inputs
-mod Unread
-mod Stepping
-mod Worded
-mod Steps
 mod First
-mod Ending
-mod Onwards
 mod Counting
-mod Good
-mod Reaching
 mod Bursts
 mod Resting
 mod Turning

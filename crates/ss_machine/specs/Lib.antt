@@ -1,5 +1,5 @@
-pub mod Sent
-pub mod Runs
-pub mod Unread
-pub mod Measure
+pub use Rattle.ss_steps.specs.Runs
+pub use Rattle.ss_steps.specs.Measure
+pub use Rattle.ss_steps.specs.Start
+pub mod Left
 pub mod Held

@@ -3,13 +3,8 @@
 
 mod beginning;
 mod machine;
-mod one_step;
-mod printing;
-mod reading;
 mod running;
-mod step;
-mod stop;
 
 pub use machine::Machine;
 pub use ss_input::{Missed, Source};
-pub use stop::Stop;
+pub use ss_steps::stop::Stop;

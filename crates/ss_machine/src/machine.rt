@@ -4,19 +4,20 @@ ghost use Rattle.std.specs.Prelude.{◌≡◌, ◌+◌, ◌-◌, ◌*◌, ◌^�
 ghost use Rattle.ss_base.specs.Failures.{HasRisen, HasRisenBy};
 ghost use Rattle.ss_input.specs.Blocks.{KnowsEnd};
 ghost use Rattle.ss_input.specs.Inputs.{source_block, source_missed, source_reader};
-ghost use Rattle.ss_machine.specs.Held.{IsFirst, Continues, answer_again, kept_after};
-ghost use Rattle.ss_machine.specs.Runs.{Ran};
+ghost use Rattle.ss_steps.specs.Start.{Continues};
+ghost use Rattle.ss_machine.specs.Held.{IsFirst, answer_again, kept_after};
+ghost use Rattle.ss_steps.specs.Runs.{Ran};
 
 use crate::beginning::{beside, first_parts};
 use crate::running::{Counts, run};
-use crate::stop::Stop;
 use ss_base::{FaultyRead, FaultyWrite};
 use ss_code::code::Code;
 use ss_fused::fused::Fused;
 use ss_input::Source;
 use ss_machine_code::laws::laws;
 use ss_picture::Sink;
-use ss_typed::laws::laws as typed_laws;
+use ss_steps::laws::run_laws;
+use ss_steps::stop::Stop;
 use ss_working::working::Working;
 use std::alloc::{AllocError, Global};
 use std::marker::Model;
@@ -132,8 +133,7 @@ impl Machine {
         if let Some(stop) = self.stopped {
             return again(stop);
         }
-        laws();
-        typed_laws();
+        run_laws::<R>();
         let _sound = self.code.len();
         let last = self.counts.used.saturating_add(ticks);
         let halt = run(

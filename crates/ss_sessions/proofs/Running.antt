@@ -12,9 +12,10 @@ use Rattle.ss_machine_code.specs.Running.{Underway, steps}
 use Rattle.ss_machine_code.specs.Laws.{StepsGoOn}
 use Rattle.ss_working.specs.declared.working.Working.{Working}
 use Rattle.ss_working.specs.Holding.{state_of}
-use Rattle.ss_machine.specs.declared.stop.Stop.{Stop}
-use Rattle.ss_machine.specs.declared.stop.Stop.TheVariants.{Ended, Fault, Paused, Memory, Output, Input, Failed}
-use Rattle.ss_machine.specs.Held.{IsAtStart, kept_after}
+use Rattle.ss_steps.specs.declared.stop.Stop.{Stop}
+use Rattle.ss_steps.specs.declared.stop.Stop.TheVariants.{Ended, Fault, Paused, Memory, Output, Input, Failed}
+use Rattle.ss_machine.specs.Held.{kept_after}
+use Rattle.ss_machine.specs.Start.{IsAtStart}
 use Rattle.ss_machine.specs.Runs.{Comes, Ran}
 use Rattle.ss_sessions.specs.declared.session.Session.{Session}
 use Rattle.ss_sessions.specs.Sessions.{Begins, CameTo, GoesOn, HasRun, session_machine, session_reader, session_source, session_writer, stands_so}

@@ -1,7 +1,7 @@
 use Rattle.std.proofs.Common.{◌-◌, sym, ap, subst, inr, arith}
-use Rattle.ss_machine.specs.Held.{Held, Continues}
-use Rattle.ss_machine.specs.Runs.{Ran}
-use Rattle.ss_machine.proofs.Reaching.{continues_read, read_on, never_failed}
+use Rattle.ss_steps.specs.Start.{Continues}
+use Rattle.ss_machine.specs.Held.{Held}
+use Rattle.ss_steps.specs.Runs.{Ran}
 use Rattle.ss_machine.proofs.machine.Machine.run.Goals as goal
 
 pub returns-clause-continues : goal.returns-clause-continues
@@ -15,7 +15,7 @@ returns-clause-continues g c = λ none h q.
     let made = c.run-halt.result.counts.steps - m.counts.steps in
     let ran = subst (λ s. Ran rem s m.code m.working new.working c.args.source.now new.source before after taken made) q c.run-halt.ensures.ran in
     let goes : Continues m.code m.working c.args.source.now = subst (λ (v : Held). Continues v.code v.working c.args.source.now) (sym c.self.view_is) h in
-    inr (read_on m.code rem c.laws.ensures.steps_go_on m.working new.working c.args.source.now new.source before after taken made (continues_read m.code m.working c.args.source.now goes) ran.0)
+    inr (c.run_laws.ensures.comes_with_source m.code m.working new.working c.args.source.now new.source before after taken made goes ran.0)
 
 pub returns-clause-never_failed : goal.returns-clause-never_failed
 returns-clause-never_failed g c = λ none h q.
@@ -28,8 +28,8 @@ returns-clause-never_failed g c = λ none h q.
     let made = c.run-halt.result.counts.steps - m.counts.steps in
     let ran = subst (λ s. Ran rem s m.code m.working new.working c.args.source.now new.source before after taken made) q c.run-halt.ensures.ran in
     let goes : Continues m.code m.working c.args.source.now = subst (λ (v : Held). Continues v.code v.working c.args.source.now) (sym c.self.view_is) h in
-    never_failed m.code rem c.laws.ensures.steps_go_on m.working new.working c.args.source.now new.source before after taken made (continues_read m.code m.working c.args.source.now goes)
-    c.laws.ensures.never_stuck c.laws.ensures.code_behaves c.laws-2.ensures.never_wrong c.len-sound.ensures.made c.len-sound.ensures.small ran
+    c.run_laws.ensures.never_fails m.code m.working new.working c.args.source.now new.source before after taken made goes
+    c.len-sound.ensures.made c.len-sound.ensures.small ran
 
 pub returns-clause-used : goal.returns-clause-used
 returns-clause-used g c =

@@ -1,0 +1,13 @@
+mod Found
+mod Known
+mod Inputs
+mod Unread
+mod Stepping
+mod Worded
+mod Steps
+mod Ending
+mod Onwards
+mod Counting
+mod Good
+mod Reaching
+mod Starting
