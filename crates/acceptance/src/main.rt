@@ -8,26 +8,13 @@
 
 mod engine;
 mod refusals;
-mod session;
 
 use engine::Engine;
-use ss_cases::{Score, try_files};
-use std::io;
-use std::io::BufWriter;
+use ss_cases::try_files;
 use std::process::ExitCode;
-use std::rt::{Env, Files};
-
-// Tries the cases, and prints what is to be told through a buffer.
-fn run(rt: &(impl Env + Files + Print + AllocGlobal)) -> io::Result<Score> {
-    try_files(
-        rt,
-        &Engine,
-        &mut BufWriter::new(rt.alloc(), io::writer(rt))?,
-    )
-}
 
 fn main(rt: HostRuntime) -> ExitCode {
-    match run(&rt) {
+    match try_files(&rt, &Engine) {
         Ok(score) if score.has_failures() => ExitCode::from(1),
         Ok(_) => ExitCode::from(0),
         Err(error) => {

@@ -3,11 +3,12 @@
 use crate::book::{Book, Mistake};
 use crate::cases::Case;
 use crate::score::Score;
+use crate::simulator::Simulator;
 use crate::told::{tell_mistake, tell_score, tell_verdict};
-use crate::trial::{Simulator, tried};
+use crate::trial::tried;
 use crate::wrong::Wrong;
 use std::alloc::Global;
-use std::io::Write;
+use std::io::{BufWriter, Write};
 use std::rt::{Env, Files};
 use std::{env, fs, io};
 
@@ -33,12 +34,31 @@ fn try_book<'a, S: Simulator, W: Write>(
     book: &mut Book<'a>,
 ) -> io::Result<Score> {
     book.read(text)?;
+    let mistakes = tell_mistakes(out, file, &book.mistakes)?;
+    let cases = try_cases(alloc, simulator, out, file, &book.cases)?;
+    Ok(mistakes.and(cases))
+}
+
+// Tells of the mistakes in a file.
+fn tell_mistakes<W: Write>(out: &mut W, file: &str, mistakes: &[Mistake]) -> io::Result<Score> {
     let mut score = Score::NONE;
-    for mistake in &book.mistakes {
+    for mistake in mistakes {
         tell_mistake(out, file, *mistake)?;
         score = score.with_mistake();
     }
-    for case in &book.cases {
+    Ok(score)
+}
+
+// Tries the cases of a file that was read.
+fn try_cases<S: Simulator, W: Write>(
+    alloc: Global,
+    simulator: &S,
+    out: &mut W,
+    file: &str,
+    cases: &[Case<'_>],
+) -> io::Result<Score> {
+    let mut score = Score::NONE;
+    for case in cases {
         score = score.with_case(try_case(alloc, simulator, out, file, case)?);
     }
     Ok(score)
@@ -78,18 +98,50 @@ fn try_file<S: Simulator, R: Files + AllocGlobal, W: Write>(
     try_text(rt.alloc(), simulator, out, file, &text)
 }
 
-/// Tries the cases of the files that the words of the command line name, and tells of what failed and
-/// of the score.
-pub fn try_files<S: Simulator, R: Env + Files + AllocGlobal, W: Write>(
+// Tries the cases of the file of this name.
+fn try_named<S: Simulator, R: Files + AllocGlobal, W: Write>(
+    rt: &R,
+    simulator: &S,
+    out: &mut W,
+    file: String,
+) -> io::Result<Score> {
+    try_file(rt, simulator, out, &file)
+}
+
+// Tries the cases of the files that the words of the command line name.
+fn try_all<S: Simulator, R: Env + Files + AllocGlobal, W: Write>(
     rt: &R,
     simulator: &S,
     out: &mut W,
 ) -> io::Result<Score> {
     let mut score = Score::NONE;
     for file in env::args(rt)?.skip(1) {
-        score = score.and(try_file(rt, simulator, out, &file)?);
+        score = score.and(try_named(rt, simulator, out, file)?);
     }
+    Ok(score)
+}
+
+// Tries the cases, and tells of the score.
+fn try_and_tell<S: Simulator, R: Env + Files + AllocGlobal, W: Write>(
+    rt: &R,
+    simulator: &S,
+    out: &mut W,
+) -> io::Result<Score> {
+    let score = try_all(rt, simulator, out)?;
     tell_score(out, score)?;
     out.flush()?;
     Ok(score)
+}
+
+/// Tries the cases of the files that the words of the command line name, and prints through a buffer
+/// what failed and the score.
+pub fn try_files<S: Simulator, R: Env + Files + Print + AllocGlobal>(
+    rt: &R,
+    simulator: &S,
+) -> io::Result<Score> {
+    try_and_tell(
+        rt,
+        simulator,
+        &mut BufWriter::new(rt.alloc(), io::writer(rt))?,
+    )
 }

@@ -1,56 +1,14 @@
 //! Cases tried.
 
 use crate::cases::{Case, Judge};
+use crate::compared::{compare_streams, compare_used};
+use crate::judged::{compare_outcome, cut_short, judge_rules, judge_tree};
+use crate::session::run_session;
+use crate::simulator::Simulator;
 use crate::streams::Streams;
 use ss_base::Plan;
 use std::alloc::{AllocError, Global};
-
-/// The simulator, as far as cases ask for it. Each call notes in `found` what comes that is not wanted.
-pub trait Simulator {
-    /// Judges the model of a case by the lexer and the parser.
-    fn judge_tree(
-        &self,
-        alloc: Global,
-        case: &Case<'_>,
-        found: &mut String,
-    ) -> Result<(), AllocError>;
-
-    /// Judges the model of a case by the lexer, the parser, the tables and the rules.
-    fn judge_rules(
-        &self,
-        alloc: Global,
-        case: &Case<'_>,
-        found: &mut String,
-    ) -> Result<(), AllocError>;
-
-    /// Judges so each proper beginning of a model, up to the first that isn't refused by one of these
-    /// numbers.
-    fn cut_short(
-        &self,
-        alloc: Global,
-        model: &[u8],
-        refusals: &[u64],
-        found: &mut String,
-    ) -> Result<(), AllocError>;
-
-    /// Runs the model of a case with all its ticks.
-    fn run_whole(
-        &self,
-        alloc: Global,
-        case: &Case<'_>,
-        streams: Streams,
-        found: &mut String,
-    ) -> Result<(), AllocError>;
-
-    /// Runs the model of a case as a session, call by call.
-    fn run_session(
-        &self,
-        alloc: Global,
-        case: &Case<'_>,
-        streams: Streams,
-        found: &mut String,
-    ) -> Result<(), AllocError>;
-}
+use std::fmt;
 
 /// How a case fared.
 #[derive(Drop)]
@@ -58,7 +16,17 @@ pub struct Verdict {
     /// What came that is not wanted, in words; empty where all is as wanted.
     pub found: String,
     /// The bytes a call of the reader with which the first of it came, where the case was run.
-    pub reader: Option<usize>,
+    reader: Option<usize>,
+}
+
+impl fmt::Display for Verdict {
+    fn fmt<W: fmt::Write>(&self, f: &mut fmt::Formatter<W>) -> fmt::Result {
+        let found = &self.found;
+        match self.reader {
+            Some(per_call) => write!(f, "reader {per_call}: {found}"),
+            None => f.write_str(found),
+        }
+    }
 }
 
 /// Tries a case. With readers in turn, up to the first with which something came that is not wanted.
@@ -82,29 +50,38 @@ fn try_into<S: Simulator>(
     case: &Case<'_>,
     verdict: &mut Verdict,
 ) -> Result<(), AllocError> {
-    let found = &mut verdict.found;
-    match case.judge() {
-        Judge::Tree => simulator.judge_tree(alloc, case, found)?,
-        Judge::Rules => simulator.judge_rules(alloc, case, found)?,
-        Judge::Run => verdict.reader = run_with_readers(alloc, simulator, case, found)?,
-    }
+    judge(alloc, simulator, case, verdict)?;
     match &case.cut_short {
-        Some(refusals) => simulator.cut_short(alloc, &case.model, refusals, &mut verdict.found),
+        Some(refusals) => { cut_short(alloc, simulator, &case.model, refusals, &mut verdict.found) }
         None => Ok(()),
     }
 }
 
-// Runs a case with each of its readers up to the first with which something differs, and answers that
+// Judges a case by what is to judge it.
+fn judge<S: Simulator>(
+    alloc: Global,
+    simulator: &S,
+    case: &Case<'_>,
+    verdict: &mut Verdict,
+) -> Result<(), AllocError> {
+    match case.judge() {
+        Judge::Tree => judge_tree(alloc, simulator, case, &mut verdict.found),
+        Judge::Rules => judge_rules(alloc, simulator, case, &mut verdict.found),
+        Judge::Run => run_with_readers(alloc, simulator, case, verdict),
+    }
+}
+
+// Runs a case with each of its readers up to the first with which something differs, and notes that
 // reader's bytes a call.
 fn run_with_readers<S: Simulator>(
     alloc: Global,
     simulator: &S,
     case: &Case<'_>,
-    found: &mut String,
-) -> Result<Option<usize>, AllocError> {
+    verdict: &mut Verdict,
+) -> Result<(), AllocError> {
     match case.reader {
-        Some(reader) => run_with_plans(alloc, simulator, case, &[reader.plan], found),
-        None => run_with_plans(alloc, simulator, case, &usual_readers(), found),
+        Some(reader) => run_with_plans(alloc, simulator, case, &[reader.plan], verdict),
+        None => run_with_plans(alloc, simulator, case, &usual_readers(), verdict),
     }
 }
 
@@ -119,15 +96,16 @@ fn run_with_plans<S: Simulator>(
     simulator: &S,
     case: &Case<'_>,
     plans: &[Plan],
-    found: &mut String,
-) -> Result<Option<usize>, AllocError> {
+    verdict: &mut Verdict,
+) -> Result<(), AllocError> {
     for plan in plans {
-        run_with(alloc, simulator, case, *plan, found)?;
-        if !found.is_empty() {
-            return Ok(Some(plan.per_call));
+        run_with(alloc, simulator, case, *plan, &mut verdict.found)?;
+        if !verdict.found.is_empty() {
+            verdict.reader = Some(plan.per_call);
+            break;
         }
     }
-    Ok(None)
+    Ok(())
 }
 
 // Runs a case with a reader of this plan.
@@ -140,8 +118,34 @@ fn run_with<S: Simulator>(
 ) -> Result<(), AllocError> {
     let streams = Streams::new(alloc, case, plan)?;
     if case.calls.is_empty() {
-        simulator.run_whole(alloc, case, streams, found)
+        run_whole(alloc, simulator, case, streams, found)
     } else {
-        simulator.run_session(alloc, case, streams, found)
+        run_session(alloc, simulator, case, streams, found)
     }
+}
+
+// Runs a case with all its ticks.
+fn run_whole<S: Simulator>(
+    alloc: Global,
+    simulator: &S,
+    case: &Case<'_>,
+    streams: Streams,
+    found: &mut String,
+) -> Result<(), AllocError> {
+    let (outcome, streams) = simulator.run(alloc, &case.model, streams, case.pieces());
+    compare_run(alloc, simulator, case, outcome, &streams, found)
+}
+
+// Notes what a run came to that is not wanted.
+fn compare_run<S: Simulator>(
+    alloc: Global,
+    simulator: &S,
+    case: &Case<'_>,
+    outcome: S::Outcome,
+    streams: &Streams,
+    found: &mut String,
+) -> Result<(), AllocError> {
+    compare_outcome(alloc, simulator, case, outcome, found)?;
+    compare_used(case.used, simulator.ticks_used(outcome), found)?;
+    compare_streams(case, streams, found)
 }
