@@ -3,7 +3,7 @@
 use crate::words::{first_word, number};
 use crate::wrong::Wrong;
 use ss_tree::program::Program;
-use std::alloc::{AllocError, Global};
+use std::fmt;
 
 /// How many statements stand in the preamble of a tree, how many sections it has, and how many
 /// statements stand right in these.
@@ -15,8 +15,8 @@ pub struct Counts {
 }
 
 impl Counts {
-    /// The counts of a tree.
-    pub fn of(program: &Program) -> Counts {
+    // The counts of a tree.
+    fn of(program: &Program) -> Counts {
         let mut statements: usize = 0;
         for section in &program.sections {
             statements = statements.saturating_add(section.body.len());
@@ -34,16 +34,22 @@ impl Counts {
             && self.sections == other.sections
             && self.statements == other.statements
     }
+}
 
-    /// The words that tell of them, as an ending is written.
-    pub fn told(self, alloc: Global) -> Result<String, AllocError> {
+impl fmt::Display for Counts {
+    fn fmt<W: fmt::Write>(&self, f: &mut fmt::Formatter<W>) -> fmt::Result {
         let Counts {
             preamble,
             sections,
             statements,
-        } = self;
-        format!(in alloc; "tree {preamble} {sections} {statements}")
+        } = *self;
+        write!(f, "tree {preamble} {sections} {statements}")
     }
+}
+
+/// The counts of a tree that is of no further use.
+pub fn counted(program: Program) -> Counts {
+    Counts::of(&program)
 }
 
 /// How a case is to end.
@@ -67,14 +73,15 @@ impl<'a> Ending<'a> {
             None => other_ending(words),
         }
     }
+}
 
-    /// The words that tell of it.
-    pub fn told(self, alloc: Global) -> Result<String, AllocError> {
+impl fmt::Display for Ending<'_> {
+    fn fmt<W: fmt::Write>(&self, f: &mut fmt::Formatter<W>) -> fmt::Result {
         match self {
-            Ending::Line(line) => String::from_str(alloc, line),
-            Ending::AnyTree => String::from_str(alloc, "tree"),
-            Ending::Tree(counts) => counts.told(alloc),
-            Ending::Kept => String::from_str(alloc, "kept"),
+            Ending::Line(line) => f.write_str(line),
+            Ending::AnyTree => f.write_str("tree"),
+            Ending::Tree(counts) => counts.fmt(f),
+            Ending::Kept => f.write_str("kept"),
         }
     }
 }

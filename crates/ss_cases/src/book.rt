@@ -93,18 +93,10 @@ impl<'a> Book<'a> {
     // Adds content to what it belongs to.
     fn add(&mut self, content: Content<'_>) -> Result<(), Wrong> {
         let alloc = self.alloc;
-        match self.content() {
-            Some(bytes) => content.add_to(alloc, bytes),
-            None => Err(Wrong::Content),
-        }
-    }
-
-    // Where content is put.
-    fn content(&mut self) -> Option<&mut Vec<u8>> {
         match self.place {
-            Place::Nowhere => None,
-            Place::Text => Some(&mut self.texts.last_mut()?.bytes),
-            Place::Case(part) => Some(self.cases.last_mut()?.content(part)),
+            Place::Nowhere => Err(Wrong::Content),
+            Place::Text => add_to_text(alloc, content, self.texts.last_mut()),
+            Place::Case(part) => add_to_case(alloc, content, self.cases.last_mut(), part),
         }
     }
 
@@ -213,6 +205,31 @@ impl<'a> Book<'a> {
     }
 }
 
+// Adds content to a text, if there is one.
+fn add_to_text(
+    alloc: Global,
+    content: Content<'_>,
+    text: Option<&mut Text<'_>>,
+) -> Result<(), Wrong> {
+    match text {
+        Some(text) => content.add_to(alloc, &mut text.bytes),
+        None => Err(Wrong::Content),
+    }
+}
+
+// Adds content to a part of a case, if there is one.
+fn add_to_case(
+    alloc: Global,
+    content: Content<'_>,
+    case: Option<&mut Case<'_>>,
+    part: Part,
+) -> Result<(), Wrong> {
+    match case {
+        Some(case) => content.add_to(alloc, case.content(part)),
+        None => Err(Wrong::Content),
+    }
+}
+
 // Whether a line is for the reader alone.
 fn is_remark(line: &str) -> bool {
     matches!(line.as_bytes(), [] | [b'#', ..])
@@ -246,7 +263,13 @@ fn begin_as_last(case: &mut Case<'_>, earlier: &[Case<'_>]) -> Result<(), Wrong>
 
 // What is wrong with words that say something of no case.
 fn said_of_none(alloc: Global, topic: Topic, words: &str) -> Result<(), Wrong> {
-    Case::new(alloc, "", 0).take_down(topic, words)?;
+    let mut case = Case::new(alloc, "", 0);
+    take_down_of_none(&mut case, topic, words)
+}
+
+// What is wrong with words that are said of this case, which is none.
+fn take_down_of_none<'a>(case: &mut Case<'a>, topic: Topic, words: &'a str) -> Result<(), Wrong> {
+    case.take_down(topic, words)?;
     Err(Wrong::NoCase)
 }
 

@@ -1,5 +1,7 @@
 //! What came of a case and is not wanted, in words.
 
+use crate::came::Came;
+use crate::ending::Ending;
 use std::alloc::AllocError;
 use std::fmt;
 
@@ -12,7 +14,11 @@ fn part(found: &mut String) -> Result<(), AllocError> {
 }
 
 /// Notes an ending that is not wanted.
-pub fn add_ending(found: &mut String, wanted: &str, came: &str) -> Result<(), AllocError> {
+pub fn add_ending(
+    found: &mut String,
+    wanted: Ending<'_>,
+    came: Came<'_>,
+) -> Result<(), AllocError> {
     part(found)?;
     write!(found, "wanted {wanted}, came {came}")
 }
@@ -56,7 +62,7 @@ pub fn add_line(
 }
 
 /// Notes what came of the beginning of the model with so many bytes.
-pub fn add_cut_short(found: &mut String, length: usize, came: &str) -> Result<(), AllocError> {
+pub fn add_cut_short(found: &mut String, length: usize, came: Came<'_>) -> Result<(), AllocError> {
     part(found)?;
     write!(found, "cut short to {length} bytes: came {came}")
 }

@@ -20,11 +20,7 @@ pub fn tell_verdict<W: Write>(
     name: &str,
     verdict: &Verdict,
 ) -> io::Result<()> {
-    let found = &verdict.found;
-    match verdict.reader {
-        Some(per_call) => writeln!(out, "{file} {name}: reader {per_call}: {found}"),
-        None => writeln!(out, "{file} {name}: {found}"),
-    }
+    writeln!(out, "{file} {name}: {verdict}")
 }
 
 /// Tells how many cases were tried, and how much failed.

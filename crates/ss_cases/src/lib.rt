@@ -1,0 +1,27 @@
+//! Cases of whole texts: files of them read, and each tried by a simulator.
+#![tactic(auto)]
+
+mod book;
+mod came;
+mod cases;
+mod compared;
+mod content;
+mod directive;
+mod ending;
+mod files;
+mod found;
+mod judged;
+mod score;
+mod session;
+mod simulator;
+mod streams;
+mod told;
+mod trial;
+mod words;
+mod wrong;
+
+pub use ending::{Counts, counted};
+pub use files::try_files;
+pub use score::Score;
+pub use simulator::Simulator;
+pub use streams::Streams;

@@ -1,0 +1,36 @@
+//! The streams of a case.
+
+use crate::cases::Case;
+use crate::words::StreamPlan;
+use ss_base::{MemoryRead, MemoryWrite, Plan};
+use std::alloc::{AllocError, Global};
+
+/// The bytes that a writer has room for beyond the report that is wanted.
+const MORE_ROOM: usize = 65_536;
+
+/// A reader of a case's input, and a writer of its report.
+#[derive(Drop)]
+pub struct Streams {
+    pub reader: MemoryRead,
+    pub writer: MemoryWrite,
+}
+
+impl Streams {
+    /// The streams of a case before its run.
+    pub fn new(alloc: Global, case: &Case<'_>, plan: Plan) -> Result<Streams, AllocError> {
+        let reader = MemoryRead::new(alloc, &case.input, plan)?;
+        Streams::of_reader(alloc, case, reader)
+    }
+
+    // The streams of a case with this reader.
+    fn of_reader(
+        alloc: Global,
+        case: &Case<'_>,
+        reader: MemoryRead,
+    ) -> Result<Streams, AllocError> {
+        let StreamPlan { plan, trouble } = case.writer();
+        let room = case.report.len().saturating_add(MORE_ROOM);
+        let writer = MemoryWrite::new(alloc, room, plan, trouble)?;
+        Ok(Streams { reader, writer })
+    }
+}
