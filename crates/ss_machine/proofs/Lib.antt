@@ -4,3 +4,4 @@ mod Counting
 mod Bursts
 mod Resting
 mod Turning
+mod Telling

@@ -4,6 +4,7 @@
 mod beginning;
 mod machine;
 mod running;
+mod step;
 
 pub use machine::Machine;
 pub use ss_input::{Missed, Source};
