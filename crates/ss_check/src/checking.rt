@@ -17,6 +17,7 @@ use crate::error::{CheckError, error_of};
 use ss_globals::ProgramGlobals;
 use ss_links::laws::kept_programs_resolve;
 use ss_program::checked::Checked;
+use ss_release::release_tree;
 use ss_sizes::laws::laws as laws_of_nodes;
 use ss_tables::Tables;
 use ss_tree::program::Program;
@@ -54,6 +55,18 @@ fn judged(alloc: Global, program: &Program, globals: &ProgramGlobals) -> Result<
     }
 }
 
+// The same, of the tables that `check` is given, which are the program's.
+fn checked(alloc: Global, program: &Program, tables: Tables) -> Result<Checked, CheckError>
+    requires tables { AreTablesOf (view_program program.now) tables }
+    requires formed { FormedProgram (view_program program.now) }
+    ensures checked { IfOk result (λ c. Becomes (view_program program.now) (program_in c)) }
+    ensures nodes { IfOk result (λ c. nodes (program_seen (program_in c)) ≤ tree_nodes (view_program program.now)) }
+    ensures refused { IfErr result (λ e. Tells e (refusal_of (view_program program.now))) }
+{
+    let globals = ProgramGlobals::of(alloc, program, tables.into_names())?;
+    judged(alloc, program, &globals)
+}
+
 /// The program with each name replaced by what it stands for, where it breaks no rule on what it does with
 /// its names and values, the refusals 71 to 79. The tables are those of the program, and each FIND of it stands behind
 /// a FOR, as the grammar has it.
@@ -70,6 +83,7 @@ pub fn check(alloc: Global, program: Program, tables: Tables) -> Result<Checked,
     ensures nodes { IfOk result (λ c. nodes (program_seen (program_in c)) ≤ tree_nodes (view_program program)) }
     ensures refused { IfErr result (λ e. Tells e (refusal_of (view_program program))) }
 {
-    let globals = ProgramGlobals::of(alloc, &program, tables.into_names())?;
-    judged(alloc, &program, &globals)
+    let result = checked(alloc, &program, tables);
+    release_tree(program);
+    result
 }

@@ -12,6 +12,7 @@ use ss_code::model::Model;
 use ss_formed::laws::spelled_trees_are_formed;
 use ss_lex::{LexError, tokens};
 use ss_parse::{ParseError, parse};
+use ss_release::{release_checked, release_tree};
 use ss_tables::{TableError, Tables};
 use std::alloc::Global;
 
@@ -112,14 +113,23 @@ pub fn compile(alloc: Global, text: &[u8]) -> Result<Model, Refusal>
     };
     let tables = match Tables::of(alloc, &program) {
         Ok(tables) => tables,
-        Err(error) => return Err(declared(error)),
+        Err(error) => {
+            release_tree(program);
+            return Err(declared(error));
+        }
     };
     let resolved = match check(alloc, program, tables) {
         Ok(resolved) => resolved,
         Err(error) => return Err(checked(error)),
     };
     match generate(alloc, &resolved) {
-        Ok(code) => Ok(Model::new(code)),
-        Err(error) => Err(generated(error)),
+        Ok(code) => {
+            release_checked(resolved);
+            Ok(Model::new(code))
+        }
+        Err(error) => {
+            release_checked(resolved);
+            Err(generated(error))
+        }
     }
 }
