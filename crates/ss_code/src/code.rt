@@ -85,6 +85,11 @@ impl Code {
         }
     }
 
+    /// Gives its memory back. To drop it in line does the same, and has the drops of its parts proved there once more.
+    pub fn release(self) {
+        let _released = self;
+    }
+
     /// How many instructions there are. They are those of a program.
     pub fn len(&self) -> usize
         ensures value { result ≡ length self.now.instructions }

@@ -35,6 +35,11 @@ impl Model {
         self.code
     }
 
+    /// Gives its memory back, as [`Code::release`] does.
+    pub fn release(self) {
+        self.code.release();
+    }
+
     /// A line for each instruction of its code: its number from 0, a blank, what it is called, and what it works on. The
     /// error comes where memory was refused.
     pub fn listing(&self, alloc: Global) -> Result<Vec<u8>, AllocError>

@@ -130,7 +130,10 @@ fn report<R: Read + Drop, W: Write + Drop>(
 // Compiles a text, and prints that it is accepted.
 fn check<O: Write + Drop>(alloc: Global, text: &[u8], output: O) -> Result<Outcome, Trouble> {
     match compile(alloc, text) {
-        Ok(_model) => print(output, b"accepted\n"),
+        Ok(model) => {
+            model.release();
+            print(output, b"accepted\n")
+        }
         Err(refusal) => Ok(Outcome::Refused(refusal)),
     }
 }
@@ -138,7 +141,11 @@ fn check<O: Write + Drop>(alloc: Global, text: &[u8], output: O) -> Result<Outco
 // Compiles a text, and prints its code.
 fn list<O: Write + Drop>(alloc: Global, text: &[u8], output: O) -> Result<Outcome, Trouble> {
     match compile(alloc, text) {
-        Ok(model) => print_listing(model.listing(alloc), output),
+        Ok(model) => {
+            let listing = model.listing(alloc);
+            model.release();
+            print_listing(listing, output)
+        }
         Err(refusal) => Ok(Outcome::Refused(refusal)),
     }
 }

@@ -16,6 +16,7 @@ use ss_fused::fused::Fused;
 use ss_input::Source;
 use ss_machine_code::laws::laws;
 use ss_picture::Sink;
+use ss_steps::first::release_working;
 use ss_steps::laws::run_laws;
 use ss_steps::stop::Stop;
 use ss_working::working::Working;
@@ -149,6 +150,19 @@ impl Machine {
         self.counts = halt.counts;
         self.stopped = kept(halt.stop);
         halt.stop
+    }
+
+    /// Gives its memory back. To drop it in line does the same, and has the drops of its parts proved there once more.
+    pub fn release(self) {
+        let Machine {
+            code,
+            fused,
+            working,
+            ..
+        } = self;
+        code.release();
+        fused.release();
+        release_working(working);
     }
 
     /// Why the last run stopped; None where a further run goes on.

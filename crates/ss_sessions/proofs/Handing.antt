@@ -1,7 +1,7 @@
 -- Ticks that are handed out piece by piece.
 use Rattle.std.proofs.Common.{◌≡◌, ℕ, suc, ◌+◌, ◌-◌, ◌^◌, ◌≤◌, ◌<◌, List, [], ◌∷◌, ◌++◌, length, take, min, get_or, refl, sym, ap, subst, ◌∙◌, arith}
 use Rattle.std.specs.List.{sum}
-use Rattle.std.proofs.lemmas.List.Sums.{sum_by_more, sum_by-append}
+use Rattle.std.proofs.lemmas.List.Sums.{sum_by_more, sum_by-append, sum_by-take-le}
 use Rattle.ss_sessions.specs.Headline.{handed_out}
 
 pub next_sum : (pieces : List ℕ) (i : ℕ) → i < length pieces → sum (take (i + 1) pieces) ≡ sum (take i pieces) + get_or pieces i 0
@@ -22,6 +22,13 @@ next_piece pieces rest first i e lt =
 pub no_sum : (pieces : List ℕ) → length pieces ≡ 0 → sum pieces ≡ 0
 no_sum [] e = refl
 no_sum (p ∷ ps) e = absurd cc
+
+-- pieces that were run are some of all
+at_most : (a b c : ℕ) → a ≤ b → b ≤ c → a ≤ c
+at_most a b c h g = omega (arith, h, g)
+
+pub some_used : (pieces : List ℕ) (i used : ℕ) → used ≤ sum (take i pieces) → used ≤ sum pieces
+some_used pieces i used h = at_most used (sum (take i pieces)) (sum pieces) h (sum_by-take-le (λ x. x) pieces i)
 
 pub more_used : (s n u v t : ℕ) → n ≡ s + t → u ≤ s → v ≤ u + t → v ≤ n
 more_used s n u v t e h g = omega (arith, e, h, g)

@@ -95,7 +95,7 @@ impl<R: FaultyRead, W: FaultyWrite> Session<R, W> {
             source,
             sink,
         } = self;
-        drop(machine);
+        machine.release();
         (source.into_inner(), sink.into_inner())
     }
 }

@@ -55,3 +55,9 @@ pub fn first_working(alloc: Global, code: &Code) -> Result<Working, AllocError>
         given: Vec::new(alloc),
     })
 }
+
+/// Gives the memory of what a machine works on back. To drop it in line does the same, and has the drops of its parts proved
+/// there once more.
+pub fn release_working(working: Working) {
+    let _released = working;
+}

@@ -2,7 +2,7 @@ use Rattle.std.proofs.Common.{rules, arith, ◌≡◌, ◌+◌, ◌++◌, [], sy
 use Rattle.std.specs.List.{sum}
 use Rattle.ss_steps.specs.declared.stop.Stop.TheVariants.{Paused}
 use Rattle.ss_sessions.specs.Sessions.{session_machine, stands_so}
-use Rattle.ss_sessions.proofs.Handing.{next_piece, more_used, all_used, no_sum}
+use Rattle.ss_sessions.proofs.Handing.{next_piece, some_used, more_used, all_used, no_sum}
 use Rattle.ss_sessions.proofs.Running.{kept_stands, last_some}
 use Rattle.ss_sessions.proofs.run.run_pieces.Goals as goal
 
@@ -66,6 +66,9 @@ returns-then-ne-clause-stopped g c = c.loop-ticks.invariant.stopped
 
 pub returns-then-ne-clause-never_failed : goal.returns-then-ne-clause-never_failed
 returns-then-ne-clause-never_failed g c = c.loop-ticks.invariant.right
+
+pub returns-then-ne-clause-used : goal.returns-then-ne-clause-used
+returns-then-ne-clause-used g c = some_used c.args.pieces.now (c.loop-ticks.ticks-index + 1) _ c.loop-ticks.invariant.used
 
 -- no piece is left
 pub returns-after-loop-ticks-clause-was_run : goal.returns-after-loop-ticks-clause-was_run
