@@ -13,11 +13,11 @@ use Rattle.ss_scopes.specs.Whole.{Whole}
 use Rattle.ss_uses.specs.Events.{is_start}
 use Rattle.ss_program.specs.Program.{Statement, If, Loop, For, Find, Block, Done, Then}
 use Rattle.ss_program.specs.WellTyped.{Scope, Good, GoodBlock}
-use Rattle.ss_resolve.specs.Answers.{each}
-use Rattle.ss_resolve.specs.Contexts.{Context}
-use Rattle.ss_resolve.specs.Conditions.{condition}
-use Rattle.ss_resolve.specs.Heads.{phrase, guard, phrases_of, head}
-use Rattle.ss_resolve.specs.Statements.{find, find_by, for_over, if_over, loop, statement, statements}
+use Rattle.ss_contexts.specs.Answers.{each}
+use Rattle.ss_contexts.specs.Contexts.{Context}
+use Rattle.ss_contexts.specs.Conditions.{condition}
+use Rattle.ss_contexts.specs.Heads.{phrase, guard, phrases_of, head}
+use Rattle.ss_contexts.specs.Statements.{find, find_by, for_over, if_over, loop, statement, statements}
 use Rattle.ss_kept.specs.Forms.{BeginsWithFor, Formed, FormedRow}
 use Rattle.ss_lists.specs.Rules.{KeptMention, KeptMentions, KeptDemands}
 use Rattle.ss_kept.specs.Rules.{KeptStarts}

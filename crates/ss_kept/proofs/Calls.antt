@@ -21,10 +21,10 @@ use Rattle.ss_uses.specs.Unknown.{is_routine}
 use Rattle.ss_uses.specs.Arguments.{is_other}
 use Rattle.ss_program.specs.Program.{Statement, Call}
 use Rattle.ss_program.specs.WellTyped.{Scope, HasMode, TakesMode}
-use Rattle.ss_resolve.specs.Answers.{each, where_holds}
-use Rattle.ss_resolve.specs.Contexts.{Context}
-use Rattle.ss_resolve.specs.Expressions.{expression, target}
-use Rattle.ss_resolve.specs.Statements.{call_of, statement}
+use Rattle.ss_contexts.specs.Answers.{each, where_holds}
+use Rattle.ss_contexts.specs.Contexts.{Context}
+use Rattle.ss_contexts.specs.Expressions.{expression, target}
+use Rattle.ss_contexts.specs.Statements.{call_of, statement}
 use Rattle.ss_lists.specs.Rules.{KeptMentions, KeptDemands}
 use Rattle.ss_kept.specs.Links.{Linked}
 use Rattle.ss_kept.proofs.Steps.{known_of, same_number}

@@ -19,10 +19,10 @@ use Rattle.ss_uses.specs.Unknown.{is_transient, is_notice, is_permanent}
 use Rattle.ss_program.specs.declared.statement.Counted.{Counted}
 use Rattle.ss_program.specs.Program.{Fetch, ToVariable, Statement, Create, CreateEvery, Destroy, Cancel}
 use Rattle.ss_program.specs.WellTyped.{Scope, HasMode, TakesMode, kind_of, comes_alone}
-use Rattle.ss_resolve.specs.declared.meaning.ClassMeant.{ClassMeant}
-use Rattle.ss_resolve.specs.Answers.{◌>>=◌, each}
-use Rattle.ss_resolve.specs.Contexts.{Context, if_single, if_notice, if_permanent, single_class, notice_class, permanent_class, counted}
-use Rattle.ss_resolve.specs.Statements.{new_place, entity_called, statement}
+use Rattle.ss_contexts.specs.declared.meaning.ClassMeant.{ClassMeant}
+use Rattle.ss_contexts.specs.Answers.{◌>>=◌, each}
+use Rattle.ss_contexts.specs.Contexts.{Context, if_single, if_notice, if_permanent, single_class, notice_class, permanent_class, counted}
+use Rattle.ss_contexts.specs.Statements.{new_place, entity_called, statement}
 use Rattle.ss_lists.specs.Rules.{KeptMention, KeptMentions, KeptDemands}
 use Rattle.ss_kept.specs.Links.{Linked, IsClass, kind_said, count_of}
 use Rattle.ss_kept.proofs.Steps.{step, two_steps, known_of}

@@ -15,10 +15,10 @@ use Rattle.ss_scopes.specs.Whole.{Whole}
 use Rattle.ss_uses.specs.Modes.{aspect_mode, differ}
 use Rattle.ss_program.specs.Program.{Test, Compare, DataEnded, Empty, Member}
 use Rattle.ss_program.specs.WellTyped.{Scope, HasMode, GoodTest}
-use Rattle.ss_resolve.specs.Answers.{each}
-use Rattle.ss_resolve.specs.Contexts.{Context}
-use Rattle.ss_resolve.specs.Expressions.{expression, set_named}
-use Rattle.ss_resolve.specs.Conditions.{relation_of, one_test, conjunction}
+use Rattle.ss_contexts.specs.Answers.{each}
+use Rattle.ss_contexts.specs.Contexts.{Context}
+use Rattle.ss_contexts.specs.Expressions.{expression, set_named}
+use Rattle.ss_contexts.specs.Conditions.{relation_of, one_test, conjunction}
 use Rattle.ss_lists.specs.Rules.{KeptMention, KeptDemand, KeptMentions, KeptDemands}
 use Rattle.ss_kept.specs.Links.{Linked}
 use Rattle.ss_kept.specs.Laws.{ConditionResolves}

@@ -24,10 +24,10 @@ use Rattle.ss_program.specs.declared.expression.Operator.{Operator}
 use Rattle.ss_program.specs.declared.expression.Operator.TheVariants.{Multiply, Quotient, Remainder, Least, Greatest}
 use Rattle.ss_program.specs.Program.{Expression, Constant, Clock, TimeOf, Signed, Absolute, Calculate}
 use Rattle.ss_program.specs.WellTyped.{Scope, HasMode}
-use Rattle.ss_resolve.specs.declared.meaning.Meaning.TheVariants as meanings
-use Rattle.ss_resolve.specs.Answers.{◌>>=◌}
-use Rattle.ss_resolve.specs.Contexts.{Context}
-use Rattle.ss_resolve.specs.Expressions.{expression, subscript, one, two, factors, terms, value_of, sign_of, operator_of}
+use Rattle.ss_contexts.specs.declared.meaning.Meaning.TheVariants as meanings
+use Rattle.ss_contexts.specs.Answers.{◌>>=◌}
+use Rattle.ss_contexts.specs.Contexts.{Context}
+use Rattle.ss_contexts.specs.Expressions.{expression, subscript, one, two, factors, terms, value_of, sign_of, operator_of}
 use Rattle.ss_lists.specs.Rules.{KeptMention, KeptDemand, KeptMentions, KeptDemands}
 use Rattle.ss_kept.specs.Links.{Linked}
 use Rattle.ss_kept.specs.Laws.{Resolves}

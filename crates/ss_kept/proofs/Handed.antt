@@ -16,9 +16,9 @@ use Rattle.ss_scopes.specs.Locals.{Moded}
 use Rattle.ss_scopes.specs.Whole.{Whole}
 use Rattle.ss_uses.specs.Modes.{aspect_mode, differ}
 use Rattle.ss_program.specs.WellTyped.{Scope, HasMode, TakesMode}
-use Rattle.ss_resolve.specs.Answers.{each}
-use Rattle.ss_resolve.specs.Contexts.{Context}
-use Rattle.ss_resolve.specs.Expressions.{expression, target}
+use Rattle.ss_contexts.specs.Answers.{each}
+use Rattle.ss_contexts.specs.Contexts.{Context}
+use Rattle.ss_contexts.specs.Expressions.{expression, target}
 use Rattle.ss_lists.specs.Rules.{KeptMention, KeptDemand, KeptMentions, KeptDemands}
 use Rattle.ss_kept.specs.Links.{Linked}
 use Rattle.ss_kept.proofs.Steps.{left_of, right_of, two_steps}

@@ -28,14 +28,14 @@ use Rattle.ss_uses.specs.Modes.{mode_of, mode_in, known_mode, differ}
 use Rattle.ss_program.specs.declared.expression.Variable.{Variable}
 use Rattle.ss_program.specs.Program.{ToVariable, AtEnd, From, After, Head, Numbers, Members, Each, Phrase, Guard}
 use Rattle.ss_program.specs.WellTyped.{Scope, HasMode, TakesMode, GoodStart, GoodPhrase, GoodCondition}
-use Rattle.ss_resolve.specs.declared.meaning.Meaning.{Meaning}
-use Rattle.ss_resolve.specs.declared.meaning.Meaning.TheVariants as meanings
-use Rattle.ss_resolve.specs.declared.meaning.ClassMeant.{ClassMeant}
-use Rattle.ss_resolve.specs.Answers.{◌>>=◌, each, if_there}
-use Rattle.ss_resolve.specs.Contexts.{Context, permanent_class, if_permanent}
-use Rattle.ss_resolve.specs.Expressions.{expression, set_named}
-use Rattle.ss_resolve.specs.Conditions.{condition}
-use Rattle.ss_resolve.specs.Heads.{phrase_kind_of, guard_kind_of, phrase, guard, if_variable, loop_variable, start, called_variable, head}
+use Rattle.ss_contexts.specs.declared.meaning.Meaning.{Meaning}
+use Rattle.ss_contexts.specs.declared.meaning.Meaning.TheVariants as meanings
+use Rattle.ss_contexts.specs.declared.meaning.ClassMeant.{ClassMeant}
+use Rattle.ss_contexts.specs.Answers.{◌>>=◌, each, if_there}
+use Rattle.ss_contexts.specs.Contexts.{Context, permanent_class, if_permanent}
+use Rattle.ss_contexts.specs.Expressions.{expression, set_named}
+use Rattle.ss_contexts.specs.Conditions.{condition}
+use Rattle.ss_contexts.specs.Heads.{phrase_kind_of, guard_kind_of, phrase, guard, if_variable, loop_variable, start, called_variable, head}
 use Rattle.ss_lists.specs.Rules.{KeptMention, KeptDemand, KeptMentions, KeptDemands}
 use Rattle.ss_kept.specs.Links.{Linked, IsVariable, IsClass, Fits}
 use Rattle.ss_kept.specs.Laws.{HeadResolves}

@@ -14,9 +14,9 @@ use Rattle.ss_program.specs.declared.expression.Variable.{Variable}
 use Rattle.ss_program.specs.declared.expression.Variable.TheVariants.{Global}
 use Rattle.ss_program.specs.Program.{Expression, Fetch, Attribute, OfSystemSet, OfSet, OfMember, Figure, FigureOf}
 use Rattle.ss_program.specs.WellTyped.{Scope, HasMode, mode_at}
-use Rattle.ss_resolve.specs.declared.meaning.Meaning.{Meaning}
-use Rattle.ss_resolve.specs.declared.meaning.Meaning.TheVariants as meanings
-use Rattle.ss_resolve.specs.Expressions.{entity_of, value_of}
+use Rattle.ss_contexts.specs.declared.meaning.Meaning.{Meaning}
+use Rattle.ss_contexts.specs.declared.meaning.Meaning.TheVariants as meanings
+use Rattle.ss_contexts.specs.Expressions.{entity_of, value_of}
 use Rattle.ss_kept.specs.Links.{IsImplied, IsVariable, IsAttribute, IsCount, IsTold, IsFigure, Fits}
 use Rattle.ss_kept.proofs.Steps.{is_integer}
 

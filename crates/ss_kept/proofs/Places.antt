@@ -24,13 +24,13 @@ use Rattle.ss_uses.specs.Targets.{takes_values}
 use Rattle.ss_uses.specs.Modes.{mode_of as known_mode_of, class_mode, known_class, known_mode, differ}
 use Rattle.ss_program.specs.Program.{Expression, Place, ToVariable, ToAttribute, ToCount, SetOwner, TheSystem, Entity}
 use Rattle.ss_program.specs.WellTyped.{Scope, TakesMode, OwnerFits}
-use Rattle.ss_resolve.specs.declared.meaning.Meaning.{Meaning}
-use Rattle.ss_resolve.specs.declared.meaning.Meaning.TheVariants as meanings
-use Rattle.ss_resolve.specs.declared.meaning.SetMeant.{SetMeant}
-use Rattle.ss_resolve.specs.declared.meaning.SetMeant.TheVariants.{OfSystem, OfEntity}
-use Rattle.ss_resolve.specs.Contexts.{Context}
-use Rattle.ss_resolve.specs.Expressions.{entity_of, subscript, place_of, owned_by}
-use Rattle.ss_resolve.specs.Statements.{mode_of}
+use Rattle.ss_contexts.specs.declared.meaning.Meaning.{Meaning}
+use Rattle.ss_contexts.specs.declared.meaning.Meaning.TheVariants as meanings
+use Rattle.ss_contexts.specs.declared.meaning.SetMeant.{SetMeant}
+use Rattle.ss_contexts.specs.declared.meaning.SetMeant.TheVariants.{OfSystem, OfEntity}
+use Rattle.ss_contexts.specs.Contexts.{Context}
+use Rattle.ss_contexts.specs.Expressions.{entity_of, subscript, place_of, owned_by}
+use Rattle.ss_contexts.specs.Statements.{mode_of}
 use Rattle.ss_lists.specs.Rules.{KeptMention, KeptDemand, KeptMentions, KeptDemands}
 use Rattle.ss_kept.specs.Links.{Linked, IsVariable, IsAttribute, IsCount, IsSetOf, Fits}
 use Rattle.ss_kept.specs.Laws.{TargetResolves, SetResolves}

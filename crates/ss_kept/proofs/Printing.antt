@@ -13,10 +13,10 @@ use Rattle.ss_scopes.specs.Locals.{Moded}
 use Rattle.ss_scopes.specs.Whole.{Whole}
 use Rattle.ss_program.specs.Program.{Statement, Print, Stop, Return, Simulate}
 use Rattle.ss_program.specs.WellTyped.{Scope, HasMode}
-use Rattle.ss_resolve.specs.Answers.{◌>>=◌, each}
-use Rattle.ss_resolve.specs.Contexts.{Context}
-use Rattle.ss_resolve.specs.Expressions.{expression}
-use Rattle.ss_resolve.specs.Statements.{statement}
+use Rattle.ss_contexts.specs.Answers.{◌>>=◌, each}
+use Rattle.ss_contexts.specs.Contexts.{Context}
+use Rattle.ss_contexts.specs.Expressions.{expression}
+use Rattle.ss_contexts.specs.Statements.{statement}
 use Rattle.ss_lists.specs.Rules.{KeptMentions, KeptDemands}
 use Rattle.ss_kept.specs.Rules.{KeptStarts}
 use Rattle.ss_kept.specs.Links.{Linked}

@@ -18,12 +18,12 @@ use Rattle.ss_uses.specs.Unknown.{is_told_here}
 use Rattle.ss_program.specs.declared.expression.Variable.TheVariants.{Global}
 use Rattle.ss_program.specs.Program.{Expression, Restart, Statement, Reset}
 use Rattle.ss_program.specs.WellTyped.{Scope, GoodRestart}
-use Rattle.ss_resolve.specs.declared.meaning.Meaning.{Meaning}
-use Rattle.ss_resolve.specs.declared.meaning.Meaning.TheVariants as meanings
-use Rattle.ss_resolve.specs.Answers.{◌>>=◌, each}
-use Rattle.ss_resolve.specs.Contexts.{Context}
-use Rattle.ss_resolve.specs.Expressions.{entity_of, subscript}
-use Rattle.ss_resolve.specs.Statements.{told_of, restart, statement}
+use Rattle.ss_contexts.specs.declared.meaning.Meaning.{Meaning}
+use Rattle.ss_contexts.specs.declared.meaning.Meaning.TheVariants as meanings
+use Rattle.ss_contexts.specs.Answers.{◌>>=◌, each}
+use Rattle.ss_contexts.specs.Contexts.{Context}
+use Rattle.ss_contexts.specs.Expressions.{entity_of, subscript}
+use Rattle.ss_contexts.specs.Statements.{told_of, restart, statement}
 use Rattle.ss_lists.specs.Rules.{KeptMention, KeptDemand, KeptMentions, KeptDemands}
 use Rattle.ss_kept.specs.Links.{Linked, IsSubject}
 use Rattle.ss_kept.proofs.Steps.{left_of, right_of, step, two_steps, of_not}

@@ -18,11 +18,11 @@ use Rattle.ss_uses.specs.Unknown.{is_notice}
 use Rattle.ss_uses.specs.Arguments.{is_more}
 use Rattle.ss_program.specs.Program.{Expression, At, In, Now, Statement, ScheduleNew, Schedule}
 use Rattle.ss_program.specs.WellTyped.{Scope, HaveModes, GoodWhen, GoodGiven}
-use Rattle.ss_resolve.specs.declared.meaning.ClassMeant.{ClassMeant}
-use Rattle.ss_resolve.specs.Answers.{◌>>=◌, each}
-use Rattle.ss_resolve.specs.Contexts.{Context, notice_class}
-use Rattle.ss_resolve.specs.Expressions.{expression}
-use Rattle.ss_resolve.specs.Statements.{new_place, entity_called, when, new_notice, old_notice, statement}
+use Rattle.ss_contexts.specs.declared.meaning.ClassMeant.{ClassMeant}
+use Rattle.ss_contexts.specs.Answers.{◌>>=◌, each}
+use Rattle.ss_contexts.specs.Contexts.{Context, notice_class}
+use Rattle.ss_contexts.specs.Expressions.{expression}
+use Rattle.ss_contexts.specs.Statements.{new_place, entity_called, when, new_notice, old_notice, statement}
 use Rattle.ss_lists.specs.Rules.{KeptMentions, KeptDemands}
 use Rattle.ss_kept.specs.Links.{Linked, IsClass}
 use Rattle.ss_kept.proofs.Steps.{step, known_of}

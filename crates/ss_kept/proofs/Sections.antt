@@ -9,7 +9,7 @@ use Rattle.ss_scopes.specs.Whole.{Whole, locals_of}
 use Rattle.ss_uses.specs.Events.{is_start}
 use Rattle.ss_uses.specs.Uses.{is_main}
 use Rattle.ss_program.specs.WellTyped.{Scope}
-use Rattle.ss_resolve.specs.Contexts.{Context}
+use Rattle.ss_contexts.specs.Contexts.{Context}
 use Rattle.ss_kept.specs.Forms.{Formed}
 use Rattle.ss_lists.specs.Rules.{KeptMention, KeptDemand}
 use Rattle.ss_lists.specs.Uses.{KeptSection}

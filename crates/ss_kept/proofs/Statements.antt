@@ -13,10 +13,10 @@ use Rattle.ss_uses.specs.Modes.{aspect_mode, differ}
 use Rattle.ss_program.specs.declared.expression.Sign.TheVariants.{Plus, Minus}
 use Rattle.ss_program.specs.Program.{ByDiscipline, AsFirst, AsLast, BeforeMember, AfterMember, Statement, Let, Change, File, Remove, RemoveEnd, Skip, Read, Target}
 use Rattle.ss_program.specs.WellTyped.{Scope, HasMode, TakesMode, GoodPosition, Good}
-use Rattle.ss_resolve.specs.Answers.{◌>>=◌, each}
-use Rattle.ss_resolve.specs.Contexts.{Context}
-use Rattle.ss_resolve.specs.Expressions.{expression, target, set_named}
-use Rattle.ss_resolve.specs.Statements.{end_of, mode_of, position, reader, statement}
+use Rattle.ss_contexts.specs.Answers.{◌>>=◌, each}
+use Rattle.ss_contexts.specs.Contexts.{Context}
+use Rattle.ss_contexts.specs.Expressions.{expression, target, set_named}
+use Rattle.ss_contexts.specs.Statements.{end_of, mode_of, position, reader, statement}
 use Rattle.ss_lists.specs.Rules.{KeptMentions, KeptDemands}
 use Rattle.ss_kept.specs.Links.{Linked}
 use Rattle.ss_kept.proofs.Steps.{step, two_steps, is_integer}

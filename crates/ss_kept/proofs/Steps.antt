@@ -5,7 +5,7 @@ use Rattle.std.specs.List.{AllByRecursion as Every}
 use Rattle.std.proofs.lemmas.Bool.{eqb-true}
 use Rattle.ss_base.specs.declared.layout.Mode.{Mode}
 use Rattle.ss_base.specs.declared.layout.Mode.TheVariants.{Integer, Alpha}
-use Rattle.ss_resolve.specs.Answers.{◌>>=◌}
+use Rattle.ss_contexts.specs.Answers.{◌>>=◌}
 use Rattle.ss_scopes.specs.declared.known.Known.{Known}
 use Rattle.ss_uses.specs.Unknown.{if_known}
 use Rattle.ss_uses.specs.Modes.{differ}

@@ -13,13 +13,13 @@ use Rattle.ss_uses.specs.Modes.{aspect_mode}
 use Rattle.ss_uses.specs.Uses.{is_main}
 use Rattle.ss_program.specs.Program.{Expression, SetOwner, Condition, Place, Head, Phrase, Guard, Block}
 use Rattle.ss_program.specs.WellTyped.{Scope, HasMode, TakesMode, OwnerFits, GoodCondition, GoodHead, GoodPhrase, GoodBlock}
-use Rattle.ss_resolve.specs.declared.meaning.Meaning.{Meaning}
-use Rattle.ss_resolve.specs.Contexts.{Context}
-use Rattle.ss_resolve.specs.Expressions.{expression, target, set_named}
-use Rattle.ss_resolve.specs.Conditions.{condition}
-use Rattle.ss_resolve.specs.Answers.{each}
-use Rattle.ss_resolve.specs.Heads.{head, phrase, guard, phrases_of}
-use Rattle.ss_resolve.specs.Statements.{mode_of, statements}
+use Rattle.ss_contexts.specs.declared.meaning.Meaning.{Meaning}
+use Rattle.ss_contexts.specs.Contexts.{Context}
+use Rattle.ss_contexts.specs.Expressions.{expression, target, set_named}
+use Rattle.ss_contexts.specs.Conditions.{condition}
+use Rattle.ss_contexts.specs.Answers.{each}
+use Rattle.ss_contexts.specs.Heads.{head, phrase, guard, phrases_of}
+use Rattle.ss_contexts.specs.Statements.{mode_of, statements}
 use Rattle.ss_kept.specs.Forms.{Formed}
 use Rattle.ss_lists.specs.Rules.{KeptMentions, KeptDemands}
 use Rattle.ss_lists.specs.Uses.{KeptSection}

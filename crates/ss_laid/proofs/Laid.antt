@@ -27,9 +27,9 @@ use Rattle.ss_program.specs.declared.sections.Statistic.{Statistic}
 use Rattle.ss_program.specs.declared.sections.Subject.{Subject}
 use Rattle.ss_program.specs.declared.sections.Subject.TheVariants.{OfVariable, OfAttribute, OfCount}
 use Rattle.ss_program.specs.declared.statement.Counted.{Counted}
-use Rattle.ss_resolve.specs.Answers.{each, where_holds}
-use Rattle.ss_whole.specs.Layouts.{attribute_named, class_laid, counted_kind, counted_variable, counts, discipline, discipline_ordered, discipline_ruled, field_mode, global_mode, key_of, layout, rank_keys, ranked_by, set_laid, statistic_kept, subject_of, tie_keys, tied_by}
-use Rattle.ss_whole.specs.Words.{class_kind, mode_given, weighting_of}
+use Rattle.ss_contexts.specs.Answers.{each, where_holds}
+use Rattle.ss_meant.specs.Layouts.{attribute_named, class_laid, counted_kind, counted_variable, counts, discipline, discipline_ordered, discipline_ruled, field_mode, global_mode, key_of, layout, rank_keys, ranked_by, set_laid, statistic_kept, subject_of, tie_keys, tied_by}
+use Rattle.ss_meant.specs.Words.{class_kind, mode_given, weighting_of}
 use Rattle.ss_kept_tables.specs.Subjects.{IsWhole}
 use Rattle.ss_kept_tables.specs.Tables.{IsKeyOf, IsValueMode, KeepsTable}
 use Rattle.ss_laid.specs.Declared.{IsKept}

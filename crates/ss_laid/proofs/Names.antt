@@ -5,7 +5,7 @@ use Rattle.std.specs.Map.{values_of}
 use Rattle.ss_sayings.specs.Sayings.{NameBytes}
 use Rattle.ss_firsts.specs.Firsts.{place_in, told_of}
 use Rattle.ss_firsts.proofs.Entries.{no_place, place_of_told, value_at}
-use Rattle.ss_resolve.specs.Answers.{◌>>=◌}
+use Rattle.ss_contexts.specs.Answers.{◌>>=◌}
 
 -- to look up the place and then what stands there is to look up the name
 pub told_is_placed : {V : Type 0} (es : List (NameBytes × V)) (name : NameBytes) → (place_in es name >>= slice_get (values_of es)) ≡ told_of es name

@@ -8,7 +8,7 @@ use Rattle.std.proofs.lemmas.List.{get_or_append_left, length-append, length-map
 use Rattle.std.proofs.lemmas.List.Elements.{Contains-append_left, Contains-append_right}
 use Rattle.std.proofs.lemmas.Option.{same_Some, slice_get-get_or, slice_get-map, slice_get_within, get_or_from_slice_get}
 use Rattle.ss_lists.specs.Lists.{Somewhere}
-use Rattle.ss_resolve.specs.Answers.{◌>>=◌, each, upto, where_holds}
+use Rattle.ss_contexts.specs.Answers.{◌>>=◌, each, upto, where_holds}
 
 -- ---- single steps
 

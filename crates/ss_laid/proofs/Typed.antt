@@ -39,9 +39,9 @@ use Rattle.ss_program.specs.declared.sections.Subject.TheVariants.{OfVariable, O
 use Rattle.ss_program.specs.declared.statement.Counted.{Counted}
 use Rattle.ss_program.specs.Program.{Program}
 use Rattle.ss_program.specs.WellTyped as typed
-use Rattle.ss_resolve.specs.Answers.{◌>>=◌, each, upto, where_holds}
-use Rattle.ss_whole.specs.Layouts.{attribute_named, class_laid, counted_kind, counted_variable, discipline, discipline_ordered, discipline_ruled, field_mode, global_mode, key_of, rank_keys, ranked_by, set_laid, statistic_kept, subject_of, tie_keys, tied_by}
-use Rattle.ss_whole.specs.Words.{class_kind, mode_given, mode_said, weighting_of}
+use Rattle.ss_contexts.specs.Answers.{◌>>=◌, each, upto, where_holds}
+use Rattle.ss_meant.specs.Layouts.{attribute_named, class_laid, counted_kind, counted_variable, discipline, discipline_ordered, discipline_ruled, field_mode, global_mode, key_of, rank_keys, ranked_by, set_laid, statistic_kept, subject_of, tie_keys, tied_by}
+use Rattle.ss_meant.specs.Words.{class_kind, mode_given, mode_said, weighting_of}
 use Rattle.ss_kept_tables.specs.Subjects.{IsWhole}
 use Rattle.ss_laid.specs.Declared.{IsKept}
 use Rattle.ss_laid.specs.Tables.{AreWellTyped, HasTables}

@@ -5,7 +5,7 @@ use Rattle.ss_tree.specs.Tree.{ProgramTree}
 use Rattle.ss_names.specs.Table.{table}
 use Rattle.ss_lists.specs.Declared.{KeepsDeclarations}
 use Rattle.ss_program.specs.Program.{Program}
-use Rattle.ss_whole.specs.Layouts.{layout}
+use Rattle.ss_meant.specs.Layouts.{layout}
 use Rattle.ss_laid.specs.Declared.{IsKept}
 use Rattle.ss_laid.specs.Tables.{AreWellTyped, HasTables, LaysOut}
 

@@ -13,8 +13,8 @@ use Rattle.ss_program.specs.declared.sections.Statistic.{Statistic}
 use Rattle.ss_program.specs.declared.statement.Counted.{Counted}
 use Rattle.ss_program.specs.Program.{Program}
 use Rattle.ss_program.specs.WellTyped.{GoodCount, GoodDiscipline, GoodKeys, GoodSubject}
-use Rattle.ss_resolve.specs.Answers.{each, upto}
-use Rattle.ss_whole.specs.Layouts.{counts, discipline, global_mode, layout, statistic_kept, tie_keys}
+use Rattle.ss_contexts.specs.Answers.{each, upto}
+use Rattle.ss_meant.specs.Layouts.{counts, discipline, global_mode, layout, statistic_kept, tie_keys}
 
 -- a table lays out its classes and sets, orders its sets, and has modes, counts, statistics and ties
 pub record LaysOut (t : Table) : Type 0 where

@@ -27,11 +27,11 @@ use Rattle.ss_program.specs.declared.expression.Variable.{Variable}
 use Rattle.ss_program.specs.declared.expression.Variable.TheVariants as variables
 use Rattle.ss_program.specs.Program.{ToVariable}
 use Rattle.ss_program.specs.WellTyped.{Scope, TakesMode}
-use Rattle.ss_resolve.specs.Answers.{◌>>=◌}
-use Rattle.ss_whole.specs.Layouts.{attribute_named, field_mode}
-use Rattle.ss_whole.specs.Meanings.{class_variable, hidden_by, variable_of}
-use Rattle.ss_whole.specs.Resolved.{local_mode, local_modes}
-use Rattle.ss_whole.specs.Words.{mode_given, mode_said}
+use Rattle.ss_contexts.specs.Answers.{◌>>=◌}
+use Rattle.ss_meant.specs.Layouts.{attribute_named, field_mode}
+use Rattle.ss_meant.specs.Meanings.{class_variable, hidden_by, variable_of}
+use Rattle.ss_meant.specs.Resolved.{local_mode, local_modes}
+use Rattle.ss_meant.specs.Words.{mode_given, mode_said}
 use Rattle.ss_kept.specs.Links.{IsImplied}
 use Rattle.ss_kept_tables.specs.Tables.{standing_of}
 use Rattle.ss_laid.specs.Declared.{IsKept}

@@ -39,16 +39,16 @@ use Rattle.ss_program.specs.declared.expression.SetQuery.TheVariants.{MemberCoun
 use Rattle.ss_program.specs.declared.expression.Variable.TheVariants as variables
 use Rattle.ss_program.specs.declared.statement.Counted.{Counted}
 use Rattle.ss_program.specs.WellTyped.{Scope, owner_of}
-use Rattle.ss_resolve.specs.Answers.{◌>>=◌}
-use Rattle.ss_resolve.specs.declared.meaning.ClassMeant.{ClassMeant}
-use Rattle.ss_resolve.specs.declared.meaning.Meaning.{Meaning}
-use Rattle.ss_resolve.specs.declared.meaning.Meaning.TheVariants as meanings
-use Rattle.ss_resolve.specs.declared.meaning.RoutineMeant.{RoutineMeant}
-use Rattle.ss_resolve.specs.declared.meaning.SetMeant.{SetMeant}
-use Rattle.ss_whole.specs.Layouts.{field_mode}
-use Rattle.ss_whole.specs.Meanings.{asked, class_of, class_variable, context_in, count_behind, count_kind, global_class, global_routine, global_set, meaning_of, of_owner, routine_of, set_of, set_owned, statistic_of, variable_of}
-use Rattle.ss_whole.specs.Resolved.{local_modes}
-use Rattle.ss_whole.specs.Words.{class_kind, mode_given, mode_said}
+use Rattle.ss_contexts.specs.Answers.{◌>>=◌}
+use Rattle.ss_contexts.specs.declared.meaning.ClassMeant.{ClassMeant}
+use Rattle.ss_contexts.specs.declared.meaning.Meaning.{Meaning}
+use Rattle.ss_contexts.specs.declared.meaning.Meaning.TheVariants as meanings
+use Rattle.ss_contexts.specs.declared.meaning.RoutineMeant.{RoutineMeant}
+use Rattle.ss_contexts.specs.declared.meaning.SetMeant.{SetMeant}
+use Rattle.ss_meant.specs.Layouts.{field_mode}
+use Rattle.ss_meant.specs.Meanings.{asked, class_of, class_variable, context_in, count_behind, count_kind, global_class, global_routine, global_set, meaning_of, of_owner, routine_of, set_of, set_owned, statistic_of, variable_of}
+use Rattle.ss_meant.specs.Resolved.{local_modes}
+use Rattle.ss_meant.specs.Words.{class_kind, mode_given, mode_said}
 use Rattle.ss_kept.specs.Links.{HasCount, IsClass, IsRoutine, IsSetOf, IsSubject, Linked, kind_said}
 use Rattle.ss_kept_tables.specs.Tables.{standing_of}
 use Rattle.ss_kept_tables.specs.Locals.{KeepsLocals}

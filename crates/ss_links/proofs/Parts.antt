@@ -23,10 +23,10 @@ use Rattle.ss_globals.specs.WholeOf.{class_meaning, meaning_of, whole_of}
 use Rattle.ss_uses.specs.Uses.{is_main}
 use Rattle.ss_program.specs.Program.{Block, Done, Event, Program, Routine}
 use Rattle.ss_program.specs.WellTyped.{GoodBlock, Scope}
-use Rattle.ss_resolve.specs.Answers.{◌>>=◌, each, upto}
-use Rattle.ss_whole.specs.Meanings.{context_in}
-use Rattle.ss_whole.specs.Resolved.{Parts, body, local_mode, local_modes, parts_of, routine_of}
-use Rattle.ss_whole.specs.Words.{mode_given}
+use Rattle.ss_contexts.specs.Answers.{◌>>=◌, each, upto}
+use Rattle.ss_meant.specs.Meanings.{context_in}
+use Rattle.ss_meant.specs.Resolved.{Parts, body, local_mode, local_modes, parts_of, routine_of}
+use Rattle.ss_meant.specs.Words.{mode_given}
 use Rattle.ss_kept.specs.Laws.{BodyResolves, KeptSectionsResolve}
 use Rattle.ss_kept.specs.Parameters as parameters
 use Rattle.ss_laid.specs.Declared.{IsKept}

@@ -27,10 +27,10 @@ use Rattle.ss_uses.specs.Uses as uses
 use Rattle.ss_program.specs.declared.expression.Variable.TheVariants.{Global}
 use Rattle.ss_program.specs.Program.{Event, Program, Routine}
 use Rattle.ss_program.specs.WellTyped as typed
-use Rattle.ss_resolve.specs.Answers.{◌>>=◌, each, upto, where_holds}
-use Rattle.ss_whole.specs.Layouts.{Laid, counts, disciplines, field_mode, global_mode, laid_out, layout, statistic_kept}
-use Rattle.ss_whole.specs.Resolved.{Parts, is_known, main_parts, resolved, resolved_event, resolved_routine}
-use Rattle.ss_whole.specs.Words.{class_kind}
+use Rattle.ss_contexts.specs.Answers.{◌>>=◌, each, upto, where_holds}
+use Rattle.ss_meant.specs.Layouts.{Laid, counts, disciplines, field_mode, global_mode, laid_out, layout, statistic_kept}
+use Rattle.ss_meant.specs.Resolved.{Parts, is_known, main_parts, resolved, resolved_event, resolved_routine}
+use Rattle.ss_meant.specs.Words.{class_kind}
 use Rattle.ss_laid.specs.Declared.{IsKept}
 use Rattle.ss_links.specs.Programs.{KeepsAllRules}
 use Rattle.ss_laid.specs.Tables.{HasTables}

@@ -23,14 +23,14 @@ use Rattle.ss_program.specs.declared.expression.Variable.{Variable}
 use Rattle.ss_program.specs.declared.sections.Statistic.{Statistic}
 use Rattle.ss_program.specs.declared.sections.Subject.TheVariants.{OfVariable, OfAttribute, OfCount}
 use Rattle.ss_program.specs.WellTyped.{Scope, HasSubject, IsAlone, IsOfEntities, owner_of}
-use Rattle.ss_resolve.specs.Answers.{◌>>=◌}
-use Rattle.ss_resolve.specs.declared.meaning.Meaning.{Meaning}
-use Rattle.ss_resolve.specs.declared.meaning.Meaning.TheVariants as meanings
-use Rattle.ss_resolve.specs.declared.meaning.SetMeant.{SetMeant}
-use Rattle.ss_resolve.specs.declared.meaning.SetMeant.TheVariants.{OfSystem, OfEntity}
-use Rattle.ss_whole.specs.Layouts.{set_laid, statistic_kept, subject_of}
-use Rattle.ss_whole.specs.Meanings.{class_variable, figure, figure_owned, of_member, of_owner, of_set, set_owned}
-use Rattle.ss_whole.specs.Resolved.{local_modes}
+use Rattle.ss_contexts.specs.Answers.{◌>>=◌}
+use Rattle.ss_contexts.specs.declared.meaning.Meaning.{Meaning}
+use Rattle.ss_contexts.specs.declared.meaning.Meaning.TheVariants as meanings
+use Rattle.ss_contexts.specs.declared.meaning.SetMeant.{SetMeant}
+use Rattle.ss_contexts.specs.declared.meaning.SetMeant.TheVariants.{OfSystem, OfEntity}
+use Rattle.ss_meant.specs.Layouts.{set_laid, statistic_kept, subject_of}
+use Rattle.ss_meant.specs.Meanings.{class_variable, figure, figure_owned, of_member, of_owner, of_set, set_owned}
+use Rattle.ss_meant.specs.Resolved.{local_modes}
 use Rattle.ss_kept.specs.Links.{IsFigure, IsImplied, IsSetOf, IsTold}
 use Rattle.ss_kept_tables.specs.Subjects.{IsWhole}
 use Rattle.ss_laid.specs.Declared.{IsKept}

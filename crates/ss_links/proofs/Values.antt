@@ -32,12 +32,12 @@ use Rattle.ss_program.specs.declared.expression.SetQuery.TheVariants.{FirstMembe
 use Rattle.ss_program.specs.declared.expression.Variable.TheVariants as variables
 use Rattle.ss_program.specs.declared.statement.Counted.{Counted}
 use Rattle.ss_program.specs.WellTyped.{Scope}
-use Rattle.ss_resolve.specs.Answers.{◌>>=◌}
-use Rattle.ss_resolve.specs.declared.meaning.Meaning.{Meaning}
-use Rattle.ss_resolve.specs.declared.meaning.Meaning.TheVariants as meanings
-use Rattle.ss_whole.specs.Meanings.{asked, class_variable, figure, global_meaning, meaning_of, meaning_or, of_member, of_set}
-use Rattle.ss_whole.specs.Resolved.{local_modes}
-use Rattle.ss_whole.specs.Words.{fold_of, mode_given, mode_said}
+use Rattle.ss_contexts.specs.Answers.{◌>>=◌}
+use Rattle.ss_contexts.specs.declared.meaning.Meaning.{Meaning}
+use Rattle.ss_contexts.specs.declared.meaning.Meaning.TheVariants as meanings
+use Rattle.ss_meant.specs.Meanings.{asked, class_variable, figure, global_meaning, meaning_of, meaning_or, of_member, of_set}
+use Rattle.ss_meant.specs.Resolved.{local_modes}
+use Rattle.ss_meant.specs.Words.{fold_of, mode_given, mode_said}
 use Rattle.ss_kept.specs.Links.{Fits, IsTold}
 use Rattle.ss_kept_tables.specs.Tables.{standing_of}
 use Rattle.ss_laid.specs.Declared.{IsKept}

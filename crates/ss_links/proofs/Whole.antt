@@ -24,10 +24,10 @@ use Rattle.ss_uses.specs.Uses as uses
 use Rattle.ss_lists.specs.Lists.{Somewhere}
 use Rattle.ss_lists.specs.Uses.{EventFits, IsEventOf, notices_in}
 use Rattle.ss_program.specs.Program.{Event, Program, Routine}
-use Rattle.ss_resolve.specs.Answers.{◌>>=◌, each, upto, where_holds}
-use Rattle.ss_whole.specs.Layouts.{tie_keys}
-use Rattle.ss_whole.specs.Resolved.{Parts, class_event, class_variable, event_of, is_known, is_known_kind, is_main, is_main_kind, main_parts, parts_at, parts_of, resolved_event, resolved_routine, routine_of, saved}
-use Rattle.ss_whole.specs.Words.{class_kind}
+use Rattle.ss_contexts.specs.Answers.{◌>>=◌, each, upto, where_holds}
+use Rattle.ss_meant.specs.Layouts.{tie_keys}
+use Rattle.ss_meant.specs.Resolved.{Parts, class_event, class_variable, event_of, is_known, is_known_kind, is_main, is_main_kind, main_parts, parts_at, parts_of, resolved_event, resolved_routine, routine_of, saved}
+use Rattle.ss_meant.specs.Words.{class_kind}
 use Rattle.ss_kept.specs.Parameters as parameters
 use Rattle.ss_laid.specs.Declared.{IsKept}
 use Rattle.ss_links.specs.Programs.{KeepsAllRules, KeepsRules}

@@ -10,8 +10,8 @@ use Rattle.ss_lists.specs.Uses as uses
 use Rattle.ss_globals.specs.WholeOf.{whole_in, whole_of}
 use Rattle.ss_program.specs.Program.{Program}
 use Rattle.ss_program.specs.WellTyped.{Scope, WellTyped}
-use Rattle.ss_whole.specs.Meanings.{context_in}
-use Rattle.ss_whole.specs.Resolved.{local_modes, resolved}
+use Rattle.ss_meant.specs.Meanings.{context_in}
+use Rattle.ss_meant.specs.Resolved.{local_modes, resolved}
 use Rattle.ss_kept.specs.Links.{Linked}
 use Rattle.ss_kept.specs.Forms.{Formed}
 use Rattle.ss_kept_tables.specs.Locals.{KeepsLocals}

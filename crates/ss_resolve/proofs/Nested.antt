@@ -21,14 +21,14 @@ use Rattle.ss_program.specs.declared.statement.Statement.TheVariants as made
 use Rattle.ss_program.specs.Program.{Statement, If, Block, Done, Then}
 use Rattle.ss_program.specs.View.{block_of, view_body, view_condition as condition_seen, view_guard as guard_seen, view_head as head_seen, view_phrase as phrase_seen, view_statement as view_made}
 use Rattle.ss_program.specs.Views.{view_if_made as if_seen, view_loop_made as loop_seen, view_for_made as for_seen, view_find_made as find_seen}
-use Rattle.ss_resolve.specs.declared.error.ResolveError.{ResolveError}
-use Rattle.ss_resolve.specs.declared.error.ResolveError.TheVariants.{Memory, Unresolved}
-use Rattle.ss_resolve.specs.Answers.{◌>>=◌, each, Fails}
-use Rattle.ss_resolve.specs.Contexts.{Context}
-use Rattle.ss_resolve.specs.Conditions.{condition}
-use Rattle.ss_resolve.specs.Heads.{guard, head, phrase, phrases_of}
-use Rattle.ss_resolve.specs.Statements.{find, find_by, for_over, if_over, inner, loop, statement, statements}
-use Rattle.ss_resolve.proofs.Steps.{none_after}
+use Rattle.ss_contexts.specs.declared.error.ResolveError.{ResolveError}
+use Rattle.ss_contexts.specs.declared.error.ResolveError.TheVariants.{Memory, Unresolved}
+use Rattle.ss_contexts.specs.Answers.{◌>>=◌, each, Fails}
+use Rattle.ss_contexts.specs.Contexts.{Context}
+use Rattle.ss_contexts.specs.Conditions.{condition}
+use Rattle.ss_contexts.specs.Heads.{guard, head, phrase, phrases_of}
+use Rattle.ss_contexts.specs.Statements.{find, find_by, for_over, if_over, inner, loop, statement, statements}
+use Rattle.ss_contexts.proofs.Steps.{none_after}
 
 -- ---- loops around resolved statements
 

@@ -9,13 +9,13 @@ use Rattle.ss_program.specs.declared.statement.Statement.{Statement as Made}
 use Rattle.ss_program.specs.declared.statement.Statement.TheVariants as made
 use Rattle.ss_program.specs.Program.{Block, Find, For}
 use Rattle.ss_program.specs.View.{view_body, view_statement as view_made}
-use Rattle.ss_resolve.specs.declared.error.ResolveError.{ResolveError}
-use Rattle.ss_resolve.specs.declared.error.ResolveError.TheVariants.{Memory, Unresolved}
-use Rattle.ss_resolve.specs.Answers.{◌>>=◌, each, Fails}
-use Rattle.ss_resolve.specs.Contexts.{Context}
-use Rattle.ss_resolve.specs.Heads.{head, phrase, phrases_of}
+use Rattle.ss_contexts.specs.declared.error.ResolveError.{ResolveError}
+use Rattle.ss_contexts.specs.declared.error.ResolveError.TheVariants.{Memory, Unresolved}
+use Rattle.ss_contexts.specs.Answers.{◌>>=◌, each, Fails}
+use Rattle.ss_contexts.specs.Contexts.{Context}
+use Rattle.ss_contexts.specs.Heads.{head, phrase, phrases_of}
 use Rattle.ss_resolve.specs.Results.{over, over_seen}
-use Rattle.ss_resolve.specs.Statements.{find, for_over}
+use Rattle.ss_contexts.specs.Statements.{find, for_over}
 use Rattle.ss_resolve.proofs.Nested.{find_made, for_made}
 
 abbrev pair_of : {A B : Type 0} → Option A → Option B → Option (A × B)

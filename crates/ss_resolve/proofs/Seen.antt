@@ -1,11 +1,11 @@
 -- What calls answer, seen by a view.
 use Rattle.std.proofs.Common.{◌≡◌, Bool, true, false, Option, Some, None, Result, Ok, Err, refl, ap, subst}
 use Rattle.ss_program.specs.Program.{Expression}
-use Rattle.ss_resolve.specs.declared.error.ResolveError.{ResolveError}
-use Rattle.ss_resolve.specs.declared.error.ResolveError.TheVariants.{Memory, Unresolved}
-use Rattle.ss_resolve.specs.Answers.{◌>>=◌, Fails, Gives, where_holds}
-use Rattle.ss_resolve.specs.Expressions.{plain}
-use Rattle.ss_resolve.proofs.Steps.{none_after}
+use Rattle.ss_contexts.specs.declared.error.ResolveError.{ResolveError}
+use Rattle.ss_contexts.specs.declared.error.ResolveError.TheVariants.{Memory, Unresolved}
+use Rattle.ss_contexts.specs.Answers.{◌>>=◌, Fails, Gives, where_holds}
+use Rattle.ss_contexts.specs.Expressions.{plain}
+use Rattle.ss_contexts.proofs.Steps.{none_after}
 
 -- ---- another view
 

@@ -20,12 +20,12 @@ use Rattle.ss_program.specs.declared.expression.Expression.TheVariants as made
 use Rattle.ss_program.specs.Program.{Expression, Calculate}
 use Rattle.ss_program.specs.View.{view_expression as view_made}
 use Rattle.ss_program.specs.Views.{with_operation, view_calculate_made}
-use Rattle.ss_resolve.specs.declared.error.ResolveError.{ResolveError}
-use Rattle.ss_resolve.specs.declared.error.ResolveError.TheVariants.{Memory, Unresolved}
-use Rattle.ss_resolve.specs.Answers.{◌>>=◌, Fails}
-use Rattle.ss_resolve.specs.Contexts.{Context}
-use Rattle.ss_resolve.specs.Expressions.{operator_of, expression, subscript, one, two, factors, terms}
-use Rattle.ss_resolve.proofs.Steps.{fails_then, none_after, some_after}
+use Rattle.ss_contexts.specs.declared.error.ResolveError.{ResolveError}
+use Rattle.ss_contexts.specs.declared.error.ResolveError.TheVariants.{Memory, Unresolved}
+use Rattle.ss_contexts.specs.Answers.{◌>>=◌, Fails}
+use Rattle.ss_contexts.specs.Contexts.{Context}
+use Rattle.ss_contexts.specs.Expressions.{operator_of, expression, subscript, one, two, factors, terms}
+use Rattle.ss_contexts.proofs.Steps.{fails_then, none_after, some_after}
 
 -- ---- what stands in a vector
 

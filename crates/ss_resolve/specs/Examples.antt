@@ -21,16 +21,16 @@ use Rattle.ss_program.specs.declared.expression.SetQuery.TheVariants.{MemberCoun
 use Rattle.ss_program.specs.declared.expression.Variable.{Variable}
 use Rattle.ss_program.specs.declared.expression.Variable.TheVariants.{Global, Local}
 use Rattle.ss_program.specs.Program.{Expression, Constant, Fetch, Attribute, OfSystemSet, OfSet, OfMember, TimeOf, Figure, Calculate, TheSystem, Entity, ToVariable, ToAttribute, ToCount, ByDiscipline, At, Each, Call, Stop, Read, Find, Create, CreateEvery, File, ScheduleNew, Reset, Done, Then}
-use Rattle.ss_resolve.specs.declared.meaning.ClassMeant.{ClassMeant}
-use Rattle.ss_resolve.specs.declared.meaning.Meaning.{Meaning}
-use Rattle.ss_resolve.specs.declared.meaning.Meaning.TheVariants as meanings
-use Rattle.ss_resolve.specs.declared.meaning.SetMeant.{SetMeant}
-use Rattle.ss_resolve.specs.declared.meaning.SetMeant.TheVariants.{OfSystem, OfEntity}
-use Rattle.ss_resolve.specs.Answers.{each}
-use Rattle.ss_resolve.specs.Contexts.{Context}
-use Rattle.ss_resolve.specs.Expressions.{expression, subscript, two, factors, terms, target}
-use Rattle.ss_resolve.specs.Heads.{head}
-use Rattle.ss_resolve.specs.Statements.{statement, statements}
+use Rattle.ss_contexts.specs.declared.meaning.ClassMeant.{ClassMeant}
+use Rattle.ss_contexts.specs.declared.meaning.Meaning.{Meaning}
+use Rattle.ss_contexts.specs.declared.meaning.Meaning.TheVariants as meanings
+use Rattle.ss_contexts.specs.declared.meaning.SetMeant.{SetMeant}
+use Rattle.ss_contexts.specs.declared.meaning.SetMeant.TheVariants.{OfSystem, OfEntity}
+use Rattle.ss_contexts.specs.Answers.{each}
+use Rattle.ss_contexts.specs.Contexts.{Context}
+use Rattle.ss_contexts.specs.Expressions.{expression, subscript, two, factors, terms, target}
+use Rattle.ss_contexts.specs.Heads.{head}
+use Rattle.ss_contexts.specs.Statements.{statement, statements}
 
 -- ---- the program
 

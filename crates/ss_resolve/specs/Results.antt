@@ -5,13 +5,14 @@ use Rattle.ss_tree.specs.Tree.{ExpressionRow, HeadTree}
 use Rattle.ss_program.specs.declared.expression.Operator.{Operator}
 use Rattle.ss_program.specs.declared.head.Head.{Head as HeadMade}
 use Rattle.ss_program.specs.declared.head.Phrase.{Phrase as PhraseMade}
-use Rattle.ss_program.specs.Program.{Calculate, Expression, Head, Phrase}
-use Rattle.ss_program.specs.View.{view_head, view_phrase}
-use Rattle.ss_resolve.specs.declared.error.ResolveError.{ResolveError}
-use Rattle.ss_resolve.specs.Answers.{◌>>=◌, each}
-use Rattle.ss_resolve.specs.Contexts.{Context}
-use Rattle.ss_resolve.specs.Expressions.{two}
-use Rattle.ss_resolve.specs.Heads.{head, phrase, phrases_of}
+use Rattle.ss_program.specs.Program.{Block, Calculate, Expression, Head, Phrase}
+use Rattle.ss_program.specs.View.{view_body, view_head, view_phrase}
+use Rattle.ss_resolve.specs.declared.bodies.Bodies.{Bodies}
+use Rattle.ss_contexts.specs.declared.error.ResolveError.{ResolveError}
+use Rattle.ss_contexts.specs.Answers.{◌>>=◌, each}
+use Rattle.ss_contexts.specs.Contexts.{Context}
+use Rattle.ss_contexts.specs.Expressions.{two}
+use Rattle.ss_contexts.specs.Heads.{head, phrase, phrases_of}
 
 -- what was made first, beside what was made next, unless that failed
 abbrev pub Beside : {A B : Type 0} → A → Result B ResolveError → Result (A × B) ResolveError → Type 0
@@ -33,3 +34,7 @@ abbrev pub operation : Context → Operator → ExpressionRow → Option Express
 operation c operator arguments = do
   p ← two c arguments
   Some (Calculate operator p.0 p.1)
+
+-- the bodies in a statement
+abbrev pub bodies_seen : Bodies → Block × Block
+bodies_seen b = (view_body b.first.items, view_body b.second.items)

@@ -5,23 +5,23 @@ ghost use Rattle.ss_tree.specs.View.{view_condition, view_statement};
 ghost use Rattle.ss_tree.specs.Tree.{statement_row};
 ghost use Rattle.ss_program.specs.Program.{Done};
 ghost use Rattle.ss_program.specs.View.{view_body, view_statement as view_resolved};
-ghost use Rattle.ss_resolve.specs.Answers.{Gives};
-ghost use Rattle.ss_resolve.specs.Statements.{bodies_seen, if_over, inner, statement, statements};
+ghost use Rattle.ss_contexts.specs.Answers.{Gives};
+ghost use Rattle.ss_contexts.specs.Statements.{if_over, inner, statement, statements};
+ghost use Rattle.ss_resolve.specs.Results.{bodies_seen};
 
 use crate::conditions::resolve_condition;
 use crate::entities::{
     resolve_create, resolve_create_every, resolve_destroy, resolve_file, resolve_remove,
     resolve_remove_end,
 };
-use crate::error::ResolveError;
 use crate::loops::{resolve_find, resolve_find_by, resolve_loop};
 use crate::notices::{resolve_cancel, resolve_reset, resolve_schedule, resolve_schedule_new};
-use crate::scope::Scope;
 use crate::statements::{
     resolve_add, resolve_let, resolve_print, resolve_read, resolve_routine_call, resolve_skip,
     resolve_subtract,
 };
 use ss_base::Line;
+use ss_contexts::{ResolveError, Scope};
 use ss_program::statement::Statement as Resolved;
 use ss_tree::condition::Condition;
 use ss_tree::statement::Statement;
@@ -77,7 +77,7 @@ fn resolve_if<S: Scope>(
 }
 
 // A statement around its resolved bodies.
-#[tactic(auto, unfolding(crate::specs::Statements::statement, ss_tree::specs::View::view_statement, ss_program::specs::View::view_statement))]
+#[tactic(auto, unfolding(ss_contexts::specs::Statements::statement, ss_tree::specs::View::view_statement, ss_program::specs::View::view_statement))]
 fn resolve_around<S: Scope>(
     alloc: Global,
     scope: &S,

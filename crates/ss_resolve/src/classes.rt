@@ -1,13 +1,11 @@
 //! Classes by their kind.
 
 ghost use Rattle.std.specs.Prelude.{◌≡◌};
-ghost use Rattle.ss_resolve.specs.Answers.{Gives, each};
-ghost use Rattle.ss_resolve.specs.Contexts.{counted, if_notice, if_permanent, if_single, notice_class, permanent_class, single_class};
+ghost use Rattle.ss_contexts.specs.Answers.{Gives, each};
+ghost use Rattle.ss_contexts.specs.Contexts.{counted, if_notice, if_permanent, if_single, notice_class, permanent_class, single_class};
 
-use crate::error::ResolveError;
-use crate::meaning::ClassMeant;
-use crate::scope::Scope;
 use ss_base::ClassKind;
+use ss_contexts::{ClassMeant, ResolveError, Scope};
 use ss_lex::Name;
 use ss_program::statement::Counted;
 use std::alloc::Global;

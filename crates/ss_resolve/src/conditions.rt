@@ -3,15 +3,14 @@
 ghost use Rattle.std.specs.Prelude.{◌≡◌, map};
 ghost use Rattle.ss_tree.specs.View.{view_condition, view_conjunction, view_test};
 ghost use Rattle.ss_program.specs.View.{view_condition as condition_seen, view_conjunction as conjunction_seen, view_test as test_seen};
-ghost use Rattle.ss_resolve.specs.Answers.{Gives, each};
-ghost use Rattle.ss_resolve.specs.Conditions.{condition, conjunction, one_test};
+ghost use Rattle.ss_contexts.specs.Answers.{Gives, each};
+ghost use Rattle.ss_contexts.specs.Conditions.{condition, conjunction, one_test};
 
-use crate::error::ResolveError;
 use crate::expressions::resolve_expression;
 use crate::places::resolve_set;
 use crate::results::beside;
-use crate::scope::Scope;
 use crate::words::relation_of;
+use ss_contexts::{ResolveError, Scope};
 use ss_program::condition::{
     Condition as ResolvedCondition, Conjunction as ResolvedConjunction, Test as ResolvedTest,
 };
@@ -19,7 +18,7 @@ use ss_tree::condition::{Condition, Conjunction, Test};
 use std::alloc::Global;
 
 // A test.
-#[tactic(auto, unfolding(crate::specs::Conditions::one_test))]
+#[tactic(auto, unfolding(ss_contexts::specs::Conditions::one_test))]
 fn resolve_test<S: Scope>(
     alloc: Global,
     scope: &S,

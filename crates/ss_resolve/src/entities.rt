@@ -4,17 +4,16 @@ ghost use Rattle.std.specs.Prelude.{◌≡◌, map};
 ghost use Rattle.ss_tree.specs.View.{view_expression, view_named, view_option, view_position};
 ghost use Rattle.ss_tree.specs.Tree.{create_every, create_statement, destroy_statement, file_statement, remove_end, remove_statement};
 ghost use Rattle.ss_program.specs.View.{view_position as position_seen, view_statement as view_resolved};
-ghost use Rattle.ss_resolve.specs.Answers.{Gives};
-ghost use Rattle.ss_resolve.specs.Statements.{position, statement};
+ghost use Rattle.ss_contexts.specs.Answers.{Gives};
+ghost use Rattle.ss_contexts.specs.Statements.{position, statement};
 
 use crate::classes::{all_counted, single_class};
-use crate::error::ResolveError;
 use crate::expressions::resolve_expression;
 use crate::places::{resolve_entity_called, resolve_new_place, resolve_set, resolve_target};
 use crate::results::beside;
-use crate::scope::Scope;
 use crate::words::end_of;
 use ss_base::Line;
+use ss_contexts::{ResolveError, Scope};
 use ss_lex::Name;
 use ss_program::statement::{Position as ResolvedPosition, Statement as Resolved};
 use ss_tree::expression::{Expression, Named};
@@ -22,7 +21,7 @@ use ss_tree::statement::{Position, SetEnd};
 use std::alloc::Global;
 
 /// CREATE A.
-#[tactic(auto, unfolding(crate::specs::Statements::statement, ss_program::specs::View::view_statement))]
+#[tactic(auto, unfolding(ss_contexts::specs::Statements::statement, ss_program::specs::View::view_statement))]
 pub(crate) fn resolve_create<S: Scope>(
     alloc: Global,
     scope: &S,
@@ -42,7 +41,7 @@ pub(crate) fn resolve_create<S: Scope>(
 }
 
 /// CREATE EVERY.
-#[tactic(auto, unfolding(crate::specs::Statements::statement, ss_program::specs::View::view_statement))]
+#[tactic(auto, unfolding(ss_contexts::specs::Statements::statement, ss_program::specs::View::view_statement))]
 pub(crate) fn resolve_create_every<S: Scope>(
     alloc: Global,
     scope: &S,
@@ -56,7 +55,7 @@ pub(crate) fn resolve_create_every<S: Scope>(
 }
 
 /// DESTROY.
-#[tactic(auto, unfolding(crate::specs::Statements::statement, ss_program::specs::View::view_statement))]
+#[tactic(auto, unfolding(ss_contexts::specs::Statements::statement, ss_program::specs::View::view_statement))]
 pub(crate) fn resolve_destroy<S: Scope>(
     alloc: Global,
     scope: &S,
@@ -99,7 +98,7 @@ fn resolve_position<S: Scope>(
 }
 
 /// FILE.
-#[tactic(auto, unfolding(crate::specs::Statements::statement, ss_program::specs::View::view_statement))]
+#[tactic(auto, unfolding(ss_contexts::specs::Statements::statement, ss_program::specs::View::view_statement))]
 pub(crate) fn resolve_file<S: Scope>(
     alloc: Global,
     scope: &S,
@@ -123,7 +122,7 @@ pub(crate) fn resolve_file<S: Scope>(
 }
 
 /// REMOVE FIRST and REMOVE LAST.
-#[tactic(auto, unfolding(crate::specs::Statements::statement, ss_program::specs::View::view_statement))]
+#[tactic(auto, unfolding(ss_contexts::specs::Statements::statement, ss_program::specs::View::view_statement))]
 pub(crate) fn resolve_remove_end<S: Scope>(
     alloc: Global,
     scope: &S,
@@ -146,7 +145,7 @@ pub(crate) fn resolve_remove_end<S: Scope>(
 }
 
 /// REMOVE of a given member.
-#[tactic(auto, unfolding(crate::specs::Statements::statement, ss_program::specs::View::view_statement))]
+#[tactic(auto, unfolding(ss_contexts::specs::Statements::statement, ss_program::specs::View::view_statement))]
 pub(crate) fn resolve_remove<S: Scope>(
     alloc: Global,
     scope: &S,

@@ -7,15 +7,13 @@ ghost use Rattle.ss_tree.specs.Tree.{call, expression_row, named, term_row};
 ghost use Rattle.ss_program.specs.Program.{Calculate};
 ghost use Rattle.ss_program.specs.View.{view_expression as view_resolved, view_option};
 ghost use Rattle.ss_program.specs.Views.{with_operation};
-ghost use Rattle.ss_resolve.specs.Answers.{Gives};
-ghost use Rattle.ss_resolve.specs.Expressions.{entity_of, expression, factors, one, plain, subscript, terms, time_of, two, value_of};
+ghost use Rattle.ss_contexts.specs.Answers.{Gives};
+ghost use Rattle.ss_contexts.specs.Expressions.{entity_of, expression, factors, one, plain, subscript, terms, time_of, two, value_of};
 ghost use Rattle.ss_resolve.specs.Results.{operation};
 
-use crate::error::ResolveError;
-use crate::meaning::Meaning;
-use crate::scope::Scope;
 use crate::words::{operator_of, sign_of};
 use ss_base::Value;
+use ss_contexts::{Meaning, ResolveError, Scope};
 use ss_program::expression::{Expression as Resolved, Operation, Operator, Variable};
 use ss_tree::expression::{Designator, Expression, Function, Term};
 use std::alloc::Global;
@@ -126,7 +124,7 @@ fn value_of(
 
 // The expression with each name replaced by what it stands for.
 #[cycle(resolving)]
-#[tactic(auto, unfolding(ss_tree::specs::View::view_expression, ss_program::specs::View::view_expression, crate::specs::Expressions::expression))]
+#[tactic(auto, unfolding(ss_tree::specs::View::view_expression, ss_program::specs::View::view_expression, ss_contexts::specs::Expressions::expression))]
 pub(crate) fn resolve_expression<S: Scope>(
     alloc: Global,
     scope: &S,
@@ -174,7 +172,7 @@ pub(crate) fn resolve_expression<S: Scope>(
 
 // What is named, with its subscripts.
 #[cycle(resolving)]
-#[tactic(auto, unfolding(crate::specs::Expressions::expression))]
+#[tactic(auto, unfolding(ss_contexts::specs::Expressions::expression))]
 fn resolve_named<S: Scope>(
     alloc: Global,
     scope: &S,
@@ -190,7 +188,7 @@ fn resolve_named<S: Scope>(
 
 // The subscript, if there is one.
 #[cycle(resolving)]
-#[tactic(auto, unfolding(crate::specs::Expressions::subscript))]
+#[tactic(auto, unfolding(ss_contexts::specs::Expressions::subscript))]
 pub(crate) fn resolve_subscript<S: Scope>(
     alloc: Global,
     scope: &S,
@@ -210,7 +208,7 @@ pub(crate) fn resolve_subscript<S: Scope>(
 
 // A function with its arguments.
 #[cycle(resolving)]
-#[tactic(auto, unfolding(crate::specs::Expressions::expression, ss_program::specs::View::view_expression))]
+#[tactic(auto, unfolding(ss_contexts::specs::Expressions::expression, ss_program::specs::View::view_expression))]
 fn resolve_call<S: Scope>(
     alloc: Global,
     scope: &S,
@@ -248,7 +246,7 @@ fn resolve_operation<S: Scope>(
 
 // One argument.
 #[cycle(resolving)]
-#[tactic(auto, unfolding(crate::specs::Expressions::one))]
+#[tactic(auto, unfolding(ss_contexts::specs::Expressions::one))]
 fn resolve_one<S: Scope>(
     alloc: Global,
     scope: &S,
@@ -265,7 +263,7 @@ fn resolve_one<S: Scope>(
 
 // Two arguments, the left one in a box.
 #[cycle(resolving)]
-#[tactic(auto, unfolding(crate::specs::Expressions::two))]
+#[tactic(auto, unfolding(ss_contexts::specs::Expressions::two))]
 fn resolve_two<S: Scope>(
     alloc: Global,
     scope: &S,

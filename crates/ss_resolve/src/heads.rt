@@ -3,20 +3,18 @@
 ghost use Rattle.std.specs.Prelude.{◌≡◌, map};
 ghost use Rattle.ss_tree.specs.View.{view_expression, view_guard, view_head, view_option, view_phrase, view_start};
 ghost use Rattle.ss_program.specs.View.{view_expression as view_resolved, view_guard as guard_seen, view_head as head_seen, view_option as option_seen, view_phrase as phrase_seen, view_start as start_seen};
-ghost use Rattle.ss_resolve.specs.Answers.{Gives, each, if_there};
-ghost use Rattle.ss_resolve.specs.Contexts.{if_permanent, permanent_class};
-ghost use Rattle.ss_resolve.specs.Expressions.{expression};
-ghost use Rattle.ss_resolve.specs.Heads.{called_variable, guard, head, if_variable, loop_variable, phrase, phrases_of, start};
+ghost use Rattle.ss_contexts.specs.Answers.{Gives, each, if_there};
+ghost use Rattle.ss_contexts.specs.Contexts.{if_permanent, permanent_class};
+ghost use Rattle.ss_contexts.specs.Expressions.{expression};
+ghost use Rattle.ss_contexts.specs.Heads.{called_variable, guard, head, if_variable, loop_variable, phrase, phrases_of, start};
 
 use crate::classes::permanent_class;
 use crate::conditions::resolve_condition;
-use crate::error::ResolveError;
 use crate::expressions::resolve_expression;
-use crate::meaning::Meaning;
 use crate::places::resolve_set;
 use crate::results::beside;
-use crate::scope::Scope;
 use crate::words::{guard_kind_of, phrase_kind_of};
+use ss_contexts::{Meaning, ResolveError, Scope};
 use ss_lex::Name;
 use ss_program::expression::{Expression as Resolved, Variable};
 use ss_program::head::{
@@ -182,7 +180,7 @@ fn resolve_step<S: Scope>(
 }
 
 /// What a FOR goes over.
-#[tactic(auto, unfolding(crate::specs::Heads::head))]
+#[tactic(auto, unfolding(ss_contexts::specs::Heads::head))]
 pub(crate) fn resolve_head<S: Scope>(
     alloc: Global,
     scope: &S,

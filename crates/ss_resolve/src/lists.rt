@@ -3,12 +3,11 @@
 ghost use Rattle.std.specs.Prelude.{◌≡◌, map};
 ghost use Rattle.ss_tree.specs.View.{view_expression};
 ghost use Rattle.ss_program.specs.View.{view_expression as view_resolved};
-ghost use Rattle.ss_resolve.specs.Answers.{Gives, each};
-ghost use Rattle.ss_resolve.specs.Expressions.{expression};
+ghost use Rattle.ss_contexts.specs.Answers.{Gives, each};
+ghost use Rattle.ss_contexts.specs.Expressions.{expression};
 
-use crate::error::ResolveError;
 use crate::expressions::resolve_expression;
-use crate::scope::Scope;
+use ss_contexts::{ResolveError, Scope};
 use ss_program::expression::Expression as Resolved;
 use ss_tree::expression::Expression;
 use std::alloc::Global;

@@ -3,15 +3,14 @@
 ghost use Rattle.std.specs.Prelude.{◌≡◌};
 ghost use Rattle.ss_tree.specs.View.{view_head};
 ghost use Rattle.ss_program.specs.View.{view_body, view_statement as view_resolved};
-ghost use Rattle.ss_resolve.specs.Answers.{Gives};
-ghost use Rattle.ss_resolve.specs.Statements.{find, find_by, for_over, loop};
+ghost use Rattle.ss_contexts.specs.Answers.{Gives};
+ghost use Rattle.ss_contexts.specs.Statements.{find, find_by, for_over, loop};
 ghost use Rattle.ss_resolve.specs.Results.{over, over_seen};
 
-use crate::error::ResolveError;
 use crate::heads::{phrases_of, resolve_guards, resolve_head, resolve_phrases};
 use crate::results::beside;
-use crate::scope::Scope;
 use ss_base::Line;
+use ss_contexts::{ResolveError, Scope};
 use ss_program::head::{Head as ResolvedHead, Phrase};
 use ss_program::statement::Statement as Resolved;
 use ss_tree::head::Head;

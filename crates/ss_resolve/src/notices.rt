@@ -4,18 +4,16 @@ ghost use Rattle.std.specs.Prelude.{◌≡◌, map};
 ghost use Rattle.ss_tree.specs.View.{view_expression, view_named, view_option, view_when};
 ghost use Rattle.ss_tree.specs.Tree.{cancel_statement, reset_statement, schedule_new, schedule_statement};
 ghost use Rattle.ss_program.specs.View.{view_expression as expression_seen, view_place, view_statement as view_resolved, view_when as when_seen};
-ghost use Rattle.ss_resolve.specs.Answers.{Gives};
-ghost use Rattle.ss_resolve.specs.Statements.{new_notice, old_notice, statement, when};
+ghost use Rattle.ss_contexts.specs.Answers.{Gives};
+ghost use Rattle.ss_contexts.specs.Statements.{new_notice, old_notice, statement, when};
 
 use crate::classes::notice_class;
-use crate::error::ResolveError;
 use crate::expressions::resolve_expression;
 use crate::lists::resolve_all;
-use crate::meaning::ClassMeant;
 use crate::places::{resolve_entity_called, resolve_new_place, resolve_restarts};
 use crate::results::{beside, where_holds};
-use crate::scope::Scope;
 use ss_base::Line;
+use ss_contexts::{ClassMeant, ResolveError, Scope};
 use ss_lex::Name;
 use ss_program::expression::Expression as Value;
 use ss_program::statement::{Place, Statement as Resolved, When as ResolvedWhen};
@@ -93,7 +91,7 @@ fn old_notice(
 }
 
 /// SCHEDULE A.
-#[tactic(auto, unfolding(crate::specs::Statements::statement, ss_program::specs::View::view_statement))]
+#[tactic(auto, unfolding(ss_contexts::specs::Statements::statement, ss_program::specs::View::view_statement))]
 pub(crate) fn resolve_schedule_new<S: Scope>(
     alloc: Global,
     scope: &S,
@@ -113,7 +111,7 @@ pub(crate) fn resolve_schedule_new<S: Scope>(
 }
 
 /// SCHEDULE THE.
-#[tactic(auto, unfolding(crate::specs::Statements::statement, ss_program::specs::View::view_statement))]
+#[tactic(auto, unfolding(ss_contexts::specs::Statements::statement, ss_program::specs::View::view_statement))]
 pub(crate) fn resolve_schedule<S: Scope>(
     alloc: Global,
     scope: &S,
@@ -133,7 +131,7 @@ pub(crate) fn resolve_schedule<S: Scope>(
 }
 
 /// CANCEL.
-#[tactic(auto, unfolding(crate::specs::Statements::statement, ss_program::specs::View::view_statement))]
+#[tactic(auto, unfolding(ss_contexts::specs::Statements::statement, ss_program::specs::View::view_statement))]
 pub(crate) fn resolve_cancel<S: Scope>(
     alloc: Global,
     scope: &S,
@@ -153,7 +151,7 @@ pub(crate) fn resolve_cancel<S: Scope>(
 }
 
 /// RESET.
-#[tactic(auto, unfolding(crate::specs::Statements::statement, ss_program::specs::View::view_statement))]
+#[tactic(auto, unfolding(ss_contexts::specs::Statements::statement, ss_program::specs::View::view_statement))]
 pub(crate) fn resolve_reset<S: Scope>(
     alloc: Global,
     scope: &S,

@@ -3,15 +3,13 @@
 ghost use Rattle.std.specs.Prelude.{◌≡◌, map, Some, None};
 ghost use Rattle.ss_tree.specs.View.{view_expression, view_named, view_option};
 ghost use Rattle.ss_program.specs.View.{view_expression as view_resolved, view_option as option_seen, view_owner, view_place, view_restart, view_target};
-ghost use Rattle.ss_resolve.specs.Answers.{Gives, each};
-ghost use Rattle.ss_resolve.specs.Expressions.{owned_by, place_of, set_named, target};
-ghost use Rattle.ss_resolve.specs.Statements.{entity_called, mode_of, new_place, reader, restart, told_of};
+ghost use Rattle.ss_contexts.specs.Answers.{Gives, each};
+ghost use Rattle.ss_contexts.specs.Expressions.{owned_by, place_of, set_named, target};
+ghost use Rattle.ss_contexts.specs.Statements.{entity_called, mode_of, new_place, reader, restart, told_of};
 
-use crate::error::ResolveError;
 use crate::expressions::{entity_of, plain, resolve_expression, resolve_subscript};
-use crate::meaning::{Meaning, SetMeant};
-use crate::scope::Scope;
 use ss_base::Mode;
+use ss_contexts::{Meaning, ResolveError, Scope, SetMeant};
 use ss_program::expression::{Expression as Resolved, SetOwner, Variable};
 use ss_program::statement::{Place, Restart, Target};
 use ss_tree::expression::{Expression, Named};

@@ -1,9 +1,9 @@
 //! Steps that may fail, one after the other.
 
-ghost use Rattle.ss_resolve.specs.Answers.{Gives, where_holds};
+ghost use Rattle.ss_contexts.specs.Answers.{Gives, where_holds};
 ghost use Rattle.ss_resolve.specs.Results.{Beside};
 
-use crate::error::ResolveError;
+use ss_contexts::ResolveError;
 
 /// What was made first, beside what was made next, unless that failed.
 pub(crate) fn beside<A: Drop, B>(

@@ -4,17 +4,15 @@ ghost use Rattle.std.specs.Prelude.{◌≡◌, map, IfOk};
 ghost use Rattle.ss_tree.specs.View.{view_expression, view_named};
 ghost use Rattle.ss_tree.specs.Tree.{add_statement, call_statement, let_statement, print_statement, read_statement, skip_statement, subtract_statement};
 ghost use Rattle.ss_program.specs.View.{view_expression as expression_seen, view_place, view_statement as view_resolved};
-ghost use Rattle.ss_resolve.specs.Answers.{Gives};
-ghost use Rattle.ss_resolve.specs.Statements.{call_of, statement};
+ghost use Rattle.ss_contexts.specs.Answers.{Gives};
+ghost use Rattle.ss_contexts.specs.Statements.{call_of, statement};
 
-use crate::error::ResolveError;
 use crate::expressions::resolve_expression;
 use crate::lists::resolve_all;
-use crate::meaning::RoutineMeant;
 use crate::places::{resolve_readers, resolve_target, resolve_targets};
 use crate::results::beside;
-use crate::scope::Scope;
 use ss_base::Line;
+use ss_contexts::{ResolveError, RoutineMeant, Scope};
 use ss_lex::{Name, PictureLine};
 use ss_program::expression::{Expression as Value, Sign};
 use ss_program::statement::{Place, Statement as Resolved};
@@ -22,7 +20,7 @@ use ss_tree::expression::{Expression, Named};
 use std::alloc::{AllocError, Global};
 
 /// LET.
-#[tactic(auto, unfolding(crate::specs::Statements::statement, ss_program::specs::View::view_statement))]
+#[tactic(auto, unfolding(ss_contexts::specs::Statements::statement, ss_program::specs::View::view_statement))]
 pub(crate) fn resolve_let<S: Scope>(
     alloc: Global,
     scope: &S,
@@ -42,7 +40,7 @@ pub(crate) fn resolve_let<S: Scope>(
 }
 
 /// ADD.
-#[tactic(auto, unfolding(crate::specs::Statements::statement, ss_program::specs::View::view_statement))]
+#[tactic(auto, unfolding(ss_contexts::specs::Statements::statement, ss_program::specs::View::view_statement))]
 pub(crate) fn resolve_add<S: Scope>(
     alloc: Global,
     scope: &S,
@@ -63,7 +61,7 @@ pub(crate) fn resolve_add<S: Scope>(
 }
 
 /// SUBTRACT.
-#[tactic(auto, unfolding(crate::specs::Statements::statement, ss_program::specs::View::view_statement))]
+#[tactic(auto, unfolding(ss_contexts::specs::Statements::statement, ss_program::specs::View::view_statement))]
 pub(crate) fn resolve_subtract<S: Scope>(
     alloc: Global,
     scope: &S,
@@ -106,7 +104,7 @@ fn call_of(
 }
 
 /// CALL.
-#[tactic(auto, unfolding(crate::specs::Statements::statement, ss_program::specs::View::view_statement))]
+#[tactic(auto, unfolding(ss_contexts::specs::Statements::statement, ss_program::specs::View::view_statement))]
 pub(crate) fn resolve_routine_call<S: Scope>(
     alloc: Global,
     scope: &S,
@@ -124,7 +122,7 @@ pub(crate) fn resolve_routine_call<S: Scope>(
 }
 
 /// READ.
-#[tactic(auto, unfolding(crate::specs::Statements::statement, ss_program::specs::View::view_statement))]
+#[tactic(auto, unfolding(ss_contexts::specs::Statements::statement, ss_program::specs::View::view_statement))]
 pub(crate) fn resolve_read<S: Scope>(
     alloc: Global,
     scope: &S,
@@ -149,7 +147,7 @@ fn picture_lines(alloc: Global, pictures: &[PictureLine]) -> Result<Vec<Vec<u8>>
 }
 
 /// PRINT.
-#[tactic(auto, unfolding(crate::specs::Statements::statement, ss_program::specs::View::view_statement))]
+#[tactic(auto, unfolding(ss_contexts::specs::Statements::statement, ss_program::specs::View::view_statement))]
 pub(crate) fn resolve_print<S: Scope>(
     alloc: Global,
     scope: &S,
@@ -169,7 +167,7 @@ pub(crate) fn resolve_print<S: Scope>(
 }
 
 /// SKIP.
-#[tactic(auto, unfolding(crate::specs::Statements::statement, ss_program::specs::View::view_statement))]
+#[tactic(auto, unfolding(ss_contexts::specs::Statements::statement, ss_program::specs::View::view_statement))]
 pub(crate) fn resolve_skip<S: Scope>(
     alloc: Global,
     scope: &S,

@@ -1,10 +1,10 @@
 //! Words that stand for themselves.
 
 ghost use Rattle.std.specs.Prelude.{◌≡◌};
-ghost use Rattle.ss_resolve.specs.Conditions.{relation_of};
-ghost use Rattle.ss_resolve.specs.Expressions.{operator_of, sign_of};
-ghost use Rattle.ss_resolve.specs.Heads.{guard_kind_of, phrase_kind_of};
-ghost use Rattle.ss_resolve.specs.Statements.{end_of};
+ghost use Rattle.ss_contexts.specs.Conditions.{relation_of};
+ghost use Rattle.ss_contexts.specs.Expressions.{operator_of, sign_of};
+ghost use Rattle.ss_contexts.specs.Heads.{guard_kind_of, phrase_kind_of};
+ghost use Rattle.ss_contexts.specs.Statements.{end_of};
 
 use ss_program::condition::Relation;
 use ss_program::expression::{Operator, Sign};

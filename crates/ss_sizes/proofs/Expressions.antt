@@ -7,12 +7,12 @@ use Rattle.ss_program.specs.declared.expression.Operator.TheVariants.{Multiply}
 use Rattle.ss_program.specs.declared.expression.Variable.{Variable}
 use Rattle.ss_program.specs.Nodes.{option_nodes, unless_plain, expression_nodes, subscript_nodes, set_nodes, place_nodes}
 use Rattle.ss_program.specs.Program.{Expression, Fetch, Calculate, SetOwner}
-use Rattle.ss_resolve.specs.declared.meaning.Meaning.{Meaning}
-use Rattle.ss_resolve.specs.declared.meaning.Meaning.TheVariants as meanings
-use Rattle.ss_resolve.specs.declared.meaning.SetMeant.{SetMeant}
-use Rattle.ss_resolve.specs.declared.meaning.SetMeant.TheVariants.{OfSystem, OfEntity}
-use Rattle.ss_resolve.specs.Contexts.{Context}
-use Rattle.ss_resolve.specs.Expressions.{entity_of, value_of, place_of, owned_by, operator_of, expression, subscript, one, two, factors, terms, target, set_named}
+use Rattle.ss_contexts.specs.declared.meaning.Meaning.{Meaning}
+use Rattle.ss_contexts.specs.declared.meaning.Meaning.TheVariants as meanings
+use Rattle.ss_contexts.specs.declared.meaning.SetMeant.{SetMeant}
+use Rattle.ss_contexts.specs.declared.meaning.SetMeant.TheVariants.{OfSystem, OfEntity}
+use Rattle.ss_contexts.specs.Contexts.{Context}
+use Rattle.ss_contexts.specs.Expressions.{entity_of, value_of, place_of, owned_by, operator_of, expression, subscript, one, two, factors, terms, target, set_named}
 use Rattle.ss_sizes.proofs.Within.{Within, up, after, behind, plain_small}
 
 plain_less : (e : Expression) (n : ℕ) → unless_plain e n ≤ n

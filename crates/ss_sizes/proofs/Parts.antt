@@ -8,14 +8,14 @@ use Rattle.ss_program.specs.declared.expression.Variable.{Variable}
 use Rattle.ss_program.specs.declared.expression.Variable.TheVariants.{Global, Local}
 use Rattle.ss_program.specs.Nodes.{total, option_nodes, expression_nodes, subscript_nodes, set_nodes, test_nodes, alternative_nodes, condition_nodes, guard_nodes, phrase_nodes, place_nodes, target_nodes, start_nodes, head_nodes, position_nodes, when_nodes, restart_nodes}
 use Rattle.ss_program.specs.Program.{Expression, SetOwner, Test, Condition}
-use Rattle.ss_resolve.specs.declared.meaning.Meaning.{Meaning}
-use Rattle.ss_resolve.specs.declared.meaning.Meaning.TheVariants as meanings
-use Rattle.ss_resolve.specs.Answers.{each, if_there}
-use Rattle.ss_resolve.specs.Contexts.{Context, permanent_class}
-use Rattle.ss_resolve.specs.Expressions.{expression, subscript, target, set_named}
-use Rattle.ss_resolve.specs.Conditions.{one_test, conjunction, condition}
-use Rattle.ss_resolve.specs.Heads.{called_variable, guard, head, loop_variable, phrase, phrases_of, start}
-use Rattle.ss_resolve.specs.Statements.{entity_called, mode_of, new_place, position, reader, restart, told_of, when}
+use Rattle.ss_contexts.specs.declared.meaning.Meaning.{Meaning}
+use Rattle.ss_contexts.specs.declared.meaning.Meaning.TheVariants as meanings
+use Rattle.ss_contexts.specs.Answers.{each, if_there}
+use Rattle.ss_contexts.specs.Contexts.{Context, permanent_class}
+use Rattle.ss_contexts.specs.Expressions.{expression, subscript, target, set_named}
+use Rattle.ss_contexts.specs.Conditions.{one_test, conjunction, condition}
+use Rattle.ss_contexts.specs.Heads.{called_variable, guard, head, loop_variable, phrase, phrases_of, start}
+use Rattle.ss_contexts.specs.Statements.{entity_called, mode_of, new_place, position, reader, restart, told_of, when}
 use Rattle.ss_sizes.proofs.Within.{Within, up, change, after, behind, plain_small, there_small, each_small}
 use Rattle.ss_sizes.proofs.Expressions.{entity_small, small, subscript_small, target_small, set_small}
 

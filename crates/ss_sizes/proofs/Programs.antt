@@ -23,10 +23,10 @@ use Rattle.ss_names.specs.Table.{Table, table}
 use Rattle.ss_entities.specs.Variables.{declared_by, declared_told, event_by, is_notice_class, notice, priority_by, priority_told, ranks, routine_by}
 use Rattle.ss_program.specs.Program.{Program}
 use Rattle.ss_program.specs.Nodes.{total, option_nodes, block_nodes, routine_nodes, event_nodes, nodes}
-use Rattle.ss_resolve.specs.Answers.{◌>>=◌, each, upto, where_holds}
-use Rattle.ss_whole.specs.Layouts.{laid_out, tie_keys}
-use Rattle.ss_whole.specs.Meanings.{context_in}
-use Rattle.ss_whole.specs.Resolved.{Parts, body, class_event, is_known, is_main, local_modes, main_parts, parts_at, parts_of, resolved, resolved_event, resolved_routine, saved}
+use Rattle.ss_contexts.specs.Answers.{◌>>=◌, each, upto, where_holds}
+use Rattle.ss_meant.specs.Layouts.{laid_out, tie_keys}
+use Rattle.ss_meant.specs.Meanings.{context_in}
+use Rattle.ss_meant.specs.Resolved.{Parts, body, class_event, is_known, is_main, local_modes, main_parts, parts_at, parts_of, resolved, resolved_event, resolved_routine, saved}
 use Rattle.ss_sizes.specs.Laws.{ProgramsStaySmall}
 use Rattle.ss_sizes.proofs.Within.{Within, within_of, after, behind}
 use Rattle.ss_sizes.proofs.Statements.{row_small}

@@ -18,7 +18,7 @@ use Rattle.ss_entities.specs.declared.entry.Event.{Event}
 use Rattle.ss_entities.specs.declared.entry.Routine.{Routine}
 use Rattle.ss_entities.specs.Variables.{event_by, routine_by}
 use Rattle.ss_program.specs.Nodes.{total, option_nodes}
-use Rattle.ss_whole.specs.Resolved.{is_main}
+use Rattle.ss_meant.specs.Resolved.{is_main}
 use Rattle.ss_sizes.proofs.Sums.{total_append}
 
 -- a section and its statements

@@ -8,12 +8,12 @@ use Rattle.ss_tree.specs.Nodes as tree
 use Rattle.ss_tree.specs.Tree.{HeadTree, over_range, over_members, over_class, guarded, StatementTree, let_statement, add_statement, subtract_statement, call_statement, return_statement, stop_statement, read_statement, start_simulation, if_statement, loop_statement, find_statement, find_if_statement, create_statement, create_every, destroy_statement, file_statement, remove_end, remove_statement, schedule_new, schedule_statement, cancel_statement, reset_statement, print_statement, skip_statement, StatementRow, no_statement, and_statement}
 use Rattle.ss_program.specs.Nodes.{total, expression_nodes, condition_nodes, guard_nodes, phrase_nodes, place_nodes, target_nodes, head_nodes, position_nodes, when_nodes, restart_nodes, statement_nodes, block_nodes}
 use Rattle.ss_program.specs.Program.{Block, Done}
-use Rattle.ss_resolve.specs.Answers.{each}
-use Rattle.ss_resolve.specs.Contexts.{Context, single_class, notice_class, counted}
-use Rattle.ss_resolve.specs.Conditions.{condition}
-use Rattle.ss_resolve.specs.Expressions.{expression, target, set_named}
-use Rattle.ss_resolve.specs.Heads.{guard, head, phrase, phrases_of}
-use Rattle.ss_resolve.specs.Statements.{entity_called, find, find_by, for_over, loop, new_place, position, reader, restart, statement, statements, when}
+use Rattle.ss_contexts.specs.Answers.{each}
+use Rattle.ss_contexts.specs.Contexts.{Context, single_class, notice_class, counted}
+use Rattle.ss_contexts.specs.Conditions.{condition}
+use Rattle.ss_contexts.specs.Expressions.{expression, target, set_named}
+use Rattle.ss_contexts.specs.Heads.{guard, head, phrase, phrases_of}
+use Rattle.ss_contexts.specs.Statements.{entity_called, find, find_by, for_over, loop, new_place, position, reader, restart, statement, statements, when}
 use Rattle.ss_sizes.specs.Laws.{BodiesStaySmall}
 use Rattle.ss_sizes.proofs.Within.{Within, within_of, up, after, behind, where_small, each_small, each_as_many}
 use Rattle.ss_sizes.proofs.Expressions.{small, target_small, set_small}

@@ -8,7 +8,7 @@ use Rattle.std.proofs.lemmas.List.Sums.{sum_by-append, sum_by-cons}
 use Rattle.ss_sayings.specs.Sayings.{NameBytes}
 use Rattle.ss_firsts.specs.Firsts.{entry_beside, firsts, same_name, told_of, with_first}
 use Rattle.ss_program.specs.Nodes.{total, option_nodes}
-use Rattle.ss_resolve.specs.Answers.{◌>>=◌, each, upto}
+use Rattle.ss_contexts.specs.Answers.{◌>>=◌, each, upto}
 use Rattle.ss_sizes.proofs.Within.{Within, up, each_small}
 
 pub total_append : {A : Type 0} (g : A → ℕ) (xs ys : List A) → total g (xs ++ ys) ≡ total g xs + total g ys

@@ -4,8 +4,8 @@ use Rattle.std.specs.Prelude.{sum_by}
 use Rattle.std.proofs.lemmas.List.Sums.{sum_by-cons}
 use Rattle.ss_program.specs.Program.{Expression}
 use Rattle.ss_program.specs.Nodes.{total, option_nodes}
-use Rattle.ss_resolve.specs.Answers.{◌>>=◌, each, if_there, where_holds}
-use Rattle.ss_resolve.specs.Expressions.{plain}
+use Rattle.ss_contexts.specs.Answers.{◌>>=◌, each, if_there, where_holds}
+use Rattle.ss_contexts.specs.Expressions.{plain}
 use Rattle.ss_tree.specs.Nodes as tree
 
 abbrev pub Within : {A : Type 0} → (A → ℕ) → ℕ → Option A → Type 0

@@ -6,9 +6,9 @@ use Rattle.ss_scopes.specs.Whole.{Whole}
 use Rattle.ss_names.specs.Table.{table}
 use Rattle.ss_program.specs.Program.{Block, Program}
 use Rattle.ss_program.specs.Nodes.{block_nodes, nodes}
-use Rattle.ss_resolve.specs.Contexts.{Context}
-use Rattle.ss_resolve.specs.Statements.{statements}
-use Rattle.ss_whole.specs.Resolved.{resolved}
+use Rattle.ss_contexts.specs.Contexts.{Context}
+use Rattle.ss_contexts.specs.Statements.{statements}
+use Rattle.ss_meant.specs.Resolved.{resolved}
 
 -- the statements of a body, whatever its names mean
 abbrev pub BodiesStaySmall : Type 0

@@ -6,18 +6,18 @@ ghost use Rattle.ss_tree.specs.View.{view_program, view_section};
 ghost use Rattle.ss_declared.specs.Broken.{refusal, refusal_by};
 ghost use Rattle.ss_firsts.specs.Firsts.{place_in};
 ghost use Rattle.ss_names.specs.Table.{declared};
-ghost use Rattle.ss_whole.specs.Layouts.{layout};
+ghost use Rattle.ss_meant.specs.Layouts.{layout};
 ghost use Rattle.ss_tables.specs.Tables.{AreTables, AreTablesOf, Tells};
 
 use crate::error::{TableError, error_of};
 use ss_base::Layout;
 use ss_breaches::refusal_of;
 use ss_laid::laws::layouts_are_there;
+use ss_meant::layout;
 use ss_names::laws::names_stand_once;
 use ss_names::{NameId, Names};
 use ss_sayings::{Saying, sayings_of};
 use ss_tree::program::{Program, Section};
-use ss_whole::layout;
 use std::alloc::{AllocError, Global};
 use std::marker::Model;
 

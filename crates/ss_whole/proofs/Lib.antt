@@ -1,3 +1,1 @@
-mod Each
 mod Found
-mod Numbers

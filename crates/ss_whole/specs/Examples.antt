@@ -19,12 +19,12 @@ use Rattle.ss_program.specs.declared.expression.Operator.TheVariants.{Add, Subtr
 use Rattle.ss_program.specs.declared.expression.SetQuery.TheVariants.{MemberCount}
 use Rattle.ss_program.specs.declared.expression.Variable.TheVariants.{Global, Local}
 use Rattle.ss_program.specs.Program.{Expression, Constant, Fetch, Attribute, OfSystemSet, OfSet, OfMember, TimeOf, Figure, Calculate, TheSystem, Entity, ToVariable, ToCount, ByDiscipline, At, Each, For, Create, CreateEvery, File, ScheduleNew, Reset, Done}
-use Rattle.ss_resolve.specs.Contexts.{Context}
-use Rattle.ss_resolve.specs.Expressions.{expression, subscript, two, factors, terms, target}
-use Rattle.ss_resolve.specs.Heads.{head}
-use Rattle.ss_resolve.specs.Answers.{each}
-use Rattle.ss_whole.specs.Meanings.{context_in}
-use Rattle.ss_resolve.specs.Statements.{statement, statements}
+use Rattle.ss_contexts.specs.Contexts.{Context}
+use Rattle.ss_contexts.specs.Expressions.{expression, subscript, two, factors, terms, target}
+use Rattle.ss_contexts.specs.Heads.{head}
+use Rattle.ss_contexts.specs.Answers.{each}
+use Rattle.ss_meant.specs.Meanings.{context_in}
+use Rattle.ss_contexts.specs.Statements.{statement, statements}
 
 abbrev line : ℕ → Line
 line n = record { 0 = n }

@@ -24,12 +24,12 @@ use Rattle.ss_program.specs.declared.expression.Variable.TheVariants.{Local}
 use Rattle.ss_program.specs.declared.sections.Subject.TheVariants.{OfAttribute, OfCount}
 use Rattle.ss_program.specs.declared.sections.Weighting.TheVariants.{Tally, Accumulate}
 use Rattle.ss_program.specs.Program.{Constant, Fetch, ToVariable, Let, Done, Then, Routine, Event, Program}
-use Rattle.ss_resolve.specs.Answers.{each, upto}
-use Rattle.ss_resolve.specs.Expressions.{expression, subscript}
-use Rattle.ss_resolve.specs.Statements.{statement, statements}
-use Rattle.ss_whole.specs.Layouts.{disciplines, layout, tie_keys}
-use Rattle.ss_whole.specs.Meanings.{context_in}
-use Rattle.ss_whole.specs.Resolved.{resolved}
+use Rattle.ss_contexts.specs.Answers.{each, upto}
+use Rattle.ss_contexts.specs.Expressions.{expression, subscript}
+use Rattle.ss_contexts.specs.Statements.{statement, statements}
+use Rattle.ss_meant.specs.Layouts.{disciplines, layout, tie_keys}
+use Rattle.ss_meant.specs.Meanings.{context_in}
+use Rattle.ss_meant.specs.Resolved.{resolved}
 
 abbrev line : ℕ → Line
 line n = record { 0 = n }

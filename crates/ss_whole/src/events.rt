@@ -3,19 +3,18 @@
 ghost use Rattle.std.specs.Prelude.{◌≡◌, length, map, IfOk};
 ghost use Rattle.ss_tree.specs.View.{view_section};
 ghost use Rattle.ss_program.specs.View.{view_event};
-ghost use Rattle.ss_resolve.specs.Answers.{Gives, each, upto};
-ghost use Rattle.ss_whole.specs.Resolved.{class_event, class_variable, event_of, resolved_event, saved};
+ghost use Rattle.ss_contexts.specs.Answers.{Gives, each, upto};
+ghost use Rattle.ss_meant.specs.Resolved.{class_event, class_variable, event_of, resolved_event, saved};
 ghost use Rattle.ss_whole.specs.View.{view_parts};
 
-use crate::ranking::resolve_ties;
 use crate::sections::{Parts, parts_at, split};
-use crate::words::narrow;
 use ss_base::{RankKey, RankKeys};
+use ss_contexts::ResolveError;
 use ss_entities::Event as EventSection;
 use ss_lex::Name;
+use ss_meant::{narrow, resolve_ties};
 use ss_names::{Meaning, Names};
 use ss_program::sections::Event;
-use ss_resolve::ResolveError;
 use ss_scopes::Globals;
 use ss_tree::program::Section;
 use std::alloc::{AllocError, Global};

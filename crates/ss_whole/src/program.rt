@@ -5,17 +5,17 @@ ghost use Rattle.std.specs.List.{find, list_all};
 ghost use Rattle.std.specs.Option.{option_copied};
 ghost use Rattle.ss_tree.specs.View.{view_section};
 ghost use Rattle.ss_program.specs.View.{view_option, view_program};
-ghost use Rattle.ss_resolve.specs.Answers.{Gives};
-ghost use Rattle.ss_whole.specs.Resolved.{is_known, is_main, main_parts, parts_of, resolved};
+ghost use Rattle.ss_contexts.specs.Answers.{Gives};
+ghost use Rattle.ss_meant.specs.Resolved.{is_known, is_main, main_parts, parts_of, resolved};
 ghost use Rattle.ss_whole.specs.View.{view_parts};
 
 use crate::events::resolve_events;
-use crate::laid::lay_out;
 use crate::routines::resolve_routines;
 use crate::sections::{Parts, parts_of};
+use ss_contexts::ResolveError;
+use ss_meant::lay_out;
 use ss_names::Names;
 use ss_program::sections::Program as Resolved;
-use ss_resolve::ResolveError;
 use ss_scopes::Globals;
 use ss_tree::program::{Program, Section, SectionKind};
 use std::alloc::{AllocError, Global};
@@ -77,7 +77,7 @@ fn main_parts<G: Globals>(
 }
 
 // The program, by its sections.
-#[tactic(auto, unfolding(crate::specs::Resolved::resolved))]
+#[tactic(auto, unfolding(ss_meant::specs::Resolved::resolved))]
 fn resolved<G: Globals>(
     alloc: Global,
     names: &Names,

@@ -3,14 +3,14 @@
 ghost use Rattle.std.specs.Prelude.{◌≡◌, length, map, IfOk};
 ghost use Rattle.ss_tree.specs.View.{view_section};
 ghost use Rattle.ss_program.specs.View.{view_routine};
-ghost use Rattle.ss_resolve.specs.Answers.{Gives, each, upto};
-ghost use Rattle.ss_whole.specs.Resolved.{resolved_routine, routine_of};
+ghost use Rattle.ss_contexts.specs.Answers.{Gives, each, upto};
+ghost use Rattle.ss_meant.specs.Resolved.{resolved_routine, routine_of};
 ghost use Rattle.ss_whole.specs.View.{view_parts};
 
 use crate::sections::{Parts, parts_at, split};
+use ss_contexts::ResolveError;
 use ss_names::Names;
 use ss_program::sections::Routine;
-use ss_resolve::ResolveError;
 use ss_scopes::Globals;
 use ss_tree::program::Section;
 use std::alloc::{AllocError, Global};

@@ -3,16 +3,16 @@
 ghost use Rattle.std.specs.Prelude.{◌≡◌, drop, length, map, take};
 ghost use Rattle.ss_tree.specs.View.{view_section};
 ghost use Rattle.ss_program.specs.View.{view_body};
-ghost use Rattle.ss_resolve.specs.Answers.{Gives, each, upto};
-ghost use Rattle.ss_whole.specs.Resolved.{body, local_mode, local_modes, parts_at, parts_of, parts_with};
+ghost use Rattle.ss_contexts.specs.Answers.{Gives, each, upto};
+ghost use Rattle.ss_meant.specs.Resolved.{body, local_mode, local_modes, parts_at, parts_of, parts_with};
 ghost use Rattle.ss_whole.specs.View.{view_parts};
 
-use crate::scope::SectionScope;
-use crate::words::mode_given;
 use ss_base::{Line, Mode};
+use ss_contexts::ResolveError;
+use ss_meant::{SectionScope, mode_given};
 use ss_names::Names;
 use ss_program::statement::Statement;
-use ss_resolve::{ResolveError, resolve_body};
+use ss_resolve::resolve_body;
 use ss_scopes::{Globals, Locals};
 use ss_tree::program::Section;
 use std::alloc::Global;

@@ -3,10 +3,10 @@ use Rattle.ss_tree.specs.Nodes.{statement_nodes, statements_nodes}
 use Rattle.ss_tree.specs.Tree.{statement_row}
 use Rattle.ss_tree.specs.View.{view_statement}
 use Rattle.ss_program.specs.View.{view_body, view_statement as view_resolved}
-use Rattle.ss_resolve.specs.Answers.{Gives}
-use Rattle.ss_resolve.specs.Statements.{bodies_seen}
+use Rattle.ss_contexts.specs.Answers.{Gives}
+use Rattle.ss_resolve.specs.Results.{bodies_seen}
 use Rattle.ss_resolve.proofs.Nested.{if_first_less, if_second_less, find_if_first_less, find_if_second_less, loop_body_less, statement_less, inner_fails, inner_if, inner_loop, inner_find_if, no_statements, statements_fail, statements_next}
-use Rattle.ss_resolve.proofs.Steps.{failed, fails_then}
+use Rattle.ss_contexts.proofs.Steps.{failed, fails_then}
 use Rattle.ss_resolve.proofs.bodies.+nesting.Goals as goal
 
 pub resolve_inner-returns-in_err-first-in-If : goal.resolve_inner-returns-in_err-first-in-If

@@ -3,7 +3,7 @@ use Rattle.ss_tree.specs.Nodes.{statement_nodes, statements_nodes}
 use Rattle.ss_tree.specs.Tree.{statement_row}
 use Rattle.ss_tree.specs.View.{view_statement}
 use Rattle.ss_program.specs.View.{view_body}
-use Rattle.ss_resolve.specs.Statements.{statements}
+use Rattle.ss_contexts.specs.Statements.{statements}
 use Rattle.ss_resolve.proofs.bodies.+nesting.Given as goal
 
 abbrev pub decreases-resolve_inner : goal.decreases-resolve_inner

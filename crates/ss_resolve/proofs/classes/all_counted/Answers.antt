@@ -1,6 +1,6 @@
-use Rattle.ss_resolve.specs.Contexts.{counted}
-use Rattle.ss_resolve.proofs.Each.{no_plain_items, each_plain_fails, each_plain_next}
-use Rattle.ss_resolve.proofs.Steps.{failed}
+use Rattle.ss_contexts.specs.Contexts.{counted}
+use Rattle.ss_contexts.proofs.Each.{no_plain_items, each_plain_fails, each_plain_next}
+use Rattle.ss_contexts.proofs.Steps.{failed}
 use Rattle.ss_resolve.proofs.classes.all_counted.Goals as goal
 
 pub loop-tree-init : goal.loop-tree-init

@@ -1,6 +1,6 @@
 use Rattle.std.proofs.Common.{◌≡◌, take, Some}
-use Rattle.ss_resolve.specs.Answers.{each}
-use Rattle.ss_resolve.specs.Contexts.{counted}
+use Rattle.ss_contexts.specs.Answers.{each}
+use Rattle.ss_contexts.specs.Contexts.{counted}
 use Rattle.ss_resolve.proofs.classes.all_counted.Given as goal
 
 abbrev pub invariant-loop-tree : goal.invariant-loop-tree

@@ -1,8 +1,8 @@
 use Rattle.ss_tree.specs.View.{view_conjunction}
 use Rattle.ss_program.specs.View.{view_conjunction as conjunction_seen}
-use Rattle.ss_resolve.specs.Conditions.{conjunction}
-use Rattle.ss_resolve.proofs.Each.{no_items, each_fails, each_next}
-use Rattle.ss_resolve.proofs.Steps.{failed}
+use Rattle.ss_contexts.specs.Conditions.{conjunction}
+use Rattle.ss_contexts.proofs.Each.{no_items, each_fails, each_next}
+use Rattle.ss_contexts.proofs.Steps.{failed}
 use Rattle.ss_resolve.proofs.conditions.resolve_alternatives.Goals as goal
 
 pub loop-tree-init : goal.loop-tree-init

@@ -3,9 +3,9 @@ use Rattle.ss_tree.specs.View.{view_expression, view_term}
 use Rattle.ss_program.specs.View.{view_expression as view_resolved, view_option}
 use Rattle.ss_program.specs.Views.{with_operation}
 use Rattle.std.specs.List.{fold}
-use Rattle.ss_resolve.specs.Answers.{Gives}
-use Rattle.ss_resolve.specs.Expressions.{expression, one, subscript, two}
-use Rattle.ss_resolve.proofs.Steps.{failed, fails_then}
+use Rattle.ss_contexts.specs.Answers.{Gives}
+use Rattle.ss_contexts.specs.Expressions.{expression, one, subscript, two}
+use Rattle.ss_contexts.proofs.Steps.{failed, fails_then}
 use Rattle.ss_resolve.proofs.Trees.{named_is, call_is, product_fails, sum_fails, product_made, sum_made, subscript_is, subscripts_none, one_is, not_one, two_is, less_than_two, more_than_two, factors_fail, terms_fail, no_factors, no_terms, factors_next, terms_next}
 use Rattle.ss_resolve.proofs.expressions.+resolving.Goals as goal
 

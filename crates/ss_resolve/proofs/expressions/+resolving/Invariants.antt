@@ -4,7 +4,7 @@ use Rattle.ss_tree.specs.Tree.{expression_row, term_row}
 use Rattle.ss_tree.specs.View.{view_expression, view_term}
 use Rattle.ss_program.specs.Program.{Expression}
 use Rattle.ss_program.specs.Views.{with_operation}
-use Rattle.ss_resolve.specs.Expressions.{factors, terms}
+use Rattle.ss_contexts.specs.Expressions.{factors, terms}
 use Rattle.ss_resolve.proofs.expressions.+resolving.Given as goal
 
 abbrev pub invariant-resolve_factors-loop-tree : goal.invariant-resolve_factors-loop-tree

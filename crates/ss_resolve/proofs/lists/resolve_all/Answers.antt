@@ -1,8 +1,8 @@
 use Rattle.ss_tree.specs.View.{view_expression}
 use Rattle.ss_program.specs.View.{view_expression as view_resolved}
-use Rattle.ss_resolve.specs.Expressions.{expression}
-use Rattle.ss_resolve.proofs.Each.{no_items, each_fails, each_next}
-use Rattle.ss_resolve.proofs.Steps.{failed}
+use Rattle.ss_contexts.specs.Expressions.{expression}
+use Rattle.ss_contexts.proofs.Each.{no_items, each_fails, each_next}
+use Rattle.ss_contexts.proofs.Steps.{failed}
 use Rattle.ss_resolve.proofs.lists.resolve_all.Goals as goal
 
 pub loop-tree-init : goal.loop-tree-init

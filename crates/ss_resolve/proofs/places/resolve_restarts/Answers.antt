@@ -1,8 +1,8 @@
 use Rattle.ss_tree.specs.View.{view_named}
 use Rattle.ss_program.specs.View.{view_restart}
-use Rattle.ss_resolve.specs.Statements.{restart}
-use Rattle.ss_resolve.proofs.Each.{no_items, each_fails, each_next}
-use Rattle.ss_resolve.proofs.Steps.{failed}
+use Rattle.ss_contexts.specs.Statements.{restart}
+use Rattle.ss_contexts.proofs.Each.{no_items, each_fails, each_next}
+use Rattle.ss_contexts.proofs.Steps.{failed}
 use Rattle.ss_resolve.proofs.places.resolve_restarts.Goals as goal
 
 pub loop-tree-init : goal.loop-tree-init

@@ -1,9 +1,9 @@
 use Rattle.std.proofs.Common.{length, map, subst, ◌<◌}
 use Rattle.ss_tree.specs.View.{view_section}
 use Rattle.ss_program.specs.View.{view_routine}
-use Rattle.ss_whole.specs.Resolved.{resolved_routine}
-use Rattle.ss_whole.proofs.Each.{failed}
-use Rattle.ss_whole.proofs.Numbers.{numbers_fail, no_numbers, numbers_next}
+use Rattle.ss_meant.specs.Resolved.{resolved_routine}
+use Rattle.ss_contexts.proofs.Steps.{failed}
+use Rattle.ss_meant.proofs.Numbers.{numbers_fail, no_numbers, numbers_next}
 use Rattle.ss_whole.proofs.routines.resolve_routines.Goals as goal
 
 pub loop-number-init : goal.loop-number-init

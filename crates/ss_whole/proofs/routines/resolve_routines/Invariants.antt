@@ -1,8 +1,8 @@
 use Rattle.std.proofs.Common.{◌≡◌, map, Some}
 use Rattle.ss_tree.specs.View.{view_section}
 use Rattle.ss_program.specs.View.{view_routine}
-use Rattle.ss_resolve.specs.Answers.{each, upto}
-use Rattle.ss_whole.specs.Resolved.{resolved_routine}
+use Rattle.ss_contexts.specs.Answers.{each, upto}
+use Rattle.ss_meant.specs.Resolved.{resolved_routine}
 use Rattle.ss_whole.proofs.routines.resolve_routines.Given as goal
 
 abbrev pub invariant-loop-number : goal.invariant-loop-number

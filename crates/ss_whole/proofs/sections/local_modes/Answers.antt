@@ -1,7 +1,7 @@
 use Rattle.std.proofs.Common.{length, subst, ◌<◌}
-use Rattle.ss_whole.specs.Resolved.{local_mode}
-use Rattle.ss_whole.proofs.Each.{failed}
-use Rattle.ss_whole.proofs.Numbers.{numbers_fail, no_plain_numbers, plain_numbers_next}
+use Rattle.ss_meant.specs.Resolved.{local_mode}
+use Rattle.ss_contexts.proofs.Steps.{failed}
+use Rattle.ss_meant.proofs.Numbers.{numbers_fail, no_plain_numbers, plain_numbers_next}
 use Rattle.ss_whole.proofs.sections.local_modes.Goals as goal
 
 pub loop-number-init : goal.loop-number-init

@@ -1,6 +1,6 @@
 use Rattle.std.proofs.Common.{◌≡◌, Some}
-use Rattle.ss_resolve.specs.Answers.{each, upto}
-use Rattle.ss_whole.specs.Resolved.{local_mode}
+use Rattle.ss_contexts.specs.Answers.{each, upto}
+use Rattle.ss_meant.specs.Resolved.{local_mode}
 use Rattle.ss_whole.proofs.sections.local_modes.Given as goal
 
 abbrev pub invariant-loop-number : goal.invariant-loop-number

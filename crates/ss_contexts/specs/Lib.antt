@@ -1,0 +1,6 @@
+pub mod Answers
+pub mod Contexts
+pub mod Expressions
+pub mod Conditions
+pub mod Heads
+pub mod Statements

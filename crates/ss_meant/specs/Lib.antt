@@ -1,0 +1,5 @@
+pub mod Words
+pub mod Meanings
+pub mod Layouts
+pub mod Resolved
+pub mod View

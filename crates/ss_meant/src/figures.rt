@@ -1,0 +1,113 @@
+//! Statistics as values.
+
+ghost use Rattle.ss_contexts.specs.Answers.{Gives};
+ghost use Rattle.ss_meant.specs.Meanings.{figure, figure_owned, statistic, statistic_of};
+
+use crate::variables::class_variable;
+use crate::words::{fold_of, narrow};
+use ss_base::Owner;
+use ss_contexts::{Meaning, ResolveError};
+use ss_lex::Name;
+use ss_names::{Names, Subject};
+use ss_program::expression::Fold;
+use ss_scopes::Locals;
+use ss_tree::expression::Designator;
+
+// A statistic of N. of the set of an owner.
+fn figure_owned(
+    names: &Names,
+    locals: &Locals,
+    fold: Fold,
+    history: usize,
+    owner: Owner,
+) -> Result<Meaning, ResolveError>
+    ensures { Gives (λ x. x) result (figure_owned names.now locals.now fold history owner) }
+{
+    match owner {
+        Owner::System => {
+            let statistic = narrow(history)?;
+            Ok(Meaning::Figure { fold, statistic })
+        }
+        Owner::Class(class) => {
+            let implied = class_variable(names, locals, class)?;
+            let statistic = narrow(history)?;
+            Ok(Meaning::FigureOf {
+                fold,
+                statistic,
+                implied,
+            })
+        }
+    }
+}
+
+// A statistic by what it is kept of.
+fn figure(
+    names: &Names,
+    locals: &Locals,
+    fold: Fold,
+    history: usize,
+    subject: Subject,
+) -> Result<Meaning, ResolveError>
+    ensures { Gives (λ x. x) result (figure names.now locals.now fold history subject) }
+{
+    match subject {
+        Subject::Variable(_) => {
+            let statistic = narrow(history)?;
+            Ok(Meaning::Figure { fold, statistic })
+        }
+        Subject::Attribute(number) => {
+            let Some(known) = names.attribute(number) else {
+                return Err(ResolveError::Unresolved);
+            };
+            let implied = class_variable(names, locals, known.class)?;
+            let statistic = narrow(history)?;
+            Ok(Meaning::FigureOf {
+                fold,
+                statistic,
+                implied,
+            })
+        }
+        Subject::MemberCount(number) => {
+            let Some(set) = names.set(number) else {
+                return Err(ResolveError::Unresolved);
+            };
+            let Some(owner) = set.owner else {
+                return Err(ResolveError::Unresolved);
+            };
+            figure_owned(names, locals, fold, history, owner)
+        }
+    }
+}
+
+// The statistic of a number.
+pub(crate) fn statistic(
+    names: &Names,
+    locals: &Locals,
+    number: usize,
+) -> Result<Meaning, ResolveError>
+    ensures { Gives (λ x. x) result (statistic names.now locals.now number) }
+{
+    let Some(known) = names.statistic(number) else {
+        return Err(ResolveError::Unresolved);
+    };
+    let Some(history) = names.history(known.history) else {
+        return Err(ResolveError::Unresolved);
+    };
+    let Some(subject) = history.subject else {
+        return Err(ResolveError::Unresolved);
+    };
+    figure(names, locals, fold_of(known.kind), known.history, subject)
+}
+
+// The number of the statistic that is kept of a name.
+pub(crate) fn statistic_of_name(names: &Names, name: Name) -> Result<u32, ResolveError>
+    ensures { Gives (λ x. x) result (statistic_of names.now (Designator.Name name)) }
+{
+    match names.history_of(&name) {
+        Some(history) => {
+            let statistic = narrow(history)?;
+            Ok(statistic)
+        }
+        None => Err(ResolveError::Unresolved),
+    }
+}
