@@ -1,9 +1,9 @@
 //! The classes, and the modes that DEFINE and NORMALLY say.
 
-ghost use Rattle.std.specs.Prelude.{◌≡◌, OnOk, IfOk};
-ghost use Rattle.std.specs.List.{flat_map, fold};
+ghost use Rattle.std.specs.Prelude.{◌≡◌, IfOk};
+ghost use Rattle.std.specs.List.{flat_map};
 ghost use Rattle.ss_entities.specs.Entities.{class_by, defined_by, normal_told, usual_mode};
-ghost use Rattle.ss_firsts.specs.Firsts.{firsts, with_first};
+ghost use Rattle.ss_firsts.specs.Firsts.{firsts};
 
 use crate::entry::Class;
 use crate::telling::{Telling, firsts_told};

@@ -3,12 +3,10 @@
 ghost use Rattle.std.specs.Prelude.{◌≡◌, IfOk};
 ghost use Rattle.ss_entities.specs.Notices.{notices};
 ghost use Rattle.ss_entities.specs.Entities.{classes as classes_said};
-ghost use Rattle.ss_entities.specs.Keys.{rank_keys, tie_keys};
-ghost use Rattle.ss_entities.specs.Variables.{ranks_among};
 
-use crate::making::beside;
 use crate::entry::{Class, Event};
 use crate::keys::{RankedBy, TiedBy, rank_keys_of, tie_keys_of};
+use crate::making::beside;
 use crate::ranks::ranks_of;
 use crate::sections::events_of;
 use indexmap::IndexMap;

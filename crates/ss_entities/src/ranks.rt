@@ -1,7 +1,7 @@
 //! The classes of notices in the order of rank.
 
 ghost use Rattle.std.specs.Prelude.{◌≡◌, OnOk, IfOk};
-ghost use Rattle.std.specs.List.{flat_map, fold};
+ghost use Rattle.std.specs.List.{fold};
 ghost use Rattle.ss_firsts.specs.Firsts.{told_of, with_first};
 ghost use Rattle.ss_entities.specs.Variables.{declared_by, is_notice_kind, is_notice_class, notice, priority_by, ranks_among};
 

@@ -1,8 +1,8 @@
 //! Routines and EVENT sections.
 
-ghost use Rattle.std.specs.Prelude.{◌≡◌, OnOk, IfOk};
-ghost use Rattle.std.specs.List.{flat_map, fold};
-ghost use Rattle.ss_firsts.specs.Firsts.{firsts, with_first};
+ghost use Rattle.std.specs.Prelude.{◌≡◌, IfOk};
+ghost use Rattle.std.specs.List.{flat_map};
+ghost use Rattle.ss_firsts.specs.Firsts.{firsts};
 ghost use Rattle.ss_entities.specs.Variables.{event_by, routine_by};
 
 use crate::entry::{Event, Routine};

@@ -3,7 +3,7 @@
 ghost use Rattle.std.specs.Prelude.{◌≡◌, map, OnOk, IfOk};
 ghost use Rattle.std.specs.List.{flat_map, fold};
 ghost use Rattle.ss_entities.specs.Entities.{classes as classes_said, member_by, ordering_by, orderings as orderings_said, owner_by, set_by, set_names as set_names_said, set_of, sets as sets_said};
-ghost use Rattle.ss_firsts.specs.Firsts.{each_once, firsts, with_first, with_name, with_name_if};
+ghost use Rattle.ss_firsts.specs.Firsts.{each_once, firsts, with_name, with_name_if};
 
 use crate::entry::{Class, Ordering, Set};
 use crate::telling::{Telling, firsts_told};

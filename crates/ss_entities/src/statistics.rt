@@ -5,8 +5,8 @@ ghost use Rattle.std.specs.List.{flat_map, fold};
 ghost use Rattle.ss_firsts.specs.Firsts.{firsts, with_first};
 ghost use Rattle.ss_entities.specs.Statistics.{statistic_by, statistic_of, statistics, weighing_by, weighings};
 
-use crate::making::beside;
 use crate::entry::Statistic;
+use crate::making::beside;
 use crate::telling::{Telling, firsts_told};
 use indexmap::IndexMap;
 use ss_firsts::keep_first;
