@@ -138,12 +138,36 @@ none_told (Some x) h = absurd cc
 
 -- ---- loops
 
+-- one more
+next_one : {X : Type 0} (xs : List X) (i : ℕ) (x : X) → i < length xs → x ≡ get_or xs i x → take (i + 1) xs ≡ take i xs ++ x ∷ []
+next_one xs i x lt is = take_more xs i x lt ∙ ap (λ y. take i xs ++ y ∷ []) (sym is)
+
+-- what one more stands for comes behind
+map_more : {X A : Type 0} (f : X → A) (xs : List X) (i : ℕ) (x : X) → i < length xs → x ≡ get_or xs i x → map f (take i xs) ++ f x ∷ [] ≡ map f (take (i + 1) xs)
+map_more f xs i x lt is = sym (ap (map f) (next_one xs i x lt is) ∙ map_push f (take i xs) x)
+
+-- what one more lists comes behind
+list_more : {X A : Type 0} (f : X → List A) (xs : List X) (i : ℕ) (x : X) → i < length xs → x ≡ get_or xs i x → flat_map f (take i xs) ++ f x ≡ flat_map f (take (i + 1) xs)
+list_more f xs i x lt is =
+    sym (ap (flat_map f) (next_one xs i x lt is) ∙ flat_map-append f (take i xs) (x ∷ []) ∙ ap (λ l. flat_map f (take i xs) ++ l) (append_nil (f x)))
+
+-- what one more tells comes behind some entries
+told_more : {X V : Type 0} (f : X → List (NameBytes × V)) (es : List (NameBytes × V)) (xs : List X) (i : ℕ) (x : X) → i < length xs → x ≡ get_or xs i x → fold with_first (fold with_first es (flat_map f (take i xs))) (f x) ≡ fold with_first es (flat_map f (take (i + 1) xs))
+told_more f es xs i x lt is = sym (ap (fold with_first es) (sym (list_more f xs i x lt is)) ∙ fold-append with_first es (flat_map f (take i xs)) (f x))
+
+-- the lists that a loop goes on from, and those that it goes on to
+pub listed_after : {X A : Type 0} (f : X → List A) (xs : List X) (i : ℕ) (x : X) (before after : List A) → i < length xs → x ≡ get_or xs i x → before ≡ flat_map f (take i xs) → after ≡ before ++ f x → after ≡ flat_map f (take (i + 1) xs)
+listed_after f xs i x before after lt is b a = a ∙ ap (λ l. l ++ f x) b ∙ list_more f xs i x lt is
+
+pub mapped_after : {X A : Type 0} (f : X → A) (xs : List X) (i : ℕ) (x : X) (y : A) (before after : List A) → i < length xs → x ≡ get_or xs i x → before ≡ map f (take i xs) → y ≡ f x → after ≡ before ++ y ∷ [] → after ≡ map f (take (i + 1) xs)
+mapped_after f xs i x y before after lt is b e a = a ∙ (λ k. b k ++ e k ∷ []) ∙ map_more f xs i x lt is
+
+pub told_after : {X V : Type 0} (f : X → List (NameBytes × V)) (es : List (NameBytes × V)) (xs : List X) (i : ℕ) (x : X) (before after : List (NameBytes × V)) → i < length xs → x ≡ get_or xs i x → before ≡ fold with_first es (flat_map f (take i xs)) → after ≡ fold with_first before (f x) → after ≡ fold with_first es (flat_map f (take (i + 1) xs))
+told_after f es xs i x before after lt is b a = a ∙ ap (λ l. fold with_first l (f x)) b ∙ told_more f es xs i x lt is
+
 -- what one more tells comes behind
 pub firsts_more : {X V : Type 0} (f : X → List (NameBytes × V)) (xs : List X) (i : ℕ) (x : X) → i < length xs → x ≡ get_or xs i x → fold with_first (firsts (flat_map f (take i xs))) (f x) ≡ firsts (flat_map f (take (i + 1) xs))
-firsts_more f xs i x lt is =
-    let next : take (i + 1) xs ≡ take i xs ++ x ∷ [] = take_more xs i x lt ∙ ap (λ y. take i xs ++ y ∷ []) (sym is) in
-    sym (ap (λ l. firsts (flat_map f l)) next ∙ ap firsts (flat_map-append f (take i xs) (x ∷ []) ∙ ap (λ l. flat_map f (take i xs) ++ l) (append_nil (f x)))
-    ∙ fold-append with_first [] (flat_map f (take i xs)) (f x))
+firsts_more f xs i x lt is = told_more f [] xs i x lt is
 
 -- how many rows there are
 pub row_count : (usual : Option Mode) (defined : List (NameBytes × Mode)) (n : ℕ) (owned : List (NameBytes × ℕ)) (a : AttributesSeen) → AreAttributes usual defined n owned a → length a.fields ≡ n

@@ -1,11 +1,12 @@
 //! The classes, and the modes that DEFINE and NORMALLY say.
 
-ghost use Rattle.std.specs.Prelude.{◌≡◌, OnOk, IfOk};
-ghost use Rattle.std.specs.List.{flat_map, fold};
+ghost use Rattle.std.specs.Prelude.{◌≡◌, IfOk};
+ghost use Rattle.std.specs.List.{flat_map};
 ghost use Rattle.ss_entities.specs.Entities.{class_by, defined_by, normal_told, usual_mode};
-ghost use Rattle.ss_firsts.specs.Firsts.{firsts, with_first};
+ghost use Rattle.ss_firsts.specs.Firsts.{firsts};
 
 use crate::entry::Class;
+use crate::telling::{Telling, firsts_told};
 use indexmap::IndexMap;
 use ss_firsts::keep_first;
 use ss_lex::Name;
@@ -34,16 +35,29 @@ pub fn usual_mode(sayings: &[Saying]) -> Option<Mode>
     found
 }
 
-// Keeps the mode that a DEFINE gives a name.
-fn note_defined(entries: &mut IndexMap<Name, Mode>, saying: &Saying) -> Result<(), AllocError>
-    ensures { OnOk result (entries.new.entries ≡ fold with_first entries.old.entries (defined_by saying.now)) }
-{
-    match &saying.said {
-        Said::Variable { mode } => match &saying.name {
-            Some(name) => keep_first(entries, *name, *mode),
-            None => Ok(()),
-        },
-        _ => Ok(()),
+// The modes of DEFINE.
+struct DefinedModes;
+
+impl Telling for DefinedModes {
+    type Told = Mode;
+
+    type Known = ();
+
+    ghost tells = { λ known. defined_by };
+
+    // Keeps the mode that a DEFINE gives a name.
+    fn note(
+        entries: &mut IndexMap<Name, Mode>,
+        known: &(),
+        saying: &Saying,
+    ) -> Result<(), AllocError> {
+        match &saying.said {
+            Said::Variable { mode } => match &saying.name {
+                Some(name) => keep_first(entries, *name, *mode),
+                None => Ok(()),
+            },
+            _ => Ok(()),
+        }
     }
 }
 
@@ -51,29 +65,38 @@ fn note_defined(entries: &mut IndexMap<Name, Mode>, saying: &Saying) -> Result<(
 pub fn defined_modes(alloc: Global, sayings: &[Saying]) -> Result<IndexMap<Name, Mode>, AllocError>
     ensures { IfOk result (λ entries. entries.entries ≡ firsts (flat_map (defined_by) sayings.now)) }
 {
-    let mut entries = IndexMap::new(alloc);
-    for saying in sayings {
-        note_defined(&mut entries, saying)?;
-    }
-    Ok(entries)
+    firsts_told::<DefinedModes>(alloc, &(), sayings)
 }
 
-// Keeps a class.
-fn note_class(entries: &mut IndexMap<Name, Class>, saying: &Saying) -> Result<(), AllocError>
-    ensures { OnOk result (entries.new.entries ≡ fold with_first entries.old.entries (class_by saying.now)) }
-{
-    match &saying.said {
-        Said::Class { kind } => match &saying.name {
-            Some(name) => {
-                let class = Class {
-                    kind: *kind,
-                    line: saying.line,
-                };
-                keep_first(entries, *name, class)
+// The classes that are declared.
+struct Classes;
+
+impl Telling for Classes {
+    type Told = Class;
+
+    type Known = ();
+
+    ghost tells = { λ known. class_by };
+
+    // Keeps a class.
+    fn note(
+        entries: &mut IndexMap<Name, Class>,
+        known: &(),
+        saying: &Saying,
+    ) -> Result<(), AllocError> {
+        match &saying.said {
+            Said::Class { kind } => match &saying.name {
+                Some(name) => {
+                    let class = Class {
+                        kind: *kind,
+                        line: saying.line,
+                    };
+                    keep_first(entries, *name, class)
+                },
+                None => Ok(()),
             },
-            None => Ok(()),
-        },
-        _ => Ok(()),
+            _ => Ok(()),
+        }
     }
 }
 
@@ -81,9 +104,5 @@ fn note_class(entries: &mut IndexMap<Name, Class>, saying: &Saying) -> Result<()
 pub fn classes_of(alloc: Global, sayings: &[Saying]) -> Result<IndexMap<Name, Class>, AllocError>
     ensures { IfOk result (λ entries. entries.entries ≡ firsts (flat_map (class_by) sayings.now)) }
 {
-    let mut entries = IndexMap::new(alloc);
-    for saying in sayings {
-        note_class(&mut entries, saying)?;
-    }
-    Ok(entries)
+    firsts_told::<Classes>(alloc, &(), sayings)
 }

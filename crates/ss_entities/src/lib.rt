@@ -6,11 +6,13 @@ mod classes;
 mod entities;
 mod entry;
 mod keys;
+mod making;
 mod notices;
 mod ranks;
 mod sections;
 mod sets;
 mod statistics;
+mod telling;
 mod variables;
 
 pub use attributes::Attributes;
@@ -20,6 +22,7 @@ pub use entry::{
     Attribute, Class, Event, Ordering, Routine, Set, Statistic, Variable, VariableKind,
 };
 pub use keys::{RankedBy, TiedBy};
+pub use making::beside;
 pub use notices::{Notices, notices_of};
 pub use sections::routines_of;
 pub use sets::{set_names, sets_in};

@@ -1,11 +1,12 @@
 //! The classes of notices in the order of rank.
 
 ghost use Rattle.std.specs.Prelude.{◌≡◌, OnOk, IfOk};
-ghost use Rattle.std.specs.List.{flat_map, fold};
+ghost use Rattle.std.specs.List.{fold};
 ghost use Rattle.ss_firsts.specs.Firsts.{told_of, with_first};
 ghost use Rattle.ss_entities.specs.Variables.{declared_by, is_notice_kind, is_notice_class, notice, priority_by, ranks_among};
 
 use crate::entry::Class;
+use crate::telling::{Telling, firsts_told, more_told};
 use indexmap::IndexMap;
 use ss_firsts::keep_if;
 use ss_lex::Name;
@@ -49,66 +50,56 @@ fn keep_notice(
     }
 }
 
-// Keeps a class of notices that PRIORITY ORDER names.
-fn note_priority(
-    entries: &mut IndexMap<Name, usize>,
-    classes: &IndexMap<Name, Class>,
-    saying: &Saying,
-) -> Result<(), AllocError>
-    ensures { OnOk result (entries.new.entries ≡ fold with_first entries.old.entries (priority_by classes.now.entries saying.now)) }
-{
-    match &saying.said {
-        Said::Priority => match &saying.name {
-            Some(name) => keep_notice(entries, classes, name),
-            None => Ok(()),
-        },
-        _ => Ok(()),
+// The classes of PRIORITY ORDER.
+struct Priorities;
+
+impl Telling for Priorities {
+    type Told = usize;
+
+    type Known = IndexMap<Name, Class>;
+
+    ghost tells = { λ classes. priority_by classes.entries };
+
+    // Keeps a class of notices that PRIORITY ORDER names.
+    fn note(
+        entries: &mut IndexMap<Name, usize>,
+        classes: &IndexMap<Name, Class>,
+        saying: &Saying,
+    ) -> Result<(), AllocError> {
+        match &saying.said {
+            Said::Priority => match &saying.name {
+                Some(name) => keep_notice(entries, classes, name),
+                None => Ok(()),
+            },
+            _ => Ok(()),
+        }
     }
 }
 
-// Keeps a class of notices that is declared.
-fn note_declared(
-    entries: &mut IndexMap<Name, usize>,
-    classes: &IndexMap<Name, Class>,
-    saying: &Saying,
-) -> Result<(), AllocError>
-    ensures { OnOk result (entries.new.entries ≡ fold with_first entries.old.entries (declared_by classes.now.entries saying.now)) }
-{
-    match &saying.said {
-        Said::Class { .. } => match &saying.name {
-            Some(name) => keep_notice(entries, classes, name),
-            None => Ok(()),
-        },
-        _ => Ok(()),
-    }
-}
+// The classes that are declared.
+struct Declared;
 
-// Adds the classes of PRIORITY ORDER.
-fn add_priorities(
-    entries: &mut IndexMap<Name, usize>,
-    classes: &IndexMap<Name, Class>,
-    sayings: &[Saying],
-) -> Result<(), AllocError>
-    ensures { OnOk result (entries.new.entries ≡ fold with_first entries.old.entries (flat_map (priority_by classes.now.entries) sayings.now)) }
-{
-    for saying in sayings {
-        note_priority(entries, classes, saying)?;
-    }
-    Ok(())
-}
+impl Telling for Declared {
+    type Told = usize;
 
-// Adds the classes that are declared.
-fn add_declared(
-    entries: &mut IndexMap<Name, usize>,
-    classes: &IndexMap<Name, Class>,
-    sayings: &[Saying],
-) -> Result<(), AllocError>
-    ensures { OnOk result (entries.new.entries ≡ fold with_first entries.old.entries (flat_map (declared_by classes.now.entries) sayings.now)) }
-{
-    for saying in sayings {
-        note_declared(entries, classes, saying)?;
+    type Known = IndexMap<Name, Class>;
+
+    ghost tells = { λ classes. declared_by classes.entries };
+
+    // Keeps a class of notices that is declared.
+    fn note(
+        entries: &mut IndexMap<Name, usize>,
+        classes: &IndexMap<Name, Class>,
+        saying: &Saying,
+    ) -> Result<(), AllocError> {
+        match &saying.said {
+            Said::Class { .. } => match &saying.name {
+                Some(name) => keep_notice(entries, classes, name),
+                None => Ok(()),
+            },
+            _ => Ok(()),
+        }
     }
-    Ok(())
 }
 
 /// The classes of notices with their numbers: those of PRIORITY ORDER in that order, then the others as
@@ -120,8 +111,6 @@ pub fn ranks_of(
 ) -> Result<IndexMap<Name, usize>, AllocError>
     ensures { IfOk result (λ entries. entries.entries ≡ ranks_among classes.now.entries sayings.now) }
 {
-    let mut entries = IndexMap::new(alloc);
-    add_priorities(&mut entries, classes, sayings)?;
-    add_declared(&mut entries, classes, sayings)?;
-    Ok(entries)
+    let first = firsts_told::<Priorities>(alloc, classes, sayings)?;
+    more_told::<Declared>(first, classes, sayings)
 }

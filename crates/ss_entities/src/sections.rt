@@ -1,38 +1,52 @@
 //! Routines and EVENT sections.
 
-ghost use Rattle.std.specs.Prelude.{◌≡◌, OnOk, IfOk};
-ghost use Rattle.std.specs.List.{flat_map, fold};
-ghost use Rattle.ss_firsts.specs.Firsts.{firsts, with_first};
+ghost use Rattle.std.specs.Prelude.{◌≡◌, IfOk};
+ghost use Rattle.std.specs.List.{flat_map};
+ghost use Rattle.ss_firsts.specs.Firsts.{firsts};
 ghost use Rattle.ss_entities.specs.Variables.{event_by, routine_by};
 
 use crate::entry::{Event, Routine};
+use crate::telling::{Telling, firsts_told};
 use indexmap::IndexMap;
 use ss_firsts::keep_first;
 use ss_lex::Name;
 use ss_sayings::{Said, Saying};
 use std::alloc::{AllocError, Global};
 
-// Keeps a routine.
-fn note_routine(entries: &mut IndexMap<Name, Routine>, saying: &Saying) -> Result<(), AllocError>
-    ensures { OnOk result (entries.new.entries ≡ fold with_first entries.old.entries (routine_by saying.now)) }
-{
-    match &saying.said {
-        Said::Routine {
-            section,
-            given,
-            yielding,
-        } => match &saying.name {
-            Some(name) => {
-                let routine = Routine {
-                    section: *section,
-                    given: *given,
-                    yielding: *yielding,
-                };
-                keep_first(entries, *name, routine)
+// The routines.
+struct Routines;
+
+impl Telling for Routines {
+    type Told = Routine;
+
+    type Known = ();
+
+    ghost tells = { λ known. routine_by };
+
+    // Keeps a routine.
+    fn note(
+        entries: &mut IndexMap<Name, Routine>,
+        known: &(),
+        saying: &Saying,
+    ) -> Result<(), AllocError> {
+        match &saying.said {
+            Said::Routine {
+                section,
+                given,
+                yielding,
+            } => match &saying.name {
+                Some(name) => {
+                    let routine = Routine {
+                        section: *section,
+                        given: *given,
+                        yielding: *yielding,
+                    };
+                    keep_first(entries, *name, routine)
+                },
+                None => Ok(()),
             },
-            None => Ok(()),
-        },
-        _ => Ok(()),
+            _ => Ok(()),
+        }
     }
 }
 
@@ -40,34 +54,43 @@ fn note_routine(entries: &mut IndexMap<Name, Routine>, saying: &Saying) -> Resul
 pub fn routines_of(alloc: Global, sayings: &[Saying]) -> Result<IndexMap<Name, Routine>, AllocError>
     ensures { IfOk result (λ entries. entries.entries ≡ firsts (flat_map (routine_by) sayings.now)) }
 {
-    let mut entries = IndexMap::new(alloc);
-    for saying in sayings {
-        note_routine(&mut entries, saying)?;
-    }
-    Ok(entries)
+    firsts_told::<Routines>(alloc, &(), sayings)
 }
 
-// Keeps an EVENT section.
-fn note_event(entries: &mut IndexMap<Name, Event>, saying: &Saying) -> Result<(), AllocError>
-    ensures { OnOk result (entries.new.entries ≡ fold with_first entries.old.entries (event_by saying.now)) }
-{
-    match &saying.said {
-        Said::Event {
-            section,
-            given,
-            saving,
-        } => match &saying.name {
-            Some(name) => {
-                let event = Event {
-                    section: *section,
-                    given: *given,
-                    saving: *saving,
-                };
-                keep_first(entries, *name, event)
+// The EVENT sections.
+struct Events;
+
+impl Telling for Events {
+    type Told = Event;
+
+    type Known = ();
+
+    ghost tells = { λ known. event_by };
+
+    // Keeps an EVENT section.
+    fn note(
+        entries: &mut IndexMap<Name, Event>,
+        known: &(),
+        saying: &Saying,
+    ) -> Result<(), AllocError> {
+        match &saying.said {
+            Said::Event {
+                section,
+                given,
+                saving,
+            } => match &saying.name {
+                Some(name) => {
+                    let event = Event {
+                        section: *section,
+                        given: *given,
+                        saving: *saving,
+                    };
+                    keep_first(entries, *name, event)
+                },
+                None => Ok(()),
             },
-            None => Ok(()),
-        },
-        _ => Ok(()),
+            _ => Ok(()),
+        }
     }
 }
 
@@ -75,9 +98,5 @@ fn note_event(entries: &mut IndexMap<Name, Event>, saying: &Saying) -> Result<()
 pub fn events_of(alloc: Global, sayings: &[Saying]) -> Result<IndexMap<Name, Event>, AllocError>
     ensures { IfOk result (λ entries. entries.entries ≡ firsts (flat_map (event_by) sayings.now)) }
 {
-    let mut entries = IndexMap::new(alloc);
-    for saying in sayings {
-        note_event(&mut entries, saying)?;
-    }
-    Ok(entries)
+    firsts_told::<Events>(alloc, &(), sayings)
 }

@@ -3,9 +3,10 @@
 ghost use Rattle.std.specs.Prelude.{◌≡◌, map, OnOk, IfOk};
 ghost use Rattle.std.specs.List.{flat_map, fold};
 ghost use Rattle.ss_entities.specs.Entities.{classes as classes_said, member_by, ordering_by, orderings as orderings_said, owner_by, set_by, set_names as set_names_said, set_of, sets as sets_said};
-ghost use Rattle.ss_firsts.specs.Firsts.{each_once, firsts, with_first, with_name, with_name_if};
+ghost use Rattle.ss_firsts.specs.Firsts.{each_once, firsts, with_name, with_name_if};
 
 use crate::entry::{Class, Ordering, Set};
+use crate::telling::{Telling, firsts_told};
 use indexmap::{IndexMap, IndexSet};
 use ss_base::Owner;
 use ss_firsts::{keep_first, keep_if};
@@ -13,28 +14,37 @@ use ss_lex::Name;
 use ss_sayings::{Said, Saying};
 use std::alloc::{AllocError, Global};
 
-// Keeps the owner of a set.
-fn note_owner(
-    entries: &mut IndexMap<Name, Owner>,
-    classes: &IndexMap<Name, Class>,
-    saying: &Saying,
-) -> Result<(), AllocError>
-    ensures { OnOk result (entries.new.entries ≡ fold with_first entries.old.entries (owner_by classes.now.entries saying.now)) }
-{
-    match &saying.said {
-        Said::SystemSet => match &saying.name {
-            Some(name) => keep_first(entries, *name, Owner::System),
-            None => Ok(()),
-        },
-        Said::OwnedSet { class } => match &saying.name {
-            Some(name) => keep_if(
-                entries,
-                *name,
-                classes.get_index_of(class).map(Owner::Class),
-            ),
-            None => Ok(()),
-        },
-        _ => Ok(()),
+// The owners of sets.
+struct Owners;
+
+impl Telling for Owners {
+    type Told = Owner;
+
+    type Known = IndexMap<Name, Class>;
+
+    ghost tells = { λ classes. owner_by classes.entries };
+
+    // Keeps the owner of a set.
+    fn note(
+        entries: &mut IndexMap<Name, Owner>,
+        classes: &IndexMap<Name, Class>,
+        saying: &Saying,
+    ) -> Result<(), AllocError> {
+        match &saying.said {
+            Said::SystemSet => match &saying.name {
+                Some(name) => keep_first(entries, *name, Owner::System),
+                None => Ok(()),
+            },
+            Said::OwnedSet { class } => match &saying.name {
+                Some(name) => keep_if(
+                    entries,
+                    *name,
+                    classes.get_index_of(class).map(Owner::Class),
+                ),
+                None => Ok(()),
+            },
+            _ => Ok(()),
+        }
     }
 }
 
@@ -46,27 +56,32 @@ pub fn owners_of(
 ) -> Result<IndexMap<Name, Owner>, AllocError>
     ensures { IfOk result (λ entries. entries.entries ≡ firsts (flat_map (owner_by classes.now.entries) sayings.now)) }
 {
-    let mut entries = IndexMap::new(alloc);
-    for saying in sayings {
-        note_owner(&mut entries, classes, saying)?;
-    }
-    Ok(entries)
+    firsts_told::<Owners>(alloc, classes, sayings)
 }
 
-// Keeps the class of the members of a set.
-fn note_member(
-    entries: &mut IndexMap<Name, usize>,
-    classes: &IndexMap<Name, Class>,
-    saying: &Saying,
-) -> Result<(), AllocError>
-    ensures { OnOk result (entries.new.entries ≡ fold with_first entries.old.entries (member_by classes.now.entries saying.now)) }
-{
-    match &saying.said {
-        Said::MemberSet { class } => match &saying.name {
-            Some(name) => keep_if(entries, *name, classes.get_index_of(class)),
-            None => Ok(()),
-        },
-        _ => Ok(()),
+// The classes of the members of sets.
+struct Members;
+
+impl Telling for Members {
+    type Told = usize;
+
+    type Known = IndexMap<Name, Class>;
+
+    ghost tells = { λ classes. member_by classes.entries };
+
+    // Keeps the class of the members of a set.
+    fn note(
+        entries: &mut IndexMap<Name, usize>,
+        classes: &IndexMap<Name, Class>,
+        saying: &Saying,
+    ) -> Result<(), AllocError> {
+        match &saying.said {
+            Said::MemberSet { class } => match &saying.name {
+                Some(name) => keep_if(entries, *name, classes.get_index_of(class)),
+                None => Ok(()),
+            },
+            _ => Ok(()),
+        }
     }
 }
 
@@ -78,29 +93,38 @@ pub fn members_of(
 ) -> Result<IndexMap<Name, usize>, AllocError>
     ensures { IfOk result (λ entries. entries.entries ≡ firsts (flat_map (member_by classes.now.entries) sayings.now)) }
 {
-    let mut entries = IndexMap::new(alloc);
-    for saying in sayings {
-        note_member(&mut entries, classes, saying)?;
-    }
-    Ok(entries)
+    firsts_told::<Members>(alloc, classes, sayings)
 }
 
-// Keeps how a DEFINE orders a set.
-fn note_ordering(entries: &mut IndexMap<Name, Ordering>, saying: &Saying) -> Result<(), AllocError>
-    ensures { OnOk result (entries.new.entries ≡ fold with_first entries.old.entries (ordering_by saying.now)) }
-{
-    match &saying.said {
-        Said::Discipline { statement, rule } => match &saying.name {
-            Some(name) => {
-                let ordering = Ordering {
-                    statement: *statement,
-                    rule: *rule,
-                };
-                keep_first(entries, *name, ordering)
+// How DEFINE orders sets.
+struct Orderings;
+
+impl Telling for Orderings {
+    type Told = Ordering;
+
+    type Known = ();
+
+    ghost tells = { λ known. ordering_by };
+
+    // Keeps how a DEFINE orders a set.
+    fn note(
+        entries: &mut IndexMap<Name, Ordering>,
+        known: &(),
+        saying: &Saying,
+    ) -> Result<(), AllocError> {
+        match &saying.said {
+            Said::Discipline { statement, rule } => match &saying.name {
+                Some(name) => {
+                    let ordering = Ordering {
+                        statement: *statement,
+                        rule: *rule,
+                    };
+                    keep_first(entries, *name, ordering)
+                },
+                None => Ok(()),
             },
-            None => Ok(()),
-        },
-        _ => Ok(()),
+            _ => Ok(()),
+        }
     }
 }
 
@@ -111,11 +135,7 @@ pub fn orderings_of(
 ) -> Result<IndexMap<Name, Ordering>, AllocError>
     ensures { IfOk result (λ entries. entries.entries ≡ firsts (flat_map (ordering_by) sayings.now)) }
 {
-    let mut entries = IndexMap::new(alloc);
-    for saying in sayings {
-        note_ordering(&mut entries, saying)?;
-    }
-    Ok(entries)
+    firsts_told::<Orderings>(alloc, &(), sayings)
 }
 
 // Adds a name, unless it is there.

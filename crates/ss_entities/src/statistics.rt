@@ -6,6 +6,8 @@ ghost use Rattle.ss_firsts.specs.Firsts.{firsts, with_first};
 ghost use Rattle.ss_entities.specs.Statistics.{statistic_by, statistic_of, statistics, weighing_by, weighings};
 
 use crate::entry::Statistic;
+use crate::making::beside;
+use crate::telling::{Telling, firsts_told};
 use indexmap::IndexMap;
 use ss_firsts::keep_first;
 use ss_lex::Name;
@@ -13,16 +15,29 @@ use ss_sayings::{Said, Saying};
 use ss_tree::preamble::{StatisticKind, Weighting};
 use std::alloc::{AllocError, Global};
 
-// Keeps what a TALLY or an ACCUMULATE is of.
-fn note_weighing(entries: &mut IndexMap<Name, Weighting>, saying: &Saying) -> Result<(), AllocError>
-    ensures { OnOk result (entries.new.entries ≡ fold with_first entries.old.entries (weighing_by saying.now)) }
-{
-    match &saying.said {
-        Said::Subject { weighting } => match &saying.name {
-            Some(name) => keep_first(entries, *name, *weighting),
-            None => Ok(()),
-        },
-        _ => Ok(()),
+// What TALLY and ACCUMULATE are of.
+struct Weighings;
+
+impl Telling for Weighings {
+    type Told = Weighting;
+
+    type Known = ();
+
+    ghost tells = { λ known. weighing_by };
+
+    // Keeps what a TALLY or an ACCUMULATE is of.
+    fn note(
+        entries: &mut IndexMap<Name, Weighting>,
+        known: &(),
+        saying: &Saying,
+    ) -> Result<(), AllocError> {
+        match &saying.said {
+            Said::Subject { weighting } => match &saying.name {
+                Some(name) => keep_first(entries, *name, *weighting),
+                None => Ok(()),
+            },
+            _ => Ok(()),
+        }
     }
 }
 
@@ -33,11 +48,7 @@ pub fn weighings_of(
 ) -> Result<IndexMap<Name, Weighting>, AllocError>
     ensures { IfOk result (λ entries. entries.entries ≡ firsts (flat_map (weighing_by) sayings.now)) }
 {
-    let mut entries = IndexMap::new(alloc);
-    for saying in sayings {
-        note_weighing(&mut entries, saying)?;
-    }
-    Ok(entries)
+    firsts_told::<Weighings>(alloc, &(), sayings)
 }
 
 // Keeps a statistic, where its subject has a history.
@@ -55,20 +66,34 @@ fn keep_statistic(
     }
 }
 
-// Keeps a statistic.
-fn note_statistic(
-    entries: &mut IndexMap<Name, Statistic>,
-    weighings: &IndexMap<Name, Weighting>,
-    saying: &Saying,
-) -> Result<(), AllocError>
-    ensures { OnOk result (entries.new.entries ≡ fold with_first entries.old.entries (statistic_by weighings.now.entries saying.now)) }
-{
-    match &saying.said {
-        Said::Statistic { kind, subject, .. } => match &saying.name {
-            Some(name) => keep_statistic(entries, *kind, *name, weighings.get_index_of(subject)),
-            None => Ok(()),
-        },
-        _ => Ok(()),
+// The statistics.
+struct Statistics;
+
+impl Telling for Statistics {
+    type Told = Statistic;
+
+    type Known = IndexMap<Name, Weighting>;
+
+    ghost tells = { λ weighings. statistic_by weighings.entries };
+
+    // Keeps a statistic.
+    fn note(
+        entries: &mut IndexMap<Name, Statistic>,
+        weighings: &IndexMap<Name, Weighting>,
+        saying: &Saying,
+    ) -> Result<(), AllocError> {
+        match &saying.said {
+            Said::Statistic { kind, subject, .. } => match &saying.name {
+                Some(name) => keep_statistic(
+                    entries,
+                    *kind,
+                    *name,
+                    weighings.get_index_of(subject),
+                ),
+                None => Ok(()),
+            },
+            _ => Ok(()),
+        }
     }
 }
 
@@ -80,11 +105,7 @@ pub fn statistics_of(
 ) -> Result<IndexMap<Name, Statistic>, AllocError>
     ensures { IfOk result (λ entries. entries.entries ≡ firsts (flat_map (statistic_by weighings.now.entries) sayings.now)) }
 {
-    let mut entries = IndexMap::new(alloc);
-    for saying in sayings {
-        note_statistic(&mut entries, weighings, saying)?;
-    }
-    Ok(entries)
+    firsts_told::<Statistics>(alloc, weighings, sayings)
 }
 
 /// What TALLY and ACCUMULATE say: what they are of, and the statistics.
@@ -103,7 +124,8 @@ pub fn tellings_of(alloc: Global, sayings: &[Saying]) -> Result<Tellings, AllocE
     ensures statistics { IfOk result (λ t. t.statistics.entries ≡ statistics sayings.now) }
 {
     let weighings = weighings_of(alloc, sayings)?;
-    let statistics = statistics_of(alloc, &weighings, sayings)?;
+    let statistics = statistics_of(alloc, &weighings, sayings);
+    let (weighings, statistics) = beside(weighings, statistics)?;
     Ok(Tellings {
         weighings,
         statistics,

@@ -2,7 +2,7 @@
 
 ghost use Rattle.std.specs.Prelude.{◌≡◌, ◌<◌, [], length, slice_get, get_or, option_map, Some, IfOk};
 ghost use Rattle.std.specs.Map.{keys_of, values_of};
-ghost use Rattle.ss_entities.specs.Entities.{sets as sets_said};
+ghost use Rattle.ss_entities.specs.Entities.{classes as classes_said, sets as sets_said};
 ghost use Rattle.ss_firsts.specs.Firsts.{place_in, told_of};
 ghost use Rattle.ss_names.specs.Meanings.{meanings_in, numbered};
 ghost use Rattle.ss_entities.specs.Notices.{notices as notices_said};
@@ -13,8 +13,9 @@ use crate::histories::histories_of;
 use crate::meaning::{History, Meaning};
 use crate::meanings::{Meanings, meanings_of};
 use crate::numbers::{Numbers, numbers_of};
+use indexmap::IndexMap;
 use ss_entities::{
-    Attribute, Class, Event, Notices, RankedBy, Routine, Set, Statistic, TiedBy, Variable,
+    Attribute, Class, Event, Notices, RankedBy, Routine, Set, Statistic, TiedBy, Variable, beside,
     notices_of, sets_in, usual_mode,
 };
 use ss_firsts::{key_at, spelled_at, value_at};
@@ -68,7 +69,8 @@ fn named_in(alloc: Global, sayings: &[Saying]) -> Result<Named, AllocError>
     ensures names { IfOk result (λ n. n.names ≡ meanings_in (numbered sayings.now) sayings.now) }
 {
     let numbers = Box::new(alloc, numbers_of(alloc, sayings)?)?;
-    let names = meanings_of(alloc, &numbers, sayings)?;
+    let names = meanings_of(alloc, &numbers, sayings);
+    let (numbers, names) = beside(numbers, names)?;
     Ok(Named { numbers, names })
 }
 
@@ -78,6 +80,18 @@ struct Told {
     sets: Vec<Set>,
     notices: Box<Notices>,
     histories: Vec<History>,
+}
+
+// What is told of notices, where these are the classes.
+fn notices_in(
+    alloc: Global,
+    classes: &IndexMap<Name, Class>,
+    sayings: &[Saying],
+) -> Result<Box<Notices>, AllocError>
+    requires { classes.now.entries ≡ classes_said sayings.now }
+    ensures { IfOk result (λ n. n.value ≡ notices_said sayings.now) }
+{
+    Ok(Box::new(alloc, notices_of(alloc, classes, sayings)?)?)
 }
 
 // What is told of sets, notices and histories, where this is said.
@@ -98,11 +112,10 @@ fn told_in(
         &numbers.others.set_names,
         sayings,
     )?;
-    let notices = Box::new(
-        alloc,
-        notices_of(alloc, &numbers.entities.classes, sayings)?,
-    )?;
-    let histories = histories_of(alloc, names, &numbers.others.tellings.weighings)?;
+    let notices = notices_in(alloc, &numbers.entities.classes, sayings);
+    let (sets, notices) = beside(sets, notices)?;
+    let histories = histories_of(alloc, names, &numbers.others.tellings.weighings);
+    let ((sets, notices), histories) = beside((sets, notices), histories)?;
     Ok(Told {
         sets,
         notices,
@@ -120,7 +133,8 @@ impl Names {
         ensures { IfOk result (λ n. n ≡ declared sayings.now) }
     {
         let named = named_in(alloc, sayings)?;
-        let told = told_in(alloc, &named.numbers, &named.names, sayings)?;
+        let told = told_in(alloc, &named.numbers, &named.names, sayings);
+        let (named, told) = beside(named, told)?;
         let lists = Lists {
             names: named.names,
             usual: usual_mode(sayings),
@@ -138,8 +152,10 @@ impl Names {
     pub fn find(&self, spelling: &[u8]) -> Option<NameId>
         ensures { option_map (λ id. id.0) result ≡ place_in self.now.names spelling.now }
     {
-        let place = self.lists.names.place(spelling)?;
-        Some(NameId(place))
+        match self.lists.names.place(spelling) {
+            None => None,
+            Some(place) => Some(NameId(place)),
+        }
     }
 
     /// How many global and derived names there are. They have the places below that.

@@ -11,8 +11,8 @@ ghost use Rattle.ss_names.specs.Meanings.{class_name_meaning, count_meaning, num
 use crate::meaning::Meaning;
 use indexmap::{IndexMap, IndexSet};
 use ss_entities::{
-    Entities, Routine, Tellings, Variable, entities_of, routines_of, set_names, tellings_of,
-    variables_of,
+    Entities, Routine, Tellings, Variable, beside, entities_of, routines_of, set_names,
+    tellings_of, variables_of,
 };
 use ss_firsts::Spelling;
 use ss_lex::Name;
@@ -49,18 +49,26 @@ impl Numbers {
     pub fn class(&self, name: &Name) -> Option<Meaning>
         ensures { result ≡ class_name_meaning self.now name.now }
     {
-        let class = self.entities.classes.get_index_of(name)?;
-        let variable = self.variables.get_index_of(&Spelling::of_name(name))?;
-        Some(Meaning::Class { class, variable })
+        match self.entities.classes.get_index_of(name) {
+            None => None,
+            Some(class) => match self.variables.get_index_of(&Spelling::of_name(name)) {
+                None => None,
+                Some(variable) => Some(Meaning::Class { class, variable }),
+            },
+        }
     }
 
     /// What N. of a class stands for.
     pub fn count(&self, name: &Name) -> Option<Meaning>
         ensures { result ≡ count_meaning self.now name.now }
     {
-        let class = self.entities.classes.get_index_of(name)?;
-        let variable = self.variables.get_index_of(&Spelling::derived(b'N', name))?;
-        Some(Meaning::Count { class, variable })
+        match self.entities.classes.get_index_of(name) {
+            None => None,
+            Some(class) => match self.variables.get_index_of(&Spelling::derived(b'N', name)) {
+                None => None,
+                Some(variable) => Some(Meaning::Count { class, variable }),
+            },
+        }
     }
 
     /// What the name of an attribute stands for.
@@ -83,10 +91,10 @@ impl Numbers {
     {
         match self.entities.attributes.place(name) {
             Some(_) => None,
-            None => {
-                let variable = self.variables.get_index_of(&Spelling::of_name(name))?;
-                Some(Meaning::Variable(variable))
-            }
+            None => match self.variables.get_index_of(&Spelling::of_name(name)) {
+                None => None,
+                Some(variable) => Some(Meaning::Variable(variable)),
+            },
         }
     }
 
@@ -112,27 +120,6 @@ impl Numbers {
     }
 }
 
-// What is numbered with these sets.
-fn others_with(
-    alloc: Global,
-    set_names: IndexSet<Name>,
-    sayings: &[Saying],
-) -> Result<Box<Others>, AllocError>
-    ensures set_names { IfOk result (λ o. o.value.set_names.keys ≡ set_names.keys) }
-    ensures routines { IfOk result (λ o. o.value.routines.entries ≡ routines sayings.now) }
-    ensures statistics { IfOk result (λ o. o.value.tellings.statistics.entries ≡ statistics sayings.now) }
-    ensures weighings { IfOk result (λ o. o.value.tellings.weighings.entries ≡ weighings sayings.now) }
-{
-    let routines = routines_of(alloc, sayings)?;
-    let tellings = tellings_of(alloc, sayings)?;
-    let others = Others {
-        set_names,
-        routines,
-        tellings,
-    };
-    Ok(Box::new(alloc, others)?)
-}
-
 // What some sayings number without a look at classes and attributes.
 fn others_of(alloc: Global, sayings: &[Saying]) -> Result<Box<Others>, AllocError>
     ensures set_names { IfOk result (λ o. o.value.set_names.keys ≡ set_names_said sayings.now) }
@@ -141,32 +128,15 @@ fn others_of(alloc: Global, sayings: &[Saying]) -> Result<Box<Others>, AllocErro
     ensures weighings { IfOk result (λ o. o.value.tellings.weighings.entries ≡ weighings sayings.now) }
 {
     let set_names = set_names(alloc, sayings)?;
-    others_with(alloc, set_names, sayings)
-}
-
-// What is numbered with these classes and attributes.
-fn numbers_with(
-    alloc: Global,
-    entities: Box<Entities>,
-    sayings: &[Saying],
-) -> Result<Numbers, AllocError>
-    requires classes { entities.value.classes.entries ≡ classes sayings.now }
-    requires attributes { entities.value.attributes.entries ≡ attributes sayings.now }
-    requires fields { entities.value.attributes.fields ≡ fields sayings.now }
-    ensures { IfOk result (λ n. n ≡ numbered sayings.now) }
-{
-    let others = others_of(alloc, sayings)?;
-    let variables = variables_of(
-        alloc,
-        &entities.classes,
-        entities.attributes.entries(),
-        sayings,
-    )?;
-    Ok(Numbers {
-        entities,
-        others,
-        variables,
-    })
+    let (set_names, routines) = beside(set_names, routines_of(alloc, sayings))?;
+    let (others, tellings) = beside((set_names, routines), tellings_of(alloc, sayings))?;
+    let (set_names, routines) = others;
+    let others = Others {
+        set_names,
+        routines,
+        tellings,
+    };
+    Ok(Box::new(alloc, others)?)
 }
 
 /// What some sayings number.
@@ -174,5 +144,17 @@ pub fn numbers_of(alloc: Global, sayings: &[Saying]) -> Result<Numbers, AllocErr
     ensures { IfOk result (λ n. n ≡ numbered sayings.now) }
 {
     let entities = Box::new(alloc, entities_of(alloc, sayings)?)?;
-    numbers_with(alloc, entities, sayings)
+    let (entities, others) = beside(entities, others_of(alloc, sayings))?;
+    let variables = variables_of(
+        alloc,
+        &entities.classes,
+        entities.attributes.entries(),
+        sayings,
+    );
+    let ((entities, others), variables) = beside((entities, others), variables)?;
+    Ok(Numbers {
+        entities,
+        others,
+        variables,
+    })
 }

@@ -3,7 +3,7 @@ use Rattle.std.specs.List.{fold}
 use Rattle.ss_sayings.specs.declared.saying.Said.TheVariants as said
 use Rattle.ss_firsts.specs.Firsts.{with_first}
 use Rattle.ss_entities.specs.Statistics.{statistic_by, statistic_of, statistic_told}
-use Rattle.ss_entities.proofs.statistics.note_statistic.Goals as goal
+use Rattle.ss_entities.proofs.statistics.StatisticsTelling.note.Goals as goal
 
 pub returns-in-Some : goal.returns-in-Some
 returns-in-Some c =

@@ -1,8 +1,0 @@
-use Rattle.std.proofs.Common.{◌≡◌, take}
-use Rattle.std.specs.List.{flat_map}
-use Rattle.ss_firsts.specs.Firsts.{firsts}
-use Rattle.ss_entities.specs.Statistics.{statistic_by}
-use Rattle.ss_entities.proofs.statistics.statistics_of.Given as goal
-
-abbrev pub invariant-loop-saying : goal.invariant-loop-saying
-invariant-loop-saying l = l.entries.entries ≡ firsts (flat_map (statistic_by l.weighings.entries) (take l.saying-index l.sayings))
