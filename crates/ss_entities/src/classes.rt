@@ -7,8 +7,8 @@ ghost use Rattle.ss_firsts.specs.Firsts.{firsts, with_first};
 
 use crate::entry::Class;
 use indexmap::IndexMap;
+use ss_bytes::Name;
 use ss_firsts::keep_first;
-use ss_lex::Name;
 use ss_sayings::{Said, Saying};
 use ss_tree::preamble::Mode;
 use std::alloc::{AllocError, Global};

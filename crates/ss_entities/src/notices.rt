@@ -11,7 +11,7 @@ use crate::keys::{RankedBy, TiedBy, rank_keys_of, tie_keys_of};
 use crate::ranks::ranks_of;
 use crate::sections::events_of;
 use indexmap::IndexMap;
-use ss_lex::Name;
+use ss_bytes::Name;
 use ss_sayings::Saying;
 use std::alloc::{AllocError, Global};
 use std::marker::Model;

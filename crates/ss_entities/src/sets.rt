@@ -8,8 +8,8 @@ ghost use Rattle.ss_firsts.specs.Firsts.{each_once, firsts, with_first, with_nam
 use crate::entry::{Class, Ordering, Set};
 use indexmap::{IndexMap, IndexSet};
 use ss_base::Owner;
+use ss_bytes::Name;
 use ss_firsts::{keep_first, keep_if};
-use ss_lex::Name;
 use ss_sayings::{Said, Saying};
 use std::alloc::{AllocError, Global};
 

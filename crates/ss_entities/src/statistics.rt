@@ -7,8 +7,8 @@ ghost use Rattle.ss_entities.specs.Statistics.{statistic_by, statistic_of, stati
 
 use crate::entry::Statistic;
 use indexmap::IndexMap;
+use ss_bytes::Name;
 use ss_firsts::keep_first;
-use ss_lex::Name;
 use ss_sayings::{Said, Saying};
 use ss_tree::preamble::{StatisticKind, Weighting};
 use std::alloc::{AllocError, Global};

@@ -8,7 +8,7 @@ use crate::error::ResolveError;
 use crate::meaning::ClassMeant;
 use crate::scope::Scope;
 use ss_base::ClassKind;
-use ss_lex::Name;
+use ss_bytes::Name;
 use ss_program::statement::Counted;
 use std::alloc::Global;
 

@@ -15,7 +15,7 @@ use crate::results::beside;
 use crate::scope::Scope;
 use crate::words::end_of;
 use ss_base::Line;
-use ss_lex::Name;
+use ss_bytes::Name;
 use ss_program::statement::{Position as ResolvedPosition, Statement as Resolved};
 use ss_tree::expression::{Expression, Named};
 use ss_tree::statement::{Position, SetEnd};

@@ -15,7 +15,7 @@ use crate::places::{resolve_readers, resolve_target, resolve_targets};
 use crate::results::beside;
 use crate::scope::Scope;
 use ss_base::Line;
-use ss_lex::{Name, PictureLine};
+use ss_bytes::{Name, PictureLine};
 use ss_program::expression::{Expression as Value, Sign};
 use ss_program::statement::{Place, Statement as Resolved};
 use ss_tree::expression::{Expression, Named};

@@ -15,7 +15,7 @@ use crate::section::first_in_sections;
 use crate::uses::{SectionUses, all_uses};
 use indexmap::IndexSet;
 use ss_base::Line;
-use ss_lex::Name;
+use ss_bytes::Name;
 use ss_scopes::Globals;
 use ss_tree::program::{Program, Section};
 use std::alloc::{AllocError, Global};

@@ -6,7 +6,7 @@ ghost use Rattle.ss_whole.specs.Meanings.{figure, figure_owned, statistic, stati
 use crate::variables::class_variable;
 use crate::words::{fold_of, narrow};
 use ss_base::Owner;
-use ss_lex::Name;
+use ss_bytes::Name;
 use ss_names::{Names, Subject};
 use ss_program::expression::Fold;
 use ss_resolve::{Meaning, ResolveError};

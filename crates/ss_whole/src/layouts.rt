@@ -6,8 +6,8 @@ ghost use Rattle.ss_whole.specs.Layouts.{attribute_named, class_laid, field_mode
 
 use crate::words::{class_kind, mode_given};
 use ss_base::{ClassLayout, Layout, Mode, SetLayout};
+use ss_bytes::Name;
 use ss_entities::Attribute;
-use ss_lex::Name;
 use ss_names::Names;
 use ss_resolve::ResolveError;
 use std::alloc::{AllocError, Global};

@@ -7,8 +7,8 @@ ghost use Rattle.ss_whole.specs.Meanings.{class_of, count_behind, count_kind, gl
 use crate::variables::{class_variable, variable_of};
 use crate::words::{class_kind, narrow};
 use ss_base::Owner;
+use ss_bytes::Name;
 use ss_entities::VariableKind;
-use ss_lex::Name;
 use ss_names::{Meaning as Global, Names};
 use ss_resolve::{ClassMeant, ResolveError, RoutineMeant, SetMeant};
 use ss_scopes::Locals;

@@ -8,8 +8,8 @@ ghost use Rattle.ss_whole.specs.Layouts.{discipline, discipline_ordered, discipl
 
 use crate::layouts::attribute_named;
 use ss_base::{Discipline, RankKey, RankKeys};
+use ss_bytes::Name;
 use ss_entities::{Ordering, RankedBy, TiedBy};
-use ss_lex::Name;
 use ss_names::Names;
 use ss_resolve::ResolveError;
 use ss_sayings::SetRule;

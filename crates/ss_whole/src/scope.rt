@@ -5,7 +5,7 @@ ghost use Rattle.ss_whole.specs.Meanings.{context_in};
 use crate::figures::statistic_of_name;
 use crate::places::{class_of, routine_of, set_of_name};
 use crate::values::name_meaning;
-use ss_lex::Name;
+use ss_bytes::Name;
 use ss_names::Names;
 use ss_resolve::{ClassMeant, Meaning, ResolveError, RoutineMeant, Scope, SetMeant};
 use ss_scopes::Locals;

@@ -5,7 +5,7 @@ ghost use Rattle.ss_resolve.specs.Answers.{Gives};
 ghost use Rattle.ss_whole.specs.Meanings.{class_variable, global_variable, local_meaning, variable_of, variable_of_class};
 
 use crate::words::{mode_given, mode_said, narrow};
-use ss_lex::Name;
+use ss_bytes::Name;
 use ss_names::{Meaning as Global, Names};
 use ss_program::expression::Variable;
 use ss_resolve::{Meaning, ResolveError};
