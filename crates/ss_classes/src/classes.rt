@@ -9,10 +9,10 @@ use ss_base::{ClassKind, Layout, Mode, Value};
 
 /// The kind of a class, where the layout has it.
 #[inline(always)]
-pub fn class_kind(layout: &Layout, class: u32) -> Option<ClassKind>
+pub fn class_kind(layout: &Layout, class: usize) -> Option<ClassKind>
     ensures { result ≡ kind_at layout.now class }
 {
-    match layout.classes.get(class as usize) {
+    match layout.classes.get(class) {
         None => None,
         Some(class) => Some(class.kind),
     }
@@ -20,16 +20,16 @@ pub fn class_kind(layout: &Layout, class: u32) -> Option<ClassKind>
 
 /// The mode of a field, where the layout has it.
 #[inline(always)]
-pub fn field_mode(layout: &Layout, class: u32, field: usize) -> Option<Mode>
+pub fn field_mode(layout: &Layout, class: usize, field: usize) -> Option<Mode>
     ensures { result ≡ mode_in (class_in layout.now class) field }
 {
-    let class = layout.classes.get(class as usize)?;
+    let class = layout.classes.get(class)?;
     class.fields.get(field).copied()
 }
 
 /// Whether a value has the mode of a field that the layout has.
 #[inline(always)]
-pub fn fits(layout: &Layout, class: u32, field: usize, value: &Value) -> bool
+pub fn fits(layout: &Layout, class: usize, field: usize, value: &Value) -> bool
     ensures { result ≡ is_of_mode value.now (mode_in (class_in layout.now class) field) }
 {
     match field_mode(layout, class, field) {
@@ -41,10 +41,10 @@ pub fn fits(layout: &Layout, class: u32, field: usize, value: &Value) -> bool
 
 /// Whether the entities of a class come and go one by one.
 #[inline(always)]
-pub fn is_single(layout: &Layout, class: u32) -> bool
+pub fn is_single(layout: &Layout, class: usize) -> bool
     ensures { result ≡ is_single (class_in layout.now class) }
 {
-    match layout.classes.get(class as usize) {
+    match layout.classes.get(class) {
         None => false,
         Some(class) => class.kind != ClassKind::Permanent,
     }
@@ -52,10 +52,10 @@ pub fn is_single(layout: &Layout, class: u32) -> bool
 
 /// Whether the entities of a class are made all together.
 #[inline(always)]
-pub fn is_permanent(layout: &Layout, class: u32) -> bool
+pub fn is_permanent(layout: &Layout, class: usize) -> bool
     ensures { result ≡ is_permanent (class_in layout.now class) }
 {
-    match layout.classes.get(class as usize) {
+    match layout.classes.get(class) {
         None => false,
         Some(class) => class.kind == ClassKind::Permanent,
     }

@@ -8,7 +8,7 @@ use ss_notices::NoticeClass;
 
 /// The place of a class among those of notices.
 #[inline(always)]
-pub fn rank_of(notices: &[NoticeClass], class: u32) -> Option<usize>
+pub fn rank_of(notices: &[NoticeClass], class: usize) -> Option<usize>
     ensures { ranked_from 0 notices.now class ≡ ranked_at notices.now result }
 {
     for rank in 0..notices.len() {

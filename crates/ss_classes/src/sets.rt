@@ -9,20 +9,20 @@ use ss_base::{Layout, Owner, Value};
 
 /// Whether the layout has a set.
 #[inline(always)]
-pub fn has_set(layout: &Layout, set: u32) -> bool
+pub fn has_set(layout: &Layout, set: usize) -> bool
     ensures value { result ≡ is_some (set_in layout.now set) }
     ensures within { IsTrue result → set < length layout.now.sets }
 {
-    (set as usize) < layout.sets.len()
+    set < layout.sets.len()
 }
 
 /// The number of the owner of a set, 0 for the system, by who owns the sets of its name, where the layout has the set
 /// and what refers to the owner fits.
 #[inline(always)]
-pub fn owner_of(layout: &Layout, set: u32, owner: Option<Value>) -> Option<i64>
+pub fn owner_of(layout: &Layout, set: usize, owner: Option<Value>) -> Option<i64>
     ensures { owner_by (set_in layout.now set) owner ≡ sure result }
 {
-    match layout.sets.get(set as usize) {
+    match layout.sets.get(set) {
         None => None,
         Some(layout) => match layout.owner {
             Owner::System => match owner {

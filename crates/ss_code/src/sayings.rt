@@ -14,10 +14,10 @@ use ss_program::sections::{Event, Program};
 use std::alloc::{AllocError, Global};
 
 // The mode of a field, where there is one.
-fn mode_of_field(layout: &Layout, class: u32, field: usize) -> Option<Mode>
+fn mode_of_field(layout: &Layout, class: usize, field: usize) -> Option<Mode>
     ensures { result ≡ slice_get (modes_of layout.now class) field }
 {
-    match layout.classes.get(class as usize) {
+    match layout.classes.get(class) {
         None => None,
         Some(found) => found.fields.get(field).copied(),
     }

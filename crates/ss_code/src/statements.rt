@@ -49,7 +49,7 @@ fn emit_if(
 fn emit_call(
     code: &mut Vec<Instruction>,
     line: Line,
-    routine: u32,
+    routine: usize,
     given: &[Expression],
     yielding: &[Place],
 ) -> Result<(), AllocError>
@@ -80,7 +80,7 @@ fn emit_simulate(code: &mut Vec<Instruction>) -> Result<(), AllocError>
 fn emit_destroy(
     code: &mut Vec<Instruction>,
     line: Line,
-    class: u32,
+    class: usize,
     entity: &Expression,
 ) -> Result<(), AllocError>
     ensures { OnOk result (code.new.items ≡ code.old.items ++ (expression_code line (view_expression entity.now) ++ Destroy class line ∷ [])) }
@@ -93,7 +93,7 @@ fn emit_destroy(
 fn emit_cancel(
     code: &mut Vec<Instruction>,
     line: Line,
-    class: u32,
+    class: usize,
     notice: &Expression,
 ) -> Result<(), AllocError>
     ensures { OnOk result (code.new.items ≡ code.old.items ++ (expression_code line (view_expression notice.now) ++ Cancel class line ∷ [])) }

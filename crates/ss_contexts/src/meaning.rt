@@ -19,37 +19,37 @@ pub enum Meaning {
     },
     /// An attribute of a class, and its mode, if anything gives it one.
     Attribute {
-        class: u32,
-        field: u32,
+        class: usize,
+        field: usize,
         mode: Option<Mode>,
         implied: Variable,
     },
     /// F., L. or N. of a set of THE SYSTEM.
     OfSystemSet {
         query: SetQuery,
-        set: u32,
+        set: usize,
     },
     /// F., L. or N. of a set that the entities of a class own.
     OfSet {
         query: SetQuery,
-        set: u32,
+        set: usize,
         implied: Variable,
     },
     /// P., S. or M. of a set.
     OfMember {
         query: MemberQuery,
-        set: u32,
+        set: usize,
         implied: Variable,
     },
     /// A statistic of a global variable, or of N. of a set of THE SYSTEM.
     Figure {
         fold: Fold,
-        statistic: u32,
+        statistic: usize,
     },
     /// A statistic of an attribute, or of N. of a set that the entities of a class own.
     FigureOf {
         fold: Fold,
-        statistic: u32,
+        statistic: usize,
         implied: Variable,
     },
     /// TIME.V
@@ -62,28 +62,28 @@ pub enum Meaning {
 #[derive(Clone, Copy)]
 pub enum SetMeant {
     /// A set of THE SYSTEM.
-    OfSystem { set: u32 },
+    OfSystem { set: usize },
     /// A set that the entities of a class own. The variable has the owner where no subscript is written.
-    OfEntity { set: u32, implied: Variable },
+    OfEntity { set: usize, implied: Variable },
 }
 
 /// The class that is named.
 #[derive(Clone, Copy)]
 pub struct ClassMeant {
-    pub class: u32,
+    pub class: usize,
     pub kind: ClassKind,
     /// How many attributes it has.
     pub attributes: usize,
     /// What its name stands for as a variable.
     pub variable: Variable,
     /// The global variable N. of a permanent class.
-    pub count: Option<u32>,
+    pub count: Option<usize>,
 }
 
 /// The routine that is called.
 #[derive(Clone, Copy)]
 pub struct RoutineMeant {
-    pub routine: u32,
+    pub routine: usize,
     /// How many values it is given.
     pub given: usize,
     /// How many values it yields.

@@ -33,6 +33,6 @@ pub trait Scope {
         ensures { Gives (λ x. x) result ((context self.now).routine name) };
 
     /// The number of the statistic that is kept of what is named.
-    fn statistic(&self, designator: Designator) -> Result<u32, ResolveError>
+    fn statistic(&self, designator: Designator) -> Result<usize, ResolveError>
         ensures { Gives (λ x. x) result ((context self.now).statistic designator) };
 }

@@ -75,10 +75,10 @@ fn origin(place: usize, back: usize) -> u128
 }
 
 // The place of the first instruction of a routine, if there is one of that number.
-fn first_place(routines: &[Entry], routine: u32) -> Option<usize>
+fn first_place(routines: &[Entry], routine: usize) -> Option<usize>
     ensures { result ≡ first_of_routine routines.now routine }
 {
-    match routines.get(routine as usize) {
+    match routines.get(routine) {
         None => None,
         Some(entry) => Some(entry.place()),
     }

@@ -14,14 +14,14 @@ use std::alloc::AllocError;
 #[derive(Clone, Copy)]
 pub(crate) enum Operand {
     Place(Destination),
-    Class(u32),
-    Set(u32),
+    Class(usize),
+    Set(usize),
     /// A set of the system, or else that of an owner on the stack.
-    Owned(u32, bool),
+    Owned(usize, bool),
     /// The only statistic of a number, or else that of an entity on the stack.
-    Statistic(u32, bool),
+    Statistic(usize, bool),
     /// A routine, and the number of its first instruction, if there is such a routine.
-    Routine(u32, Option<usize>),
+    Routine(usize, Option<usize>),
     /// The pictures of a PRINT.
     Pictures(usize),
     /// So many values on the stack.
@@ -46,7 +46,7 @@ fn add_number(text: &mut Vec<u8>, word: &str, number: u128) -> Result<(), AllocE
 }
 
 // A word, a number, and a word behind it.
-fn add_between(text: &mut Vec<u8>, word: &str, number: u32, behind: &str) -> Result<(), AllocError>
+fn add_between(text: &mut Vec<u8>, word: &str, number: usize, behind: &str) -> Result<(), AllocError>
     ensures { OnOk result (text.new.items ≡ text.old.items ++ (word.now ++ (decimal number ++ behind.now))) }
 {
     add_number(text, word, number as u128)?;
@@ -106,9 +106,9 @@ fn add_place(text: &mut Vec<u8>, place: &Destination) -> Result<(), AllocError>
 fn add_pair(
     text: &mut Vec<u8>,
     word: &str,
-    number: u32,
+    number: usize,
     behind: &str,
-    other: u32,
+    other: usize,
 ) -> Result<(), AllocError>
     ensures { OnOk result (text.new.items ≡ text.old.items ++ (word.now ++ (decimal number ++ (behind.now ++ decimal other)))) }
 {
@@ -117,7 +117,7 @@ fn add_pair(
 }
 
 // A set.
-fn add_owned(text: &mut Vec<u8>, set: u32, system: bool) -> Result<(), AllocError>
+fn add_owned(text: &mut Vec<u8>, set: usize, system: bool) -> Result<(), AllocError>
     ensures { OnOk result (text.new.items ≡ text.old.items ++ owned_text set system) }
 {
     if system {
@@ -128,7 +128,7 @@ fn add_owned(text: &mut Vec<u8>, set: u32, system: bool) -> Result<(), AllocErro
 }
 
 // A statistic.
-fn add_statistic(text: &mut Vec<u8>, statistic: u32, system: bool) -> Result<(), AllocError>
+fn add_statistic(text: &mut Vec<u8>, statistic: usize, system: bool) -> Result<(), AllocError>
     ensures { OnOk result (text.new.items ≡ text.old.items ++ statistic_text statistic system) }
 {
     if system {
@@ -139,7 +139,7 @@ fn add_statistic(text: &mut Vec<u8>, statistic: u32, system: bool) -> Result<(),
 }
 
 // A routine.
-fn add_routine(text: &mut Vec<u8>, routine: u32, first: Option<usize>) -> Result<(), AllocError>
+fn add_routine(text: &mut Vec<u8>, routine: usize, first: Option<usize>) -> Result<(), AllocError>
     ensures { OnOk result (text.new.items ≡ text.old.items ++ routine_text routine first) }
 {
     add_number(text, "routine ", routine as u128)?;

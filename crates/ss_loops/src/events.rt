@@ -33,7 +33,7 @@ fn emit_when(code: &mut Vec<Instruction>, line: Line, when: &When) -> Result<(),
 pub fn emit_schedule_new(
     code: &mut Vec<Instruction>,
     line: Line,
-    class: u32,
+    class: usize,
     place: &Place,
     given: &[Expression],
     when: &When,
@@ -65,7 +65,7 @@ pub fn emit_schedule_new(
 pub fn emit_schedule(
     code: &mut Vec<Instruction>,
     line: Line,
-    class: u32,
+    class: usize,
     notice: &Expression,
     given: &[Expression],
     when: &When,

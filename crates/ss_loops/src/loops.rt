@@ -102,7 +102,7 @@ fn emit_members(
     code: &mut Vec<Instruction>,
     line: Line,
     variable: Variable,
-    set: u32,
+    set: usize,
     system: bool,
     reverse: bool,
     mut turn: Vec<Instruction>,
@@ -158,7 +158,7 @@ fn emit_each(
     code: &mut Vec<Instruction>,
     line: Line,
     variable: Variable,
-    class: u32,
+    class: usize,
     turn: Vec<Instruction>,
 ) -> Result<(), AllocError>
     ensures { OnOk result (code.new.items ≡ code.old.items ++ for_code line (Each variable class) turn.items) }
@@ -179,7 +179,7 @@ fn emit_walk(
     code: &mut Vec<Instruction>,
     line: Line,
     variable: Variable,
-    set: u32,
+    set: usize,
     owner: &SetOwner,
     start: &Start,
     reverse: bool,

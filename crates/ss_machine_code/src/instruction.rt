@@ -9,7 +9,7 @@ use ss_program::statement::{Counted, End};
 #[derive(Clone, Copy)]
 pub enum Destination {
     Variable { variable: Variable },
-    Attribute { class: u32, field: u32 },
+    Attribute { class: usize, field: usize },
     /// N. of a permanent class.
     Count { counted: Counted },
 }
@@ -53,21 +53,21 @@ pub enum Instruction {
     },
     /// The value of an attribute goes in place of the reference to its entity.
     Attribute {
-        class: u32,
-        field: u32,
+        class: usize,
+        field: usize,
         line: Line,
     },
     /// What is asked of a set goes in place of its owner.
     OfSet {
         query: SetQuery,
-        set: u32,
+        set: usize,
         system: bool,
         line: Line,
     },
     /// What is asked of a member goes in its place.
     OfMember {
         query: MemberQuery,
-        set: u32,
+        set: usize,
         line: Line,
     },
     /// TIME.V goes on top of the stack.
@@ -79,7 +79,7 @@ pub enum Instruction {
     /// What a statistic says goes in place of the entity that has it, if one has.
     Figure {
         fold: Fold,
-        statistic: u32,
+        statistic: usize,
         system: bool,
         line: Line,
     },
@@ -97,7 +97,7 @@ pub enum Instruction {
     /// Goes on where the set of an owner has no member, or has one if negated, and jumps otherwise.
     TestEmpty {
         negated: bool,
-        set: u32,
+        set: usize,
         system: bool,
         skip: usize,
         line: Line,
@@ -105,7 +105,7 @@ pub enum Instruction {
     /// Goes on where the value below the owner is in the owner's set, or is not if negated, and jumps otherwise.
     TestMember {
         negated: bool,
-        set: u32,
+        set: usize,
         system: bool,
         skip: usize,
         line: Line,
@@ -116,17 +116,17 @@ pub enum Instruction {
     },
     /// Looks at a reference to an entity of a class, which stays on top of the stack.
     LookEntity {
-        class: u32,
+        class: usize,
         line: Line,
     },
     /// Looks at a reference to an entity that may be a member of a set, which stays on top of the stack.
     LookMember {
-        set: u32,
+        set: usize,
         line: Line,
     },
     /// Looks at the owner of a set, which stays on top of the stack.
     LookOwner {
-        set: u32,
+        set: usize,
         system: bool,
         line: Line,
     },
@@ -175,7 +175,7 @@ pub enum Instruction {
     },
     /// The same for the indices of a permanent class.
     BeginClass {
-        class: u32,
+        class: usize,
         skip: usize,
         line: Line,
     },
@@ -191,7 +191,7 @@ pub enum Instruction {
     /// The first member of a set or, in reverse, its last goes on top of the owner. Jumps where there is none.
     BeginSet {
         reverse: bool,
-        set: u32,
+        set: usize,
         system: bool,
         skip: usize,
         line: Line,
@@ -200,7 +200,7 @@ pub enum Instruction {
     BeginAt {
         reverse: bool,
         after: bool,
-        set: u32,
+        set: usize,
         system: bool,
         skip: usize,
         line: Line,
@@ -210,13 +210,13 @@ pub enum Instruction {
     TakeMember {
         variable: Variable,
         reverse: bool,
-        set: u32,
+        set: usize,
         line: Line,
     },
     /// Jumps back to the taking of the member on top of the stack, if there is one. It must still be in the set of
     /// the owner.
     NextMember {
-        set: u32,
+        set: usize,
         system: bool,
         back: usize,
         line: Line,
@@ -227,7 +227,7 @@ pub enum Instruction {
     },
     /// Takes a tick, and calls a routine that takes so many values off the stack and yields so many.
     Call {
-        routine: u32,
+        routine: usize,
         given: usize,
         yielding: usize,
     },
@@ -237,7 +237,7 @@ pub enum Instruction {
     Halt,
     /// The number of a new entity goes on top of the stack.
     Create {
-        class: u32,
+        class: usize,
         line: Line,
     },
     /// All entities of a permanent class are made.
@@ -247,26 +247,26 @@ pub enum Instruction {
     },
     /// The entity that the value on top of the stack refers to goes.
     Destroy {
-        class: u32,
+        class: usize,
         line: Line,
     },
     /// A member is filed in the set of an owner, which lies on top, above the one beside which it is filed, if any.
     File {
         filing: Filing,
-        set: u32,
+        set: usize,
         system: bool,
         line: Line,
     },
     /// The member below the owner is removed from its set.
     Remove {
-        set: u32,
+        set: usize,
         system: bool,
         line: Line,
     },
     /// The member at an end of the set of an owner is removed, and goes on top of the stack.
     RemoveEnd {
         end: End,
-        set: u32,
+        set: usize,
         system: bool,
         line: Line,
     },
@@ -278,7 +278,7 @@ pub enum Instruction {
     /// A new notice gets the time on top of the stack and, as its first attributes, so many values below it. Its
     /// number goes on top of the time.
     MakeNotice {
-        class: u32,
+        class: usize,
         given: usize,
         line: Line,
     },
@@ -289,19 +289,19 @@ pub enum Instruction {
     },
     /// The notice on top of the stack is filed among those that are pending, for the time below it.
     FileNotice {
-        class: u32,
+        class: usize,
         line: Line,
     },
     /// A notice that there is gets the time on top of the stack and so many values below it, and is filed. It lies
     /// below these.
     Reschedule {
-        class: u32,
+        class: usize,
         given: usize,
         line: Line,
     },
     /// The notice on top of the stack is pending no longer.
     Cancel {
-        class: u32,
+        class: usize,
         line: Line,
     },
     /// Goes on where a notice is pending, and jumps otherwise.
@@ -316,7 +316,7 @@ pub enum Instruction {
     },
     /// A statistic starts afresh, of the entity on top of the stack, if an entity has it.
     Reset {
-        statistic: u32,
+        statistic: usize,
         system: bool,
         line: Line,
     },

@@ -4,7 +4,7 @@ ghost use Rattle.ss_contexts.specs.Answers.{Gives};
 ghost use Rattle.ss_meant.specs.Meanings.{asked, attribute, derived_name, of_member, of_owner, of_set};
 
 use crate::variables::class_variable;
-use crate::words::{mode_given, narrow};
+use crate::words::mode_given;
 use ss_base::Owner;
 use ss_contexts::{Meaning, ResolveError};
 use ss_entities::Set;
@@ -24,11 +24,9 @@ pub(crate) fn attribute(
         return Err(ResolveError::Unresolved);
     };
     let implied = class_variable(names, locals, known.class)?;
-    let class = narrow(known.class)?;
-    let field = narrow(known.field)?;
     Ok(Meaning::Attribute {
-        class,
-        field,
+        class: known.class,
+        field: known.field,
         mode: mode_given(known.mode),
         implied,
     })
@@ -45,13 +43,9 @@ fn of_owner(
     ensures { Gives (λ x. x) result (of_owner names.now locals.now query set owner) }
 {
     match owner {
-        Owner::System => {
-            let set = narrow(set)?;
-            Ok(Meaning::OfSystemSet { query, set })
-        }
+        Owner::System => { Ok(Meaning::OfSystemSet { query, set }) }
         Owner::Class(class) => {
             let implied = class_variable(names, locals, class)?;
-            let set = narrow(set)?;
             Ok(Meaning::OfSet {
                 query,
                 set,
@@ -90,10 +84,9 @@ fn of_member(
     match set.member {
         Some(class) => {
             let implied = class_variable(names, locals, class)?;
-            let set = narrow(number)?;
             Ok(Meaning::OfMember {
                 query,
-                set,
+                set: number,
                 implied,
             })
         }

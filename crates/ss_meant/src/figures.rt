@@ -4,7 +4,7 @@ ghost use Rattle.ss_contexts.specs.Answers.{Gives};
 ghost use Rattle.ss_meant.specs.Meanings.{figure, figure_owned, statistic, statistic_of};
 
 use crate::variables::class_variable;
-use crate::words::{fold_of, narrow};
+use crate::words::fold_of;
 use ss_base::Owner;
 use ss_contexts::{Meaning, ResolveError};
 use ss_lex::Name;
@@ -25,15 +25,16 @@ fn figure_owned(
 {
     match owner {
         Owner::System => {
-            let statistic = narrow(history)?;
-            Ok(Meaning::Figure { fold, statistic })
+            Ok(Meaning::Figure {
+                fold,
+                statistic: history,
+            })
         }
         Owner::Class(class) => {
             let implied = class_variable(names, locals, class)?;
-            let statistic = narrow(history)?;
             Ok(Meaning::FigureOf {
                 fold,
-                statistic,
+                statistic: history,
                 implied,
             })
         }
@@ -52,18 +53,19 @@ fn figure(
 {
     match subject {
         Subject::Variable(_) => {
-            let statistic = narrow(history)?;
-            Ok(Meaning::Figure { fold, statistic })
+            Ok(Meaning::Figure {
+                fold,
+                statistic: history,
+            })
         }
         Subject::Attribute(number) => {
             let Some(known) = names.attribute(number) else {
                 return Err(ResolveError::Unresolved);
             };
             let implied = class_variable(names, locals, known.class)?;
-            let statistic = narrow(history)?;
             Ok(Meaning::FigureOf {
                 fold,
-                statistic,
+                statistic: history,
                 implied,
             })
         }
@@ -100,14 +102,11 @@ pub(crate) fn statistic(
 }
 
 // The number of the statistic that is kept of a name.
-pub(crate) fn statistic_of_name(names: &Names, name: Name) -> Result<u32, ResolveError>
+pub(crate) fn statistic_of_name(names: &Names, name: Name) -> Result<usize, ResolveError>
     ensures { Gives (λ x. x) result (statistic_of names.now (Designator.Name name)) }
 {
     match names.history_of(&name) {
-        Some(history) => {
-            let statistic = narrow(history)?;
-            Ok(statistic)
-        }
+        Some(history) => Ok(history),
         None => Err(ResolveError::Unresolved),
     }
 }

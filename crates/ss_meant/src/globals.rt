@@ -4,7 +4,7 @@ ghost use Rattle.std.specs.Prelude.{◌≡◌, length, IfOk};
 ghost use Rattle.ss_contexts.specs.Answers.{Gives, each, upto};
 ghost use Rattle.ss_meant.specs.Layouts.{counted_kind, counted_variable, counts, global_mode};
 
-use crate::words::{mode_said, narrow};
+use crate::words::mode_said;
 use ss_base::Mode;
 use ss_contexts::ResolveError;
 use ss_entities::VariableKind;
@@ -47,9 +47,10 @@ fn counted_kind(
 {
     let mut counted = Vec::new(alloc);
     if let VariableKind::CountOf(class) = kind {
-        let class = narrow(class)?;
-        let variable = narrow(number)?;
-        counted.push(Counted { class, variable })?;
+        counted.push(Counted {
+            class,
+            variable: number,
+        })?;
     }
     Ok(counted)
 }

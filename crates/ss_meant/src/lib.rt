@@ -18,4 +18,4 @@ pub use laid::{Laid, lay_out};
 pub use layouts::layout;
 pub use ranking::{disciplines, resolve_ties};
 pub use scope::SectionScope;
-pub use words::{mode_given, narrow};
+pub use words::mode_given;

@@ -1,11 +1,11 @@
 //! Sets, classes and routines.
 
-ghost use Rattle.std.specs.Prelude.{◌≡◌, IfOk};
+ghost use Rattle.std.specs.Prelude.{◌≡◌};
 ghost use Rattle.ss_contexts.specs.Answers.{Gives};
 ghost use Rattle.ss_meant.specs.Meanings.{class_of, count_behind, count_kind, global_class, global_routine, global_set, routine_of, set_of, set_owned};
 
 use crate::variables::{class_variable, variable_of};
-use crate::words::{class_kind, narrow};
+use crate::words::class_kind;
 use ss_base::Owner;
 use ss_contexts::{ClassMeant, ResolveError, RoutineMeant, SetMeant};
 use ss_entities::VariableKind;
@@ -13,7 +13,6 @@ use ss_lex::Name;
 use ss_names::{Meaning as Global, Names};
 use ss_scopes::Locals;
 use ss_tree::expression::Designator;
-use std::alloc::AllocError;
 
 // A set of an owner.
 fn set_owned(
@@ -25,13 +24,9 @@ fn set_owned(
     ensures { Gives (λ x. x) result (set_owned names.now locals.now set owner) }
 {
     match owner {
-        Owner::System => {
-            let set = narrow(set)?;
-            Ok(SetMeant::OfSystem { set })
-        }
+        Owner::System => { Ok(SetMeant::OfSystem { set }) }
         Owner::Class(class) => {
             let implied = class_variable(names, locals, class)?;
-            let set = narrow(set)?;
             Ok(SetMeant::OfEntity { set, implied })
         }
     }
@@ -70,34 +65,27 @@ pub(crate) fn set_of_name(
 }
 
 // N. of a class, if this variable is that.
-fn count_kind(class: usize, number: usize, kind: VariableKind) -> Result<Option<u32>, AllocError>
-    ensures { IfOk result (λ o. o ≡ count_kind class number kind) }
+fn count_kind(class: usize, number: usize, kind: VariableKind) -> Option<usize>
+    ensures { result ≡ count_kind class number kind }
 {
     match kind {
-        VariableKind::CountOf(counted) => {
-            if counted == class {
-                let number = narrow(number)?;
-                Ok(Some(number))
-            } else {
-                Ok(None)
-            }
-        }
-        VariableKind::Defined => Ok(None),
-        VariableKind::OfClass(_) => Ok(None),
+        VariableKind::CountOf(counted) => { if counted == class { Some(number) } else { None } }
+        VariableKind::Defined => None,
+        VariableKind::OfClass(_) => None,
     }
 }
 
 // N. of a permanent class: the variable behind that of the class.
-fn count_behind(names: &Names, class: usize, variable: usize) -> Result<Option<u32>, AllocError>
-    ensures { IfOk result (λ o. o ≡ count_behind names.now class variable) }
+fn count_behind(names: &Names, class: usize, variable: usize) -> Option<usize>
+    ensures { result ≡ count_behind names.now class variable }
 {
     if variable >= names.variables() {
-        return Ok(None);
+        return None;
     }
     let next = variable + 1;
     match names.variable(next) {
         Some(known) => count_kind(class, next, known.kind),
-        None => Ok(None),
+        None => None,
     }
 }
 
@@ -115,11 +103,10 @@ fn global_class(
             let Some(known) = names.class(class) else {
                 return Err(ResolveError::Unresolved);
             };
-            let count = count_behind(names, class, variable)?;
-            let variable = variable_of(locals, name, variable)?;
-            let number = narrow(class)?;
+            let count = count_behind(names, class, variable);
+            let variable = variable_of(locals, name, variable);
             Ok(ClassMeant {
-                class: number,
+                class,
                 kind: class_kind(known.kind),
                 attributes: names.fields(class).len(),
                 variable,
@@ -153,9 +140,8 @@ fn global_routine(names: &Names, global: Global) -> Result<RoutineMeant, Resolve
             let Some(known) = names.routine(number) else {
                 return Err(ResolveError::Unresolved);
             };
-            let routine = narrow(number)?;
             Ok(RoutineMeant {
-                routine,
+                routine: number,
                 given: known.given,
                 yielding: known.yielding,
             })

@@ -55,7 +55,7 @@ impl<'a> Scope for SectionScope<'a> {
     }
 
     #[tactic(auto, unfolding(crate::specs::Meanings::context_in))]
-    fn statistic(&self, designator: Designator) -> Result<u32, ResolveError> {
+    fn statistic(&self, designator: Designator) -> Result<usize, ResolveError> {
         match designator {
             Designator::Name(name) => statistic_of_name(self.names, name),
             Designator::TimeV => Err(ResolveError::Unresolved),

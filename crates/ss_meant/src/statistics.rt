@@ -4,7 +4,7 @@ ghost use Rattle.std.specs.Prelude.{length};
 ghost use Rattle.ss_contexts.specs.Answers.{Gives, each, upto};
 ghost use Rattle.ss_meant.specs.Layouts.{statistic_kept, subject_of};
 
-use crate::words::{narrow, weighting_of};
+use crate::words::weighting_of;
 use ss_contexts::ResolveError;
 use ss_names::{Names, Subject as SubjectNumber};
 use ss_program::sections::{Statistic, Subject};
@@ -15,22 +15,17 @@ fn subject_of(names: &Names, subject: SubjectNumber) -> Result<Subject, ResolveE
     ensures { Gives (λ x. x) result (subject_of names.now subject) }
 {
     match subject {
-        SubjectNumber::Variable(number) => {
-            let number = narrow(number)?;
-            Ok(Subject::OfVariable { number })
-        }
+        SubjectNumber::Variable(number) => { Ok(Subject::OfVariable { number }) }
         SubjectNumber::Attribute(number) => {
             let Some(known) = names.attribute(number) else {
                 return Err(ResolveError::Unresolved);
             };
-            let class = narrow(known.class)?;
-            let field = narrow(known.field)?;
-            Ok(Subject::OfAttribute { class, field })
+            Ok(Subject::OfAttribute {
+                class: known.class,
+                field: known.field,
+            })
         }
-        SubjectNumber::MemberCount(set) => {
-            let set = narrow(set)?;
-            Ok(Subject::OfCount { set })
-        }
+        SubjectNumber::MemberCount(set) => { Ok(Subject::OfCount { set }) }
     }
 }
 

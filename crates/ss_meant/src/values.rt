@@ -6,7 +6,6 @@ ghost use Rattle.ss_meant.specs.Meanings.{global_meaning, meaning_of};
 use crate::derived::{attribute, derived_name};
 use crate::figures::statistic;
 use crate::variables::{global_variable, local_meaning};
-use crate::words::narrow;
 use ss_base::Mode;
 use ss_contexts::{Meaning, ResolveError};
 use ss_lex::Name;
@@ -23,15 +22,12 @@ fn global_meaning(names: &Names, locals: &Locals, global: Global) -> Result<Mean
     match global {
         Global::Variable(number) => global_variable(names, number),
         Global::Class { variable, .. } => {
-            let number = narrow(variable)?;
             Ok(Meaning::Variable {
-                variable: Variable::Global { number },
+                variable: Variable::Global { number: variable },
                 mode: Some(Mode::Integer),
             })
         }
         Global::Count { class, variable } => {
-            let class = narrow(class)?;
-            let variable = narrow(variable)?;
             Ok(Meaning::Count {
                 count: Counted { class, variable },
             })

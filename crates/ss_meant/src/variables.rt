@@ -1,34 +1,23 @@
 //! Variables, local and global.
 
-ghost use Rattle.std.specs.Prelude.{◌≡◌, IfOk};
+ghost use Rattle.std.specs.Prelude.{◌≡◌};
 ghost use Rattle.ss_contexts.specs.Answers.{Gives};
 ghost use Rattle.ss_meant.specs.Meanings.{class_variable, global_variable, local_meaning, variable_of, variable_of_class};
 
-use crate::words::{mode_given, mode_said, narrow};
+use crate::words::{mode_given, mode_said};
 use ss_contexts::{Meaning, ResolveError};
 use ss_lex::Name;
 use ss_names::{Meaning as Global, Names};
 use ss_program::expression::Variable;
 use ss_scopes::Locals;
-use std::alloc::AllocError;
 
 // The variable of a name: the local one that hides the global one, or else that.
-pub(crate) fn variable_of(
-    locals: &Locals,
-    name: Name,
-    global: usize,
-) -> Result<Variable, AllocError>
-    ensures { IfOk result (λ x. x ≡ variable_of locals.now name global) }
+pub(crate) fn variable_of(locals: &Locals, name: Name, global: usize) -> Variable
+    ensures { result ≡ variable_of locals.now name global }
 {
     match locals.number(name) {
-        Some(local) => {
-            let number = narrow(local)?;
-            Ok(Variable::Local { number })
-        }
-        None => {
-            let number = narrow(global)?;
-            Ok(Variable::Global { number })
-        }
+        Some(local) => Variable::Local { number: local },
+        None => Variable::Global { number: global },
     }
 }
 
@@ -38,7 +27,7 @@ fn variable_of_class(locals: &Locals, name: Name, global: Global) -> Result<Vari
 {
     match global {
         Global::Class { variable, .. } => {
-            let variable = variable_of(locals, name, variable)?;
+            let variable = variable_of(locals, name, variable);
             Ok(variable)
         }
         _ => Err(ResolveError::Unresolved),
@@ -69,7 +58,6 @@ pub(crate) fn global_variable(names: &Names, number: usize) -> Result<Meaning, R
     let Some(known) = names.variable(number) else {
         return Err(ResolveError::Unresolved);
     };
-    let number = narrow(number)?;
     Ok(Meaning::Variable {
         variable: Variable::Global { number },
         mode: mode_said(known.mode),
@@ -87,7 +75,6 @@ pub(crate) fn local_meaning(
     let Some(mode) = locals.mode(name) else {
         return Err(ResolveError::Unresolved);
     };
-    let number = narrow(number)?;
     Ok(Meaning::Variable {
         variable: Variable::Local { number },
         mode: mode_given(mode),

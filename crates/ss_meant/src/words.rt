@@ -1,6 +1,6 @@
 //! Modes, kinds and numbers as they stand in the resolved program.
 
-ghost use Rattle.std.specs.Prelude.{◌≡◌, IfOk};
+ghost use Rattle.std.specs.Prelude.{◌≡◌};
 ghost use Rattle.ss_meant.specs.Words.{class_kind, fold_of, mode_given, mode_said, weighting_of};
 
 use ss_base::{ClassKind, Mode};
@@ -9,20 +9,6 @@ use ss_program::sections::Weighting;
 use ss_tree::preamble::{
     ClassKind as ClassWord, Mode as ModeWord, StatisticKind, Weighting as WeightingWord,
 };
-use std::alloc::AllocError;
-
-/// A number as it stands in the resolved program.
-///
-/// # Errors
-/// `AllocError` where it doesn't fit into 32 bits, which takes as many names.
-pub fn narrow(number: usize) -> Result<u32, AllocError>
-    ensures { IfOk result (λ n. n ≡ number) }
-{
-    match u32::try_from(number) {
-        Ok(number) => Ok(number),
-        Err(_) => Err(AllocError),
-    }
-}
 
 /// The mode of a value; REAL is none.
 pub(crate) fn mode_said(mode: ModeWord) -> Option<Mode>

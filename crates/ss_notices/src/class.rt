@@ -12,11 +12,11 @@ use std::marker::Model;
 /// A contract sees it as a record of these.
 #[derive(Drop)]
 pub struct NoticeClass {
-    class: u32,
+    class: usize,
     ties: RankKeys,
     line: Line,
     given: usize,
-    saved: Option<u32>,
+    saved: Option<usize>,
 }
 
 impl Model for NoticeClass {
@@ -30,11 +30,11 @@ impl Model for NoticeClass {
 impl NoticeClass {
     /// A class of notices of which this is said.
     pub fn new(
-        class: u32,
+        class: usize,
         ties: RankKeys,
         line: Line,
         given: usize,
-        saved: Option<u32>,
+        saved: Option<usize>,
     ) -> NoticeClass
         ensures { result ≡ record { class = class; ties = ties; line = line; given = given; saved = saved } }
     {
@@ -49,7 +49,7 @@ impl NoticeClass {
 
     /// The number of the class.
     #[inline(always)]
-    pub fn class(&self) -> u32
+    pub fn class(&self) -> usize
         ensures { result ≡ self.now.class }
     {
         self.class
@@ -81,7 +81,7 @@ impl NoticeClass {
 
     /// The global variable that a notice is saved in, if it is saved.
     #[inline(always)]
-    pub fn saved(&self) -> Option<u32>
+    pub fn saved(&self) -> Option<usize>
         ensures { result ≡ self.now.saved }
     {
         self.saved

@@ -20,7 +20,7 @@ fn emit_empty(
     line: Line,
     skip: usize,
     negated: bool,
-    set: u32,
+    set: usize,
     owner: &SetOwner,
 ) -> Result<(), AllocError>
     ensures { OnOk result (code.new.items ≡ code.old.items ++ test_code line skip (EmptyTest negated set (view_owner owner.now))) }
@@ -44,7 +44,7 @@ fn emit_is_in(
     line: Line,
     skip: usize,
     negated: bool,
-    set: u32,
+    set: usize,
     member: &Expression,
     owner: &SetOwner,
 ) -> Result<(), AllocError>

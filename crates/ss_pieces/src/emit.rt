@@ -172,7 +172,7 @@ pub fn emit_values(
 pub fn emit_entity(
     code: &mut Vec<Instruction>,
     line: Line,
-    class: u32,
+    class: usize,
     e: &Expression,
 ) -> Result<(), AllocError>
     ensures { OnOk result (code.new.items ≡ code.old.items ++ entity_code line class (view_expression e.now)) }
@@ -185,7 +185,7 @@ pub fn emit_entity(
 pub fn emit_member(
     code: &mut Vec<Instruction>,
     line: Line,
-    set: u32,
+    set: usize,
     e: &Expression,
 ) -> Result<(), AllocError>
     ensures { OnOk result (code.new.items ≡ code.old.items ++ member_code line set (view_expression e.now)) }

@@ -145,7 +145,7 @@ pub fn emit_reads(
 pub fn emit_create(
     code: &mut Vec<Instruction>,
     line: Line,
-    class: u32,
+    class: usize,
     place: &Place,
 ) -> Result<(), AllocError>
     ensures { OnOk result (code.new.items ≡ code.old.items ++ give_code line (view_place place.now) (Create class line ∷ [])) }
@@ -180,7 +180,7 @@ pub fn emit_remove_end(
     code: &mut Vec<Instruction>,
     line: Line,
     end: End,
-    set: u32,
+    set: usize,
     place: &Place,
     owner: &SetOwner,
 ) -> Result<(), AllocError>

@@ -30,7 +30,7 @@ fn filing(position: &Position) -> Filing
 fn emit_beside(
     code: &mut Vec<Instruction>,
     line: Line,
-    set: u32,
+    set: usize,
     position: &Position,
 ) -> Result<(), AllocError>
     ensures { OnOk result (code.new.items ≡ code.old.items ++ beside_code line set (view_position position.now)) }
@@ -46,7 +46,7 @@ fn emit_beside(
 pub fn emit_file(
     code: &mut Vec<Instruction>,
     line: Line,
-    set: u32,
+    set: usize,
     member: &Expression,
     position: &Position,
     owner: &SetOwner,
@@ -71,7 +71,7 @@ pub fn emit_file(
 pub fn emit_remove(
     code: &mut Vec<Instruction>,
     line: Line,
-    set: u32,
+    set: usize,
     member: &Expression,
     owner: &SetOwner,
 ) -> Result<(), AllocError>
@@ -96,7 +96,7 @@ fn emit_begin_at(
     skip: usize,
     reverse: bool,
     after: bool,
-    set: u32,
+    set: usize,
     member: &Expression,
     system: bool,
 ) -> Result<(), AllocError>
@@ -122,7 +122,7 @@ pub fn emit_outset(
     code: &mut Vec<Instruction>,
     line: Line,
     skip: usize,
-    set: u32,
+    set: usize,
     owner: &SetOwner,
     start: &Start,
     reverse: bool,

@@ -28,13 +28,13 @@ pub enum Test {
     /// Whether a set has no member or, if negated, whether it has one.
     Empty {
         negated: bool,
-        set: u32,
+        set: usize,
         owner: SetOwner,
     },
     /// Whether an entity is in a set or, if negated, whether it is not.
     Member {
         negated: bool,
-        set: u32,
+        set: usize,
         member: Expression,
         owner: SetOwner,
     },

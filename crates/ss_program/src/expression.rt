@@ -6,8 +6,8 @@ use ss_base::Value;
 /// routine.
 #[derive(Clone, Copy)]
 pub enum Variable {
-    Global { number: u32 },
-    Local { number: u32 },
+    Global { number: usize },
+    Local { number: usize },
 }
 
 /// The sign before a term, and whether a statement adds or subtracts.
@@ -85,25 +85,25 @@ pub enum Expression {
     },
     /// The value of an attribute of an entity of a class.
     Attribute {
-        class: u32,
-        field: u32,
+        class: usize,
+        field: usize,
         of: Box<Expression>,
     },
     /// What is asked of THE SYSTEM's set.
     OfSystemSet {
         query: SetQuery,
-        set: u32,
+        set: usize,
     },
     /// What is asked of the set of an owner.
     OfSet {
         query: SetQuery,
-        set: u32,
+        set: usize,
         owner: Box<Expression>,
     },
     /// What is asked of a member.
     OfMember {
         query: MemberQuery,
-        set: u32,
+        set: usize,
         member: Box<Expression>,
     },
     /// TIME.V: the time of the simulation, in units.
@@ -115,12 +115,12 @@ pub enum Expression {
     /// A statistic of a global variable, or of N. of THE SYSTEM's set.
     Figure {
         fold: Fold,
-        statistic: u32,
+        statistic: usize,
     },
     /// A statistic of an attribute of an entity, or of N. of the set of an owner.
     FigureOf {
         fold: Fold,
-        statistic: u32,
+        statistic: usize,
         entity: Box<Expression>,
     },
     /// A term behind a sign.

@@ -63,7 +63,7 @@ pub enum Head {
     /// The members of a set, in reverse from the last one backwards.
     Members {
         variable: Variable,
-        set: u32,
+        set: usize,
         owner: SetOwner,
         start: Start,
         reverse: bool,
@@ -71,6 +71,6 @@ pub enum Head {
     /// The entities of a permanent class.
     Each {
         variable: Variable,
-        class: u32,
+        class: usize,
     },
 }

@@ -7,11 +7,11 @@ use ss_base::{Discipline, Layout, Line, Mode, RankKeys};
 #[derive(Clone, Copy)]
 pub enum Subject {
     /// A global variable.
-    OfVariable { number: u32 },
+    OfVariable { number: usize },
     /// An attribute of the entities of a class.
-    OfAttribute { class: u32, field: u32 },
+    OfAttribute { class: usize, field: usize },
     /// N. of the sets of a name.
-    OfCount { set: u32 },
+    OfCount { set: usize },
 }
 
 /// Whether each value of a statistic's subject counts once, or by the time for which it stood.
@@ -42,7 +42,7 @@ pub struct Routine {
 /// that it is given, which take the first attributes of the notice, and the others.
 #[derive(Drop)]
 pub struct Event {
-    pub class: u32,
+    pub class: usize,
     /// The attributes that break ties between notices of the class at one time, the first of which counts most.
     pub ties: RankKeys,
     /// The line of the event routine.
@@ -51,7 +51,7 @@ pub struct Event {
     pub others: Vec<Mode>,
     /// The global variable that gets the number of the notice where it is saved. Else the notice is destroyed as
     /// the routine begins.
-    pub saved: Option<u32>,
+    pub saved: Option<usize>,
     pub body: Vec<Statement>,
 }
 

@@ -16,8 +16,8 @@ pub enum End {
 /// entities of it are to be made.
 #[derive(Clone, Copy)]
 pub struct Counted {
-    pub class: u32,
-    pub variable: u32,
+    pub class: usize,
+    pub variable: usize,
 }
 
 /// What a value is assigned to.
@@ -28,8 +28,8 @@ pub enum Place {
     },
     /// An attribute of an entity of a class.
     ToAttribute {
-        class: u32,
-        field: u32,
+        class: usize,
+        field: usize,
         of: Expression,
     },
     /// N. of a permanent class.
@@ -72,7 +72,7 @@ pub enum When {
 /// A statistic that is started afresh, and the entity or owner whose it is, if it is one's.
 #[derive(Drop)]
 pub struct Restart {
-    pub statistic: u32,
+    pub statistic: usize,
     pub of: Option<Expression>,
 }
 
@@ -96,7 +96,7 @@ pub enum Statement {
     /// yields.
     Call {
         line: Line,
-        routine: u32,
+        routine: usize,
         given: Vec<Expression>,
         yielding: Vec<Place>,
     },
@@ -140,7 +140,7 @@ pub enum Statement {
     /// CREATE A: a new entity of a temporary or notice class, whose number goes to the target.
     Create {
         line: Line,
-        class: u32,
+        class: usize,
         into: Place,
     },
     /// CREATE EVERY: all entities of permanent classes, one class after the other.
@@ -151,13 +151,13 @@ pub enum Statement {
     /// DESTROY: an entity of a temporary or notice class goes.
     Destroy {
         line: Line,
-        class: u32,
+        class: usize,
         entity: Expression,
     },
     /// FILE: an entity becomes a member of a set.
     File {
         line: Line,
-        set: u32,
+        set: usize,
         member: Expression,
         position: Position,
         owner: SetOwner,
@@ -166,14 +166,14 @@ pub enum Statement {
     RemoveEnd {
         line: Line,
         end: End,
-        set: u32,
+        set: usize,
         into: Place,
         owner: SetOwner,
     },
     /// REMOVE: a member goes out of the set.
     Remove {
         line: Line,
-        set: u32,
+        set: usize,
         member: Expression,
         owner: SetOwner,
     },
@@ -181,7 +181,7 @@ pub enum Statement {
     /// attributes and is scheduled.
     ScheduleNew {
         line: Line,
-        class: u32,
+        class: usize,
         into: Place,
         given: Vec<Expression>,
         when: When,
@@ -189,7 +189,7 @@ pub enum Statement {
     /// SCHEDULE THE: the same with a notice that there is.
     Schedule {
         line: Line,
-        class: u32,
+        class: usize,
         notice: Expression,
         given: Vec<Expression>,
         when: When,
@@ -197,7 +197,7 @@ pub enum Statement {
     /// CANCEL: a notice is scheduled no longer.
     Cancel {
         line: Line,
-        class: u32,
+        class: usize,
         notice: Expression,
     },
     /// RESET: statistics start afresh.

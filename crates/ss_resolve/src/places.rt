@@ -153,7 +153,7 @@ pub(crate) fn resolve_entity_called<S: Scope>(
 
 // The number of a set, and whose it is.
 #[tactic(auto, using(crate::proofs::Seen::plain_seen))]
-fn owned_by(set: SetMeant, subscript: Option<Resolved>) -> Result<(u32, SetOwner), ResolveError>
+fn owned_by(set: SetMeant, subscript: Option<Resolved>) -> Result<(usize, SetOwner), ResolveError>
     ensures { Gives (λ p. (p.0, view_owner p.1)) result (owned_by set (option_seen view_resolved subscript)) }
 {
     match set {
@@ -170,7 +170,7 @@ pub(crate) fn resolve_set<S: Scope>(
     alloc: Global,
     scope: &S,
     tree: &Named,
-) -> Result<(u32, SetOwner), ResolveError>
+) -> Result<(usize, SetOwner), ResolveError>
     ensures { Gives (λ p. (p.0, view_owner p.1)) result (set_named (S.context scope.now) (view_named tree.now)) }
 {
     let set = scope.set(tree.designator)?;

@@ -14,7 +14,7 @@ use std::alloc::AllocError;
 
 /// Puts the number of a new entity on top.
 #[inline(always)]
-pub fn create(working: &mut Working, class: u32, line: Line) -> Result<Outcome, AllocError>
+pub fn create(working: &mut Working, class: usize, line: Line) -> Result<Outcome, AllocError>
     requires { working.old.place + 1 < 2 ^ 64 }
     ensures { IfOk result (λ outcome. (code : CodeSeen) (input : List ℕ) → Told outcome (act code (Instruction.Create class line) (core_of working.old input)) (core_of working.new input)) }
 {
@@ -43,7 +43,7 @@ pub fn create_all(
 
 /// The entity that the value on top refers to goes.
 #[inline(always)]
-pub fn destroy(working: &mut Working, class: u32, line: Line) -> Outcome
+pub fn destroy(working: &mut Working, class: usize, line: Line) -> Outcome
     requires { working.old.place + 1 < 2 ^ 64 }
     ensures { (code : CodeSeen) (input : List ℕ) → Told result (act code (Instruction.Destroy class line) (core_of working.old input)) (core_of working.new input) }
 {
@@ -56,7 +56,7 @@ pub fn destroy(working: &mut Working, class: u32, line: Line) -> Outcome
 
 /// Files a member in the set of an owner, which lies on top, above the one beside which it is filed, if any.
 #[inline(always)]
-pub fn file(working: &mut Working, filing: Filing, set: u32, system: bool, line: Line) -> Outcome
+pub fn file(working: &mut Working, filing: Filing, set: usize, system: bool, line: Line) -> Outcome
     requires { working.old.place + 1 < 2 ^ 64 }
     ensures { (code : CodeSeen) (input : List ℕ) → Told result (act code (Instruction.File filing set system line) (core_of working.old input)) (core_of working.new input) }
 {
@@ -75,7 +75,7 @@ pub fn file(working: &mut Working, filing: Filing, set: u32, system: bool, line:
 
 /// Removes the member below the owner from its set.
 #[inline(always)]
-pub fn remove(working: &mut Working, set: u32, system: bool, line: Line) -> Outcome
+pub fn remove(working: &mut Working, set: usize, system: bool, line: Line) -> Outcome
     requires { working.old.place + 1 < 2 ^ 64 }
     ensures { (code : CodeSeen) (input : List ℕ) → Told result (act code (Instruction.Remove set system line) (core_of working.old input)) (core_of working.new input) }
 {
@@ -94,7 +94,7 @@ pub fn remove(working: &mut Working, set: u32, system: bool, line: Line) -> Outc
 pub fn remove_end(
     working: &mut Working,
     end: End,
-    set: u32,
+    set: usize,
     system: bool,
     line: Line,
 ) -> Result<Outcome, AllocError>
@@ -110,7 +110,7 @@ pub fn remove_end(
 
 /// The notice on top is pending no longer.
 #[inline(always)]
-pub fn cancel(working: &mut Working, class: u32, line: Line) -> Outcome
+pub fn cancel(working: &mut Working, class: usize, line: Line) -> Outcome
     requires { working.old.place + 1 < 2 ^ 64 }
     ensures { (code : CodeSeen) (input : List ℕ) → Told result (act code (Instruction.Cancel class line) (core_of working.old input)) (core_of working.new input) }
 {

@@ -33,7 +33,7 @@ pub fn when(working: &mut Working, later: bool, line: Line) -> Result<Outcome, A
 /// Makes a new notice with the time on top and so many values below it, and puts its number on top of the time.
 pub fn make_notice(
     working: &mut Working,
-    class: u32,
+    class: usize,
     given: usize,
     line: Line,
 ) -> Result<Outcome, AllocError>
@@ -54,7 +54,7 @@ pub fn make_notice(
 }
 
 /// Files the notice on top among those that are pending, for the time below it.
-pub fn file_notice(working: &mut Working, class: u32, line: Line) -> Result<Outcome, AllocError>
+pub fn file_notice(working: &mut Working, class: usize, line: Line) -> Result<Outcome, AllocError>
     requires { working.old.place + 1 < 2 ^ 64 }
     ensures { IfOk result (λ outcome. (code : CodeSeen) (input : List ℕ) → Told outcome (act code (Instruction.FileNotice class line) (core_of working.old input)) (core_of working.new input)) }
 {
@@ -74,7 +74,7 @@ pub fn file_notice(working: &mut Working, class: u32, line: Line) -> Result<Outc
 /// Gives a notice that there is the time on top and so many values below it, and files it. It lies below these.
 pub fn reschedule(
     working: &mut Working,
-    class: u32,
+    class: usize,
     given: usize,
     line: Line,
 ) -> Result<Outcome, AllocError>

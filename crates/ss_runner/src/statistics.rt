@@ -19,7 +19,7 @@ use std::alloc::AllocError;
 pub fn figure(
     working: &mut Working,
     fold: Fold,
-    statistic: u32,
+    statistic: usize,
     system: bool,
     line: Line,
 ) -> Result<Outcome, AllocError>
@@ -35,7 +35,7 @@ pub fn figure(
 
 /// The history of a statistic starts afresh with the present value, that of the entity that the value on top refers
 /// to, unless the system has its subject.
-pub fn reset(working: &mut Working, statistic: u32, system: bool, line: Line) -> Outcome
+pub fn reset(working: &mut Working, statistic: usize, system: bool, line: Line) -> Outcome
     requires { working.old.place + 1 < 2 ^ 64 }
     ensures { (code : CodeSeen) (input : List ℕ) → Told result (act code (Instruction.Reset statistic system line) (core_of working.old input)) (core_of working.new input) }
 {
@@ -47,7 +47,7 @@ pub fn reset(working: &mut Working, statistic: u32, system: bool, line: Line) ->
 }
 
 // What the global variable holds that a statistic is about, if it is about one.
-fn value_counted(working: &Working, statistic: u32) -> Option<Value>
+fn value_counted(working: &Working, statistic: usize) -> Option<Value>
     ensures { (input : List ℕ) → held_by statistic (store_of working.now input) ≡ result }
 {
     match working.scene.variable_of(statistic) {
@@ -57,7 +57,7 @@ fn value_counted(working: &Working, statistic: u32) -> Option<Value>
 }
 
 // The history of a statistic of an entity starts afresh.
-fn start_afresh(working: &mut Working, statistic: u32, whose: Option<Value>) -> Result<(), Trouble>
+fn start_afresh(working: &mut Working, statistic: usize, whose: Option<Value>) -> Result<(), Trouble>
     ensures rests { Rests working.old working.new }
     ensures store { (input : List ℕ) → Came result (reset statistic whose (store_of working.old input)) (store_of working.new input) }
 {

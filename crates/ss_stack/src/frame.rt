@@ -3,7 +3,7 @@
 /// What is called: a routine, or the event of a class of notices, by its rank.
 #[derive(Clone, Copy)]
 pub enum Called {
-    Routine(u32),
+    Routine(usize),
     Event(usize),
 }
 

@@ -8,6 +8,6 @@ use ss_program::statement::Counted;
 #[derive(Clone, Copy)]
 pub enum Spot {
     Variable(Variable),
-    Attribute(u32, u32, Value),
+    Attribute(usize, usize, Value),
     Count(Counted),
 }

@@ -40,19 +40,19 @@ impl Variables {
 
     /// What a variable holds, if it is there.
     #[inline(always)]
-    pub fn get(&self, number: u32) -> Option<Value>
+    pub fn get(&self, number: usize) -> Option<Value>
         ensures { result ≡ slice_get self.now number }
     {
-        value_at(&self.values, number as usize)
+        value_at(&self.values, number)
     }
 
     /// Assigns a value to a variable, and says whether one of its mode is there. If not, nothing changes.
     #[inline(always)]
-    pub fn set(&mut self, number: u32, value: Value) -> bool
+    pub fn set(&mut self, number: usize, value: Value) -> bool
         ensures set { put_at self.old number value ≡ put_told result self.new }
         ensures kept { result ≡ false → self.new ≡ self.old }
     {
-        put(&mut self.values, number as usize, value)
+        put(&mut self.values, number, value)
     }
 }
 

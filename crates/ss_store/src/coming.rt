@@ -22,10 +22,10 @@ use ss_population::trouble::Unmade;
 #[derive(Clone, Copy)]
 pub struct Event {
     pub rank: usize,
-    pub class: u32,
+    pub class: usize,
     pub line: Line,
     pub given: usize,
-    pub saved: Option<u32>,
+    pub saved: Option<usize>,
     pub notice: i64,
 }
 
@@ -33,7 +33,7 @@ pub struct Event {
 #[derive(Clone, Copy)]
 pub enum Fate {
     /// It is there, and is still to be assigned to this global variable.
-    Saved(u32),
+    Saved(usize),
     /// It is destroyed.
     Gone,
 }
@@ -64,11 +64,11 @@ impl Scene {
 
     // Whether a number is a notice of a class.
     #[inline(always)]
-    fn is_of(&self, class: u32, known: Known) -> bool
+    fn is_of(&self, class: usize, known: Known) -> bool
         ensures { result ≡ is_of self.now.heap known.number class }
     {
         match self.kind(class) {
-            Some(ClassKind::Notice) => self.population.known(class as usize, known.number).is_ok(),
+            Some(ClassKind::Notice) => self.population.known(class, known.number).is_ok(),
             _ => false,
         }
     }
@@ -116,7 +116,7 @@ impl Scene {
     #[inline(always)]
     fn read(
         &self,
-        class: u32,
+        class: usize,
         count: usize,
         known: Known,
         values: &mut Vec<Value>,

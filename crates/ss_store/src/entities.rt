@@ -19,7 +19,7 @@ use ss_population::trouble::{Trouble, Unmade, number_of};
 impl Scene {
     // The kind of a class, where the layout has it.
     #[inline(always)]
-    pub(crate) fn kind(&self, class: u32) -> Option<ClassKind>
+    pub(crate) fn kind(&self, class: usize) -> Option<ClassKind>
         ensures { result ≡ kind_at self.now.heap.layout class }
     {
         class_kind(self.population.layout(), class)
@@ -27,7 +27,7 @@ impl Scene {
 
     // The mode of a field, where the layout has it.
     #[inline(always)]
-    fn mode(&self, class: u32, field: usize) -> Option<Mode>
+    fn mode(&self, class: usize, field: usize) -> Option<Mode>
         ensures { result ≡ mode_at self.now.heap.layout class field }
     {
         field_mode(self.population.layout(), class, field)
@@ -35,13 +35,13 @@ impl Scene {
 
     // A number as that of an entity of a class.
     #[inline(always)]
-    fn find_known(&self, class: u32, known: Known) -> Result<Known, Trouble>
+    fn find_known(&self, class: usize, known: Known) -> Result<Known, Trouble>
         ensures { Looks (entity class (Whole known.number)) self.now (numbered result) }
     {
         if self.kind(class).is_none() {
             return Err(Trouble::Misfit);
         }
-        match self.population.known(class as usize, known.number) {
+        match self.population.known(class, known.number) {
             Ok(()) => Ok(known),
             Err(kind) => Err(Trouble::Fault(kind)),
         }
@@ -49,7 +49,7 @@ impl Scene {
 
     // The entity of a class that a value refers to.
     #[inline(always)]
-    pub(crate) fn find(&self, class: u32, x: Value) -> Result<Known, Trouble>
+    pub(crate) fn find(&self, class: usize, x: Value) -> Result<Known, Trouble>
         ensures { Looks (entity class x) self.now (numbered result) }
     {
         match known_number(x) {
@@ -59,7 +59,7 @@ impl Scene {
     }
 
     // The trouble that a look at an entity comes to, by its number, or else one that came later.
-    fn earlier(&self, class: u32, known: Known, later: Trouble) -> Trouble
+    fn earlier(&self, class: usize, known: Known, later: Trouble) -> Trouble
         ensures { IsEarlier class known.number self.now later result }
     {
         match self.find_known(class, known) {
@@ -70,7 +70,7 @@ impl Scene {
 
     /// The number of an entity of a class that a value refers to. Faults: 1 to 5.
     #[inline(always)]
-    pub fn entity(&self, class: u32, x: Value) -> Result<i64, Trouble>
+    pub fn entity(&self, class: usize, x: Value) -> Result<i64, Trouble>
         ensures { Looks (entity class x) self.now result }
     {
         match self.find(class, x) {
@@ -83,7 +83,7 @@ impl Scene {
     #[inline(always)]
     pub(crate) fn field_value(
         &self,
-        class: u32,
+        class: usize,
         field: usize,
         known: Known,
     ) -> Result<Value, Trouble>
@@ -92,7 +92,7 @@ impl Scene {
         if self.mode(class, field).is_none() {
             return Err(self.earlier(class, known, Trouble::Misfit));
         }
-        match self.population.value(class as usize, field, known.number) {
+        match self.population.value(class, field, known.number) {
             Ok(value) => Ok(value),
             Err(kind) => Err(Trouble::Fault(kind)),
         }
@@ -100,7 +100,7 @@ impl Scene {
 
     // The value of an attribute by its number in the class.
     #[inline(always)]
-    pub(crate) fn value_of(&self, class: u32, field: usize, x: Value) -> Result<Value, Trouble>
+    pub(crate) fn value_of(&self, class: usize, field: usize, x: Value) -> Result<Value, Trouble>
         ensures { Looks (attribute class field x) self.now result }
     {
         match known_number(x) {
@@ -111,10 +111,10 @@ impl Scene {
 
     /// The value of an attribute. Faults: 1 to 5.
     #[inline(always)]
-    pub fn attribute(&self, class: u32, field: u32, x: Value) -> Result<Value, Trouble>
+    pub fn attribute(&self, class: usize, field: usize, x: Value) -> Result<Value, Trouble>
         ensures { Looks (attribute class field x) self.now result }
     {
-        self.value_of(class, field as usize, x)
+        self.value_of(class, field, x)
     }
 
     /// TIME.A of a notice. Faults: 1 to 4.
@@ -129,15 +129,15 @@ impl Scene {
     }
 
     /// How many entities a permanent class has: 0 until they are made.
-    pub fn made_count(&self, class: u32) -> i64
+    pub fn made_count(&self, class: usize) -> i64
         ensures { (s : StoreSeen) → pos (made_count class (with_seen s self.now)) ≡ result }
     {
-        self.population.count(class as usize)
+        self.population.count(class)
     }
 
     // Whether a value has the mode of a field that the layout has.
     #[inline(always)]
-    fn fits(&self, class: u32, field: usize, value: &Value) -> bool
+    fn fits(&self, class: usize, field: usize, value: &Value) -> bool
         ensures { result ≡ is_of_mode value.now (mode_at self.now.heap.layout class field) }
     {
         fits(self.population.layout(), class, field, value)
@@ -147,7 +147,7 @@ impl Scene {
     #[inline(always)]
     fn set_field(
         &mut self,
-        class: u32,
+        class: usize,
         field: usize,
         known: Known,
         value: Value,
@@ -159,7 +159,7 @@ impl Scene {
         }
         match self
             .population
-            .set_value(class as usize, field, known.number, value)
+            .set_value(class, field, known.number, value)
         {
             Ok(()) => self.note_attribute(class, field, known, value),
             Err(kind) => Err(Trouble::Fault(kind)),
@@ -170,7 +170,7 @@ impl Scene {
     #[inline(always)]
     pub(crate) fn set_value_of(
         &mut self,
-        class: u32,
+        class: usize,
         field: usize,
         x: Value,
         value: Value,
@@ -188,26 +188,26 @@ impl Scene {
     #[inline(always)]
     pub fn set_attribute(
         &mut self,
-        class: u32,
-        field: u32,
+        class: usize,
+        field: usize,
         x: Value,
         value: Value,
     ) -> Result<(), Trouble>
         ensures { Notes (assigned_attribute class field x value) self.old self.new result }
     {
-        self.set_value_of(class, field as usize, x, value)
+        self.set_value_of(class, field, x, value)
     }
 
     // Whether the entities of a class come and go one by one.
     #[inline(always)]
-    fn is_single(&self, class: u32) -> bool
+    fn is_single(&self, class: usize) -> bool
         ensures { result ≡ is_single (class_in self.now.heap.layout class) }
     {
         is_single(self.population.layout(), class)
     }
 
     /// The number of a new entity of a class, whose histories start. Faults: 14 after the last number.
-    pub fn create(&mut self, class: u32) -> Result<Value, Unmade>
+    pub fn create(&mut self, class: usize) -> Result<Value, Unmade>
         ensures { Makes (made_one class) self.old self.new result }
     {
         if !self.is_single(class) {
@@ -215,15 +215,15 @@ impl Scene {
         }
         if self
             .timeline
-            .reserve(self.population.layout(), class as usize, 1)
+            .reserve(self.population.layout(), class, 1)
             .is_err()
         {
             return Err(Unmade::Memory);
         }
-        match self.population.create(class as usize) {
+        match self.population.create(class) {
             Ok(number) => {
                 self.timeline
-                    .start(self.population.layout(), class as usize, number);
+                    .start(self.population.layout(), class, number);
                 Ok(Value::Whole(number))
             }
             Err(Refused::Fault(kind)) => Err(Unmade::Fault(kind)),
@@ -232,16 +232,16 @@ impl Scene {
     }
 
     // An entity goes by its number, and its histories end, whether or not it is pending.
-    fn remove_known(&mut self, class: u32, known: Known) -> Result<(), Trouble>
+    fn remove_known(&mut self, class: usize, known: Known) -> Result<(), Trouble>
         ensures { Changes (gone class (Whole known.number)) self.old self.new result }
     {
         if !self.is_single(class) {
             return Err(Trouble::Misfit);
         }
-        match self.population.destroy(class as usize, known.number) {
+        match self.population.destroy(class, known.number) {
             Ok(()) => {
                 self.timeline
-                    .end(self.population.layout(), class as usize, known.number);
+                    .end(self.population.layout(), class, known.number);
                 Ok(())
             }
             Err(kind) => Err(Trouble::Fault(kind)),
@@ -250,7 +250,7 @@ impl Scene {
 
     /// An entity goes, and its histories end, whether or not it is pending. Faults: 1 to 4, then 9 and 10.
     #[inline(always)]
-    pub fn remove_entity(&mut self, class: u32, x: Value) -> Result<(), Trouble>
+    pub fn remove_entity(&mut self, class: usize, x: Value) -> Result<(), Trouble>
         ensures { Changes (gone class x) self.old self.new result }
     {
         match known_number(x) {
@@ -271,7 +271,7 @@ impl Scene {
     }
 
     // An entity goes by its number, unless it is pending.
-    fn destroy_known(&mut self, class: u32, known: Known) -> Result<(), Trouble>
+    fn destroy_known(&mut self, class: usize, known: Known) -> Result<(), Trouble>
         ensures { Changes (without class (Whole known.number)) self.old self.new result }
     {
         if self.timeline.is_scheduled(known.number) {
@@ -284,7 +284,7 @@ impl Scene {
     }
 
     /// An entity goes, and its histories end, as DESTROY says. Faults: 1 to 4, then 21, then 9 and 10.
-    pub fn destroy(&mut self, class: u32, x: Value) -> Result<(), Trouble>
+    pub fn destroy(&mut self, class: usize, x: Value) -> Result<(), Trouble>
         ensures { Changes (without class x) self.old self.new result }
     {
         match known_number(x) {
@@ -295,27 +295,27 @@ impl Scene {
 
     // Whether the entities of a class are made all together.
     #[inline(always)]
-    fn is_permanent(&self, class: u32) -> bool
+    fn is_permanent(&self, class: usize) -> bool
         ensures { result ≡ is_permanent (class_in self.now.heap.layout class) }
     {
         is_permanent(self.population.layout(), class)
     }
 
     /// Whether N. of a permanent class may be assigned a value. Faults: 18 where its entities are made.
-    pub fn count_open(&self, class: u32) -> Result<(), Trouble>
+    pub fn count_open(&self, class: usize) -> Result<(), Trouble>
         ensures { Looks (count_open class) self.now result }
     {
         if !self.is_permanent(class) {
             return Err(Trouble::Misfit);
         }
-        if self.population.is_made(class as usize) {
+        if self.population.is_made(class) {
             return Err(Trouble::Fault(FaultKind::CreatedTwice));
         }
         Ok(())
     }
 
     /// How many entities a class has, which has to be permanent: 0 until they are made.
-    pub fn number_made(&self, class: u32) -> Result<i64, Trouble>
+    pub fn number_made(&self, class: usize) -> Result<i64, Trouble>
         ensures { Looks (number_made class) self.now result }
     {
         if !self.is_permanent(class) {
@@ -325,7 +325,7 @@ impl Scene {
     }
 
     /// All entities of a permanent class, so many, whose histories start. Faults: 18 where they are made, then 22 for a bad count.
-    pub fn create_all(&mut self, class: u32, count: i64) -> Result<(), Unmade>
+    pub fn create_all(&mut self, class: usize, count: i64) -> Result<(), Unmade>
         ensures { Grows (created_all_known class count) self.old self.new result }
     {
         if !self.is_permanent(class) {
@@ -333,16 +333,16 @@ impl Scene {
         }
         if self
             .timeline
-            .reserve(self.population.layout(), class as usize, count)
+            .reserve(self.population.layout(), class, count)
             .is_err()
         {
             return Err(Unmade::Memory);
         }
-        match self.population.create_all(class as usize, count) {
+        match self.population.create_all(class, count) {
             Ok(()) => {
-                let made = self.population.count(class as usize);
+                let made = self.population.count(class);
                 self.timeline
-                    .start_all(self.population.layout(), class as usize, made);
+                    .start_all(self.population.layout(), class, made);
                 Ok(())
             }
             Err(Refused::Fault(kind)) => Err(Unmade::Fault(kind)),

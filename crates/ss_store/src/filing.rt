@@ -26,16 +26,16 @@ pub enum Filing {
 impl Scene {
     // Files a member by the discipline of the set, by the numbers of the member and of the owner.
     #[inline(always)]
-    fn file_by_discipline(&mut self, set: u32, both: Membership) -> Result<(), Trouble>
+    fn file_by_discipline(&mut self, set: usize, both: Membership) -> Result<(), Trouble>
         requires set { set < length self.old.heap.layout.sets }
         ensures { Resettles (filed_by ByRule set both.owner.number both.member.number) self.old self.new result }
     {
-        match self.disciplines.get(set as usize) {
+        match self.disciplines.get(set) {
             None => Err(Trouble::Misfit),
             Some(discipline) => {
                 self.population.file_if_fit(
                     discipline,
-                    set as usize,
+                    set,
                     both.owner.number,
                     both.member.number,
                 )
@@ -44,14 +44,14 @@ impl Scene {
     }
 
     // Files a member directly before another one.
-    fn file_before(&mut self, set: u32, both: Membership, y: Value) -> Result<(), Trouble>
+    fn file_before(&mut self, set: usize, both: Membership, y: Value) -> Result<(), Trouble>
         requires set { set < length self.old.heap.layout.sets }
         ensures { Resettles (filed_by (Ahead y) set both.owner.number both.member.number) self.old self.new result }
     {
         match self.find_member(set, y) {
             Ok(beside) => or_trouble(
                 self.population.file_before(
-                    set as usize,
+                    set,
                     both.owner.number,
                     both.member.number,
                     beside.number,
@@ -62,14 +62,14 @@ impl Scene {
     }
 
     // Files a member directly after another one.
-    fn file_after(&mut self, set: u32, both: Membership, y: Value) -> Result<(), Trouble>
+    fn file_after(&mut self, set: usize, both: Membership, y: Value) -> Result<(), Trouble>
         requires set { set < length self.old.heap.layout.sets }
         ensures { Resettles (filed_by (Behind y) set both.owner.number both.member.number) self.old self.new result }
     {
         match self.find_member(set, y) {
             Ok(beside) => or_trouble(
                 self.population.file_after(
-                    set as usize,
+                    set,
                     both.owner.number,
                     both.member.number,
                     beside.number,
@@ -81,7 +81,7 @@ impl Scene {
 
     // Files a member, by the numbers of the member and of the owner.
     #[inline(always)]
-    fn place(&mut self, filing: Filing, set: u32, both: Membership) -> Result<(), Trouble>
+    fn place(&mut self, filing: Filing, set: usize, both: Membership) -> Result<(), Trouble>
         requires set { set < length self.old.heap.layout.sets }
         ensures { Resettles (filed_by (filing_meant filing) set both.owner.number both.member.number) self.old self.new result }
     {
@@ -89,11 +89,11 @@ impl Scene {
             Filing::ByDiscipline => self.file_by_discipline(set, both),
             Filing::First => or_trouble(
                 self.population
-                    .file_first(set as usize, both.owner.number, both.member.number),
+                    .file_first(set, both.owner.number, both.member.number),
             ),
             Filing::Last => or_trouble(
                 self.population
-                    .file_last(set as usize, both.owner.number, both.member.number),
+                    .file_last(set, both.owner.number, both.member.number),
             ),
             Filing::Before(y) => self.file_before(set, both, y),
             Filing::After(y) => self.file_after(set, both, y),
@@ -105,7 +105,7 @@ impl Scene {
     fn file_member(
         &mut self,
         filing: Filing,
-        set: u32,
+        set: usize,
         member: Known,
         owner: Option<Value>,
     ) -> Result<Known, Trouble>
@@ -131,7 +131,7 @@ impl Scene {
     pub fn file(
         &mut self,
         filing: Filing,
-        set: u32,
+        set: usize,
         owner: Option<Value>,
         x: Value,
     ) -> Result<(), Trouble>

@@ -19,7 +19,7 @@ use ss_population::trouble::Trouble;
 impl Scene {
     // A number as that of an entity that may be a member of a set.
     #[inline(always)]
-    fn look_member(&mut self, set: u32, known: Known) -> Result<Known, Trouble>
+    fn look_member(&mut self, set: usize, known: Known) -> Result<Known, Trouble>
         ensures value { where_fit (is_some (set_in self.old.heap.layout set)) (turned (λ _. known.number) (due (joiner self.old.heap set known.number))) ≡ told (numbered result) }
         ensures there { IfOk result (λ _. set < length self.old.heap.layout.sets) }
         ensures same { self.new ≡ self.old }
@@ -27,7 +27,7 @@ impl Scene {
         if !self.has_set(set) {
             return Err(Trouble::Misfit);
         }
-        match self.population.next(set as usize, known.number) {
+        match self.population.next(set, known.number) {
             Ok(_) => Ok(known),
             Err(kind) => Err(Trouble::Fault(kind)),
         }
@@ -35,7 +35,7 @@ impl Scene {
 
     // The entity that a value refers to as one that may be a member of a set.
     #[inline(always)]
-    pub(crate) fn find_member(&mut self, set: u32, x: Value) -> Result<Known, Trouble>
+    pub(crate) fn find_member(&mut self, set: usize, x: Value) -> Result<Known, Trouble>
         ensures value { Looks (member set x) self.old (numbered result) }
         ensures there { IfOk result (λ _. set < length self.old.heap.layout.sets) }
         ensures same { self.new ≡ self.old }
@@ -48,7 +48,7 @@ impl Scene {
 
     /// The number of an entity that may be a member of a set. Faults: 1 to 5.
     #[inline(always)]
-    pub fn member(&mut self, set: u32, x: Value) -> Result<i64, Trouble>
+    pub fn member(&mut self, set: usize, x: Value) -> Result<i64, Trouble>
         ensures value { Looks (member set x) self.old result }
         ensures same { self.new ≡ self.old }
     {
@@ -60,14 +60,14 @@ impl Scene {
 
     // A number as that of an owner of a set, where the layout has the set.
     #[inline(always)]
-    fn look_owner(&mut self, set: u32, known: Known) -> Result<Known, Trouble>
+    fn look_owner(&mut self, set: usize, known: Known) -> Result<Known, Trouble>
         ensures value { where_fit (is_some (set_in self.old.heap.layout set)) (turned (λ _. known.number) (due (owner self.old.heap set known.number))) ≡ told (numbered result) }
         ensures same { self.new ≡ self.old }
     {
         if !self.has_set(set) {
             return Err(Trouble::Misfit);
         }
-        match self.population.member_count(set as usize, known.number) {
+        match self.population.member_count(set, known.number) {
             Ok(_) => Ok(known),
             Err(kind) => Err(Trouble::Fault(kind)),
         }
@@ -75,7 +75,7 @@ impl Scene {
 
     // The owner of a set that a value refers to.
     #[inline(always)]
-    pub(crate) fn find_owner(&mut self, set: u32, owner: Option<Value>) -> Result<Known, Trouble>
+    pub(crate) fn find_owner(&mut self, set: usize, owner: Option<Value>) -> Result<Known, Trouble>
         ensures value { Looks (known_owner set owner) self.old (numbered result) }
         ensures same { self.new ≡ self.old }
     {
@@ -87,7 +87,7 @@ impl Scene {
 
     /// The number of the owner of a set, 0 for the system. Faults: 1 to 5.
     #[inline(always)]
-    pub fn known_owner(&mut self, set: u32, owner: Option<Value>) -> Result<i64, Trouble>
+    pub fn known_owner(&mut self, set: usize, owner: Option<Value>) -> Result<i64, Trouble>
         ensures value { Looks (known_owner set owner) self.old result }
         ensures same { self.new ≡ self.old }
     {
@@ -100,7 +100,7 @@ impl Scene {
     // The entity and the owner that values refer to.
     pub(crate) fn find_both(
         &mut self,
-        set: u32,
+        set: usize,
         x: Value,
         owner: Option<Value>,
     ) -> Result<Membership, Trouble>
@@ -119,14 +119,14 @@ impl Scene {
 
     // Whether an entity is in the set of an owner, by their numbers.
     #[inline(always)]
-    fn is_in_known(&mut self, set: u32, both: Membership) -> Result<bool, Trouble>
+    fn is_in_known(&mut self, set: usize, both: Membership) -> Result<bool, Trouble>
         requires set { set < length self.old.heap.layout.sets }
         ensures value { due (member_test self.old.heap set both.owner.number both.member.number) ≡ told result }
         ensures same { self.new ≡ self.old }
     {
         match self
             .population
-            .is_in(set as usize, both.owner.number, both.member.number)
+            .is_in(set, both.owner.number, both.member.number)
         {
             Ok(found) => Ok(found),
             Err(kind) => Err(Trouble::Fault(kind)),
@@ -135,7 +135,7 @@ impl Scene {
 
     // The same, by the number of the entity and what refers to the owner.
     #[inline(always)]
-    fn test(&mut self, set: u32, member: Known, owner: Option<Value>) -> Result<bool, Trouble>
+    fn test(&mut self, set: usize, member: Known, owner: Option<Value>) -> Result<bool, Trouble>
         ensures value { Looks (with_owner set owner (tested set member.number)) self.old result }
         ensures same { self.new ≡ self.old }
     {
@@ -149,7 +149,7 @@ impl Scene {
     }
 
     // The trouble that a look at a member comes to, or else one that came later.
-    pub(crate) fn earliest(&mut self, set: u32, member: Known, later: Trouble) -> Trouble
+    pub(crate) fn earliest(&mut self, set: usize, member: Known, later: Trouble) -> Trouble
         ensures value { IsEarliest self.old.heap set member.number later result }
         ensures same { self.new ≡ self.old }
     {
@@ -161,7 +161,7 @@ impl Scene {
 
     /// Whether an entity is in the set of an owner. Faults: those of the entity (1 to 5), then those of the owner.
     #[inline(always)]
-    pub fn is_in(&mut self, set: u32, x: Value, owner: Option<Value>) -> Result<bool, Trouble>
+    pub fn is_in(&mut self, set: usize, x: Value, owner: Option<Value>) -> Result<bool, Trouble>
         ensures value { Looks (is_in set x owner) self.old result }
         ensures same { self.new ≡ self.old }
     {
@@ -176,7 +176,7 @@ impl Scene {
 
     // The member of the set of an owner that comes first, by the owner's number, where the layout has the set.
     #[inline(always)]
-    fn outset(&mut self, reverse: bool, set: u32, known: Known) -> Result<i64, Trouble>
+    fn outset(&mut self, reverse: bool, set: usize, known: Known) -> Result<i64, Trouble>
         ensures value { where_fit (is_some (set_in self.old.heap.layout set)) (due (outset reverse self.old.heap set known.number)) ≡ told result }
         ensures same { self.new ≡ self.old }
     {
@@ -184,9 +184,9 @@ impl Scene {
             return Err(Trouble::Misfit);
         }
         let answer = if reverse {
-            self.population.last(set as usize, known.number)
+            self.population.last(set, known.number)
         } else {
-            self.population.first(set as usize, known.number)
+            self.population.first(set, known.number)
         };
         match answer {
             Ok(number) => Ok(number),
@@ -197,7 +197,7 @@ impl Scene {
     /// The member of the set of an owner with which a loop begins, 0 where there is none: the first, or in reverse
     /// the last. Faults: 1 to 5.
     #[inline(always)]
-    pub fn begun(&mut self, reverse: bool, set: u32, owner: Option<Value>) -> Result<i64, Trouble>
+    pub fn begun(&mut self, reverse: bool, set: usize, owner: Option<Value>) -> Result<i64, Trouble>
         ensures value { Looks (begun reverse set owner) self.old result }
         ensures same { self.new ≡ self.old }
     {
@@ -209,7 +209,7 @@ impl Scene {
 
     /// The member that comes after another one, or in reverse before it, 0 where there is none. Faults: 1 to 5.
     #[inline(always)]
-    pub fn coming(&mut self, reverse: bool, set: u32, x: i64) -> Result<i64, Trouble>
+    pub fn coming(&mut self, reverse: bool, set: usize, x: i64) -> Result<i64, Trouble>
         ensures value { Looks (coming reverse set x) self.old result }
         ensures same { self.new ≡ self.old }
     {
@@ -217,9 +217,9 @@ impl Scene {
             return Err(Trouble::Misfit);
         }
         let answer = if reverse {
-            self.population.previous(set as usize, x)
+            self.population.previous(set, x)
         } else {
-            self.population.next(set as usize, x)
+            self.population.next(set, x)
         };
         match answer {
             Ok(number) => Ok(number),
@@ -232,7 +232,7 @@ impl Scene {
         &mut self,
         reverse: bool,
         after: bool,
-        set: u32,
+        set: usize,
         x: i64,
     ) -> Result<i64, Trouble>
         ensures value { Looks (from_or_after reverse after set x) self.old result }
@@ -250,7 +250,7 @@ impl Scene {
         &mut self,
         reverse: bool,
         after: bool,
-        set: u32,
+        set: usize,
         both: Membership,
     ) -> Result<i64, Trouble>
         requires set { set < length self.old.heap.layout.sets }
@@ -271,7 +271,7 @@ impl Scene {
         &mut self,
         reverse: bool,
         after: bool,
-        set: u32,
+        set: usize,
         y: Value,
         owner: Option<Value>,
     ) -> Result<i64, Trouble>
@@ -287,7 +287,7 @@ impl Scene {
     /// Whether a loop over the set of an owner goes on with a member that was fixed before: not where it was 0, which
     /// is none. Faults: 16 where it is gone since, or its owner is.
     #[inline(always)]
-    pub fn goes_on(&mut self, set: u32, x: i64, owner: Option<Value>) -> Result<bool, Trouble>
+    pub fn goes_on(&mut self, set: usize, x: i64, owner: Option<Value>) -> Result<bool, Trouble>
         ensures value { Looks (goes_on set x owner) self.old result }
         ensures same { self.new ≡ self.old }
     {

@@ -30,7 +30,7 @@ impl Scene {
     }
 
     /// A notice is pending no longer, as CANCEL says. It stays, and so does its TIME.A. Faults: 1 to 4, then 12.
-    pub fn cancel(&mut self, class: u32, x: Value) -> Result<(), Trouble>
+    pub fn cancel(&mut self, class: usize, x: Value) -> Result<(), Trouble>
         ensures { Changes (unscheduled class x) self.old self.new result }
     {
         let known = self.find(class, x)?;

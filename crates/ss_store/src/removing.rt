@@ -14,13 +14,13 @@ use ss_program::statement::End;
 impl Scene {
     // Takes a member out of the set of an owner, by their numbers.
     #[inline(always)]
-    fn take_out(&mut self, set: u32, both: Membership) -> Result<(), Trouble>
+    fn take_out(&mut self, set: usize, both: Membership) -> Result<(), Trouble>
         requires set { set < length self.old.heap.layout.sets }
         ensures { Resettles (out_of set both.owner.number both.member.number) self.old self.new result }
     {
         or_trouble(
             self.population
-                .remove(set as usize, both.owner.number, both.member.number),
+                .remove(set, both.owner.number, both.member.number),
         )
     }
 
@@ -28,7 +28,7 @@ impl Scene {
     #[inline(always)]
     fn remove_member(
         &mut self,
-        set: u32,
+        set: usize,
         member: Known,
         owner: Option<Value>,
     ) -> Result<Known, Trouble>
@@ -50,7 +50,7 @@ impl Scene {
     /// Takes an entity out of the set of an owner, as REMOVE says, and histories note how many members that has. Faults:
     /// those of the entity (1 to 5), those of the owner, then 7 where the entity is not in this set; then 14 where a
     /// history of N. is full, and the entity is out.
-    pub fn remove(&mut self, set: u32, owner: Option<Value>, x: Value) -> Result<(), Trouble>
+    pub fn remove(&mut self, set: usize, owner: Option<Value>, x: Value) -> Result<(), Trouble>
         ensures { Notes (removed_from set x owner) self.old self.new result }
     {
         match known_number(x) {
@@ -64,11 +64,11 @@ impl Scene {
 
     // Takes the member at an end out of the set of an owner, by the owner's number.
     #[inline(always)]
-    fn take_end(&mut self, end: End, set: u32, known: Known) -> Result<Value, Trouble>
+    fn take_end(&mut self, end: End, set: usize, known: Known) -> Result<Value, Trouble>
         requires set { set < length self.old.heap.layout.sets }
         ensures { Gives (end_out end set known.number) self.old self.new result }
     {
-        match self.population.remove_end(end, set as usize, known.number) {
+        match self.population.remove_end(end, set, known.number) {
             Ok(number) => Ok(Value::Whole(number)),
             Err(kind) => Err(Trouble::Fault(kind)),
         }
@@ -76,7 +76,7 @@ impl Scene {
 
     // The same where the layout has the set, as a change of the whole scene: histories note N. of the set.
     #[inline(always)]
-    fn remove_end_known(&mut self, end: End, set: u32, known: Known) -> Result<Value, Trouble>
+    fn remove_end_known(&mut self, end: End, set: usize, known: Known) -> Result<Value, Trouble>
         ensures { Gains (end_removed_known end set known.number) self.old self.new result }
     {
         if !self.has_set(set) {
@@ -94,7 +94,7 @@ impl Scene {
     /// Takes the member at an end out of the set of an owner, and answers it, as REMOVE FIRST and REMOVE LAST say.
     /// Histories note how many members are left. Faults: 1 to 5, then 8 where there is none; then 14 where a history of
     /// N. is full, and the member is out.
-    pub fn remove_end(&mut self, end: End, set: u32, owner: Option<Value>) -> Result<Value, Trouble>
+    pub fn remove_end(&mut self, end: End, set: usize, owner: Option<Value>) -> Result<Value, Trouble>
         ensures { Gains (removed_at end set owner) self.old self.new result }
     {
         match self.owner(set, owner) {

@@ -57,7 +57,7 @@ impl Scene {
 
     // Assigns values to the attributes of a notice, from the first on.
     #[inline(always)]
-    fn endow(&mut self, class: u32, x: &Value, given: &[Value]) -> Result<(), Trouble>
+    fn endow(&mut self, class: usize, x: &Value, given: &[Value]) -> Result<(), Trouble>
         ensures { Leads (endowed class 0 x.now given.now) self.old self.new result }
     {
         for field in 0..given.len() {
@@ -68,7 +68,7 @@ impl Scene {
 
     // Assigns values to the first attributes of a notice, and sets its TIME.A.
     #[inline(always)]
-    fn prepare(&mut self, class: u32, x: &Value, given: &[Value], time: i64) -> Result<(), Trouble>
+    fn prepare(&mut self, class: usize, x: &Value, given: &[Value], time: i64) -> Result<(), Trouble>
         ensures { Leads (prepared class x.now given.now time) self.old self.new result }
     {
         match self.endow(class, x, given) {
@@ -80,7 +80,7 @@ impl Scene {
     /// A new notice of a class, with values for its first attributes and its TIME.A. Faults: 14 after the last number,
     /// or where a history of an attribute is full. Want of memory changes nothing; where the values do not fit, the
     /// notice is made.
-    pub fn make_notice(&mut self, class: u32, given: &[Value], time: i64) -> Result<Value, Unmade>
+    pub fn make_notice(&mut self, class: usize, given: &[Value], time: i64) -> Result<Value, Unmade>
         ensures { Forms (made_notice class given.now time) self.old self.new result }
     {
         match self.create(class) {
@@ -96,7 +96,7 @@ impl Scene {
     #[inline(always)]
     fn freeze(
         &self,
-        class: u32,
+        class: usize,
         x: &Value,
         keys: &[RankKey],
         ties: &mut Vec<Tie>,
@@ -129,7 +129,7 @@ impl Scene {
         &self,
         alloc: Global,
         rank: usize,
-        class: u32,
+        class: usize,
         x: &Value,
         time: i64,
     ) -> Result<Key, Unmade>
@@ -149,7 +149,7 @@ impl Scene {
 
     // The key of a notice.
     #[inline(always)]
-    fn key(&self, alloc: Global, class: u32, x: &Value, time: i64) -> Result<Key, Unmade>
+    fn key(&self, alloc: Global, class: usize, x: &Value, time: i64) -> Result<Key, Unmade>
         ensures { Finds (key_meant class x.now time) self.now result }
     {
         match rank_of(&self.notices, class) {
@@ -170,7 +170,7 @@ impl Scene {
     fn file_pending(
         &mut self,
         alloc: Global,
-        class: u32,
+        class: usize,
         x: &Value,
         time: i64,
     ) -> Result<(), Unmade>
@@ -191,7 +191,7 @@ impl Scene {
     pub fn file_notice(
         &mut self,
         alloc: Global,
-        class: u32,
+        class: usize,
         x: Value,
         time: i64,
     ) -> Result<(), Unmade>
@@ -204,7 +204,7 @@ impl Scene {
     fn schedule_anew(
         &mut self,
         alloc: Global,
-        class: u32,
+        class: usize,
         x: &Value,
         given: &[Value],
         time: i64,
@@ -221,7 +221,7 @@ impl Scene {
     fn schedule_again(
         &mut self,
         alloc: Global,
-        class: u32,
+        class: usize,
         x: &Value,
         given: &[Value],
         time: i64,
@@ -245,7 +245,7 @@ impl Scene {
     pub fn reschedule(
         &mut self,
         alloc: Global,
-        class: u32,
+        class: usize,
         x: Value,
         given: &[Value],
         time: i64,

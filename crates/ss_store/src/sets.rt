@@ -19,7 +19,7 @@ use ss_program::expression::{MemberQuery, SetQuery};
 impl Scene {
     // Whether the layout has a set.
     #[inline(always)]
-    pub(crate) fn has_set(&self, set: u32) -> bool
+    pub(crate) fn has_set(&self, set: usize) -> bool
         ensures value { result ≡ is_some (set_in self.now.heap.layout set) }
         ensures within { IsTrue result → set < length self.now.heap.layout.sets }
     {
@@ -28,7 +28,7 @@ impl Scene {
 
     // The owner of a set, 0 for the system, by who owns the sets of its name.
     #[inline(always)]
-    pub(crate) fn owner(&self, set: u32, owner: Option<Value>) -> Result<Known, Trouble>
+    pub(crate) fn owner(&self, set: usize, owner: Option<Value>) -> Result<Known, Trouble>
         ensures { Looks (owner_number set owner) self.now (numbered result) }
     {
         match owner_of(self.population.layout(), set, owner) {
@@ -39,7 +39,7 @@ impl Scene {
 
     // What is asked of the set of an owner by its number, where the layout has the set.
     #[inline(always)]
-    fn asked(&mut self, query: SetQuery, set: u32, known: Known) -> Result<Value, Trouble>
+    fn asked(&mut self, query: SetQuery, set: usize, known: Known) -> Result<Value, Trouble>
         ensures value { where_fit (is_some (set_in self.old.heap.layout set)) (turned Whole (due (told_of_set query self.old.heap set known.number))) ≡ told result }
         ensures same { self.new ≡ self.old }
     {
@@ -47,9 +47,9 @@ impl Scene {
             return Err(Trouble::Misfit);
         }
         let answer = match query {
-            SetQuery::FirstMember => self.population.first(set as usize, known.number),
-            SetQuery::LastMember => self.population.last(set as usize, known.number),
-            SetQuery::MemberCount => self.population.member_count(set as usize, known.number),
+            SetQuery::FirstMember => self.population.first(set, known.number),
+            SetQuery::LastMember => self.population.last(set, known.number),
+            SetQuery::MemberCount => self.population.member_count(set, known.number),
         };
         match answer {
             Ok(number) => Ok(Value::Whole(number)),
@@ -61,7 +61,7 @@ impl Scene {
     pub fn of_set(
         &mut self,
         query: SetQuery,
-        set: u32,
+        set: usize,
         owner: Option<Value>,
     ) -> Result<Value, Trouble>
         ensures value { Looks (of_set query set owner) self.old result }
@@ -75,21 +75,21 @@ impl Scene {
 
     // Whether the set of an owner has no member, by the owner's number, where the layout has the set.
     #[inline(always)]
-    fn is_empty_known(&mut self, set: u32, known: Known) -> Result<bool, Trouble>
+    fn is_empty_known(&mut self, set: usize, known: Known) -> Result<bool, Trouble>
         ensures value { where_fit (is_some (set_in self.old.heap.layout set)) (turned is_none (due (count_in self.old.heap set known.number))) ≡ told result }
         ensures same { self.new ≡ self.old }
     {
         if !self.has_set(set) {
             return Err(Trouble::Misfit);
         }
-        match self.population.member_count(set as usize, known.number) {
+        match self.population.member_count(set, known.number) {
             Ok(count) => Ok(is_none(count)),
             Err(kind) => Err(Trouble::Fault(kind)),
         }
     }
 
     /// Whether the set of an owner has no member. Faults: 1 to 5.
-    pub fn is_empty(&mut self, set: u32, owner: Option<Value>) -> Result<bool, Trouble>
+    pub fn is_empty(&mut self, set: usize, owner: Option<Value>) -> Result<bool, Trouble>
         ensures value { Looks (is_empty set owner) self.old result }
         ensures same { self.new ≡ self.old }
     {
@@ -103,7 +103,7 @@ impl Scene {
     fn asked_of_member(
         &mut self,
         query: MemberQuery,
-        set: u32,
+        set: usize,
         known: Known,
     ) -> Result<Value, Trouble>
         ensures value { where_fit (is_some (set_in self.old.heap.layout set)) (told_of_member query self.old.heap set known.number) ≡ told result }
@@ -114,10 +114,10 @@ impl Scene {
         }
         match query {
             MemberQuery::Predecessor => told_number(
-                self.population.previous(set as usize, known.number),
+                self.population.previous(set, known.number),
             ),
-            MemberQuery::Successor => told_number(self.population.next(set as usize, known.number)),
-            MemberQuery::Membership => match self.population.owner_in(set as usize, known.number) {
+            MemberQuery::Successor => told_number(self.population.next(set, known.number)),
+            MemberQuery::Membership => match self.population.owner_in(set, known.number) {
                 Ok(Some(_)) => Ok(Value::Whole(1)),
                 Ok(None) => Ok(Value::Whole(0)),
                 Err(kind) => Err(Trouble::Fault(kind)),
@@ -126,7 +126,7 @@ impl Scene {
     }
 
     /// P., S. or M. of a member. Faults: 1 to 5.
-    pub fn of_member(&mut self, query: MemberQuery, set: u32, x: Value) -> Result<Value, Trouble>
+    pub fn of_member(&mut self, query: MemberQuery, set: usize, x: Value) -> Result<Value, Trouble>
         ensures value { Looks (of_member query set x) self.old result }
         ensures same { self.new ≡ self.old }
     {

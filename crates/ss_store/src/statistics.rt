@@ -39,7 +39,7 @@ impl Scene {
     #[inline(always)]
     pub(crate) fn note_attribute(
         &mut self,
-        class: u32,
+        class: usize,
         field: usize,
         known: Known,
         value: Value,
@@ -48,12 +48,12 @@ impl Scene {
     {
         or_unnoted(
             self.timeline
-                .note_attribute(class as usize, field, known.number, value),
+                .note_attribute(class, field, known.number, value),
         )
     }
 
     /// Notes the value that a global variable has now in its histories. Faults: 14 where one of them is full.
-    pub fn note_variable(&mut self, number: u32, value: Value) -> Result<(), Trouble>
+    pub fn note_variable(&mut self, number: usize, value: Value) -> Result<(), Trouble>
         ensures { Changes (noted (OfVariable number) (pos 0) value) self.old self.new result }
     {
         self.note(Subject::OfVariable { number }, Known { number: 0 }, value)
@@ -61,7 +61,7 @@ impl Scene {
 
     // Notes N. of the set of an owner, by its number, in its histories.
     #[inline(always)]
-    pub(crate) fn recount(&mut self, set: u32, owner: Known) -> Result<(), Trouble>
+    pub(crate) fn recount(&mut self, set: usize, owner: Known) -> Result<(), Trouble>
         requires counted { IsCountable self.old.heap set owner.number }
         ensures { Changes (recounted_now set owner.number) self.old self.new result }
     {
@@ -72,7 +72,7 @@ impl Scene {
     }
 
     // The same where there are statistics.
-    fn recount_watched(&mut self, set: u32, owner: Known) -> Result<(), Trouble>
+    fn recount_watched(&mut self, set: usize, owner: Known) -> Result<(), Trouble>
         requires counted { IsCountable self.old.heap set owner.number }
         ensures { Changes (recounted_now set owner.number) self.old self.new result }
     {
@@ -83,7 +83,7 @@ impl Scene {
     }
 
     // N. of the set of an owner, by its number, or something else where no statistic is about it.
-    fn count_watched(&mut self, set: u32, owner: Known) -> Result<Value, Trouble>
+    fn count_watched(&mut self, set: usize, owner: Known) -> Result<Value, Trouble>
         requires counted { IsCountable self.old.heap set owner.number }
         ensures value { CountsWatched set owner.number self.old result }
         ensures same { self.new ≡ self.old }
@@ -91,17 +91,17 @@ impl Scene {
         if !self.timeline.watches(Subject::OfCount { set }) {
             return Ok(Value::Whole(0));
         }
-        match self.population.member_count(set as usize, owner.number) {
+        match self.population.member_count(set, owner.number) {
             Ok(count) => Ok(Value::Whole(count)),
             Err(kind) => Err(Trouble::Fault(kind)),
         }
     }
 
     // What a statistic is about.
-    fn subject(&self, statistic: u32) -> Option<Subject>
+    fn subject(&self, statistic: usize) -> Option<Subject>
         ensures { result ≡ subject_in self.now.statistics statistic }
     {
-        self.timeline.subject(statistic as usize)
+        self.timeline.subject(statistic)
     }
 
     // The entity that has a subject, 0 for the system.
@@ -123,10 +123,10 @@ impl Scene {
     }
 
     // What is asked of the history of an entity in a statistic, by its number.
-    fn figure_kept(&self, fold: Fold, statistic: u32, known: Known) -> Result<Value, Trouble>
+    fn figure_kept(&self, fold: Fold, statistic: usize, known: Known) -> Result<Value, Trouble>
         ensures { Looks (figure_kept fold statistic known.number) self.now result }
     {
-        told_figure(self.timeline.figure(fold, statistic as usize, known.number))
+        told_figure(self.timeline.figure(fold, statistic, known.number))
     }
 
     /// What a statistic says: NUMBER, SUM, MAXIMUM or MINIMUM of its subject, of an entity if one has that. Faults: 1 to
@@ -134,7 +134,7 @@ impl Scene {
     pub fn figure(
         &mut self,
         fold: Fold,
-        statistic: u32,
+        statistic: usize,
         whose: Option<Value>,
     ) -> Result<Value, Trouble>
         ensures value { Looks (figure fold statistic whose) self.old result }
@@ -150,7 +150,7 @@ impl Scene {
     }
 
     /// The global variable that a statistic is about, if it is about one.
-    pub fn variable_of(&self, statistic: u32) -> Option<u32>
+    pub fn variable_of(&self, statistic: usize) -> Option<usize>
         ensures { result ≡ variable_of self.now.statistics statistic }
     {
         variable_in(self.subject(statistic))
@@ -180,12 +180,12 @@ impl Scene {
     }
 
     // Starts the history of an entity in a statistic afresh, by its number, with the present value.
-    fn renew(&mut self, statistic: u32, known: Known, present: Known) -> Result<(), Trouble>
+    fn renew(&mut self, statistic: usize, known: Known, present: Known) -> Result<(), Trouble>
         ensures { Changes (renewed_known statistic known.number present.number) self.old self.new result }
     {
         if self
             .timeline
-            .renew(statistic as usize, known.number, present.number)
+            .renew(statistic, known.number, present.number)
         {
             Ok(())
         } else {
@@ -196,7 +196,7 @@ impl Scene {
     // The same with the present value of the statistic's subject.
     fn reset_known(
         &mut self,
-        statistic: u32,
+        statistic: usize,
         subject: Subject,
         known: Known,
         whose: Option<Value>,
@@ -217,7 +217,7 @@ impl Scene {
     /// global variable (`variable_of`) holds this value. Faults: 1 to 5. Nothing changes after a fault.
     pub fn reset(
         &mut self,
-        statistic: u32,
+        statistic: usize,
         whose: Option<Value>,
         held: Option<Value>,
     ) -> Result<(), Trouble>
@@ -234,7 +234,7 @@ impl Scene {
 }
 
 // The global variable that a subject is.
-fn variable_in(subject: Option<Subject>) -> Option<u32>
+fn variable_in(subject: Option<Subject>) -> Option<usize>
     ensures { result ≡ variable_in subject }
 {
     match subject {

@@ -12,7 +12,7 @@ use ss_base::{RankKey, RankKeys};
 use ss_contexts::ResolveError;
 use ss_entities::Event as EventSection;
 use ss_lex::Name;
-use ss_meant::{narrow, resolve_ties};
+use ss_meant::resolve_ties;
 use ss_names::{Meaning, Names};
 use ss_program::sections::Event;
 use ss_scopes::Globals;
@@ -20,7 +20,7 @@ use ss_tree::program::Section;
 use std::alloc::{AllocError, Global};
 
 // The global variable that gets the number of the notice, if it is saved.
-fn saved(names: &Names, class: Name, saving: bool) -> Result<Option<u32>, ResolveError>
+fn saved(names: &Names, class: Name, saving: bool) -> Result<Option<usize>, ResolveError>
     ensures { Gives (λ x. x) result (saved names.now class saving) }
 {
     if !saving {
@@ -28,7 +28,6 @@ fn saved(names: &Names, class: Name, saving: bool) -> Result<Option<u32>, Resolv
     }
     match names.meaning(&class) {
         Some(Meaning::Class { variable, .. }) => {
-            let variable = narrow(variable)?;
             Ok(Some(variable))
         }
         _ => Err(ResolveError::Unresolved),
@@ -41,12 +40,11 @@ fn event_of(
     class: usize,
     ties: Vec<RankKey>,
     given: usize,
-    saved: Option<u32>,
+    saved: Option<usize>,
     parts: Parts,
 ) -> Result<Event, AllocError>
     ensures { IfOk result (λ e. view_event e ≡ event_of class ties.items given saved (view_parts parts)) }
 {
-    let class = narrow(class)?;
     let (given, others) = split(&parts.modes, given);
     let given = Vec::from_slice(alloc, given)?;
     let others = Vec::from_slice(alloc, others)?;

@@ -13,7 +13,7 @@ use std::alloc::AllocError;
 impl Working {
     /// Puts the value of an attribute in place of the reference to its entity.
     #[inline(always)]
-    pub fn attribute(&mut self, class: u32, field: u32, line: Line) -> Result<Outcome, AllocError>
+    pub fn attribute(&mut self, class: usize, field: usize, line: Line) -> Result<Outcome, AllocError>
         requires { self.old.place + 1 < 2 ^ 64 }
         ensures { IfOk result (λ outcome. (code : CodeSeen) (input : List ℕ) → Told outcome (act code (Instruction.Attribute class field line) (core_of self.old input)) (core_of self.new input)) }
     {
@@ -29,7 +29,7 @@ impl Working {
     pub fn of_set(
         &mut self,
         query: SetQuery,
-        set: u32,
+        set: usize,
         system: bool,
         line: Line,
     ) -> Result<Outcome, AllocError>
@@ -48,7 +48,7 @@ impl Working {
     pub fn of_member(
         &mut self,
         query: MemberQuery,
-        set: u32,
+        set: usize,
         line: Line,
     ) -> Result<Outcome, AllocError>
         requires { self.old.place + 1 < 2 ^ 64 }
@@ -89,7 +89,7 @@ impl Working {
     pub fn test_empty(
         &mut self,
         negated: bool,
-        set: u32,
+        set: usize,
         system: bool,
         skip: usize,
         line: Line,
@@ -109,7 +109,7 @@ impl Working {
     pub fn test_member(
         &mut self,
         negated: bool,
-        set: u32,
+        set: usize,
         system: bool,
         skip: usize,
         line: Line,
@@ -129,7 +129,7 @@ impl Working {
 
     /// Looks at a reference to an entity of a class, which stays on top.
     #[inline(always)]
-    pub fn look_entity(&mut self, class: u32, line: Line) -> Outcome
+    pub fn look_entity(&mut self, class: usize, line: Line) -> Outcome
         requires { self.old.place + 1 < 2 ^ 64 }
         ensures { (code : CodeSeen) (input : List ℕ) → Told result (act code (Instruction.LookEntity class line) (core_of self.old input)) (core_of self.new input) }
     {
@@ -142,7 +142,7 @@ impl Working {
 
     /// Looks at a reference to an entity that may be a member of a set, which stays on top.
     #[inline(always)]
-    pub fn look_member(&mut self, set: u32, line: Line) -> Outcome
+    pub fn look_member(&mut self, set: usize, line: Line) -> Outcome
         requires { self.old.place + 1 < 2 ^ 64 }
         ensures { (code : CodeSeen) (input : List ℕ) → Told result (act code (Instruction.LookMember set line) (core_of self.old input)) (core_of self.new input) }
     {
@@ -155,7 +155,7 @@ impl Working {
 
     /// Looks at the owner of a set, which stays on top.
     #[inline(always)]
-    pub fn look_owner(&mut self, set: u32, system: bool, line: Line) -> Outcome
+    pub fn look_owner(&mut self, set: usize, system: bool, line: Line) -> Outcome
         requires { self.old.place + 1 < 2 ^ 64 }
         ensures { (code : CodeSeen) (input : List ℕ) → Told result (act code (Instruction.LookOwner set system line) (core_of self.old input)) (core_of self.new input) }
     {

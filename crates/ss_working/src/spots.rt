@@ -25,7 +25,7 @@ use std::alloc::AllocError;
 impl Working {
     // Assigns a value to a local variable, where one of its mode is there.
     #[inline(always)]
-    fn write_local(&mut self, number: u32, value: Value) -> Result<(), Trouble>
+    fn write_local(&mut self, number: usize, value: Value) -> Result<(), Trouble>
         ensures rests { Rests self.old self.new }
         ensures given { self.new.given ≡ self.old.given }
         ensures store { (input : List ℕ) → Came result (put (Local number) value (store_of self.old input)) (store_of self.new input) }
@@ -38,7 +38,7 @@ impl Working {
 
     // The same of a global variable, which no history notes yet.
     #[inline(always)]
-    fn write_global(&mut self, number: u32, value: &Value) -> Result<(), Trouble>
+    fn write_global(&mut self, number: usize, value: &Value) -> Result<(), Trouble>
         ensures rests { Rests self.old self.new }
         ensures given { self.new.given ≡ self.old.given }
         ensures store { (input : List ℕ) → Came result (put (Global number) value.now (store_of self.old input)) (store_of self.new input) }
@@ -51,7 +51,7 @@ impl Working {
 
     // Notes the value of a global variable in each history of it.
     #[inline(always)]
-    fn note_global(&mut self, number: u32, value: Value) -> Result<(), Trouble>
+    fn note_global(&mut self, number: usize, value: Value) -> Result<(), Trouble>
         ensures rests { Rests self.old self.new }
         ensures given { self.new.given ≡ self.old.given }
         ensures store { (input : List ℕ) → Came result (noted (OfVariable number) (pos 0) value (store_of self.old input)) (store_of self.new input) }
