@@ -111,7 +111,7 @@ fn resolved<G: Globals>(
 /// too many, or a count of arguments doesn't fit.
 ///
 /// # Errors
-/// `AllocError` where memory is refused, or where a number doesn't fit into 32 bits, which takes as many names.
+/// `AllocError` where memory is refused.
 pub fn resolve<G: Globals>(
     alloc: Global,
     program: &Program,
