@@ -3,9 +3,9 @@
 
 pub mod laws;
 mod outcome;
-mod whole;
+mod simulating;
 
 pub use outcome::{Outcome, outcome_line, outcome_status};
+pub use simulating::simulate;
 pub use ss_compile::{Model, Refusal, compile};
 pub use ss_sessions::{Session, Stop};
-pub use whole::simulate;

@@ -1,4 +1,4 @@
-use Rattle.ss_engine.proofs.whole.simulate.Goals as goal
+use Rattle.ss_engine.proofs.simulating.simulate.Goals as goal
 
 pub returns-clause-headline : goal.returns-clause-headline
 returns-clause-headline g c =

@@ -3,7 +3,7 @@ use Rattle.ss_tree.specs.View.{view_program as tree_seen}
 use Rattle.ss_program.specs.View.{view_program}
 use Rattle.ss_compile.specs.Accepting.{IsTreeOf, IsKeptBy, IsProgramOf, Compiles, RefusedFor}
 use Rattle.ss_compile.proofs.Fronts.{tables_refused, checker_refused, generator_refused}
-use Rattle.ss_compile.proofs.front.compile.Goals as goal
+use Rattle.ss_compile.proofs.compiling.compile.Goals as goal
 
 pub returns-in-Err-of-clause-refused : goal.returns-in-Err-of-clause-refused
 returns-in-Err-of-clause-refused c =
