@@ -16,12 +16,12 @@ ghost use Rattle.ss_check.specs.Checking.{Becomes, FormedProgram, Tells, refusal
 use crate::error::{CheckError, error_of};
 use ss_globals::ProgramGlobals;
 use ss_links::laws::kept_programs_resolve;
+use ss_misuses::refusal;
 use ss_program::checked::Checked;
 use ss_release::release_tree;
 use ss_sizes::laws::laws as laws_of_nodes;
 use ss_tables::Tables;
 use ss_tree::program::Program;
-use ss_uses::refusal;
 use ss_whole::resolve;
 use std::alloc::Global;
 

@@ -18,8 +18,8 @@ use ss_tree::program::{Section, SectionKind};
 use ss_walk::{Mention, Role};
 use std::alloc::{AllocError, Global};
 
-// Whether one of some sections is MAIN.
-pub(crate) fn has_main(sections: &[Section]) -> bool
+/// Whether one of some sections is MAIN.
+pub fn has_main(sections: &[Section]) -> bool
     ensures { result ≡ has_main (map view_section sections.now) }
 {
     let mut found = false;
@@ -42,8 +42,11 @@ fn add_event(events: &mut IndexSet<Name>, section: &Section) -> Result<(), Alloc
     }
 }
 
-// The names of the EVENT sections.
-pub(crate) fn event_names(alloc: Global, sections: &[Section]) -> Result<IndexSet<Name>, AllocError>
+/// The names of the EVENT sections, each once.
+///
+/// # Errors
+/// `AllocError` where memory is refused.
+pub fn event_names(alloc: Global, sections: &[Section]) -> Result<IndexSet<Name>, AllocError>
     ensures { IfOk result (λ events. events.keys ≡ with_names [] (event_names (map view_section sections.now))) }
 {
     let mut events = IndexSet::new(alloc);

@@ -2,18 +2,16 @@
 #![tactic(auto)]
 
 mod arguments;
-mod checking;
-mod events;
+pub mod events;
 mod fields;
 mod lines;
 mod modes;
-mod preamble;
+pub mod preamble;
 mod rule;
-mod section;
+pub mod section;
 mod subscripts;
 mod targets;
 mod unknown;
-mod uses;
+pub mod uses;
 
-pub use checking::refusal;
 pub use rule::{Broken, Rule};

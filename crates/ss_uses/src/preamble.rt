@@ -80,8 +80,8 @@ fn first_in_statement<G: Globals>(
     }
 }
 
-// The first line in which a preamble breaks a rule.
-pub(crate) fn first_in_preamble<G: Globals>(
+/// The first line in which a preamble breaks a rule, where EVENT sections have these names; None where it keeps it.
+pub fn first_in_preamble<G: Globals>(
     globals: &G,
     events: &IndexSet<Name>,
     rule: Rule,

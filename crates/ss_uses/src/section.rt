@@ -75,12 +75,8 @@ fn first_demand<G: Globals>(globals: &G, rule: Rule, uses: &SectionUses) -> Opti
     found
 }
 
-// The first line in which a section breaks a rule.
-pub(crate) fn first_in_section<G: Globals>(
-    globals: &G,
-    rule: Rule,
-    uses: &SectionUses,
-) -> Option<Line>
+/// The first line in which a section of these uses breaks a rule; None where it keeps it.
+pub fn first_in_section<G: Globals>(globals: &G, rule: Rule, uses: &SectionUses) -> Option<Line>
     ensures { result ≡ first_of (in_section rule (G.whole globals.now) (uses_seen uses.now)) }
 {
     let mentioned = first_mention(globals, rule, uses);
@@ -88,12 +84,8 @@ pub(crate) fn first_in_section<G: Globals>(
     mentioned.or(demanded)
 }
 
-// The first line in which some sections break a rule.
-pub(crate) fn first_in_sections<G: Globals>(
-    globals: &G,
-    rule: Rule,
-    all: &[SectionUses],
-) -> Option<Line>
+/// The first line in which sections of these uses break a rule; None where they keep it.
+pub fn first_in_sections<G: Globals>(globals: &G, rule: Rule, all: &[SectionUses]) -> Option<Line>
     ensures { result ≡ first_of (flat_map (in_section rule (G.whole globals.now)) (map uses_seen all.now)) }
 {
     let mut found = None;

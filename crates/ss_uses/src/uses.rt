@@ -11,13 +11,13 @@ use ss_tree::program::{Section, SectionKind};
 use ss_walk::{Mention, mentions_of};
 use std::alloc::{AllocError, Global};
 
-// Whether it is MAIN, its local variables, what it mentions and what it demands.
+/// What the rules look at in a section: whether it is MAIN, its local variables, what it mentions and what it demands.
 #[derive(Drop)]
-pub(crate) struct SectionUses {
-    pub(crate) in_main: bool,
-    pub(crate) locals: Locals,
-    pub(crate) mentions: Vec<Mention>,
-    pub(crate) demands: Vec<Demand>,
+pub struct SectionUses {
+    pub in_main: bool,
+    pub locals: Locals,
+    pub mentions: Vec<Mention>,
+    pub demands: Vec<Demand>,
 }
 
 // Whether a section is MAIN.
@@ -46,8 +46,11 @@ fn section_uses<G: Globals>(
     })
 }
 
-// The uses of some sections.
-pub(crate) fn all_uses<G: Globals>(
+/// The uses of each of some sections.
+///
+/// # Errors
+/// `AllocError` where memory is refused.
+pub fn all_uses<G: Globals>(
     alloc: Global,
     globals: &G,
     sections: &[Section],

@@ -3,7 +3,7 @@ use Rattle.ss_tree.specs.View.{view_program}
 use Rattle.ss_uses.specs.Events.{lacks_event}
 use Rattle.ss_uses.specs.Refusal.{first_broken, lines_in}
 use Rattle.ss_uses.specs.Seen.{uses_seen}
-use Rattle.ss_uses.proofs.checking.first_broken.Given as goal
+use Rattle.ss_misuses.proofs.checking.first_broken.Given as goal
 
 abbrev pub invariant-loop-rule : goal.invariant-loop-rule
 invariant-loop-rule g l =

@@ -8,16 +8,16 @@ ghost use Rattle.ss_uses.specs.Refusal.{first_broken, in_program, lines_in, refu
 ghost use Rattle.ss_uses.specs.Seen.{uses_seen};
 ghost use Rattle.ss_uses.specs.Uses.{uses_of};
 
-use crate::events::{event_names, has_main};
-use crate::preamble::first_in_preamble;
-use crate::rule::{Broken, Rule};
-use crate::section::first_in_sections;
-use crate::uses::{SectionUses, all_uses};
 use indexmap::IndexSet;
 use ss_base::Line;
 use ss_lex::Name;
 use ss_scopes::Globals;
 use ss_tree::program::{Program, Section};
+use ss_uses::events::{event_names, has_main};
+use ss_uses::preamble::first_in_preamble;
+use ss_uses::section::first_in_sections;
+use ss_uses::uses::{SectionUses, all_uses};
+use ss_uses::{Broken, Rule};
 use std::alloc::{AllocError, Global};
 
 // The rules in the order in which they are looked at.

@@ -8,8 +8,8 @@ use Rattle.ss_uses.specs.Once.{with_names}
 use Rattle.ss_uses.specs.Refusal.{first_broken, lines_in, rules_in_order}
 use Rattle.ss_uses.specs.Seen.{uses_seen}
 use Rattle.ss_uses.specs.Uses.{Uses, uses_of}
-use Rattle.ss_uses.proofs.Naming.{lacks_once}
-use Rattle.ss_uses.proofs.checking.refusal.Goals as goal
+use Rattle.ss_misuses.proofs.Naming.{lacks_once}
+use Rattle.ss_misuses.proofs.checking.refusal.Goals as goal
 
 pub returns : goal.returns
 returns g c =
