@@ -46,7 +46,12 @@ fn add_number(text: &mut Vec<u8>, word: &str, number: u128) -> Result<(), AllocE
 }
 
 // A word, a number, and a word behind it.
-fn add_between(text: &mut Vec<u8>, word: &str, number: usize, behind: &str) -> Result<(), AllocError>
+fn add_between(
+    text: &mut Vec<u8>,
+    word: &str,
+    number: usize,
+    behind: &str,
+) -> Result<(), AllocError>
     ensures { OnOk result (text.new.items ≡ text.old.items ++ (word.now ++ (decimal number ++ behind.now))) }
 {
     add_number(text, word, number as u128)?;

@@ -57,7 +57,11 @@ fn value_counted(working: &Working, statistic: usize) -> Option<Value>
 }
 
 // The history of a statistic of an entity starts afresh.
-fn start_afresh(working: &mut Working, statistic: usize, whose: Option<Value>) -> Result<(), Trouble>
+fn start_afresh(
+    working: &mut Working,
+    statistic: usize,
+    whose: Option<Value>,
+) -> Result<(), Trouble>
     ensures rests { Rests working.old working.new }
     ensures store { (input : List ℕ) → Came result (reset statistic whose (store_of working.old input)) (store_of working.new input) }
 {

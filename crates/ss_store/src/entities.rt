@@ -157,10 +157,7 @@ impl Scene {
         if !self.fits(class, field, &value) {
             return Err(self.earlier(class, known, Trouble::Misfit));
         }
-        match self
-            .population
-            .set_value(class, field, known.number, value)
-        {
+        match self.population.set_value(class, field, known.number, value) {
             Ok(()) => self.note_attribute(class, field, known, value),
             Err(kind) => Err(Trouble::Fault(kind)),
         }
@@ -222,8 +219,7 @@ impl Scene {
         }
         match self.population.create(class) {
             Ok(number) => {
-                self.timeline
-                    .start(self.population.layout(), class, number);
+                self.timeline.start(self.population.layout(), class, number);
                 Ok(Value::Whole(number))
             }
             Err(Refused::Fault(kind)) => Err(Unmade::Fault(kind)),

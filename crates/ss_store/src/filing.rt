@@ -33,12 +33,8 @@ impl Scene {
         match self.disciplines.get(set) {
             None => Err(Trouble::Misfit),
             Some(discipline) => {
-                self.population.file_if_fit(
-                    discipline,
-                    set,
-                    both.owner.number,
-                    both.member.number,
-                )
+                self.population
+                    .file_if_fit(discipline, set, both.owner.number, both.member.number)
             }
         }
     }
@@ -50,12 +46,8 @@ impl Scene {
     {
         match self.find_member(set, y) {
             Ok(beside) => or_trouble(
-                self.population.file_before(
-                    set,
-                    both.owner.number,
-                    both.member.number,
-                    beside.number,
-                ),
+                self.population
+                    .file_before(set, both.owner.number, both.member.number, beside.number),
             ),
             Err(trouble) => Err(trouble),
         }
@@ -68,12 +60,8 @@ impl Scene {
     {
         match self.find_member(set, y) {
             Ok(beside) => or_trouble(
-                self.population.file_after(
-                    set,
-                    both.owner.number,
-                    both.member.number,
-                    beside.number,
-                ),
+                self.population
+                    .file_after(set, both.owner.number, both.member.number, beside.number),
             ),
             Err(trouble) => Err(trouble),
         }

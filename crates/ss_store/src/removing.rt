@@ -94,7 +94,12 @@ impl Scene {
     /// Takes the member at an end out of the set of an owner, and answers it, as REMOVE FIRST and REMOVE LAST say.
     /// Histories note how many members are left. Faults: 1 to 5, then 8 where there is none; then 14 where a history of
     /// N. is full, and the member is out.
-    pub fn remove_end(&mut self, end: End, set: usize, owner: Option<Value>) -> Result<Value, Trouble>
+    pub fn remove_end(
+        &mut self,
+        end: End,
+        set: usize,
+        owner: Option<Value>,
+    ) -> Result<Value, Trouble>
         ensures { Gains (removed_at end set owner) self.old self.new result }
     {
         match self.owner(set, owner) {

@@ -68,7 +68,13 @@ impl Scene {
 
     // Assigns values to the first attributes of a notice, and sets its TIME.A.
     #[inline(always)]
-    fn prepare(&mut self, class: usize, x: &Value, given: &[Value], time: i64) -> Result<(), Trouble>
+    fn prepare(
+        &mut self,
+        class: usize,
+        x: &Value,
+        given: &[Value],
+        time: i64,
+    ) -> Result<(), Trouble>
         ensures { Leads (prepared class x.now given.now time) self.old self.new result }
     {
         match self.endow(class, x, given) {

@@ -113,9 +113,7 @@ impl Scene {
             return Err(Trouble::Misfit);
         }
         match query {
-            MemberQuery::Predecessor => told_number(
-                self.population.previous(set, known.number),
-            ),
+            MemberQuery::Predecessor => told_number(self.population.previous(set, known.number)),
             MemberQuery::Successor => told_number(self.population.next(set, known.number)),
             MemberQuery::Membership => match self.population.owner_in(set, known.number) {
                 Ok(Some(_)) => Ok(Value::Whole(1)),

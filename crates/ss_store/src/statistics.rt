@@ -183,10 +183,7 @@ impl Scene {
     fn renew(&mut self, statistic: usize, known: Known, present: Known) -> Result<(), Trouble>
         ensures { Changes (renewed_known statistic known.number present.number) self.old self.new result }
     {
-        if self
-            .timeline
-            .renew(statistic, known.number, present.number)
-        {
+        if self.timeline.renew(statistic, known.number, present.number) {
             Ok(())
         } else {
             Err(Trouble::Misfit)

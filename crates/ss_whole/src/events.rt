@@ -27,9 +27,7 @@ fn saved(names: &Names, class: Name, saving: bool) -> Result<Option<usize>, Reso
         return Ok(None);
     }
     match names.meaning(&class) {
-        Some(Meaning::Class { variable, .. }) => {
-            Ok(Some(variable))
-        }
+        Some(Meaning::Class { variable, .. }) => { Ok(Some(variable)) }
         _ => Err(ResolveError::Unresolved),
     }
 }

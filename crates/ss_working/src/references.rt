@@ -13,7 +13,12 @@ use std::alloc::AllocError;
 impl Working {
     /// Puts the value of an attribute in place of the reference to its entity.
     #[inline(always)]
-    pub fn attribute(&mut self, class: usize, field: usize, line: Line) -> Result<Outcome, AllocError>
+    pub fn attribute(
+        &mut self,
+        class: usize,
+        field: usize,
+        line: Line,
+    ) -> Result<Outcome, AllocError>
         requires { self.old.place + 1 < 2 ^ 64 }
         ensures { IfOk result (λ outcome. (code : CodeSeen) (input : List ℕ) → Told outcome (act code (Instruction.Attribute class field line) (core_of self.old input)) (core_of self.new input)) }
     {
