@@ -94,7 +94,7 @@ fn first_broken(
 
 /// The first rule that a program breaks by what it declares, in the order of the rules' numbers, with the
 /// first line where it does; None where it keeps them all. The sayings are those of the program
-/// (`sayings_of` of ss_sayings), the sections its sections.
+/// (`sayings_of` of ss_gathering), the sections its sections.
 ///
 /// # Errors
 /// `AllocError` where memory is refused.

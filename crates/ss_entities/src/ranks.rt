@@ -8,8 +8,8 @@ ghost use Rattle.ss_entities.specs.Variables.{declared_by, is_notice_kind, is_no
 use crate::entry::Class;
 use crate::telling::{Telling, firsts_told, more_told};
 use indexmap::IndexMap;
+use ss_bytes::Name;
 use ss_firsts::keep_if;
-use ss_lex::Name;
 use ss_sayings::{Said, Saying};
 use ss_tree::preamble::ClassKind;
 use std::alloc::{AllocError, Global};

@@ -8,8 +8,8 @@ ghost use Rattle.ss_entities.specs.Variables.{event_by, routine_by};
 use crate::entry::{Event, Routine};
 use crate::telling::{Telling, firsts_told};
 use indexmap::IndexMap;
+use ss_bytes::Name;
 use ss_firsts::keep_first;
-use ss_lex::Name;
 use ss_sayings::{Said, Saying};
 use std::alloc::{AllocError, Global};
 

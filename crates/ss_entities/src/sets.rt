@@ -9,8 +9,8 @@ use crate::entry::{Class, Ordering, Set};
 use crate::telling::{Telling, firsts_told};
 use indexmap::{IndexMap, IndexSet};
 use ss_base::Owner;
+use ss_bytes::Name;
 use ss_firsts::{keep_first, keep_if};
-use ss_lex::Name;
 use ss_sayings::{Said, Saying};
 use std::alloc::{AllocError, Global};
 

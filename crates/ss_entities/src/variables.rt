@@ -9,8 +9,8 @@ ghost use Rattle.ss_tree.specs.declared.preamble.Mode.TheVariants.{Integer};
 
 use crate::entry::{Attribute, Class, Variable, VariableKind};
 use indexmap::IndexMap;
+use ss_bytes::Name;
 use ss_firsts::{Spelling, is_told, keep_spelled};
-use ss_lex::Name;
 use ss_sayings::{Said, Saying};
 use ss_tree::preamble::{ClassKind, Mode};
 use std::alloc::{AllocError, Global};

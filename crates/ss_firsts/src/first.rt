@@ -6,7 +6,7 @@ ghost use Rattle.std.specs.Map.{keys_of, values_of};
 ghost use Rattle.ss_firsts.specs.Firsts.{entry_if, told_of, with_first};
 
 use indexmap::IndexMap;
-use ss_lex::Name;
+use ss_bytes::Name;
 use std::alloc::AllocError;
 
 /// Keeps what is told of a name behind the others, unless something is told of it, and then all stays as it

@@ -6,9 +6,9 @@ ghost use Rattle.ss_lex.specs.Pieces.{is_separator, is_word_byte, is_quotable, b
 ghost use Rattle.ss_lex.specs.Reading.{run_length, quotable_length, comment_at, quote_step_of, step_of};
 
 use crate::meaning::{Fault, Meaning};
-use crate::token::{Symbol, TokenKind};
 use crate::words::word_meaning;
 use ss_base::Alpha;
+use ss_tokens::{Symbol, TokenKind};
 
 fn is_separator(b: u8) -> bool
     ensures { result ≡ is_separator b }

@@ -6,9 +6,9 @@ ghost use Rattle.ss_meant.specs.Layouts.{attribute_named, class_laid, field_mode
 
 use crate::words::{class_kind, mode_given};
 use ss_base::{ClassLayout, Layout, Mode, SetLayout};
+use ss_bytes::Name;
 use ss_contexts::ResolveError;
 use ss_entities::Attribute;
-use ss_lex::Name;
 use ss_names::Names;
 use std::alloc::{AllocError, Global};
 

@@ -6,7 +6,7 @@ use crate::figures::statistic_of_name;
 use crate::places::{class_of, routine_of, set_of_name};
 use crate::values::name_meaning;
 use ss_contexts::{ClassMeant, Meaning, ResolveError, RoutineMeant, Scope, SetMeant};
-use ss_lex::Name;
+use ss_bytes::Name;
 use ss_names::Names;
 use ss_scopes::Locals;
 use ss_tree::expression::Designator;

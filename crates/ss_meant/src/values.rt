@@ -8,7 +8,7 @@ use crate::figures::statistic;
 use crate::variables::{global_variable, local_meaning};
 use ss_base::Mode;
 use ss_contexts::{Meaning, ResolveError};
-use ss_lex::Name;
+use ss_bytes::Name;
 use ss_names::{Meaning as Global, Names};
 use ss_program::expression::Variable;
 use ss_program::statement::Counted;

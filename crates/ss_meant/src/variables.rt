@@ -6,7 +6,7 @@ ghost use Rattle.ss_meant.specs.Meanings.{class_variable, global_variable, local
 
 use crate::words::{mode_given, mode_said};
 use ss_contexts::{Meaning, ResolveError};
-use ss_lex::Name;
+use ss_bytes::Name;
 use ss_names::{Meaning as Global, Names};
 use ss_program::expression::Variable;
 use ss_scopes::Locals;

@@ -9,7 +9,7 @@ use crate::error::ParseError;
 use crate::reading::programs::program;
 use ss_base::Line;
 use ss_grammar::failure::{Failure, Fault};
-use ss_lex::{Token, Tokens};
+use ss_tokens::{Token, Tokens};
 use ss_tree::program::Program;
 use std::alloc::Global;
 

@@ -6,7 +6,7 @@ ghost use Rattle.ss_contexts.specs.Contexts.{counted, if_notice, if_permanent, i
 
 use ss_base::ClassKind;
 use ss_contexts::{ClassMeant, ResolveError, Scope};
-use ss_lex::Name;
+use ss_bytes::Name;
 use ss_program::statement::Counted;
 use std::alloc::Global;
 

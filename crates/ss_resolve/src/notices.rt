@@ -14,7 +14,7 @@ use crate::places::{resolve_entity_called, resolve_new_place, resolve_restarts};
 use crate::results::{beside, where_holds};
 use ss_base::Line;
 use ss_contexts::{ClassMeant, ResolveError, Scope};
-use ss_lex::Name;
+use ss_bytes::Name;
 use ss_program::expression::Expression as Value;
 use ss_program::statement::{Place, Statement as Resolved, When as ResolvedWhen};
 use ss_tree::expression::{Expression, Named};

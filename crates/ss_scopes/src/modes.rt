@@ -8,8 +8,8 @@ ghost use Rattle.ss_firsts.specs.Firsts.{firsts, same_name, with_first};
 ghost use Rattle.ss_scopes.specs.Locals.{all_defined, defined, or_usual};
 
 use indexmap::IndexMap;
+use ss_bytes::Name;
 use ss_firsts::keep_first;
-use ss_lex::Name;
 use ss_tree::preamble::Mode;
 use ss_tree::program::LocalDefinition;
 use std::alloc::{AllocError, Global};

@@ -17,7 +17,7 @@ use ss_grammar::names::{name, names};
 use ss_grammar::places::{target, targets};
 use ss_grammar::steps::beside;
 use ss_grammar::tokens::{begins_word, behind_first, expect_word, skip_word, syntax};
-use ss_lex::{Token, Word};
+use ss_tokens::{Token, Word};
 use ss_tree::expression::Expression;
 use ss_tree::statement::Statement;
 use std::alloc::Global;

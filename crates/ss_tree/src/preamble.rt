@@ -1,7 +1,7 @@
 //! The statements of a preamble.
 
 use ss_base::Line;
-use ss_lex::Name;
+use ss_bytes::Name;
 
 /// What a value is.
 #[derive(Clone, Copy)]

@@ -7,7 +7,7 @@ ghost use Rattle.ss_walk.specs.Mentions.{class_named, in_all, in_all_named, in_e
 
 use crate::mention::{Mention, Mentioned, Role};
 use ss_base::Line;
-use ss_lex::Name;
+use ss_bytes::Name;
 use ss_tree::expression::{Designator, Expression, Named, Term};
 use std::alloc::AllocError;
 

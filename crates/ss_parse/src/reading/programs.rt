@@ -9,14 +9,15 @@ ghost use Rattle.ss_parse.specs.ReadPrograms.{begins_section, saving, routine_ki
 
 use crate::reading::preambles::{preamble, variable_mode};
 use ss_base::Line;
+use ss_bytes::Name;
 use ss_elements::nesting::levels;
 use ss_grammar::classes::{Class, skip_class};
 use ss_grammar::failure::Failure;
 use ss_grammar::names::{name, names};
 use ss_grammar::steps::beside;
 use ss_grammar::tokens::{begins_word, behind_first, expect_word, skip_word, syntax};
-use ss_lex::{Name, Token, TokenKind, Word};
 use ss_statements::statements::statements;
+use ss_tokens::{Token, TokenKind, Word};
 use ss_tree::preamble::Mode;
 use ss_tree::program::{LocalDefinition, Program, Section, SectionKind};
 use ss_tree::statement::Statement;
