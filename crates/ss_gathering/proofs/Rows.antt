@@ -6,7 +6,8 @@ use Rattle.ss_tree.specs.Tree.{PreambleTree, SectionTree}
 use Rattle.ss_tree.specs.View.{view_preamble, view_section}
 use Rattle.ss_sayings.specs.declared.saying.Saying.{Saying}
 use Rattle.ss_sayings.specs.Sayings.{preamble_says, preambles_say, section_says, sections_say}
-use Rattle.std.proofs.lemmas.List.{take_more, map-append, length-map, length-take-le}
+use Rattle.std.specs.List.{flat_map}
+use Rattle.std.proofs.lemmas.List.{take_more, map-append, flat_map_more, length-map, length-take-le}
 
 append_nil : {A : Type 0} (xs : List A) → xs ++ [] ≡ xs
 append_nil [] = refl
@@ -16,6 +17,16 @@ append_nil (x ∷ xs) = ap (λ l. x ∷ l) (append_nil xs)
 next_taken : {A B : Type 0} (f : A → B) (xs : List A) (i : ℕ) (x : A) → i < length xs → x ≡ get_or xs i x → map f (take (i + 1) xs) ≡ map f (take i xs) ++ f x ∷ []
 next_taken f xs i x lt e =
     ap (map f) (take_more xs i x lt) ∙ map-append f (take i xs) (get_or xs i x ∷ []) ∙ ap (λ y. map f (take i xs) ++ f y ∷ []) (sym e)
+
+-- a loop that adds one saying of each
+pub adds_one : {A : Type 0} (says : A → Saying) (xs : List A) (i : ℕ) (x : A) (start now after : List Saying) → i < length xs → x ≡ get_or xs i x → now ≡ start ++ map says (take i xs) → after ≡ now ++ says x ∷ [] → after ≡ start ++ map says (take (i + 1) xs)
+adds_one says xs i x start now after lt is e more =
+    more ∙ ap (λ l. l ++ says x ∷ []) e ∙ append_assoc start (map says (take i xs)) (says x ∷ []) ∙ ap (λ l. start ++ l) (sym (next_taken says xs i x lt is))
+
+-- a loop that adds what each says, whatever its number
+pub adds_all : {A B : Type 0} (view : A → B) (says : B → List Saying) (xs : List A) (i : ℕ) (x : A) (start now after : List Saying) → i < length xs → x ≡ get_or xs i x → now ≡ start ++ flat_map says (map view (take i xs)) → after ≡ now ++ says (view x) → after ≡ start ++ flat_map says (map view (take (i + 1) xs))
+adds_all view says xs i x start now after lt is e more =
+    more ∙ ap (λ l. l ++ says (view x)) e ∙ flat_map_more says start (map view (take i xs)) (view x) ∙ ap (λ l. start ++ flat_map says l) (sym (next_taken view xs i x lt is))
 
 -- what numbered things say, the first of which has this number
 abbrev say_all : {A : Type 0} → (ℕ → A → List Saying) → ℕ → List A → List Saying
