@@ -7,5 +7,5 @@ pub mod Memory
 pub mod Order
 pub mod Plain
 pub mod Plan
-pub mod Room
-pub mod Values
+pub use Rattle.ss_bytes.specs.Room
+pub use Rattle.ss_bytes.specs.Values

@@ -1,8 +1,8 @@
 ghost use Rattle.std.specs.Prelude.{◌≡◌, IfOk};
 ghost use Rattle.ss_base.specs.Layout.{first_value, is_sound, names_classes};
 
-use crate::alpha::Alpha;
 use crate::value::Value;
+use ss_bytes::Alpha;
 use std::alloc::{AllocError, Global};
 use std::marker::Model;
 

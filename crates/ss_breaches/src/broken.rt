@@ -9,7 +9,7 @@ ghost use Rattle.ss_declared.specs.Lines.{first_line};
 
 use crate::tally_twice::tally_twice;
 use crate::too_many::too_many;
-use ss_base::Line;
+use ss_bytes::Line;
 use ss_declared::rules::{
     no_member, no_owner, rank_key, real_mode, tie_key, twice, unknown_class, unknown_set,
 };

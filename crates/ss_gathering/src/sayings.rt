@@ -6,8 +6,7 @@ ghost use Rattle.ss_tree.specs.View.{view_clause, view_order, view_preamble, vie
 ghost use Rattle.ss_sayings.specs.declared.saying.Said.TheVariants as said;
 ghost use Rattle.ss_sayings.specs.Sayings.{said_of, said_alone, said_of_all, clause_says, rule_of, rank_says, order_says, statistic_says, tie_says, preamble_says, preambles_say, head_says, definition_says, section_says, sections_say, sayings};
 
-use ss_base::Line;
-use ss_bytes::Name;
+use ss_bytes::{Line, Name};
 use ss_sayings::{Said, Saying, SetRule};
 use ss_tree::preamble::{
     ClassKind, Clause, Key, PreambleStatement, SetOrder, Statistic, Weighting,

@@ -3,7 +3,7 @@ use Rattle.std.proofs.Common.{◌≡◌, ℕ, suc, ◌+◌, ◌<◌, ◌≤◌, 
 use Rattle.ss_tokens.specs.declared.token.TokenKind.{TokenKind}
 use Rattle.ss_tokens.specs.declared.token.Token.{Token}
 use Rattle.ss_tokens.specs.declared.token.Span.{Span}
-use Rattle.ss_base.specs.declared.line.Line.{Line}
+use Rattle.ss_bytes.specs.declared.line.Line.{Line}
 use Rattle.ss_grammar.specs.Openers.{opens, openers}
 use Rattle.ss_grammar.specs.Reading.{Reader, ◌>>=◌, Mark, kind_of, is, begins, skip, expect, taken, found_then, seq, behind, closed, apply, lined, maybe, maybe_list, flag, choose, too_deep, comma, skip_comma}
 use Rattle.ss_grammar.specs.Shapes.{Shape, ◌▷◌, never, optional, noise, perhaps, flagged, first_line}

@@ -12,7 +12,7 @@ use Rattle.ss_grammar.specs.Shapes as shapes
 use Rattle.ss_grammar.specs.Shapes.{Shape, ◌▷◌, nothing, never, either, each, listed, separator}
 use Rattle.ss_grammar.proofs.Tools.{bind_ok, which, chosen, carry, or_false, and_true, ok_or_err}
 use Rattle.ss_tokens.specs.declared.token.Span.{Span}
-use Rattle.ss_base.specs.declared.line.Line.{Line}
+use Rattle.ss_bytes.specs.declared.line.Line.{Line}
 use Rattle.ss_grammar.proofs.Marks.{token, Mark_is, begins_mark, no_skip, skip_openers, token_less}
 use Rattle.ss_grammar.proofs.Depth.{Upto, upto_same, upto_bind, upto_if, Bounded, bounded_more, bounded_bind, bounded_if}
 use Rattle.ss_grammar.proofs.ReaderLaws.{Reads, Item}

@@ -9,7 +9,7 @@ use Rattle.ss_tokens.specs.declared.token.Symbol.TheVariants.{OpenParenthesis, C
 use Rattle.ss_tokens.specs.declared.token.TokenKind.{TokenKind}
 use Rattle.ss_tokens.specs.declared.token.TokenKind.TheVariants as kinds
 use Rattle.ss_tokens.specs.declared.token.Token.{Token}
-use Rattle.ss_base.specs.declared.line.Line.{Line}
+use Rattle.ss_bytes.specs.declared.line.Line.{Line}
 use Rattle.ss_grammar.specs.Shapes.{first_line}
 use Rattle.ss_grammar.specs.declared.failure.Fault.{Fault}
 use Rattle.ss_grammar.specs.declared.failure.Fault.TheVariants.{Syntax, TooDeep}

@@ -1,6 +1,6 @@
 -- What may stand at the front of a list of tokens.
 use Rattle.std.specs.Prelude.{◌≡◌, ℕ, zero, suc, ◌⊎◌, List, [], ◌∷◌, Option, Some, None, Bool, true, false}
-use Rattle.ss_base.specs.declared.line.Line.{Line}
+use Rattle.ss_bytes.specs.declared.line.Line.{Line}
 use Rattle.ss_tokens.specs.declared.token.Token.{Token}
 use Rattle.ss_tokens.specs.declared.token.Span.{Span}
 use Rattle.ss_tokens.specs.declared.token.Symbol.{Symbol}

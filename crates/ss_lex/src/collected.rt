@@ -5,8 +5,7 @@ ghost use Rattle.ss_lex.specs.Tokens.{is_trigger, is_print, number_in};
 ghost use Rattle.ss_lex.specs.Lines.{picture_of};
 
 use crate::meaning::Meaning;
-use ss_base::Line;
-use ss_bytes::PictureLine;
+use ss_bytes::{Line, PictureLine};
 use ss_tokens::{Span, Token, TokenKind, Word};
 use std::alloc::{AllocError, Global};
 use std::marker::Model;

@@ -11,7 +11,7 @@ use crate::code::code_line;
 use crate::collected::Collected;
 use crate::error::LexError;
 use crate::lines::{check_characters, first_line, line_count};
-use ss_base::Line;
+use ss_bytes::Line;
 use ss_tokens::Tokens;
 use std::alloc::Global;
 

@@ -1,6 +1,6 @@
 -- Reading preambles from left to right.
 use Rattle.std.specs.Prelude.{ℕ, zero, suc, Bool, true, false, List, [], ◌∷◌, length, Option, Some, None, Ok, if◌then◌else◌}
-use Rattle.ss_base.specs.declared.line.Line.{Line}
+use Rattle.ss_bytes.specs.declared.line.Line.{Line}
 use Rattle.ss_tokens.specs.declared.word.Word.{Word}
 use Rattle.ss_tokens.specs.declared.word.Word.TheVariants as words
 use Rattle.ss_tokens.specs.declared.token.Token.{Token}

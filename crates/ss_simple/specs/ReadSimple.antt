@@ -1,6 +1,6 @@
 -- Reading statements that hold no others, from left to right.
 use Rattle.std.specs.Prelude.{ℕ, zero, suc, ℤ, pos, negsuc, List, [], ◌∷◌, Option, Some, None, Ok}
-use Rattle.ss_base.specs.declared.line.Line.{Line}
+use Rattle.ss_bytes.specs.declared.line.Line.{Line}
 use Rattle.ss_tokens.specs.declared.word.Word.{Word}
 use Rattle.ss_tokens.specs.declared.word.Word.TheVariants as words
 use Rattle.ss_tokens.specs.declared.token.Symbol.TheVariants.{Equals}

@@ -1,6 +1,6 @@
 -- What is read by its first word.
 use Rattle.std.proofs.Common.{◌≡◌, ℕ, suc, ◌+◌, ◌<◌, ◌≤◌, Bool, false, List, [], ◌∷◌, length, Ok, ap, subst, ◌∙◌, arith}
-use Rattle.ss_base.specs.declared.line.Line.{Line}
+use Rattle.ss_bytes.specs.declared.line.Line.{Line}
 use Rattle.ss_tokens.specs.declared.word.Word.{Word}
 use Rattle.ss_tokens.specs.declared.token.Span.{Span}
 use Rattle.ss_tokens.specs.declared.token.TokenKind.{TokenKind}

@@ -1,6 +1,6 @@
 -- Statements: what is read is spelled, and what is spelled is read.
 use Rattle.std.proofs.Common.{◌≡◌, ℕ, zero, suc, ◌<◌, ◌≤◌, Bool, true, false, ◌||◌, List, [], ◌∷◌, length, refl, sym, ap, subst, ◌∙◌, arith, inl, inr, ◌⊎◌}
-use Rattle.ss_base.specs.declared.line.Line.{Line}
+use Rattle.ss_bytes.specs.declared.line.Line.{Line}
 use Rattle.ss_tokens.specs.declared.word.Word.{Word}
 use Rattle.ss_tokens.specs.declared.word.Word.TheVariants as words
 use Rattle.ss_tokens.specs.declared.token.Span.{Span}

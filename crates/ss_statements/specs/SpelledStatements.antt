@@ -1,6 +1,6 @@
 -- Which tokens spell a statement.
 use Rattle.std.specs.Prelude.{ℕ, ◌<◌, pos, length}
-use Rattle.ss_base.specs.declared.line.Line.{Line}
+use Rattle.ss_bytes.specs.declared.line.Line.{Line}
 use Rattle.ss_tokens.specs.declared.token.TokenKind.TheVariants as kinds
 use Rattle.ss_tokens.specs.declared.token.Symbol.TheVariants.{Equals}
 use Rattle.ss_tokens.specs.declared.word.Word.{Word}

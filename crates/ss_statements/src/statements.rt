@@ -10,7 +10,7 @@ ghost use Rattle.ss_grammar.specs.ReadWords.{begins_noisy, expect_noisy};
 ghost use Rattle.ss_statements.specs.ReadStatements.{nested_word, begins_form, begins_statement, begins_find_if, statements_with, else_with, branches_with, do_with, governed_with, body_with, find_words, if_with, loop_with, find_if_with, found_with, find_with, for_with, while_with, until_with, nested_in, statement_in, statements_in};
 
 use crate::outcomes::{begins_outcome, outcome};
-use ss_base::Line;
+use ss_bytes::Line;
 use ss_grammar::conditions::condition;
 use ss_grammar::failure::Failure;
 use ss_grammar::heads::{begins_guard, for_head, guarded_head};

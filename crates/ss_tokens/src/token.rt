@@ -1,8 +1,7 @@
 //! Tokens, and where they stand in the text.
 
 use crate::word::Word;
-use ss_base::{Alpha, Line};
-use ss_bytes::{Name, PictureLine};
+use ss_bytes::{Alpha, Line, Name, PictureLine};
 
 /// A character that is a token by itself.
 #[derive(Clone, Copy, PartialEq)]

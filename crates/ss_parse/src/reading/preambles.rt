@@ -9,8 +9,7 @@ ghost use Rattle.ss_parse.specs.SpelledPreambles.{group_behind};
 ghost use Rattle.ss_elements.specs.Words.{mode_of, rank_of, statistic_of};
 ghost use Rattle.ss_parse.specs.ReadPreambles.{then_rank, keys, statistic_kind, found, clause, begins_clause, clause_list, clauses, ranking, order, permanent_at, temporary_at, notices_at, every_at, normally_at, system_at, define_end, define_at, priority_at, break_at, statistics_at, preamble_at, begins_preamble, preamble_in, preambles, whole_preamble};
 
-use ss_base::Line;
-use ss_bytes::Name;
+use ss_bytes::{Line, Name};
 use ss_elements::words::{mode_of, rank_of, statistic_of};
 use ss_grammar::classes::{Class, skip_class};
 use ss_grammar::failure::Failure;

@@ -8,8 +8,7 @@ ghost use Rattle.ss_grammar.specs.ReadWords.{names};
 ghost use Rattle.ss_parse.specs.ReadPrograms.{begins_section, saving, routine_kind, event_kind, kind_at, variables, definition, definitions, body_in, section_at, section_in, program_in, program_of};
 
 use crate::reading::preambles::{preamble, variable_mode};
-use ss_base::Line;
-use ss_bytes::Name;
+use ss_bytes::{Line, Name};
 use ss_elements::nesting::levels;
 use ss_grammar::classes::{Class, skip_class};
 use ss_grammar::failure::Failure;

@@ -1,6 +1,6 @@
 -- How a text lies in its bytes: the text, and zeros behind it.
 use Rattle.std.specs.Prelude.{◌≡◌, ℕ, ◌-◌, suc, zero, List, [], ◌∷◌, ◌++◌, length, replicate}
-use Rattle.ss_base.specs.Values.{text_limit, IsText}
+use Rattle.ss_bytes.specs.Values.{text_limit, IsText}
 
 -- the bytes before the first zero
 abbrev pub before_zero : List ℕ → List ℕ

@@ -3,8 +3,8 @@ ghost use Rattle.std.specs.Ordering.{nat_cmp};
 ghost use Rattle.std.specs.Cmp.{partial_equiv_from_equiv};
 ghost use Rattle.std.specs.Cmp.Lexicographic.{pointwise, slice_cmp, nat_list_eq_equiv, nat_list_cmp_total, texts_po, texts_ties};
 ghost use Rattle.std.specs.List.{list_all};
-ghost use Rattle.ss_base.specs.Values.{text_of, is_text_byte, without_end_blanks, IsText};
-ghost use Rattle.ss_base.specs.Room.{before_zero};
+ghost use Rattle.ss_bytes.specs.Values.{text_of, is_text_byte, without_end_blanks, IsText};
+ghost use Rattle.ss_bytes.specs.Room.{before_zero};
 
 use std::cmp::Ordering;
 use std::fmt;
@@ -25,7 +25,7 @@ pub struct Alpha {
 
 impl Model for Alpha {
     ghost use Rattle.std.specs.Prelude.{ℕ, List, [], ◌≡◌};
-    ghost use Rattle.ss_base.specs.Room.{before_zero, padded, IsRoom};
+    ghost use Rattle.ss_bytes.specs.Room.{before_zero, padded, IsRoom};
 
     ghost Value = { List ℕ };
 

@@ -1,7 +1,7 @@
 use Rattle.std.proofs.Common.{arith, ◌∙◌, sym}
-use Rattle.ss_base.proofs.Texts.{trimmed-blank, trimmed-other}
-use Rattle.ss_base.proofs.alpha.trimmed.Goals as goal
-use Rattle.ss_base.proofs.alpha.trimmed.Goals.{then-b-ne32, else-b-ne32}
+use Rattle.ss_bytes.proofs.Texts.{trimmed-blank, trimmed-other}
+use Rattle.ss_bytes.proofs.alpha.trimmed.Goals as goal
+use Rattle.ss_bytes.proofs.alpha.trimmed.Goals.{then-b-ne32, else-b-ne32}
 
 -- a blank leaves the end where it was, another byte moves it behind itself
 pub loop-i-preserved : goal.loop-i-preserved

@@ -4,8 +4,8 @@ use Rattle.std.proofs.lemmas.Bool.{ne_eqb, and_from, and_parts, le-leb, leb-true
 use Rattle.std.proofs.lemmas.List.{take_more, drop-replicate}
 use Rattle.std.specs.Prelude.{◌≢◌, ◌==◌, nat_le, replicate, Some, None}
 use Rattle.std.specs.List.{list_all}
-use Rattle.ss_base.specs.Values.{text_limit, is_text_byte, in_front, without_end_blanks, IsText, text_of}
-use Rattle.ss_base.specs.Room.{before_zero, padded, IsRoom}
+use Rattle.ss_bytes.specs.Values.{text_limit, is_text_byte, in_front, without_end_blanks, IsText, text_of}
+use Rattle.ss_bytes.specs.Room.{before_zero, padded, IsRoom}
 
 -- a blank at the end is dropped
 pub without_end_blanks-blank : (xs : List ℕ) → without_end_blanks (xs ++ 32 ∷ []) ≡ without_end_blanks xs

@@ -1,6 +1,6 @@
 use Rattle.std.proofs.Common.{refl, sym}
-use Rattle.ss_base.proofs.Texts.{laid-room, laid-value}
-use Rattle.ss_base.proofs.alpha.Alpha.of.Goals as goal
+use Rattle.ss_bytes.proofs.Texts.{laid-room, laid-value}
+use Rattle.ss_bytes.proofs.alpha.Alpha.of.Goals as goal
 
 -- the text lies in its room with zeros behind it
 pub invariant_of-result : goal.invariant_of-result
