@@ -1,3 +1,1 @@
 pub mod Whole
-pub mod Given
-pub mod Counts

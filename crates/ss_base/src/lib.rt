@@ -6,8 +6,6 @@ mod counted;
 mod fault;
 mod faulty;
 mod layout;
-mod memory;
-mod plan;
 mod value;
 
 pub use arithmetic::{div_f, minus, mod_f, plus, times};
@@ -18,7 +16,5 @@ pub use layout::{
     ClassKind, ClassLayout, Discipline, Layout, Mode, Owner, RankKey, RankKeys, SetLayout,
     copied_disciplines,
 };
-pub use memory::{MemoryRead, MemoryWrite, Trouble};
-pub use plan::Plan;
 pub use ss_bytes::{Alpha, Line, TEXT_LIMIT};
 pub use value::Value;

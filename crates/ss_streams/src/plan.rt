@@ -62,7 +62,7 @@ pub struct Progress {
 }
 
 impl Progress {
-    ghost use Rattle.ss_base.specs.Plan.{start, goes_wrong, most_bytes, bytes_passed, after_call};
+    ghost use Rattle.ss_streams.specs.Plan.{start, goes_wrong, most_bytes, bytes_passed, after_call};
 
     /// No call was made yet.
     pub fn new(plan: Plan) -> Progress
