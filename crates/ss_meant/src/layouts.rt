@@ -107,11 +107,11 @@ pub(crate) fn resolve_layout(alloc: Global, names: &Names) -> Result<Layout, Res
 {
     let classes = classes_laid(alloc, names)?;
     let sets = sets_laid(alloc, names)?;
-    Ok(Layout { classes, sets })
+    Layout::new(classes, sets).ok_or(ResolveError::Unresolved)
 }
 
 /// The classes and the sets, by their numbers. None where an attribute has no mode, or the mode REAL, or a set
-/// has no owner or no class of members.
+/// has no owner or no class of members, or where they are too many for a layout.
 ///
 /// # Errors
 /// `AllocError` where memory is refused.

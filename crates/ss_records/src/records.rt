@@ -1,9 +1,9 @@
 // The records: where each lies, and what its block says.
-ghost use Rattle.std.specs.Prelude.{◌≡◌, ℕ, ◌+◌, ◌-◌, ◌*◌, ◌^◌, ◌<◌, ◌≤◌, length, IsTrue, MatchResult, IfOk, Ok, Err, Some, None, slice_get, true, ⊤, suc};
+ghost use Rattle.std.specs.Prelude.{◌≡◌, ℕ, ◌+◌, ◌-◌, ◌*◌, ◌^◌, ◌<◌, ◌≤◌, length, MatchResult, IfOk, Ok, Err, Some, None, slice_get, true, ⊤, suc};
 ghost use Rattle.ss_states.specs.State.{entity, notice, numbered, and_then, of_class, kind_of, modes_of, is_notice, first_state, living_numbers, living_records, value_in, time_in, in_a_set, owns_members, destroyed, created, created_all, with_made, assigned, timed, RefusedFor};
 ghost use Rattle.ss_records.specs.Cells.{words_at, number};
 ghost use Rattle.ss_records.specs.Reading.{record_of};
-ghost use Rattle.ss_base.specs.Layout.{mode_of, is_sound};
+ghost use Rattle.ss_base.specs.Layout.{mode_of};
 ghost use Rattle.ss_records.specs.Shape.{values_end};
 ghost use Rattle.ss_records.specs.Kept.{Kept, Small, numbered_place, indexed_place, row_in, IsPermanent, RowsHeld};
 ghost use Rattle.ss_records.specs.Places.{class_at, lying};
@@ -37,7 +37,6 @@ pub(crate) struct Records {
 impl Records {
     /// No record, all sets empty.
     pub(crate) fn new(alloc: Global, layout: Layout) -> Result<Records, AllocError>
-        requires sound { IsTrue (is_sound layout) }
         ensures { MatchResult result (λ r. IsKept r × (state r ≡ first_state layout)) (λ _. ⊤) }
     {
         let layout = Plan::new(alloc, layout)?;

@@ -30,7 +30,6 @@ pub fn first_working(alloc: Global, code: &Code) -> Result<Working, AllocError>
     ensures state { IfOk result (λ working. IsAtStart code.now working) }
     ensures frames { IfOk result (λ working. frames_of working ≡ []) }
 {
-    let _sound = code.len();
     let globals = Variables::of(alloc, code.globals())?;
     let locals = first_locals(alloc, code)?;
     let layout = code.layout().copied(alloc)?;
