@@ -45,7 +45,7 @@ fn quotable_length(bytes: &[u8]) -> usize
 }
 
 /// The first byte, and what follows it.
-fn front(bytes: &[u8]) -> Option<(u8, &[u8])>
+fn split_first(bytes: &[u8]) -> Option<(u8, &[u8])>
     ensures { MatchOption result (bytes.now ≡ []) (λ x. bytes.now ≡ x.0 ∷ x.1.now) }
 {
     match bytes {
@@ -85,7 +85,7 @@ fn after_comment(bytes: &[u8]) -> &[u8]
     ensures { result.now ≡ (comment_at bytes.now).1 }
 {
     let mut rest = bytes;
-    'body: while let Some((b, behind)) = front(rest) {
+    'body: while let Some((b, behind)) = split_first(rest) {
         if opens_comment(b, behind) {
             return tail(behind);
         }
@@ -136,7 +136,7 @@ fn symbol_of(b: u8) -> Symbol
 pub fn step(bytes: &[u8]) -> (Meaning, &[u8])
     ensures { (result.0, result.1.now) ≡ step_of bytes.now }
 {
-    match front(bytes) {
+    match split_first(bytes) {
         None => (Meaning::Nothing, bytes),
         Some((b, rest)) => {
             if is_separator(b) {
