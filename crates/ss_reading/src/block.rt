@@ -3,7 +3,7 @@
 ghost use Rattle.std.specs.Prelude.{◌≡◌, ◌≢◌, ◌<◌, [], true, false, length, drop, IfOk, OnOk, OnErr};
 ghost use Rattle.std.specs.Io.KnownBytes.{Keeps};
 ghost use Rattle.ss_base.specs.Failures.{errors_after};
-ghost use Rattle.ss_input.specs.Blocks.{KnowsEnd, Looks, Fills, Unread, first_of};
+ghost use Rattle.ss_reading.specs.Blocks.{KnowsEnd, Looks, Fills, Unread, first_of};
 
 use ss_base::FaultyRead;
 use std::marker::Model;
@@ -29,7 +29,7 @@ pub struct Block<R> {
 
 impl<R> Model for Block<R> {
     ghost use Rattle.std.specs.Prelude.{◌≤◌, drop, take};
-    ghost use Rattle.ss_input.specs.Blocks.{BlockSeen, block_code, block_limit};
+    ghost use Rattle.ss_reading.specs.Blocks.{BlockSeen, block_code, block_limit};
 
     ghost Value = { BlockSeen R };
 
