@@ -11,8 +11,8 @@ use ss_notices::copied_notices;
 use ss_stack::frames::Frames;
 use ss_stack::operands::Operands;
 use ss_stack::stack::Stack;
-use ss_stack::variables::Variables;
 use ss_store::scene::Scene;
+use ss_variables::variables::Variables;
 use ss_working::working::Working;
 use std::alloc::{AllocError, Global};
 

@@ -1,8 +1,8 @@
 use Rattle.std.proofs.Common.{rules, ◌≡◌, sym, ◌∙◌, false, true, Some, None, slice_get}
 use Rattle.ss_base.specs.Layout.{mode_of}
 use Rattle.ss_meaning.specs.Values.{same_mode}
-use Rattle.ss_stack.proofs.Puts.{put_none, put_other, put_there}
-use Rattle.ss_stack.proofs.variables.put.Goals as goal
+use Rattle.ss_variables.proofs.Puts.{put_none, put_other, put_there}
+use Rattle.ss_variables.proofs.variables.put.Goals as goal
 
 pub returns-in_default-clause-set : goal.returns-in_default-clause-set
 returns-in_default-clause-set c =

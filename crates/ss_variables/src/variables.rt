@@ -5,7 +5,7 @@ ghost use Rattle.ss_base.specs.declared.value.Value.{Value as ValueSeen};
 ghost use Rattle.ss_meaning.specs.Values.{same_mode};
 ghost use Rattle.ss_meaning.specs.Store.{put_at, firsts};
 ghost use Rattle.ss_base.specs.Layout.{mode_of};
-ghost use Rattle.ss_stack.specs.Frames.{put_told};
+ghost use Rattle.ss_variables.specs.Told.{put_told};
 
 use ss_base::{Mode, Value};
 use std::alloc::{AllocError, Global};
@@ -93,9 +93,9 @@ fn put(values: &mut [Value], number: usize, value: Value) -> bool
     true
 }
 
-// The same of the values from a number on.
+/// Changes one of the values from a number on to another of its mode, and says whether it is there. If not, nothing changes.
 #[inline(always)]
-pub(crate) fn put_above(values: &mut [Value], base: usize, number: usize, value: Value) -> bool
+pub fn put_above(values: &mut [Value], base: usize, number: usize, value: Value) -> bool
     requires { base ≤ length values.old }
     ensures below { take base values.new ≡ take base values.old }
     ensures here { put_at (drop base values.old) number value ≡ put_told result (drop base values.new) }
@@ -116,9 +116,9 @@ fn set_last(values: &mut [Value], value: Value)
     }
 }
 
-// The same of the values from a number on.
+/// Puts a value in place of the last of the values from a number on. Where there is none, nothing changes.
 #[inline(always)]
-pub(crate) fn set_last_above(values: &mut [Value], base: usize, value: Value)
+pub fn set_last_above(values: &mut [Value], base: usize, value: Value)
     requires { base ≤ length values.old }
     ensures below { take base values.new ≡ take base values.old }
     ensures here { (last : ValueSeen) (rest : List ValueSeen) → drop base values.old ≡ rest ++ last ∷ [] → drop base values.new ≡ rest ++ value ∷ [] }
