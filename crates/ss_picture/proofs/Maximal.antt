@@ -38,7 +38,7 @@ maximal-byte_before byte (Literal (first ∷ bytes) ∷ Slot field ∷ rest) oth
 maximal-byte_before byte (Slot field ∷ rest) other runs = ((other, tt), tt, runs)
 
 -- no piece in front is without bytes
-IsFull : List Piece → Type 0
+abbrev pub IsFull : List Piece → Type 0
 IsFull [] = ⊤
 IsFull (Literal [] ∷ rest) = ⊥
 IsFull (Literal (byte ∷ bytes) ∷ rest) = ⊤
@@ -125,7 +125,7 @@ pieces_of-bytes byte (next ∷ bytes) rest after plain is ends =
     ends_too (Slot field ∷ others) h = h
 
 -- a field of a width and so many decimals
-shape : ℕ → ℕ → Field
+abbrev pub shape : ℕ → ℕ → Field
 shape width decimals = record { width = width; decimals = decimals }
 
 -- the bytes of a field, and what stands behind it, begin with asterisks
@@ -135,7 +135,6 @@ record Again (width decimals : ℕ) (bytes : List ℕ) : Type 0 where
 
 found_again : (width decimals : ℕ) (after : List ℕ) → HasRoom width decimals → stars after ≡ 0 → (decimals ≡ 0 → decimals_at after ≡ 0)
     → Again width decimals (characters_of width decimals ++ after)
-unfolding shape
 found_again width zero after room none plain =
     let bytes : List ℕ = replicate width 42 ++ after in
     let run : stars bytes ≡ width = stars-replicate width after none in
@@ -173,7 +172,6 @@ length-characters width (suc more) room =
 -- a field is found again
 pieces_of-slot : (field : Field) (after : List ℕ) → HasRoom field.width field.decimals → stars after ≡ 0 → (field.decimals ≡ 0 → decimals_at after ≡ 0)
     → pieces_of (characters field ++ after) ≡ Slot field ∷ pieces_of after
-unfolding shape
 pieces_of-slot field after room none plain =
     let bytes : List ℕ = characters field ++ after in
     let again = found_again field.width field.decimals after room none plain in

@@ -91,7 +91,7 @@ joined-pieces_of picture = joined-pieces_behind 0 picture
 -- ---- what a field shows is as wide as the field
 
 -- each field among these pieces is as wide as its characters are long
-pub AreWide : List Piece → Type 0
+abbrev pub AreWide : List Piece → Type 0
 AreWide [] = ⊤
 AreWide (Literal bytes ∷ rest) = AreWide rest
 AreWide (Slot field ∷ rest) = (length (characters field) ≡ field.width) × AreWide rest
