@@ -1,8 +1,10 @@
 -- Digits that are written from the last to the first, and what stands in a field when they are.
-use Rattle.std.proofs.Common.{◌≡◌, ℕ, zero, suc, ◌+◌, ◌-◌, ◌*◌, ◌/◌, ◌%◌, ◌^◌, ◌<◌, ◌≤◌, cond, leb, List, [], ◌∷◌, ◌++◌, length, set, drop, replicate, refl, sym, ap, ◌∙◌, arith, length-append}
-use Rattle.std.proofs.lemmas.List.{append_assoc, drop-set}
+use Rattle.std.proofs.Common.{◌≡◌, ℕ, zero, suc, ◌+◌, ◌-◌, ◌*◌, ◌/◌, ◌%◌, ◌^◌, ◌<◌, ◌≤◌, cond, leb, List, [], ◌∷◌, ◌++◌, length, set, take, drop, replicate, ℤ, refl, sym, ap, ◌∙◌, arith, length-append}
+use Rattle.std.proofs.lemmas.List.{append_assoc, append-nil, drop-set, drop_all, take_all}
 use Rattle.std.proofs.lemmas.Bool.{le-leb, lt-leb}
-use Rattle.ss_picture.specs.Numerals.{last_digits, behind_period}
+use borrow.Rule.Slice.PartMut.{put_mid}
+use Rattle.std.specs.Prelude.{unsigned_abs}
+use Rattle.ss_picture.specs.Numerals.{last_digits, behind_period, numeral, sign_of, mean_units, mean_text}
 use Rattle.ss_picture.specs.Pictures.{at_right}
 
 pub length-last_digits : (count n : ℕ) → length (last_digits count n) ≡ count
@@ -32,9 +34,22 @@ digit_written place (suc before) left all some within is =
     ∙ sym (append_assoc (last_digits before (left / 10)) (digit ∷ []) (drop (suc before) place))
     ∙ is
 
--- a text that fits stands behind blanks, and one that doesn't leaves the field
-pub placed : (own text : List ℕ) → length text ≤ length own → at_right own text ≡ replicate (length own - length text) 32 ++ text
-placed own text fits = ap (λ test. cond test (replicate (length own - length text) 32 ++ text) own) (le-leb (length text) (length own) fits)
+-- a period, and decimals behind it
+pub behind_written : (place new : List ℕ) (decimals n : ℕ) → 0 < decimals → length place ≡ length (behind_period decimals n)
+    → new ≡ last_digits (length (take (length (set place 0 46) - 1) (drop 1 (set place 0 46)))) n
+    → put_mid 1 (length (set place 0 46) - 1) (set place 0 46) new ≡ behind_period decimals n
+behind_written [] new decimals n some long is = absurd (omega (arith, length-behind_period decimals n some))
+behind_written (first ∷ rest) new decimals n some long is =
+    let less : suc (length rest) - 1 ≡ length rest = omega arith in
+    let all : take (suc (length rest) - 1) rest ≡ rest = take_all (suc (length rest) - 1) rest (omega arith) in
+    let none : drop (suc (length rest) - 1) rest ≡ [] = drop_all (suc (length rest) - 1) rest (omega arith) in
+    let count : length rest ≡ decimals = omega (arith, length-behind_period decimals n some) in
+    let digits : new ≡ last_digits decimals n = is ∙ ap (λ (l : List ℕ). last_digits (length l) n) all ∙ ap (λ (k : ℕ). last_digits k n) count in
+    ap (λ (l : List ℕ). 46 ∷ (new ++ l)) none ∙ ap (λ (l : List ℕ). 46 ∷ l) (append-nil new ∙ digits) ∙ sym (behind_is decimals n some)
 
-pub kept : (own text : List ℕ) → length own < length text → at_right own text ≡ own
-kept own text long = ap (λ test. cond test (replicate (length own - length text) 32 ++ text) own) (lt-leb (length text) (length own) long)
+-- a mean of these parts
+pub mean_written : (own : List ℕ) (decimals : ℕ) (sum number : ℤ) (sign whole : List ℕ) (units scale : ℕ)
+    → units ≡ unsigned_abs (mean_units decimals sum number) → scale ≡ 10 ^ decimals → sign ≡ sign_of (mean_units decimals sum number) → whole ≡ numeral (units / scale)
+    → at_right own (sign ++ (whole ++ behind_period decimals (units % scale))) ≡ at_right own (mean_text decimals sum number)
+mean_written own decimals sum number sign whole units scale units_is scale_is sign_is whole_is =
+    ap (at_right own) (rw (sign_is, whole_is, scale_is, units_is) refl)

@@ -1,5 +1,6 @@
 -- The pieces of a picture are its only cut into fields and what stands between them.
-use Rattle.std.proofs.Common.{◌≡◌, ◌≢◌, ℕ, zero, suc, ◌+◌, ◌-◌, ◌<◌, eqb, cond, List, [], ◌∷◌, ◌++◌, length, drop, replicate, refl, sym, ap, ◌∙◌, subst, ⊤, arith, length-append}
+use Rattle.std.proofs.Common.{◌≡◌, ◌≢◌, ℕ, zero, suc, ◌+◌, ◌-◌, ◌<◌, eqb, cond, List, [], ◌∷◌, ◌++◌, length, drop, replicate, refl, sym, ap, ◌∙◌, subst, arith, length-append}
+use Rattle.std.specs.Bool.{⊤}
 use Rattle.std.proofs.lemmas.Bool.{cond_both, eqb-true, eqb-false, ne_eqb}
 use Rattle.std.proofs.lemmas.List.{append_assoc, drop_at, length-replicate}
 use Rattle.ss_picture.specs.declared.field.Field.{Field}
@@ -22,7 +23,10 @@ not_byte byte (Literal bytes ∷ more) rest field is = cc
 not_byte byte (Slot other ∷ more) rest field is = cc
 
 starred : (bytes : List ℕ) (field : Field) (rest : List Piece) → pieces_of bytes ≡ Slot field ∷ rest → 0 < stars bytes
-starred [] field rest is = absurd cc
+starred [] field rest = λ is. absurd (nothing is)
+  where
+    nothing : [] ≡ Slot field ∷ rest → ⊥
+    nothing e = cc
 starred (byte ∷ bytes) field rest =
     cond_both (eqb byte 42) (Slot (field_at (byte ∷ bytes)) ∷ pieces_behind ((field_at (byte ∷ bytes)).width - 1) bytes) (byte_before byte (pieces_behind 0 bytes)) (λ front. front ≡ Slot field ∷ rest → 0 < stars (byte ∷ bytes))
     (λ same is. subst (λ test. 0 < cond test (suc (stars bytes)) 0) (sym same) (omega arith))
@@ -167,7 +171,7 @@ found_again width (suc more) after room none plain =
 length-characters : (width decimals : ℕ) → HasRoom width decimals → length (characters_of width decimals) ≡ width
 length-characters width zero room = length-replicate width 42
 length-characters width (suc more) room =
-    omega (arith, length-append (replicate (width - suc (suc more)) 42) (46 ∷ replicate (suc more) 42), length-replicate {A = ℕ} (width - suc (suc more)) 42, length-replicate {A = ℕ} (suc more) 42)
+    omega (arith, length-append {A = ℕ} (replicate (width - suc (suc more)) 42) (46 ∷ replicate (suc more) 42), length-replicate {A = ℕ} (width - suc (suc more)) 42, length-replicate {A = ℕ} (suc more) 42)
 
 -- a field is found again
 pieces_of-slot : (field : Field) (after : List ℕ) → HasRoom field.width field.decimals → stars after ≡ 0 → (field.decimals ≡ 0 → decimals_at after ≡ 0)

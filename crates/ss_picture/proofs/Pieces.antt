@@ -1,6 +1,7 @@
 -- Laws of the pieces of a picture.
-use Rattle.std.proofs.Common.{◌≡◌, ◌≢◌, ℕ, zero, suc, ◌+◌, ◌-◌, ◌<◌, ◌≤◌, eqb, cond, List, [], ◌∷◌, ◌++◌, length, get_or, take, drop, replicate, refl, sym, ap, ◌∙◌, subst, ⊤, arith, length-append, leb}
+use Rattle.std.proofs.Common.{◌≡◌, ◌≢◌, ℕ, zero, suc, ◌+◌, ◌-◌, ◌<◌, ◌≤◌, eqb, cond, List, [], ◌∷◌, ◌++◌, length, get_or, take, drop, replicate, refl, sym, ap, ◌∙◌, subst, arith, length-append, leb}
 use Rattle.std.proofs.lemmas.List.{append_assoc, take_at, drop_at, length-replicate, get_or_default}
+use Rattle.std.specs.Bool.{⊤}
 use Rattle.std.proofs.lemmas.Bool.{cond_both, eqb-true, leb-true, ne_eqb}
 use borrow.Rule.Slice.PartMut.{put_mid}
 use Rattle.ss_base.specs.declared.value.Value.TheVariants.{Whole, Text}

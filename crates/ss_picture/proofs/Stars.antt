@@ -68,7 +68,7 @@ stars_within (byte ∷ bytes) =
 -- ---- decimals
 
 pub decimals_within : (bytes : List ℕ) → 0 < decimals_at bytes → decimals_at bytes + 1 ≤ length bytes
-decimals_within [] some = absurd (omega arith)
+decimals_within [] = λ some. absurd (omega arith)
 decimals_within (byte ∷ bytes) =
     let within = stars_within bytes in
     cond_both (eqb byte 46) (stars bytes) 0 (λ run. 0 < run → run + 1 ≤ suc (length bytes)) (λ _ some. omega arith) (λ _ some. absurd (omega arith))
