@@ -1,7 +1,6 @@
 -- Digits that are written from the last to the first, and what stands in a field when they are.
-use Rattle.std.proofs.Common.{◌≡◌, ℕ, zero, suc, ◌+◌, ◌-◌, ◌*◌, ◌/◌, ◌%◌, ◌^◌, ◌<◌, ◌≤◌, cond, leb, List, [], ◌∷◌, ◌++◌, length, set, take, drop, replicate, ℤ, refl, sym, ap, ◌∙◌, arith, length-append}
+use Rattle.std.proofs.Common.{◌≡◌, ℕ, zero, suc, ◌+◌, ◌-◌, ◌/◌, ◌%◌, ◌^◌, ◌<◌, ◌≤◌, List, [], ◌∷◌, ◌++◌, length, set, take, drop, ℤ, refl, sym, ap, ◌∙◌, arith, length-append}
 use Rattle.std.proofs.lemmas.List.{append_assoc, append-nil, drop-set, drop_all, take_all}
-use Rattle.std.proofs.lemmas.Bool.{le-leb, lt-leb}
 use borrow.Rule.Slice.PartMut.{put_mid}
 use Rattle.std.specs.Prelude.{unsigned_abs}
 use Rattle.ss_picture.specs.Numerals.{last_digits, behind_period, numeral, sign_of, mean_units, mean_text}

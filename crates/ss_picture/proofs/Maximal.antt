@@ -1,11 +1,11 @@
 -- The pieces of a picture are its only cut into fields and what stands between them.
 use Rattle.std.proofs.Common.{◌≡◌, ◌≢◌, ℕ, zero, suc, ◌+◌, ◌-◌, ◌<◌, eqb, cond, List, [], ◌∷◌, ◌++◌, length, drop, replicate, refl, sym, ap, ◌∙◌, subst, arith, length-append}
 use Rattle.std.specs.Bool.{⊤}
-use Rattle.std.proofs.lemmas.Bool.{cond_both, eqb-true, eqb-false, ne_eqb}
+use Rattle.std.proofs.lemmas.Bool.{cond_both, eqb-false, ne_eqb}
 use Rattle.std.proofs.lemmas.List.{append_assoc, drop_at, length-replicate}
 use Rattle.ss_picture.specs.declared.field.Field.{Field}
 use Rattle.ss_picture.specs.Pictures.{Piece, Literal, Slot, stars, decimals_at, field_of, field_at, characters_of, characters, byte_before, pieces_behind, pieces_of, joined}
-use Rattle.ss_picture.specs.MaximalRuns.{HasNoAsterisk, HasRoom, IsPoint, IsRun, EndsBefore, AreMaximalRuns, PiecesCut, OnlyPiecesCut}
+use Rattle.ss_picture.specs.MaximalRuns.{HasNoAsterisk, HasRoom, EndsBefore, AreMaximalRuns, PiecesCut, OnlyPiecesCut}
 use Rattle.ss_picture.proofs.Stars.{stars_more, stars_none, stars-replicate, field_some, behind_field, behind_plain_field}
 use Rattle.ss_picture.proofs.Pieces.{pieces_behind-drop, drop_less, pieces_of_other, pieces_of_field, joined-pieces_of}
 

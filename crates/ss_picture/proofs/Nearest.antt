@@ -2,8 +2,7 @@
 use Rattle.std.proofs.Common.{◌≡◌, ℕ, ◌+◌, ◌*◌, ◌/◌, ◌%◌, ◌^◌, ◌<◌, ◌≤◌, sym, ap, ◌∙◌, arith}
 use Rattle.std.proofs.Math.Nat.{mul_comm, mul_assoc, mul_left_comm, add-mul, div-add-mod, div-eq_of_lt-le}
 use Rattle.std.proofs.lemmas.Nat.{mod_below}
-use Rattle.ss_picture.specs.Numerals.{nearest}
-use Rattle.ss_picture.specs.Nearest.{IsNearest, RoundsToNearest, OnlyNearest}
+use Rattle.ss_picture.specs.Nearest.{RoundsToNearest, OnlyNearest}
 
 -- twice a product, with the two at another place
 twice : (units number : ℕ) → 2 * units * number ≡ units * (2 * number)

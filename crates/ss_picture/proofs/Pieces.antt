@@ -1,15 +1,15 @@
 -- Laws of the pieces of a picture.
-use Rattle.std.proofs.Common.{◌≡◌, ◌≢◌, ℕ, zero, suc, ◌+◌, ◌-◌, ◌<◌, ◌≤◌, eqb, cond, List, [], ◌∷◌, ◌++◌, length, get_or, take, drop, replicate, refl, sym, ap, ◌∙◌, subst, arith, length-append, leb}
+use Rattle.std.proofs.Common.{◌≡◌, ◌≢◌, ℕ, zero, suc, ◌+◌, ◌-◌, ◌<◌, ◌≤◌, eqb, cond, List, [], ◌∷◌, ◌++◌, length, get_or, take, drop, refl, sym, ap, ◌∙◌, subst, arith, length-append, leb}
 use Rattle.std.proofs.lemmas.List.{append_assoc, take_at, drop_at, length-replicate, get_or_default}
 use Rattle.std.specs.Bool.{⊤}
-use Rattle.std.proofs.lemmas.Bool.{cond_both, eqb-true, leb-true, ne_eqb}
+use Rattle.std.proofs.lemmas.Bool.{cond_both, leb-true, ne_eqb}
 use borrow.Rule.Slice.PartMut.{put_mid}
 use Rattle.ss_base.specs.declared.value.Value.TheVariants.{Whole, Text}
 use Rattle.ss_picture.specs.declared.field.Field.{Field}
 use Rattle.ss_picture.specs.declared.items.Item.{Item}
 use Rattle.ss_picture.specs.declared.items.Item.TheVariants.{Is, Mean}
 use Rattle.ss_picture.specs.Numerals.{whole_text, mean_text}
-use Rattle.ss_picture.specs.Pictures.{Piece, Literal, Slot, stars, field_of, field_at, decimals_at, characters, byte_before, pieces_behind, pieces_of, fields_among, picture_fields, at_right, at_left, shown, joined, filled}
+use Rattle.ss_picture.specs.Pictures.{Piece, Literal, Slot, stars, field_at, decimals_at, characters, byte_before, pieces_behind, pieces_of, fields_among, picture_fields, at_right, at_left, shown, joined, filled}
 use Rattle.ss_picture.specs.Suited.{Suits, EachSuits}
 use Rattle.ss_picture.specs.Fields.{starts_among, starts}
 use Rattle.ss_picture.proofs.Stars.{chosen_some, field_some, length-characters_of, characters_at}

@@ -2,7 +2,6 @@
 use Rattle.std.proofs.Common.{◌≡◌, ◌≢◌, ℕ, zero, suc, ◌+◌, ◌-◌, ◌<◌, ◌≤◌, Bool, true, false, eqb, cond, List, [], ◌∷◌, ◌++◌, length, get_or, drop, replicate, refl, sym, ap, ◌∙◌, subst, arith, length-append}
 use Rattle.std.proofs.lemmas.List.{append_assoc, drop_at, drop-drop, drop_more, drop_all, length-replicate, length-drop}
 use Rattle.std.proofs.lemmas.Bool.{cond_both, eqb-true, ne_eqb}
-use Rattle.ss_picture.specs.declared.field.Field.{Field}
 use Rattle.ss_picture.specs.Pictures.{stars, decimals_at, field_of, field_at, characters}
 
 -- ---- tests

@@ -2,7 +2,6 @@
 -- cut in no other way.
 use Rattle.std.specs.Prelude.{◌≡◌, ◌≢◌, ℕ, zero, suc, ◌<◌, List, [], ◌∷◌, ⊤}
 use Rattle.std.specs.List.{AllByRecursion}
-use Rattle.ss_picture.specs.declared.field.Field.{Field}
 use Rattle.ss_picture.specs.Numerals.{period}
 use Rattle.ss_picture.specs.Pictures.{asterisk, Piece, Literal, Slot, pieces_of, joined}
 
