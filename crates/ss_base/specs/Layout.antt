@@ -8,8 +8,7 @@ use Rattle.ss_base.specs.declared.layout.Mode.TheVariants.{Integer, Alpha}
 use Rattle.ss_base.specs.declared.layout.Owner.{Owner}
 use Rattle.ss_base.specs.declared.layout.Owner.TheVariants.{System, Class}
 use Rattle.ss_base.specs.declared.layout.SetLayout.{SetLayout}
-use Rattle.ss_base.specs.declared.layout.Layout.{Layout}
-use Rattle.ss_base.specs.Plain.{PlainClass}
+use Rattle.ss_base.specs.Plain.{PlainClass, PlainLayout}
 
 -- the mode of a value
 abbrev pub mode_of : Value → Mode
@@ -31,7 +30,7 @@ abbrev pub names_classes : ℕ → SetLayout → Bool
 names_classes classes set = owns_among classes set.owner && nat_lt set.member classes
 
 -- whether the classes that the sets of a layout name are its own
-abbrev pub is_sound : Layout → Bool
+abbrev pub is_sound : PlainLayout → Bool
 is_sound layout = list_all (names_classes (length layout.classes)) layout.sets
 
 -- the most classes, the most sets, and the most attributes of a class
@@ -43,12 +42,12 @@ abbrev pub is_narrow : PlainClass → Bool
 is_narrow class = nat_le (length class.fields) layout_limit
 
 -- whether classes and sets may stand together: the sets name classes that are there, and there is not too much of anything
-abbrev pub is_layout : Layout → Bool
+abbrev pub is_layout : PlainLayout → Bool
 is_layout layout =
     is_sound layout && (nat_le (length layout.classes) layout_limit && (nat_le (length layout.sets) layout_limit && list_all is_narrow layout.classes))
 
 -- the layout of these classes and sets, if they may stand together
-abbrev pub layout_of : List PlainClass → List SetLayout → Option Layout
+abbrev pub layout_of : List PlainClass → List SetLayout → Option PlainLayout
 layout_of classes sets =
     if is_layout (record { classes = classes; sets = sets })
     then Some (record { classes = classes; sets = sets })

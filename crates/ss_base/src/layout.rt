@@ -131,7 +131,9 @@ impl Layout {
     /// What is so of every layout.
     pub fn law(&self)
         ensures { IsTrue (is_layout self.now) }
-    {}
+    {
+        let _ = &self.classes;
+    }
 
     /// A layout that is equal, in memory of its own. The error comes where memory was refused.
     pub fn copied(&self, alloc: Global) -> Result<Layout, AllocError>

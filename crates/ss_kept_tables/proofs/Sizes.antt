@@ -76,13 +76,15 @@ class_counts : (line : Line) (w : Said) (o : Option NameBytes) → sum_of (λ (e
 class_counts line (said.Class kind) (Some name) = omega arith
 class_counts line _ _ = omega arith
 
-pub few_classes : (says : List Saying) → FewEnough says → length (classes says) ≤ 64
-few_classes says few =
-    let a = sum_ones (classes says) in
-    let b = firsts_less (λ (e : NameBytes × Class). 1) (flat_map class_by says) in
-    let c = sum_flat (λ (e : NameBytes × Class). 1) (λ s. cond (is_class s) 1 0) class_by (λ s. class_counts s.line s.said s.name) says in
-    let d = counted is_class says in
-    let e = few.classes in
+pub class_limit : (says : List Saying) → FewEnough says → length (classes says) ≤ 64
+class_limit says few =
+    let all = flat_map class_by says in
+    let one : NameBytes × Class → ℕ = λ e. 1 in
+    let a : sum_of one (classes says) ≡ length (classes says) = sum_ones (classes says) in
+    let b : sum_of one (classes says) ≤ sum_of one all = firsts_less one all in
+    let c : sum_of one all ≤ sum_of (λ s. cond (is_class s) 1 0) says = sum_flat one (λ s. cond (is_class s) 1 0) class_by (λ s. class_counts s.line s.said s.name) says in
+    let d : count_by is_class says ≡ sum_of (λ s. cond (is_class s) 1 0) says = counted is_class says in
+    let e : count_by is_class says ≤ 64 = few.classes in
     omega (arith, a, b, c, d, e)
 
 -- ---- attributes of a class
@@ -115,18 +117,19 @@ module _ (cs : List (NameBytes × Class)) (n : ℕ) (class : NameBytes) (same : 
 among_few : (says : List Saying) → FewEnough says → (n : ℕ) → n < length (classes says) → length (fields_among (attribute_classes says) n) ≤ 64
 among_few says few n lt =
     let e = there (classes says) n lt in
-    let same : (c : NameBytes) → place_in (classes says) c ≡ Some n → c ≡ e.0.0 = λ c h.
-    let t = told_by_place (classes says) c n h in
-    ap (λ (x : NameBytes × Class). x.0) (some_equal (c, t.0) e.0 (sym t.2 ∙ e.1)) in
-    let a = kept_counts (λ x. nat_eq x.1 n) (attribute_classes says) in
-    let b = firsts_less (λ (x : NameBytes × ℕ). cond (nat_eq x.1 n) 1 0) (flat_map (attribute_by (classes says)) says) in
-    let c = sum_flat (λ (x : NameBytes × ℕ). cond (nat_eq x.1 n) 1 0) (λ s. cond (is_of e.0.0 s) 1 0) (attribute_by (classes says)) (λ s. attribute_counts (classes says) n e.0.0 same s.said s.name) says in
-    let d = counted (is_of e.0.0) says in
-    let f = few.attributes e.0.0 in
+    let same : (c : NameBytes) → place_in (classes says) c ≡ Some n → c ≡ e.0.0 =
+    λ c h. let t = told_by_place (classes says) c n h in ap (λ (x : NameBytes × Class). x.0) (some_equal (c, t.0) e.0 (sym t.2 ∙ e.1)) in
+    let all = flat_map (attribute_by (classes says)) says in
+    let here : NameBytes × ℕ → ℕ = λ x. cond (nat_eq x.1 n) 1 0 in
+    let a : length (fields_among (attribute_classes says) n) ≡ sum_of here (attribute_classes says) = kept_counts (λ x. nat_eq x.1 n) (attribute_classes says) in
+    let b : sum_of here (attribute_classes says) ≤ sum_of here all = firsts_less here all in
+    let c : sum_of here all ≤ sum_of (λ s. cond (is_of e.0.0 s) 1 0) says = sum_flat here (λ s. cond (is_of e.0.0 s) 1 0) (attribute_by (classes says)) (λ s. attribute_counts (classes says) n e.0.0 same s.said s.name) says in
+    let d : count_by (is_of e.0.0) says ≡ sum_of (λ s. cond (is_of e.0.0 s) 1 0) says = counted (is_of e.0.0) says in
+    let f : count_by (is_of e.0.0) says ≤ 64 = few.attributes e.0.0 in
     omega (arith, a, b, c, d, f)
 
-pub few_fields : (says : List Saying) → FewEnough says → (n : ℕ) → n < length (classes says) → length (get_or (fields says) n []) ≤ 64
-few_fields says few n lt =
+pub field_limit : (says : List Saying) → FewEnough says → (n : ℕ) → n < length (classes says) → length (get_or (fields says) n []) ≤ 64
+field_limit says few n lt =
     subst (λ names. length names ≤ 64) (sym (get_or-map-range_with_len (fields_among (attribute_classes says)) 0 (length (classes says)) n n [] lt (omega arith))) (among_few says few n lt)
 
 -- ---- sets
@@ -170,21 +173,23 @@ names_behind : (before xs : List Saying) →
 names_behind before [] = omega arith
 names_behind before (s ∷ xs) =
     let names = each_once (flat_map set_by before) in
-    let first : fold with_name names (set_by s ++ flat_map set_by xs) ≡ fold with_name (fold with_name names (set_by s)) (flat_map set_by xs) = fold-append with_name names (set_by s) (flat_map set_by xs) in
+    let more = fold with_name names (set_by s) in
+    let later = lines_behind line_of is_new_set (before ++ s ∷ []) xs in
+    let here = line_if (is_new_set before s) s.line in
     let single : flat_map set_by (s ∷ []) ≡ set_by s = append-nil (set_by s) in
-    let next : each_once (flat_map set_by (before ++ s ∷ [])) ≡ fold with_name names (set_by s) =
+    let next : each_once (flat_map set_by (before ++ s ∷ [])) ≡ more =
     ap each_once (flat_map-append set_by before (s ∷ []) ∙ ap (λ ys. flat_map set_by before ++ ys) single) ∙ fold-append with_name [] (flat_map set_by before) (set_by s) in
-    let rest = names_behind (before ++ s ∷ []) xs in
-    let later : length (fold with_name (fold with_name names (set_by s)) (flat_map set_by xs)) ≤ length (fold with_name names (set_by s)) + length (lines_behind line_of is_new_set (before ++ s ∷ []) xs) =
-    subst (λ ns. length (fold with_name ns (flat_map set_by xs)) ≤ length ns + length (lines_behind line_of is_new_set (before ++ s ∷ []) xs)) next rest in
-    let one = one_more before s.line s.said s.name in
-    let lines = length-append (line_if (is_new_set before s) s.line) (lines_behind line_of is_new_set (before ++ s ∷ []) xs) in
-    let same = ap length first in
-    omega (arith, same, later, one, lines)
+    let rest : length (fold with_name more (flat_map set_by xs)) ≤ length more + length later =
+    subst (λ ns. length (fold with_name ns (flat_map set_by xs)) ≤ length ns + length later) next (names_behind (before ++ s ∷ []) xs) in
+    let one : length more ≤ length names + length here = one_more before s.line s.said s.name in
+    let lines : length (here ++ later) ≡ length here + length later = length-append here later in
+    let same : length (fold with_name names (set_by s ++ flat_map set_by xs)) ≡ length (fold with_name more (flat_map set_by xs)) = ap length (fold-append with_name names (set_by s) (flat_map set_by xs)) in
+    let whole : length (fold with_name names (set_by s ++ flat_map set_by xs)) ≤ length names + length (here ++ later) = omega (arith, same, rest, one, lines) in
+    whole
 
-pub few_sets : (says : List Saying) → FewEnough says → length (sets says) ≤ 64
-few_sets says few =
-    let made = length-map (set_names says) (set_of (set_owners says) (set_members says) (orderings says)) in
-    let a = names_behind [] says in
-    let b = few.sets in
+pub set_limit : (says : List Saying) → FewEnough says → length (sets says) ≤ 64
+set_limit says few =
+    let made : length (sets says) ≡ length (set_names says) = length-map (set_names says) (set_of (set_owners says) (set_members says) (orderings says)) in
+    let a : length (set_names says) ≤ length (new_sets says) = names_behind [] says in
+    let b : length (new_sets says) ≤ 64 = few.sets in
     omega (arith, made, a, b)
