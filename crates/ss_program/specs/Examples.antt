@@ -14,7 +14,7 @@ use Rattle.ss_picture.specs.Pictures.{widths}
 use Rattle.ss_program.specs.declared.expression.Variable.TheVariants.{Global, Local}
 use Rattle.ss_program.specs.declared.expression.Operator.TheVariants.{Add, Multiply}
 use Rattle.ss_program.specs.declared.expression.Sign.TheVariants.{Plus}
-use Rattle.ss_program.specs.Program.{Expression, Constant, Fetch, Calculate, TheSystem, Entity, AtEnd, Numbers, Members, ToVariable, ToAttribute, ToCount, ByDiscipline, At, Let, Change, Read, Simulate, For, Create, CreateEvery, File, ScheduleNew, Print, Block, Done, Then, Program}
+use Rattle.ss_program.specs.Program.{Expression, Constant, Fetch, Calculate, TheSystem, Entity, AtEnd, Numbers, Members, AValue, ToVariable, ToAttribute, ToCount, ByDiscipline, At, Let, Change, Read, Simulate, For, Create, CreateEvery, File, ScheduleNew, Print, Block, Done, Then, Program}
 use Rattle.ss_program.specs.WellTyped.{WellTyped, Scope, HaveModes, kind_of}
 use Rattle.ss_program.specs.Nodes.{nodes}
 
@@ -40,7 +40,7 @@ numbers l e = record {
   main =
       Then (Let l (ToVariable (Local 0)) e)
       (Then (For l (Numbers (Local 1) (number 1) (Fetch (Local 0)) None) [] (Then (Change l Plus (ToVariable (Local 2)) (Fetch (Local 1))) Done))
-      (Then (Print l (Fetch (Local 2) ∷ []) (codes "SUM ***" ∷ []))
+      (Then (Print l (AValue (Fetch (Local 2)) ∷ []) (codes "SUM ***" ∷ []))
       Done));
 }
 
@@ -138,7 +138,7 @@ bells l given body = record {
 
 -- PRINT 1 LINE WITH T, BELL THUS
 abbrev pub ring : Line → Block
-ring l = Then (Print l (Fetch (Local 0) ∷ Fetch (Global 0) ∷ []) (codes "RING ** **" ∷ [])) Done
+ring l = Then (Print l (AValue (Fetch (Local 0)) ∷ AValue (Fetch (Global 0)) ∷ []) (codes "RING ** **" ∷ [])) Done
 
 bell_has_an_event : (l : Line) (class : ℕ) → kind_of (bells l (number 8) (ring l)) class ≡ Some Notice → Contains (map (λ e. e.class) (bells l (number 8) (ring l)).events) class
 bell_has_an_event l zero e = (0, omega arith, refl)
