@@ -10,7 +10,7 @@ use Rattle.ss_base.specs.declared.layout.ClassKind.TheVariants.{Permanent, Tempo
 use Rattle.ss_base.specs.declared.layout.Owner.TheVariants.{System, Class as OfClass}
 use Rattle.ss_base.specs.declared.layout.Layout.{Layout}
 use Rattle.ss_base.specs.declared.layout.Discipline.TheVariants.{Fifo, Ranked}
-use Rattle.ss_picture.specs.Pictures.{widths}
+use Rattle.ss_picture.specs.Pictures.{picture_fields}
 use Rattle.ss_program.specs.declared.expression.Variable.TheVariants.{Global, Local}
 use Rattle.ss_program.specs.declared.expression.Operator.TheVariants.{Add, Multiply}
 use Rattle.ss_program.specs.declared.expression.Sign.TheVariants.{Plus}
@@ -48,7 +48,7 @@ abbrev pub seven : Expression
 seven = Calculate Add (number 1) (Calculate Multiply (number 2) (number 3))
 
 pub numbers_fit : (l : Line) → WellTyped (numbers l seven)
-unfolding widths
+unfolding picture_fields
 numbers_fit l = record {
   sets = refl;
   disciplines = tt;
@@ -57,7 +57,7 @@ numbers_fit l = record {
   routines = tt;
   events = tt;
   served = λ class none. cc;
-  main = ((Integer, (refl, tt), (refl, refl, (refl, refl, refl))), ((((refl, tt), refl, refl, tt), tt, (((refl, tt), refl), tt)), ((((Integer, refl), tt), refl), tt)));
+  main = ((Integer, (refl, tt), (refl, refl, (refl, refl, refl))), ((((refl, tt), refl, refl, tt), tt, (((refl, tt), refl), tt)), ((((Integer, refl), refl), tt), tt)));
 }
 
 -- X is a whole number, and takes no text
@@ -145,14 +145,14 @@ bell_has_an_event l zero e = (0, omega arith, refl)
 bell_has_an_event l (suc n) e = absurd (none-some Notice e)
 
 pub bells_fit : (l : Line) → WellTyped (bells l (number 8) (ring l))
-unfolding widths
+unfolding picture_fields
 bells_fit l = record {
   sets = refl;
   disciplines = tt;
   counts = tt;
   statistics = tt;
   routines = tt;
-  events = (record { modes = Integer ∷ []; fields = refl; notice = refl; ties = tt; given = refl; saved = tt; body = ((((Integer, refl), ((Integer, refl), tt)), refl), tt) }, tt);
+  events = (record { modes = Integer ∷ []; fields = refl; notice = refl; ties = tt; given = refl; saved = tt; body = ((((Integer, refl), refl), (((Integer, refl), refl), tt)), tt) }, tt);
   served = bell_has_an_event l;
   main = (((refl, (Integer ∷ [], refl, (refl, tt))), (refl, tt), refl), (refl, tt));
 }

@@ -1,5 +1,5 @@
 -- When a program is well typed: each number in it is that of something, and modes, kinds and counts agree.
-use Rattle.std.specs.Prelude.{◌≡◌, ◌≢◌, ℕ, ◌≤◌, Bool, true, false, List, ◌++◌, length, take, Option, Some, None, slice_get, Contains, IfSome}
+use Rattle.std.specs.Prelude.{◌≡◌, ◌≢◌, ℕ, ◌≤◌, Bool, true, false, List, ◌++◌, length, map, take, Option, Some, None, slice_get, Contains, IfSome}
 use Rattle.std.specs.List.{AllZip, AllByRecursion as Every, flat_map}
 use Rattle.std.specs.Option.{option_map, option_and_then}
 use Rattle.ss_base.specs.declared.layout.Mode.{Mode}
