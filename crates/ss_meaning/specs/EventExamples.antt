@@ -10,15 +10,18 @@ use Rattle.ss_states.specs.State.{LAST_NUMBER}
 use Rattle.ss_events.specs.Order.{comes_before}
 use Rattle.ss_events.specs.PendingList.{scheduling_limit}
 use Rattle.ss_stats.specs.History.{tally_limit}
+use Rattle.ss_base.specs.declared.value.Value.TheVariants.{Whole}
+use Rattle.ss_picture.specs.declared.items.Item.TheVariants.{Is}
 use Rattle.ss_picture.specs.Numerals.{numeral}
 use Rattle.ss_picture.specs.Pictures.{picture_fields, filled}
 use Rattle.ss_program.specs.declared.expression.Fold.TheVariants.{Number, Sum, Maximum, Minimum}
 use Rattle.ss_program.specs.declared.sections.Subject.TheVariants.{OfVariable, OfCount}
 use Rattle.ss_program.specs.declared.sections.Weighting.TheVariants.{Tally, Accumulate}
 use Rattle.ss_program.specs.declared.statement.End.TheVariants.{First}
-use Rattle.ss_program.specs.Program.{Expression, Attribute, Clock, TimeOf, Figure, TheSystem, ByDiscipline, At, In, Statement, Let, Call, Simulate, Create, File, RemoveEnd, ScheduleNew, Schedule, Cancel, Reset, Event, Program}
+use Rattle.ss_program.specs.Program.{Expression, Attribute, Clock, TimeOf, Figure, AMean, Print, TheSystem, ByDiscipline, At, In, Statement, Let, Call, Simulate, Create, File, RemoveEnd, ScheduleNew, Schedule, Cancel, Reset, Event, Program}
 use Rattle.ss_meaning.specs.Building.{line, num, global, local, to_global, block, print_line, integers, class_of, bell, plain, workshop, ends, pauses, faults}
 use Rattle.ss_meaning.specs.Meaning.{meaning}
+use Rattle.ss_meaning.specs.Values.{printed}
 
 -- ## Scheduling: a bell with the tone 8 is scheduled for 9, and cancelled, which keeps its TIME.A; then come further lines
 
@@ -142,6 +145,26 @@ pub a_tally : meaning (tallied (Call (line 11) 0 [] [] ∷ let_global 12 (num (p
     ends (codes " 0  0  0  0" ∷ codes " 3  9  7 -2" ∷ codes " 0  0  0  0" ∷ []) 6
 unfolding filled picture_fields numeral in_64_bits
 a_tally = refl
+
+-- the mean of X, before anything and behind 4, -2 and 7, with decimals and without
+abbrev print_mean : (l : ℕ) → List ℕ → Statement
+print_mean l picture = Print (line l) (AMean 0 ∷ []) (picture ∷ [])
+
+pub a_mean : meaning (tallied (print_mean 6 (codes "[***.**]") ∷ let_global 7 (num (pos 4)) ∷ let_global 7 (num (negsuc 1)) ∷ let_global 7 (num (pos 7)) ∷
+    print_mean 8 (codes "[***.**]") ∷ print_mean 9 (codes "[**]") ∷ [])) [] 9 ≡ ends (codes "[  0.00]" ∷ codes "[  3.00]" ∷ codes "[ 3]" ∷ []) 9
+unfolding filled picture_fields numeral
+a_mean = refl
+
+-- a mean is no fault where the sum would be one
+pub a_large_mean : meaning (tallied (let_global 6 (num (pos 9223372036854775807)) ∷ let_global 6 (num (pos 9223372036854775807)) ∷
+    print_mean 7 (codes "*******************.**") ∷ [])) [] 9 ≡ ends (codes "9223372036854775807.00" ∷ []) 9
+unfolding filled picture_fields numeral
+a_large_mean = refl
+
+-- a value in a field with decimals does not fit
+pub no_decimals_for_a_value : (printed (codes "*.*" ∷ []) (Is (Whole (pos 1)) ∷ [])) ≡ None
+unfolding picture_fields
+no_decimals_for_a_value = refl
 
 -- a sum beyond 64 bits is a fault as it is read, and not as it is noted
 abbrev large_sum : List Statement → Program

@@ -11,7 +11,7 @@ use Rattle.ss_program.specs.declared.expression.Sign.TheVariants.{Plus, Minus}
 use Rattle.ss_program.specs.declared.expression.Operator.TheVariants.{Add, Subtract, Multiply, Quotient, Remainder}
 use Rattle.ss_program.specs.declared.condition.Relation.TheVariants.{Equal}
 use Rattle.ss_program.specs.declared.head.GuardKind.TheVariants.{While}
-use Rattle.ss_program.specs.Program.{Expression, Signed, Absolute, Calculate, Constant, Numbers, Compare, DataEnded, Statement, Let, Change, Call, Return, Stop, Read, If, For, Loop, Print, Skip, Routine, Program, Done}
+use Rattle.ss_program.specs.Program.{Expression, Signed, Absolute, Calculate, Constant, Numbers, Compare, DataEnded, Statement, Let, Change, Call, Return, Stop, Read, If, For, Loop, Print, Skip, AValue, Routine, Program, Done}
 use Rattle.ss_meaning.specs.Building.{line, num, local, to_local, block, only, print_line, integers, plain, ends, pauses, faults}
 use Rattle.ss_meaning.specs.Meaning.{meaning, WentWrong}
 
@@ -116,7 +116,7 @@ data_are_ended = refl
 -- READ W, a text, and two lines with it: it stands left in its field, and what doesn't fit gives asterisks
 abbrev texts : Program
 texts = record (plain 0 (Read (line 3) (record { place = to_local 0; mode = Alpha } ∷ []) ∷
-    Print (line 4) (local 0 ∷ local 0 ∷ []) (codes "[*****]" ∷ codes "[**]" ∷ []) ∷ [])) { locals = Alpha ∷ [] }
+    Print (line 4) (AValue (local 0) ∷ AValue (local 0) ∷ []) (codes "[*****]" ∷ codes "[**]" ∷ []) ∷ [])) { locals = Alpha ∷ [] }
 
 pub a_text_in_its_field : meaning texts (codes "BOX") 9 ≡ ends (codes "[BOX  ]" ∷ codes "[**]" ∷ []) 9
 unfolding filled picture_fields
