@@ -176,8 +176,8 @@ a_text_to_a_text = refl
 pub a_number_given : in_main (call_statement (line 16) (codes "T") (one ∷ []) [] ∷ []) ≡ broken rules.Mode 16
 a_number_given = refl
 
--- LET X = M1; LET X = M2(JOB); LET X = S1 is right
-pub a_mean_as_value : in_main (let_statement (line 16) (at (codes "X")) (name (codes "M1")) ∷ []) ≡ broken rules.Mode 16
+-- LET Y = M1; LET X = M2(JOB); LET X = S1 is right
+pub a_mean_as_value : in_main (let_statement (line 16) (at (codes "Y")) (name (codes "M1")) ∷ []) ≡ broken rules.Mode 16
 a_mean_as_value = refl
 
 pub a_mean_of_an_entity : in_main (let_statement (line 16) (at (codes "X")) (name_at (codes "M2") (name (codes "JOB"))) ∷ []) ≡ broken rules.Mode 16
@@ -212,6 +212,7 @@ pub a_mean_as_target : in_main (let_statement (line 16) (at (codes "M1")) one �
 a_mean_as_target = refl
 
 pub a_mean_with_subscript : in_main (print_statement (line 16) (name_at (codes "M1") one ∷ []) (codes "*" ∷ []) ∷ []) ≡ broken rules.Subscript 16
+unfolding picture_fields
 a_mean_with_subscript = refl
 
 pub reset_of_a_mean : in_main (reset_statement (line 16) (at (codes "M1") ∷ []) ∷ []) ≡ broken rules.Unknown 16
