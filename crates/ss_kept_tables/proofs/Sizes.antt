@@ -39,7 +39,7 @@ counted test [] = refl
 counted test (x ∷ xs) = sum_by-cons (λ y. cond (test y) 1 0) x xs ∙ ap (λ n. cond (test x) 1 0 + n) (counted test xs)
 
 sum_append : {A : Type 0} (g : A → ℕ) (xs ys : List A) → sum_of g (xs ++ ys) ≡ sum_of g xs + sum_of g ys
-sum_append g [] ys = refl
+sum_append g [] ys = omega arith
 sum_append g (x ∷ xs) ys = let e = sum_append g xs ys in omega (arith, e)
 
 sum_ones : {A : Type 0} (xs : List A) → sum_of (λ x. 1) xs ≡ length xs
@@ -90,12 +90,16 @@ class_limit says few =
 -- ---- attributes of a class
 
 kept_one : (b : Bool) (x : NameBytes × ℕ) (rest : List (NameBytes × ℕ)) → length (keys_of (cond b (x ∷ rest) rest)) ≡ cond b 1 0 + length (keys_of rest)
-kept_one true x rest = refl
-kept_one false x rest = refl
+kept_one true x rest = omega arith
+kept_one false x rest = omega arith
 
 kept_counts : (test : NameBytes × ℕ → Bool) (xs : List (NameBytes × ℕ)) → length (keys_of (filter test xs)) ≡ sum_of (λ x. cond (test x) 1 0) xs
 kept_counts test [] = refl
 kept_counts test (x ∷ xs) = kept_one (test x) x (filter test xs) ∙ ap (λ n. cond (test x) 1 0 + n) (kept_counts test xs)
+
+counts_one : (b : Bool) → b ≡ true → 1 ≤ cond b 1 0
+counts_one true h = omega arith
+counts_one false h = absurd cc
 
 module _ (cs : List (NameBytes × Class)) (n : ℕ) (class : NameBytes) (same : (c : NameBytes) → place_in cs c ≡ Some n → c ≡ class) where
   entry_counts : (c name : NameBytes) (o : Option ℕ) → place_in cs c ≡ o → sum_of (λ (x : NameBytes × ℕ). cond (nat_eq x.1 n) 1 0) (entry_if name o) ≤ cond (same_name class c) 1 0
@@ -107,7 +111,7 @@ module _ (cs : List (NameBytes × Class)) (n : ℕ) (class : NameBytes) (same : 
       by true h =
           let here : k ≡ n = eqb-true k n h in
           let named : c ≡ class = same c (e ∙ ap Some here) in
-          let one : cond (same_name class c) 1 0 ≡ 1 = ap (λ b. cond b 1 0) (subst (λ x. same_name class x ≡ true) (sym named) (same_as_itself class)) in
+          let one = counts_one (same_name class c) (subst (λ x. same_name class x ≡ true) (sym named) (same_as_itself class)) in
           omega (arith, one)
 
   attribute_counts : (w : Said) (o : Option NameBytes) → sum_of (λ (x : NameBytes × ℕ). cond (nat_eq x.1 n) 1 0) (attribute_told cs w o) ≤ cond (option_eq same_name (Some class) (attribute_class w)) 1 0
@@ -190,6 +194,6 @@ names_behind before (s ∷ xs) =
 pub set_limit : (says : List Saying) → FewEnough says → length (sets says) ≤ 64
 set_limit says few =
     let made : length (sets says) ≡ length (set_names says) = length-map (set_names says) (set_of (set_owners says) (set_members says) (orderings says)) in
-    let a : length (set_names says) ≤ length (new_sets says) = names_behind [] says in
+    let a : length (set_names says) ≤ 0 + length (new_sets says) = names_behind [] says in
     let b : length (new_sets says) ≤ 64 = few.sets in
     omega (arith, made, a, b)
