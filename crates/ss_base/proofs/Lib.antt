@@ -1,4 +1,1 @@
-pub mod Texts
 pub mod Whole
-pub mod Given
-pub mod Counts

@@ -1,5 +1,5 @@
 -- Modes, and the classes that sets name.
-use Rattle.std.specs.Prelude.{ℕ, Bool, true, ◌&&◌, nat_lt, pos, [], length}
+use Rattle.std.specs.Prelude.{ℕ, Bool, true, ◌&&◌, nat_le, nat_lt, pos, List, [], length, Option, Some, None, if◌then◌else◌}
 use Rattle.std.specs.List.{list_all}
 use Rattle.ss_base.specs.declared.value.Value.{Value}
 use Rattle.ss_base.specs.declared.value.Value.TheVariants.{Whole, Text}
@@ -8,7 +8,7 @@ use Rattle.ss_base.specs.declared.layout.Mode.TheVariants.{Integer, Alpha}
 use Rattle.ss_base.specs.declared.layout.Owner.{Owner}
 use Rattle.ss_base.specs.declared.layout.Owner.TheVariants.{System, Class}
 use Rattle.ss_base.specs.declared.layout.SetLayout.{SetLayout}
-use Rattle.ss_base.specs.declared.layout.Layout.{Layout}
+use Rattle.ss_base.specs.Plain.{PlainClass, PlainLayout}
 
 -- the mode of a value
 abbrev pub mode_of : Value → Mode
@@ -30,5 +30,25 @@ abbrev pub names_classes : ℕ → SetLayout → Bool
 names_classes classes set = owns_among classes set.owner && nat_lt set.member classes
 
 -- whether the classes that the sets of a layout name are its own
-abbrev pub is_sound : Layout → Bool
+abbrev pub is_sound : PlainLayout → Bool
 is_sound layout = list_all (names_classes (length layout.classes)) layout.sets
+
+-- the most classes, the most sets, and the most attributes of a class
+abbrev pub layout_limit : ℕ
+layout_limit = 1048576
+
+-- whether a class has no more attributes than that
+abbrev pub is_narrow : PlainClass → Bool
+is_narrow class = nat_le (length class.fields) layout_limit
+
+-- whether classes and sets may stand together: the sets name classes that are there, and there is not too much of anything
+abbrev pub is_layout : PlainLayout → Bool
+is_layout layout =
+    is_sound layout && (nat_le (length layout.classes) layout_limit && (nat_le (length layout.sets) layout_limit && list_all is_narrow layout.classes))
+
+-- the layout of these classes and sets, if they may stand together
+abbrev pub layout_of : List PlainClass → List SetLayout → Option PlainLayout
+layout_of classes sets =
+    if is_layout (record { classes = classes; sets = sets })
+    then Some (record { classes = classes; sets = sets })
+    else None

@@ -1,8 +1,9 @@
-ghost use Rattle.std.specs.Prelude.{◌≡◌, IfOk};
-ghost use Rattle.ss_base.specs.Layout.{first_value, is_sound, names_classes};
+ghost use Rattle.std.specs.Prelude.{◌≡◌, IfOk, IsTrue, length};
+ghost use Rattle.std.specs.List.{list_all};
+ghost use Rattle.ss_base.specs.Layout.{first_value, is_layout, is_narrow, is_sound, layout_of, names_classes};
 
-use crate::alpha::Alpha;
 use crate::value::Value;
+use ss_bytes::Alpha;
 use std::alloc::{AllocError, Global};
 use std::marker::Model;
 
@@ -54,6 +55,13 @@ impl Model for ClassLayout {
 }
 
 impl ClassLayout {
+    // Whether it has no more attributes than a class may have.
+    fn is_narrow(&self) -> bool
+        ensures { result ≡ is_narrow self.now }
+    {
+        self.fields.len() <= LAYOUT_LIMIT
+    }
+
     /// A class that is equal, in memory of its own. The error comes where memory was refused.
     pub fn copied(&self, alloc: Global) -> Result<ClassLayout, AllocError>
         ensures { IfOk result (λ c. c ≡ self.now) }
@@ -82,7 +90,11 @@ pub struct SetLayout {
     pub member: usize,
 }
 
-/// The classes and the sets of a model. Both are numbered from 0.
+/// The most classes, the most sets, and the most attributes of a class.
+const LAYOUT_LIMIT: usize = 1048576;
+
+/// The classes and the sets of a model. Both are numbered from 0. The classes that its sets name are among its own, and
+/// there are at most 1,048,576 classes, sets, and attributes of a class.
 ///
 /// A contract sees it as plain data: two layouts that say the same are equal.
 #[derive(Drop)]
@@ -93,13 +105,36 @@ pub struct Layout {
 
 impl Model for Layout {
     ghost use Rattle.ss_base.specs.Plain.{PlainLayout};
+    ghost use Rattle.std.specs.Prelude.{IsTrue};
+    ghost use Rattle.ss_base.specs.Layout.{is_layout};
 
     ghost Value = { PlainLayout };
 
     ghost view = { λ l. record { classes = l.classes.items; sets = l.sets.items } };
+
+    ghost invariant = { λ l. IsTrue (is_layout (record { classes = l.classes.items; sets = l.sets.items })) };
 }
 
 impl Layout {
+    /// The layout of these classes and sets. None where a set names a class that is not among them, or where there are more
+    /// than 1,048,576 classes, sets, or attributes of a class.
+    pub fn new(classes: Vec<ClassLayout>, sets: Vec<SetLayout>) -> Option<Layout>
+        ensures { result ≡ layout_of classes.items sets.items }
+    {
+        if may_stand_together(&classes, &sets) {
+            Some(Layout { classes, sets })
+        } else {
+            None
+        }
+    }
+
+    /// What is so of every layout.
+    pub fn law(&self)
+        ensures { IsTrue (is_layout self.now) }
+    {
+        let _ = &self.classes;
+    }
+
     /// A layout that is equal, in memory of its own. The error comes where memory was refused.
     pub fn copied(&self, alloc: Global) -> Result<Layout, AllocError>
         ensures { IfOk result (λ l. l ≡ self.now) }
@@ -108,14 +143,31 @@ impl Layout {
         let sets = Vec::from_slice(alloc, &self.sets)?;
         Ok(Layout { classes, sets })
     }
+}
 
-    /// Whether the classes that its sets name are among its classes.
-    pub fn is_sound(&self) -> bool
-        ensures { result ≡ is_sound self.now }
-    {
-        let classes = self.classes.len();
-        self.sets.iter().all(|set| set.names_classes(classes))
-    }
+// Whether these sets name classes among these.
+fn is_sound(classes: &[ClassLayout], sets: &[SetLayout]) -> bool
+    ensures { result ≡ is_sound (record { classes = classes.now; sets = sets.now }) }
+{
+    let count = classes.len();
+    sets.iter().all(|set| set.names_classes(count))
+}
+
+// Whether none of these classes has too many attributes.
+fn are_narrow(classes: &[ClassLayout]) -> bool
+    ensures { result ≡ list_all is_narrow classes.now }
+{
+    classes.iter().all(ClassLayout::is_narrow)
+}
+
+// Whether these are the classes and sets of a layout.
+fn may_stand_together(classes: &[ClassLayout], sets: &[SetLayout]) -> bool
+    ensures { result ≡ is_layout (record { classes = classes.now; sets = sets.now }) }
+{
+    is_sound(classes, sets)
+        && classes.len() <= LAYOUT_LIMIT
+        && sets.len() <= LAYOUT_LIMIT
+        && are_narrow(classes)
 }
 
 // Classes that are equal, one by one.

@@ -1,18 +1,13 @@
 //! What every layer of the simulator stands on: lines, values, faults and arithmetic.
 #![tactic(auto)]
 
-mod alpha;
 mod arithmetic;
 mod counted;
 mod fault;
 mod faulty;
 mod layout;
-mod line;
-mod memory;
-mod plan;
 mod value;
 
-pub use alpha::{Alpha, TEXT_LIMIT};
 pub use arithmetic::{div_f, minus, mod_f, plus, times};
 pub use counted::Counted;
 pub use fault::{FaultKind, Refused};
@@ -21,7 +16,5 @@ pub use layout::{
     ClassKind, ClassLayout, Discipline, Layout, Mode, Owner, RankKey, RankKeys, SetLayout,
     copied_disciplines,
 };
-pub use line::Line;
-pub use memory::{MemoryRead, MemoryWrite, Trouble};
-pub use plan::Plan;
+pub use ss_bytes::{Alpha, Line, TEXT_LIMIT};
 pub use value::Value;

@@ -9,7 +9,7 @@ ghost use Rattle.ss_declared.specs.Lines.{first_line};
 
 use crate::tally_twice::tally_twice;
 use crate::too_many::too_many;
-use ss_base::Line;
+use ss_bytes::Line;
 use ss_declared::rules::{
     no_member, no_owner, rank_key, real_mode, tie_key, twice, unknown_class, unknown_set,
 };
@@ -94,7 +94,7 @@ fn first_broken(
 
 /// The first rule that a program breaks by what it declares, in the order of the rules' numbers, with the
 /// first line where it does; None where it keeps them all. The sayings are those of the program
-/// (`sayings_of` of ss_sayings), the sections its sections.
+/// (`sayings_of` of ss_gathering), the sections its sections.
 ///
 /// # Errors
 /// `AllocError` where memory is refused.

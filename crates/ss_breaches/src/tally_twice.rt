@@ -4,7 +4,7 @@ ghost use Rattle.std.specs.Prelude.{◌≡◌, IfOk};
 ghost use Rattle.ss_declared.specs.Lines.{first_line};
 ghost use Rattle.ss_declared.specs.TallyTwice.{tally_twice};
 
-use ss_base::Line;
+use ss_bytes::Line;
 use ss_declared::Topic;
 use ss_declared::rules::again;
 use ss_sayings::Saying;

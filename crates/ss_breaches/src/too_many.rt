@@ -8,10 +8,9 @@ ghost use Rattle.ss_declared.specs.Topics.{line_of};
 ghost use Rattle.ss_breaches.specs.Counts.{count_of, AreCounts, CountsOne};
 
 use indexmap::IndexMap;
-use ss_base::Line;
+use ss_bytes::{Line, Name};
 use ss_declared::laws::later_lines_grow;
 use ss_declared::{class_lines, set_lines, sooner, sooner_if};
-use ss_lex::Name;
 use ss_sayings::{Said, Saying};
 use std::alloc::{AllocError, Global};
 

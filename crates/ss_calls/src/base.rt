@@ -1,8 +1,9 @@
 use ss_base::{
     Alpha, ClassKind, ClassLayout, Discipline, FaultKind, Faulty, FaultyRead, FaultyWrite, Layout,
-    Line, MemoryRead, MemoryWrite, Mode, Owner, Plan, RankKey, RankKeys, Refused, SetLayout,
-    Trouble, Value, div_f, minus, mod_f, plus, times,
+    Line, Mode, Owner, RankKey, RankKeys, Refused, SetLayout, Value, div_f, minus, mod_f, plus,
+    times,
 };
+use ss_streams::{MemoryRead, MemoryWrite, Plan, Trouble};
 use std::alloc::{AllocError, Global};
 use std::cmp::Ordering;
 
@@ -230,15 +231,15 @@ fn classes(alloc: Global, rows: &[ClassRow]) -> Result<Vec<ClassLayout>, AllocEr
     Ok(classes)
 }
 
-// A layout of these classes and sets.
+// The layout of these classes and sets, if they are one.
 pub fn laid_out(
     alloc: Global,
     rows: &[ClassRow],
     sets: &[SetLayout],
-) -> Result<Layout, AllocError> {
+) -> Result<Option<Layout>, AllocError> {
     let sets = Vec::from_slice(alloc, sets)?;
     let classes = classes(alloc, rows)?;
-    Ok(Layout { classes, sets })
+    Ok(Layout::new(classes, sets))
 }
 
 static MACHINES_AND_JOBS: [ClassRow; 2] = [
@@ -262,10 +263,10 @@ static OF_JOBS: [SetLayout; 3] = [
     },
 ];
 
-// Whether sets of jobs are sound.
+// Whether there is a layout with these sets of jobs.
 fn are_sound(alloc: Global, sets: &[SetLayout]) -> Option<bool> {
     match laid_out(alloc, &MACHINES_AND_JOBS, sets) {
-        Ok(layout) => Some(layout.is_sound()),
+        Ok(layout) => Some(layout.is_some()),
         Err(_) => None,
     }
 }

@@ -1,5 +1,6 @@
-use ss_base::{Alpha, Faulty, FaultyWrite, MemoryWrite, Plan, Trouble, Value};
+use ss_base::{Alpha, Faulty, FaultyWrite, Value};
 use ss_picture::{Picture, Sink, SinkError};
+use ss_streams::{MemoryWrite, Plan, Trouble};
 use std::alloc::{AllocError, Global};
 use std::io;
 use std::io::ErrorKind;

@@ -56,15 +56,11 @@ static SETS: [SetLayout; 5] = [
     },
 ];
 
-// A heap of this layout, if it is sound and there is memory for it.
-pub fn heap_of(alloc: Global, layout: Result<Layout, AllocError>) -> Option<Heap> {
+// A heap of this layout, if it is one and there is memory for it.
+pub fn heap_of(alloc: Global, layout: Result<Option<Layout>, AllocError>) -> Option<Heap> {
     match layout {
-        Ok(layout) => if layout.is_sound() {
-            Heap::new(alloc, layout).ok()
-        } else {
-            None
-        },
-        Err(_) => None,
+        Ok(Some(layout)) => Heap::new(alloc, layout).ok(),
+        Ok(None) | Err(_) => None,
     }
 }
 

@@ -68,13 +68,13 @@ pub struct Case<'a> {
     judge: Option<Judge>,
 }
 
-// Fills a place for what may be said once.
-fn once<T: Drop>(place: &mut Option<T>, value: Result<T, Wrong>) -> Result<(), Wrong> {
+// Fills a slot for what may be said once.
+fn set_once<T: Drop>(slot: &mut Option<T>, value: Result<T, Wrong>) -> Result<(), Wrong> {
     let value = value?;
-    if place.is_some() {
+    if slot.is_some() {
         return Err(Wrong::Twice);
     }
-    *place = Some(value);
+    *slot = Some(value);
     Ok(())
 }
 
@@ -104,15 +104,15 @@ impl<'a> Case<'a> {
     /// Takes down what these words say of the case.
     pub fn take_down(&mut self, topic: Topic, words: &'a str) -> Result<(), Wrong> {
         match topic {
-            Topic::Ticks => once(&mut self.ticks, numbers(self.alloc, words)),
-            Topic::Reader => once(&mut self.reader, reader(words)),
-            Topic::Writer => once(&mut self.writer, writer(words)),
-            Topic::Failures => once(&mut self.failures, number(words)),
+            Topic::Ticks => set_once(&mut self.ticks, numbers(self.alloc, words)),
+            Topic::Reader => set_once(&mut self.reader, reader(words)),
+            Topic::Writer => set_once(&mut self.writer, writer(words)),
+            Topic::Failures => set_once(&mut self.failures, number(words)),
             Topic::Run => self.add_call(Call::of(words)),
-            Topic::Ending => once(&mut self.ending, Ending::of(words)),
-            Topic::Judge => once(&mut self.judge, Judge::of(words)),
-            Topic::Used => once(&mut self.used, number(words)),
-            Topic::Cut => once(&mut self.cut_short, short_numbers(self.alloc, words)),
+            Topic::Ending => set_once(&mut self.ending, Ending::of(words)),
+            Topic::Judge => set_once(&mut self.judge, Judge::of(words)),
+            Topic::Used => set_once(&mut self.used, number(words)),
+            Topic::Cut => set_once(&mut self.cut_short, short_numbers(self.alloc, words)),
         }
     }
 

@@ -62,7 +62,7 @@ pub fn compare_streams(
     found: &mut String,
 ) -> Result<(), AllocError> {
     let Streams { reader, writer } = streams;
-    let failures = reader.faults().saturating_add(writer.faults());
+    let failures = Faulty::faults(reader).saturating_add(Faulty::faults(writer));
     compare_count(case.failures(), failures, "failures", found)?;
     if writer.bytes() == case.report.as_slice() {
         return Ok(());

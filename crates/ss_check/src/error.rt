@@ -4,7 +4,7 @@ ghost use Rattle.std.specs.Prelude.{◌≡◌, Some};
 ghost use Rattle.ss_check.specs.declared.error.CheckError.TheVariants.{Memory};
 ghost use Rattle.ss_check.specs.Checking.{Tells};
 
-use ss_base::Line;
+use ss_bytes::Line;
 use ss_uses::{Broken, Rule};
 use std::alloc::AllocError;
 use thiserror::Error;

@@ -1,6 +1,6 @@
 -- From what each layer refuses to why the text is refused.
 use Rattle.std.proofs.Common.{◌≡◌, ◌≢◌, ℕ, ◌≤◌, ◌<◌, List, length, None, refl, arith}
-use Rattle.ss_lex.specs.declared.token.Token.{Token}
+use Rattle.ss_tokens.specs.declared.token.Token.{Token}
 use Rattle.ss_lex.specs.declared.error.LexError.{LexError}
 use Rattle.ss_lex.specs.declared.error.LexError.TheVariants as lexical
 use Rattle.ss_lex.specs.Tokens.{AreTokens}

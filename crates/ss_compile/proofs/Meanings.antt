@@ -1,7 +1,7 @@
 -- A well-formed text has one program, which is well typed.
 use Rattle.std.proofs.Common.{◌≡◌, List, Some, sym, ap, subst, ◌∙◌}
 use Rattle.ss_lex.specs.Laws.{OneList}
-use Rattle.ss_lex.specs.declared.token.Token.{Token}
+use Rattle.ss_tokens.specs.declared.token.Token.{Token}
 use Rattle.ss_parse.specs.Promise.{One_tree}
 use Rattle.ss_parse.specs.SpelledPrograms.{Spell}
 use Rattle.ss_program.specs.Program.{Program}

@@ -3,7 +3,7 @@
 ghost use Rattle.std.specs.Prelude.{◌≡◌};
 ghost use Rattle.ss_compile.specs.Refusals.{refusal_number, refusal_name, refusal_line};
 
-use ss_base::Line;
+use ss_bytes::Line;
 
 /// Why a text is refused, with the line in which that shows.
 #[derive(Clone, Copy)]

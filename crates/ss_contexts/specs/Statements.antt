@@ -1,6 +1,6 @@
 -- Statements in which each name is replaced by what it stands for.
 use Rattle.std.specs.Prelude.{nat_le, ◌&&◌, ◌==◌, List, [], ◌∷◌, length, Option, Some, None}
-use Rattle.ss_base.specs.declared.line.Line.{Line}
+use Rattle.ss_bytes.specs.declared.line.Line.{Line}
 use Rattle.ss_base.specs.declared.layout.Mode.{Mode}
 use Rattle.ss_base.specs.declared.layout.Mode.TheVariants.{Integer}
 use Rattle.ss_tree.specs.declared.statement.SetEnd.{SetEnd}

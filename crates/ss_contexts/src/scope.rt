@@ -6,7 +6,7 @@ ghost use Rattle.ss_contexts.specs.Contexts.{Context};
 
 use crate::error::ResolveError;
 use crate::meaning::{ClassMeant, Meaning, RoutineMeant, SetMeant};
-use ss_lex::Name;
+use ss_bytes::Name;
 use ss_tree::expression::Designator;
 
 /// What the names in a section mean. Each call fails with `Unresolved` where the name isn't of the kind, and

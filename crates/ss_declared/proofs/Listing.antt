@@ -1,6 +1,6 @@
 -- Lists of lines, one item at a time.
 use Rattle.std.proofs.Common.{◌≡◌, ℕ, ◌+◌, ◌<◌, Bool, List, ◌++◌, length, get_or, take, sym, ap, ◌∙◌}
-use Rattle.ss_base.specs.declared.line.Line.{Line}
+use Rattle.ss_bytes.specs.declared.line.Line.{Line}
 use Rattle.ss_declared.specs.Lines.{line_if, later_lines, lines_where}
 use Rattle.ss_declared.proofs.Finding.{take_next, where_more, later_more}
 

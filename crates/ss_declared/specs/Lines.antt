@@ -1,7 +1,7 @@
 -- The lines where a rule is broken, and the first of them.
 use Rattle.std.specs.Prelude.{nat_lt, Bool, true, false, List, [], ◌∷◌, ◌++◌, Option, Some, None, if◌then◌else◌}
 use Rattle.std.specs.List.{flat_map, fold}
-use Rattle.ss_base.specs.declared.line.Line.{Line}
+use Rattle.ss_bytes.specs.declared.line.Line.{Line}
 
 -- the first in the text of what was found so far and a line
 abbrev pub sooner : Option Line → Line → Option Line

@@ -1,6 +1,6 @@
 -- Rules on what is said of a thing of which something else must be said as well.
 use Rattle.std.specs.Prelude.{Bool, not, ◌&&◌, List}
-use Rattle.ss_base.specs.declared.line.Line.{Line}
+use Rattle.ss_bytes.specs.declared.line.Line.{Line}
 use Rattle.ss_sayings.specs.declared.saying.Saying.{Saying}
 use Rattle.ss_declared.specs.declared.topic.Topic.{Topic}
 use Rattle.ss_declared.specs.Lines.{lines_where}

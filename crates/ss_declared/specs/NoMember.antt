@@ -1,6 +1,6 @@
 -- Refusal 56: a set with an owner has a class of members. The line is that of the statement that owns it.
 use Rattle.std.specs.Prelude.{List}
-use Rattle.ss_base.specs.declared.line.Line.{Line}
+use Rattle.ss_bytes.specs.declared.line.Line.{Line}
 use Rattle.ss_sayings.specs.declared.saying.Saying.{Saying}
 use Rattle.ss_declared.specs.declared.topic.Topic.TheVariants as topics
 use Rattle.ss_declared.specs.Missing.{missing}

@@ -1,6 +1,6 @@
 -- Refusal 55: a set with members has an owner. The line is that of the EVERY.
 use Rattle.std.specs.Prelude.{List}
-use Rattle.ss_base.specs.declared.line.Line.{Line}
+use Rattle.ss_bytes.specs.declared.line.Line.{Line}
 use Rattle.ss_sayings.specs.declared.saying.Saying.{Saying}
 use Rattle.ss_declared.specs.declared.topic.Topic.TheVariants as topics
 use Rattle.ss_declared.specs.Missing.{missing}

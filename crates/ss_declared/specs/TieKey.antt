@@ -1,7 +1,7 @@
 -- Refusal 60: the keys of a BREAK are attributes of its class.
 use Rattle.std.specs.Prelude.{Bool, false, not, List, Option, Some}
 use Rattle.std.specs.Option.{option_eq}
-use Rattle.ss_base.specs.declared.line.Line.{Line}
+use Rattle.ss_bytes.specs.declared.line.Line.{Line}
 use Rattle.ss_sayings.specs.declared.saying.Said.{Said}
 use Rattle.ss_sayings.specs.declared.saying.Said.TheVariants as said
 use Rattle.ss_sayings.specs.declared.saying.Saying.{Saying}

@@ -1,6 +1,6 @@
 -- Refusal 54: DEFINE as a set names what a clause owns or belongs to.
 use Rattle.std.specs.Prelude.{List}
-use Rattle.ss_base.specs.declared.line.Line.{Line}
+use Rattle.ss_bytes.specs.declared.line.Line.{Line}
 use Rattle.ss_sayings.specs.declared.saying.Saying.{Saying}
 use Rattle.ss_declared.specs.declared.topic.Topic.TheVariants as topics
 use Rattle.ss_declared.specs.Missing.{missing}

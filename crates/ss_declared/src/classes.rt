@@ -6,7 +6,7 @@ ghost use Rattle.ss_declared.specs.Classes.{kept_of, class_kept, AreClasses, Kee
 
 use crate::topic::{Thing, Topic, class_in, is_about, thing_of};
 use indexmap::IndexMap;
-use ss_lex::Name;
+use ss_bytes::Name;
 use ss_sayings::Saying;
 use std::alloc::{AllocError, Global};
 

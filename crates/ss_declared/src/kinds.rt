@@ -9,7 +9,7 @@ ghost use Rattle.ss_declared.specs.TooMany.{classes, is_new_set, sets};
 
 use crate::things::Things;
 use crate::topic::{Topic, is_about, thing_of};
-use ss_base::Line;
+use ss_bytes::Line;
 use ss_sayings::Saying;
 use std::alloc::{AllocError, Global};
 

@@ -3,7 +3,7 @@
 ghost use Rattle.std.specs.Prelude.{◌≡◌};
 ghost use Rattle.ss_declared.specs.Lines.{sooner, soonest, line_if};
 
-use ss_base::Line;
+use ss_bytes::Line;
 
 /// The first in the text of what was found so far and a line.
 pub fn sooner(found: Option<Line>, line: Line) -> Option<Line>

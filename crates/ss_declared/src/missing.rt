@@ -10,7 +10,7 @@ ghost use Rattle.ss_declared.specs.Topics.{is_about, thing_of, line_of};
 use crate::lines::sooner_if;
 use crate::things::{Things, things_said};
 use crate::topic::{Topic, is_about, thing_of};
-use ss_base::Line;
+use ss_bytes::Line;
 use ss_sayings::Saying;
 use std::alloc::{AllocError, Global};
 

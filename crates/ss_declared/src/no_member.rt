@@ -6,7 +6,7 @@ ghost use Rattle.ss_declared.specs.NoMember.{no_member};
 
 use crate::missing::missing;
 use crate::topic::Topic;
-use ss_base::Line;
+use ss_bytes::Line;
 use ss_sayings::Saying;
 use std::alloc::{AllocError, Global};
 

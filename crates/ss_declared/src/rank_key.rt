@@ -13,8 +13,7 @@ use crate::classes::{Classes, classes_said};
 use crate::lines::sooner_if;
 use crate::topic::{Topic, thing_of};
 use indexmap::IndexMap;
-use ss_base::Line;
-use ss_lex::Name;
+use ss_bytes::{Line, Name};
 use ss_sayings::{Said, Saying};
 use std::alloc::{AllocError, Global};
 

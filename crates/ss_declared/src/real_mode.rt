@@ -16,7 +16,7 @@ use crate::lines::sooner_if;
 use crate::missing::missing;
 use crate::things::{Things, things_said};
 use crate::topic::Topic;
-use ss_base::Line;
+use ss_bytes::Line;
 use ss_sayings::{Said, Saying};
 use ss_tree::preamble::Mode;
 use ss_tree::program::Section;

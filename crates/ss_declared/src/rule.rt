@@ -1,6 +1,6 @@
 //! The rules on what a program declares.
 
-use ss_base::Line;
+use ss_bytes::Line;
 
 /// A rule on what a program declares.
 #[derive(Clone, Copy)]

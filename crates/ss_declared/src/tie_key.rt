@@ -10,8 +10,7 @@ ghost use Rattle.ss_declared.specs.TieKey.{is_bad_tie, is_mistied, tie_key};
 use crate::classes::{Classes, classes_said};
 use crate::lines::sooner_if;
 use crate::topic::{Topic, thing_of};
-use ss_base::Line;
-use ss_lex::Name;
+use ss_bytes::{Line, Name};
 use ss_sayings::{Said, Saying};
 use std::alloc::{AllocError, Global};
 

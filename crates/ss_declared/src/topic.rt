@@ -3,7 +3,7 @@
 ghost use Rattle.std.specs.Prelude.{◌≡◌};
 ghost use Rattle.ss_declared.specs.Topics.{is_about, section_of, thing_of, class_in};
 
-use ss_lex::Name;
+use ss_bytes::Name;
 use ss_sayings::{Said, Saying};
 use ss_tree::preamble::ClassKind;
 

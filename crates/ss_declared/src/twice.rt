@@ -14,7 +14,7 @@ use crate::globals::{Globals, may_hide};
 use crate::lines::sooner_if;
 use crate::things::{Things, things_said};
 use crate::topic::{Topic, is_about, thing_of};
-use ss_base::Line;
+use ss_bytes::Line;
 use ss_sayings::Saying;
 use std::alloc::{AllocError, Global};
 

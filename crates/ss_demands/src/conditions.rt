@@ -7,7 +7,7 @@ ghost use Rattle.ss_demands.specs.Demands.{in_condition, in_test};
 
 use crate::demand::Demand;
 use crate::expressions::{mode_of, note, note_expression, note_named, note_number};
-use ss_base::Line;
+use ss_bytes::Line;
 use ss_tree::condition::{Condition, Test};
 use std::alloc::AllocError;
 

@@ -1,7 +1,6 @@
 //! Demands.
 
-use ss_base::Line;
-use ss_lex::Name;
+use ss_bytes::{Line, Name};
 use ss_tree::expression::Function;
 
 /// What a demand compares: modes, or counts.

@@ -6,7 +6,7 @@ ghost use Rattle.ss_tree.specs.View.{view_expression, view_named, view_option, v
 ghost use Rattle.ss_demands.specs.Demands.{a_number, demand, designated, implied, in_all, in_all_named, in_all_numbers, in_expression, in_named, in_number, in_number_target, in_option, in_term, mode_of, target_mode};
 
 use crate::demand::{Aspect, Demand};
-use ss_base::Line;
+use ss_bytes::Line;
 use ss_tree::expression::{Designator, Expression, Named, Term};
 use std::alloc::AllocError;
 

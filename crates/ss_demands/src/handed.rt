@@ -6,8 +6,7 @@ ghost use Rattle.ss_demands.specs.Demands.{handed, in_places, parameter, receive
 
 use crate::demand::{Aspect, Demand};
 use crate::expressions::{mode_of, note, note_expression, note_named, target_mode};
-use ss_base::Line;
-use ss_lex::Name;
+use ss_bytes::{Line, Name};
 use ss_tree::expression::{Expression, Named};
 use std::alloc::AllocError;
 

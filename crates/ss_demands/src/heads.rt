@@ -7,8 +7,7 @@ ghost use Rattle.ss_demands.specs.Demands.{in_class_variable, in_guards, in_head
 use crate::conditions::note_condition;
 use crate::demand::{Aspect, Demand};
 use crate::expressions::{note, note_maybe_number, note_named, note_number};
-use ss_base::Line;
-use ss_lex::Name;
+use ss_bytes::{Line, Name};
 use ss_tree::head::{Guard, Head, MemberStart, Phrase};
 use std::alloc::AllocError;
 

@@ -3,7 +3,7 @@
 ghost use Rattle.std.specs.Prelude.{◌≡◌, ◌==◌, IfOk};
 ghost use Rattle.ss_demands.specs.Demands.{fields_of};
 
-use ss_lex::PictureLine;
+use ss_bytes::PictureLine;
 use ss_picture::Picture;
 use std::alloc::{AllocError, Global};
 

@@ -8,7 +8,7 @@ use crate::demand::{Aspect, Demand};
 use crate::expressions::note;
 use crate::handed::{Receiver, note_parameters};
 use crate::statements::note_body;
-use ss_base::Line;
+use ss_bytes::Line;
 use ss_tree::program::{Section, SectionKind};
 use std::alloc::{AllocError, Global};
 

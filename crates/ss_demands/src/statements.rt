@@ -13,8 +13,7 @@ use crate::expressions::{
 use crate::handed::{Receiver, note_handed, note_taken};
 use crate::heads::note_head;
 use crate::pictures::has_fields;
-use ss_base::Line;
-use ss_lex::{Name, PictureLine};
+use ss_bytes::{Line, Name, PictureLine};
 use ss_tree::expression::{Expression, Named};
 use ss_tree::statement::{Position, Statement, When};
 use std::alloc::{AllocError, Global};

@@ -1,7 +1,7 @@
 -- What a word stands for, in the place where it is looked for.
 use Rattle.std.specs.Prelude.{Bool, true, false, Option, Some, None}
-use Rattle.ss_lex.specs.declared.word.Word.{Word}
-use Rattle.ss_lex.specs.declared.word.Word.TheVariants as words
+use Rattle.ss_tokens.specs.declared.word.Word.{Word}
+use Rattle.ss_tokens.specs.declared.word.Word.TheVariants as words
 use Rattle.ss_tree.specs.declared.condition.Relation.{Relation}
 use Rattle.ss_tree.specs.declared.condition.Relation.TheVariants as relations
 use Rattle.ss_tree.specs.declared.expression.Function.{Function}

@@ -3,7 +3,7 @@
 ghost use Rattle.std.specs.Prelude.{◌≡◌};
 ghost use Rattle.ss_elements.specs.Words.{relation_of, function_of, phrase_of, guard_of, outcome_of, mode_of, rank_of, statistic_of};
 
-use ss_lex::Word;
+use ss_tokens::Word;
 use ss_tree::condition::Relation;
 use ss_tree::expression::Function;
 use ss_tree::head::{GuardKind, PhraseKind};

@@ -9,8 +9,8 @@ ghost use Rattle.ss_sayings.specs.Sayings.{NameBytes};
 
 use crate::entry::{Attribute, Class};
 use indexmap::IndexMap;
+use ss_bytes::Name;
 use ss_firsts::is_told;
-use ss_lex::Name;
 use ss_sayings::{Said, Saying};
 use ss_tree::preamble::Mode;
 use std::alloc::{AllocError, Global};

@@ -8,8 +8,8 @@ ghost use Rattle.ss_firsts.specs.Firsts.{firsts};
 use crate::entry::Class;
 use crate::telling::{Telling, firsts_told};
 use indexmap::IndexMap;
-use ss_firsts::keep_first;
-use ss_lex::Name;
+use ss_bytes::Name;
+use ss_firsts::insert_first;
 use ss_sayings::{Said, Saying};
 use ss_tree::preamble::Mode;
 use std::alloc::{AllocError, Global};
@@ -53,7 +53,7 @@ impl Telling for DefinedModes {
     ) -> Result<(), AllocError> {
         match &saying.said {
             Said::Variable { mode } => match &saying.name {
-                Some(name) => keep_first(entries, *name, *mode),
+                Some(name) => insert_first(entries, *name, *mode),
                 None => Ok(()),
             },
             _ => Ok(()),
@@ -91,7 +91,7 @@ impl Telling for Classes {
                         kind: *kind,
                         line: saying.line,
                     };
-                    keep_first(entries, *name, class)
+                    insert_first(entries, *name, class)
                 },
                 None => Ok(()),
             },

@@ -9,7 +9,7 @@ use crate::attributes::{Attributes, attributes_of};
 use crate::classes::{classes_of, defined_modes, usual_mode};
 use crate::entry::Class;
 use indexmap::IndexMap;
-use ss_lex::Name;
+use ss_bytes::Name;
 use ss_sayings::Saying;
 use std::alloc::{AllocError, Global};
 

@@ -4,7 +4,7 @@ ghost use Rattle.std.specs.Prelude.{◌≡◌, ◌++◌, OnOk, IfOk};
 ghost use Rattle.std.specs.List.{flat_map};
 ghost use Rattle.ss_entities.specs.Keys.{rank_by, tie_by};
 
-use ss_lex::Name;
+use ss_bytes::Name;
 use ss_sayings::{Said, Saying};
 use std::alloc::{AllocError, Global};
 

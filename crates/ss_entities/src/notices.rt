@@ -10,7 +10,7 @@ use crate::making::beside;
 use crate::ranks::ranks_of;
 use crate::sections::events_of;
 use indexmap::IndexMap;
-use ss_lex::Name;
+use ss_bytes::Name;
 use ss_sayings::Saying;
 use std::alloc::{AllocError, Global};
 use std::marker::Model;

@@ -8,8 +8,8 @@ ghost use Rattle.ss_entities.specs.Variables.{declared_by, is_notice_kind, is_no
 use crate::entry::Class;
 use crate::telling::{Telling, firsts_told, more_told};
 use indexmap::IndexMap;
-use ss_firsts::keep_if;
-use ss_lex::Name;
+use ss_bytes::Name;
+use ss_firsts::insert_if;
 use ss_sayings::{Said, Saying};
 use ss_tree::preamble::ClassKind;
 use std::alloc::{AllocError, Global};
@@ -36,7 +36,7 @@ fn is_notice(classes: &IndexMap<Name, Class>, name: &Name) -> bool
 }
 
 // Keeps a class of notices with its number.
-fn keep_notice(
+fn insert_notice(
     entries: &mut IndexMap<Name, usize>,
     classes: &IndexMap<Name, Class>,
     name: &Name,
@@ -44,7 +44,7 @@ fn keep_notice(
     ensures { OnOk result (entries.new.entries ≡ fold with_first entries.old.entries (notice classes.now.entries name.now)) }
 {
     if is_notice(classes, name) {
-        keep_if(entries, *name, classes.get_index_of(name))
+        insert_if(entries, *name, classes.get_index_of(name))
     } else {
         Ok(())
     }
@@ -68,7 +68,7 @@ impl Telling for Priorities {
     ) -> Result<(), AllocError> {
         match &saying.said {
             Said::Priority => match &saying.name {
-                Some(name) => keep_notice(entries, classes, name),
+                Some(name) => insert_notice(entries, classes, name),
                 None => Ok(()),
             },
             _ => Ok(()),
@@ -94,7 +94,7 @@ impl Telling for Declared {
     ) -> Result<(), AllocError> {
         match &saying.said {
             Said::Class { .. } => match &saying.name {
-                Some(name) => keep_notice(entries, classes, name),
+                Some(name) => insert_notice(entries, classes, name),
                 None => Ok(()),
             },
             _ => Ok(()),

@@ -8,8 +8,8 @@ ghost use Rattle.ss_entities.specs.Variables.{event_by, routine_by};
 use crate::entry::{Event, Routine};
 use crate::telling::{Telling, firsts_told};
 use indexmap::IndexMap;
-use ss_firsts::keep_first;
-use ss_lex::Name;
+use ss_bytes::Name;
+use ss_firsts::insert_first;
 use ss_sayings::{Said, Saying};
 use std::alloc::{AllocError, Global};
 
@@ -41,7 +41,7 @@ impl Telling for Routines {
                         given: *given,
                         yielding: *yielding,
                     };
-                    keep_first(entries, *name, routine)
+                    insert_first(entries, *name, routine)
                 },
                 None => Ok(()),
             },
@@ -85,7 +85,7 @@ impl Telling for Events {
                         given: *given,
                         saving: *saving,
                     };
-                    keep_first(entries, *name, event)
+                    insert_first(entries, *name, event)
                 },
                 None => Ok(()),
             },

@@ -9,8 +9,8 @@ use crate::entry::{Class, Ordering, Set};
 use crate::telling::{Telling, firsts_told};
 use indexmap::{IndexMap, IndexSet};
 use ss_base::Owner;
-use ss_firsts::{keep_first, keep_if};
-use ss_lex::Name;
+use ss_bytes::Name;
+use ss_firsts::{insert_first, insert_if};
 use ss_sayings::{Said, Saying};
 use std::alloc::{AllocError, Global};
 
@@ -32,11 +32,11 @@ impl Telling for Owners {
     ) -> Result<(), AllocError> {
         match &saying.said {
             Said::SystemSet => match &saying.name {
-                Some(name) => keep_first(entries, *name, Owner::System),
+                Some(name) => insert_first(entries, *name, Owner::System),
                 None => Ok(()),
             },
             Said::OwnedSet { class } => match &saying.name {
-                Some(name) => keep_if(
+                Some(name) => insert_if(
                     entries,
                     *name,
                     classes.get_index_of(class).map(Owner::Class),
@@ -77,7 +77,7 @@ impl Telling for Members {
     ) -> Result<(), AllocError> {
         match &saying.said {
             Said::MemberSet { class } => match &saying.name {
-                Some(name) => keep_if(entries, *name, classes.get_index_of(class)),
+                Some(name) => insert_if(entries, *name, classes.get_index_of(class)),
                 None => Ok(()),
             },
             _ => Ok(()),
@@ -119,7 +119,7 @@ impl Telling for Orderings {
                         statement: *statement,
                         rule: *rule,
                     };
-                    keep_first(entries, *name, ordering)
+                    insert_first(entries, *name, ordering)
                 },
                 None => Ok(()),
             },

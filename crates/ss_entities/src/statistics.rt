@@ -9,8 +9,8 @@ use crate::entry::Statistic;
 use crate::making::beside;
 use crate::telling::{Telling, firsts_told};
 use indexmap::IndexMap;
-use ss_firsts::keep_first;
-use ss_lex::Name;
+use ss_bytes::Name;
+use ss_firsts::insert_first;
 use ss_sayings::{Said, Saying};
 use ss_tree::preamble::{StatisticKind, Weighting};
 use std::alloc::{AllocError, Global};
@@ -33,7 +33,7 @@ impl Telling for Weighings {
     ) -> Result<(), AllocError> {
         match &saying.said {
             Said::Subject { weighting } => match &saying.name {
-                Some(name) => keep_first(entries, *name, *weighting),
+                Some(name) => insert_first(entries, *name, *weighting),
                 None => Ok(()),
             },
             _ => Ok(()),
@@ -52,7 +52,7 @@ pub fn weighings_of(
 }
 
 // Keeps a statistic, where its subject has a history.
-fn keep_statistic(
+fn insert_statistic(
     entries: &mut IndexMap<Name, Statistic>,
     kind: StatisticKind,
     name: Name,
@@ -61,7 +61,7 @@ fn keep_statistic(
     ensures { OnOk result (entries.new.entries ≡ fold with_first entries.old.entries (statistic_of kind name history)) }
 {
     match history {
-        Some(history) => keep_first(entries, name, Statistic { history, kind }),
+        Some(history) => insert_first(entries, name, Statistic { history, kind }),
         None => Ok(()),
     }
 }
@@ -84,7 +84,7 @@ impl Telling for Statistics {
     ) -> Result<(), AllocError> {
         match &saying.said {
             Said::Statistic { kind, subject, .. } => match &saying.name {
-                Some(name) => keep_statistic(
+                Some(name) => insert_statistic(
                     entries,
                     *kind,
                     *name,

@@ -7,7 +7,7 @@ ghost use Rattle.ss_sayings.specs.Sayings.{NameBytes};
 ghost use Rattle.ss_sayings.specs.declared.saying.Saying.{Saying as SayingSeen};
 
 use indexmap::IndexMap;
-use ss_lex::Name;
+use ss_bytes::Name;
 use ss_sayings::Saying;
 use std::alloc::{AllocError, Global};
 

@@ -9,14 +9,14 @@ ghost use Rattle.ss_tree.specs.declared.preamble.Mode.TheVariants.{Integer};
 
 use crate::entry::{Attribute, Class, Variable, VariableKind};
 use indexmap::IndexMap;
-use ss_firsts::{Spelling, is_told, keep_spelled};
-use ss_lex::Name;
+use ss_bytes::Name;
+use ss_firsts::{Spelling, insert_spelled, is_told};
 use ss_sayings::{Said, Saying};
 use ss_tree::preamble::{ClassKind, Mode};
 use std::alloc::{AllocError, Global};
 
 // Keeps the variable of a class.
-fn keep_class(
+fn insert_class(
     entries: &mut IndexMap<Spelling, Variable>,
     name: &Name,
     class: usize,
@@ -27,11 +27,11 @@ fn keep_class(
         kind: VariableKind::OfClass(class),
         mode: Mode::Integer,
     };
-    keep_spelled(entries, Spelling::of_name(name), variable)
+    insert_spelled(entries, Spelling::of_name(name), variable)
 }
 
 // Keeps N. of a class.
-fn keep_count(
+fn insert_count(
     entries: &mut IndexMap<Spelling, Variable>,
     name: &Name,
     class: usize,
@@ -42,11 +42,11 @@ fn keep_count(
         kind: VariableKind::CountOf(class),
         mode: Mode::Integer,
     };
-    keep_spelled(entries, Spelling::derived(b'N', name), variable)
+    insert_spelled(entries, Spelling::derived(b'N', name), variable)
 }
 
 // Keeps the variables of a class: that of its name, and N. of it where it is permanent.
-fn keep_class_variables(
+fn insert_class_variables(
     entries: &mut IndexMap<Spelling, Variable>,
     kind: ClassKind,
     name: &Name,
@@ -58,17 +58,17 @@ fn keep_class_variables(
         None => Ok(()),
         Some(class) => match kind {
             ClassKind::Permanent => {
-                keep_class(entries, name, class)?;
-                keep_count(entries, name, class)
+                insert_class(entries, name, class)?;
+                insert_count(entries, name, class)
             }
-            ClassKind::Temporary => keep_class(entries, name, class),
-            ClassKind::EventNotice => keep_class(entries, name, class),
+            ClassKind::Temporary => insert_class(entries, name, class),
+            ClassKind::EventNotice => insert_class(entries, name, class),
         },
     }
 }
 
 // Keeps the variable of a DEFINE, unless it is an attribute.
-fn keep_defined(
+fn insert_defined(
     entries: &mut IndexMap<Spelling, Variable>,
     attributes: &IndexMap<Name, Attribute>,
     name: &Name,
@@ -83,7 +83,7 @@ fn keep_defined(
     if is_told(attributes, name) {
         Ok(())
     } else {
-        keep_spelled(entries, Spelling::of_name(name), variable)
+        insert_spelled(entries, Spelling::of_name(name), variable)
     }
 }
 
@@ -98,11 +98,11 @@ fn note_variable(
 {
     match &saying.said {
         Said::Variable { mode } => match &saying.name {
-            Some(name) => keep_defined(entries, attributes, name, *mode),
+            Some(name) => insert_defined(entries, attributes, name, *mode),
             None => Ok(()),
         },
         Said::Class { kind } => match &saying.name {
-            Some(name) => keep_class_variables(entries, *kind, name, classes.get_index_of(name)),
+            Some(name) => insert_class_variables(entries, *kind, name, classes.get_index_of(name)),
             None => Ok(()),
         },
         _ => Ok(()),

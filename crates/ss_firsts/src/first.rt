@@ -6,7 +6,7 @@ ghost use Rattle.std.specs.Map.{keys_of, values_of};
 ghost use Rattle.ss_firsts.specs.Firsts.{entry_if, told_of, with_first};
 
 use indexmap::IndexMap;
-use ss_lex::Name;
+use ss_bytes::Name;
 use std::alloc::AllocError;
 
 /// Keeps what is told of a name behind the others, unless something is told of it, and then all stays as it
@@ -14,7 +14,7 @@ use std::alloc::AllocError;
 ///
 /// # Errors
 /// `AllocError` where memory is refused.
-pub fn keep_first<V: Copy>(
+pub fn insert_first<V: Copy>(
     entries: &mut IndexMap<Name, V>,
     name: Name,
     value: V,
@@ -34,7 +34,7 @@ pub fn keep_first<V: Copy>(
 ///
 /// # Errors
 /// `AllocError` where memory is refused.
-pub fn keep_if<V: Copy>(
+pub fn insert_if<V: Copy>(
     entries: &mut IndexMap<Name, V>,
     name: Name,
     value: Option<V>,
@@ -42,7 +42,7 @@ pub fn keep_if<V: Copy>(
     ensures { OnOk result (entries.new.entries ≡ fold with_first entries.old.entries (entry_if name value)) }
 {
     match value {
-        Some(value) => keep_first(entries, name, value),
+        Some(value) => insert_first(entries, name, value),
         None => Ok(()),
     }
 }

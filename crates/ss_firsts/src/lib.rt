@@ -5,6 +5,6 @@ mod first;
 mod spelled;
 mod spelling;
 
-pub use first::{is_told, keep_first, keep_if, key_at, value_at};
-pub use spelled::{keep_spelled, spelled_at};
+pub use first::{insert_first, insert_if, is_told, key_at, value_at};
+pub use spelled::{insert_spelled, spelled_at};
 pub use spelling::{SPELLING_LIMIT, Spelling};

@@ -13,7 +13,7 @@ use std::alloc::AllocError;
 ///
 /// # Errors
 /// `AllocError` where memory is refused, and then too all stays as it was.
-pub fn keep_spelled<V: Copy>(
+pub fn insert_spelled<V: Copy>(
     entries: &mut IndexMap<Spelling, V>,
     name: Spelling,
     value: V,

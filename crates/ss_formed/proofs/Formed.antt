@@ -1,7 +1,7 @@
 -- What tokens spell is formed, by induction on the tree.
 use Rattle.std.proofs.Common.{ℕ, zero, suc, List, [], ◌∷◌, inl, inr}
 use Rattle.std.specs.List.{AllByRecursion as Every}
-use Rattle.ss_lex.specs.declared.token.Token.{Token}
+use Rattle.ss_tokens.specs.declared.token.Token.{Token}
 use Rattle.ss_tree.specs.Tree.{HeadTree, over_range, over_members, over_class, guarded, StatementTree, if_statement, loop_statement, find_statement, find_if_statement, StatementRow, no_statement, and_statement, SectionTree, ProgramTree}
 use Rattle.ss_grammar.specs.Shapes.{Shape, each}
 use Rattle.ss_grammar.specs.SpelledConditions.{Begins_with_for}

@@ -1,7 +1,7 @@
 -- What tokens spell has the forms that later steps ask for.
 use Rattle.std.specs.Prelude.{ℕ, List}
 use Rattle.std.specs.List.{AllByRecursion as Every}
-use Rattle.ss_lex.specs.declared.token.Token.{Token}
+use Rattle.ss_tokens.specs.declared.token.Token.{Token}
 use Rattle.ss_tree.specs.Tree.{ProgramTree, SectionTree}
 use Rattle.ss_parse.specs.SpelledPrograms.{Spell}
 use Rattle.ss_kept.specs.Forms.{Formed}

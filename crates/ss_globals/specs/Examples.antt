@@ -1,6 +1,6 @@
 -- Worked examples: what a small program says of names, read off by hand.
 use Rattle.std.specs.Prelude.{◌≡◌, ℕ, true, false, [], ◌∷◌, Some, None, codes, refl}
-use Rattle.ss_base.specs.declared.line.Line.{Line}
+use Rattle.ss_bytes.specs.declared.line.Line.{Line}
 use Rattle.ss_base.specs.declared.layout.Mode.TheVariants as values
 use Rattle.ss_tree.specs.declared.preamble.ClassKind.TheVariants.{Permanent, Temporary}
 use Rattle.ss_tree.specs.declared.preamble.Mode.TheVariants.{Integer, Alpha}

@@ -6,8 +6,8 @@ ghost use Rattle.ss_globals.specs.WholeOf.{attribute_meaning, attribute_of_class
 
 use crate::holders::{membership_holder, set_holder, statistic_holder};
 use ss_base::Mode as ValueMode;
+use ss_bytes::Name;
 use ss_entities::Attribute;
-use ss_lex::Name;
 use ss_names::{Derived, Meaning as Numbered, Names};
 use ss_scopes::{Known, value_mode};
 use ss_tree::preamble::Mode;

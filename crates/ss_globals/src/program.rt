@@ -11,7 +11,7 @@ ghost use Rattle.ss_globals.specs.WholeOf.{attributes_of, field_mode, routine_si
 
 use crate::meanings::{field_mode, meaning_by};
 use ss_base::Mode as ValueMode;
-use ss_lex::Name;
+use ss_bytes::Name;
 use ss_names::{Meaning as Numbered, Names};
 use ss_scopes::{Globals, Known, Signature, value_mode};
 use ss_tree::preamble::Mode;

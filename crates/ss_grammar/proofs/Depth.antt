@@ -1,6 +1,6 @@
 -- With more levels a reader reads the same, or it gave up for depth before. It gives up so only where many levels are opened.
 use Rattle.std.proofs.Common.{◌≡◌, ℕ, suc, ◌<◌, ◌≤◌, Bool, true, false, cond, List, Result, Ok, Err, refl, ap, subst, arith, inl, inr, ◌⊎◌}
-use Rattle.ss_lex.specs.declared.token.Token.{Token}
+use Rattle.ss_tokens.specs.declared.token.Token.{Token}
 use Rattle.ss_grammar.specs.declared.failure.Fault.{Fault}
 use Rattle.ss_grammar.specs.declared.failure.Fault.TheVariants.{Syntax, TooDeep}
 use Rattle.ss_grammar.specs.Openers.{openers}

@@ -1,13 +1,13 @@
 -- Expressions: what is read is spelled, and what is spelled is read.
 use Rattle.std.proofs.Common.{◌≡◌, ℕ, zero, suc, ◌+◌, ◌<◌, ◌≤◌, Bool, true, false, ◌||◌, List, [], ◌∷◌, length, Option, Some, None, Ok, refl, sym, ap, subst, ◌∙◌, arith, inl, inr, ◌⊎◌}
-use Rattle.ss_base.specs.declared.line.Line.{Line}
-use Rattle.ss_lex.specs.declared.word.Word.{Word}
-use Rattle.ss_lex.specs.declared.word.Word.TheVariants as words
-use Rattle.ss_lex.specs.declared.token.Span.{Span}
-use Rattle.ss_lex.specs.declared.token.Symbol.TheVariants.{OpenParenthesis, CloseParenthesis, Plus, Minus, Star}
-use Rattle.ss_lex.specs.declared.token.TokenKind.{TokenKind}
-use Rattle.ss_lex.specs.declared.token.TokenKind.TheVariants as kinds
-use Rattle.ss_lex.specs.declared.token.Token.{Token}
+use Rattle.ss_bytes.specs.declared.line.Line.{Line}
+use Rattle.ss_tokens.specs.declared.word.Word.{Word}
+use Rattle.ss_tokens.specs.declared.word.Word.TheVariants as words
+use Rattle.ss_tokens.specs.declared.token.Span.{Span}
+use Rattle.ss_tokens.specs.declared.token.Symbol.TheVariants.{OpenParenthesis, CloseParenthesis, Plus, Minus, Star}
+use Rattle.ss_tokens.specs.declared.token.TokenKind.{TokenKind}
+use Rattle.ss_tokens.specs.declared.token.TokenKind.TheVariants as kinds
+use Rattle.ss_tokens.specs.declared.token.Token.{Token}
 use Rattle.ss_tree.specs.declared.expression.Sign.{Sign}
 use Rattle.ss_tree.specs.declared.expression.Sign.TheVariants as signs
 use Rattle.ss_tree.specs.declared.expression.Function.{Function}

@@ -1,9 +1,9 @@
 -- What a reader keeps: it reads what is spelled, and where the tokens after it can't continue it, all of it.
 use Rattle.std.proofs.Common.{◌≡◌, ℕ, suc, ◌+◌, ◌<◌, ◌≤◌, Bool, true, false, ◌||◌, List, [], ◌∷◌, length, Option, Some, None, Ok, refl, sym, ap, ◌∙◌, arith, inl, inr, ◌⊎◌}
-use Rattle.ss_lex.specs.declared.token.TokenKind.{TokenKind}
-use Rattle.ss_lex.specs.declared.token.Token.{Token}
-use Rattle.ss_lex.specs.declared.token.Span.{Span}
-use Rattle.ss_base.specs.declared.line.Line.{Line}
+use Rattle.ss_tokens.specs.declared.token.TokenKind.{TokenKind}
+use Rattle.ss_tokens.specs.declared.token.Token.{Token}
+use Rattle.ss_tokens.specs.declared.token.Span.{Span}
+use Rattle.ss_bytes.specs.declared.line.Line.{Line}
 use Rattle.ss_grammar.specs.Openers.{opens, openers}
 use Rattle.ss_grammar.specs.Reading.{Reader, ◌>>=◌, Mark, kind_of, is, begins, skip, expect, taken, found_then, seq, behind, closed, apply, lined, maybe, maybe_list, flag, choose, too_deep, comma, skip_comma}
 use Rattle.ss_grammar.specs.Shapes.{Shape, ◌▷◌, never, optional, noise, perhaps, flagged, first_line}

@@ -1,6 +1,6 @@
 -- Results, tests and pairs.
 use Rattle.std.proofs.Common.{◌≡◌, Bool, true, false, cond, ◌||◌, ◌&&◌, List, Result, Ok, Err, refl, ap, subst, inl, inr, ◌⊎◌}
-use Rattle.ss_lex.specs.declared.token.Token.{Token}
+use Rattle.ss_tokens.specs.declared.token.Token.{Token}
 use Rattle.ss_grammar.specs.declared.failure.Fault.{Fault}
 use Rattle.ss_grammar.specs.Reading.{◌>>=◌}
 

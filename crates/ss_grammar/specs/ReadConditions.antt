@@ -1,10 +1,10 @@
 -- Reading conditions from left to right.
 use Rattle.std.specs.Prelude.{ℕ, zero, suc, Bool, true, false, ◌&&◌, List, Option, Some, None, if◌then◌else◌}
-use Rattle.ss_lex.specs.declared.word.Word.{Word}
-use Rattle.ss_lex.specs.declared.word.Word.TheVariants as words
-use Rattle.ss_lex.specs.declared.token.Symbol.TheVariants.{Equals}
-use Rattle.ss_lex.specs.declared.token.TokenKind.{TokenKind}
-use Rattle.ss_lex.specs.declared.token.TokenKind.TheVariants as kinds
+use Rattle.ss_tokens.specs.declared.word.Word.{Word}
+use Rattle.ss_tokens.specs.declared.word.Word.TheVariants as words
+use Rattle.ss_tokens.specs.declared.token.Symbol.TheVariants.{Equals}
+use Rattle.ss_tokens.specs.declared.token.TokenKind.{TokenKind}
+use Rattle.ss_tokens.specs.declared.token.TokenKind.TheVariants as kinds
 use Rattle.ss_tree.specs.declared.condition.Relation.{Relation}
 use Rattle.ss_tree.specs.declared.condition.Relation.TheVariants as relations
 use Rattle.ss_tree.specs.declared.expression.Designator.{Designator}

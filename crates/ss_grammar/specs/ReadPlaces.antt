@@ -1,8 +1,8 @@
 -- Reading what a program names: targets and references to sets.
 use Rattle.std.specs.Prelude.{ℕ, zero, suc, Bool, List, Option, Some, None}
-use Rattle.ss_lex.specs.declared.token.TokenKind.{TokenKind}
-use Rattle.ss_lex.specs.declared.token.Token.{Token}
-use Rattle.ss_lex.specs.declared.token.TokenKind.TheVariants as kinds
+use Rattle.ss_tokens.specs.declared.token.TokenKind.{TokenKind}
+use Rattle.ss_tokens.specs.declared.token.Token.{Token}
+use Rattle.ss_tokens.specs.declared.token.TokenKind.TheVariants as kinds
 use Rattle.ss_tree.specs.declared.expression.Designator.{Designator}
 use Rattle.ss_tree.specs.declared.expression.Designator.TheVariants as designators
 use Rattle.ss_tree.specs.Tree.{ExpressionTree, ExpressionRow, no_expression, and_expression, NamedTree}

@@ -1,9 +1,9 @@
 -- Reading words of which any one may stand, names and lists of names.
 use Rattle.std.specs.Prelude.{ℕ, List, [], ◌∷◌, Bool, false, Ok, Err, if◌then◌else◌}
-use Rattle.ss_lex.specs.declared.word.Word.{Word}
-use Rattle.ss_lex.specs.declared.token.TokenKind.{TokenKind}
-use Rattle.ss_lex.specs.declared.token.TokenKind.TheVariants as kinds
-use Rattle.ss_lex.specs.declared.token.Token.{Token}
+use Rattle.ss_tokens.specs.declared.word.Word.{Word}
+use Rattle.ss_tokens.specs.declared.token.TokenKind.{TokenKind}
+use Rattle.ss_tokens.specs.declared.token.TokenKind.TheVariants as kinds
+use Rattle.ss_tokens.specs.declared.token.Token.{Token}
 use Rattle.ss_grammar.specs.declared.failure.Fault.TheVariants.{Syntax}
 use Rattle.ss_grammar.specs.declared.classes.Class.{Class}
 use Rattle.ss_grammar.specs.declared.classes.Class.TheVariants as classes

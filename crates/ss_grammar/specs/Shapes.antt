@@ -1,14 +1,14 @@
 -- What may stand at the front of a list of tokens.
 use Rattle.std.specs.Prelude.{◌≡◌, ℕ, zero, suc, ◌⊎◌, List, [], ◌∷◌, Option, Some, None, Bool, true, false}
-use Rattle.ss_base.specs.declared.line.Line.{Line}
-use Rattle.ss_lex.specs.declared.token.Token.{Token}
-use Rattle.ss_lex.specs.declared.token.Span.{Span}
-use Rattle.ss_lex.specs.declared.token.Symbol.{Symbol}
-use Rattle.ss_lex.specs.declared.token.Symbol.TheVariants as symbols
-use Rattle.ss_lex.specs.declared.token.TokenKind.{TokenKind}
-use Rattle.ss_lex.specs.declared.token.TokenKind.TheVariants as kinds
-use Rattle.ss_lex.specs.declared.word.Word.{Word}
-use Rattle.ss_lex.specs.declared.word.Word.TheVariants as words
+use Rattle.ss_bytes.specs.declared.line.Line.{Line}
+use Rattle.ss_tokens.specs.declared.token.Token.{Token}
+use Rattle.ss_tokens.specs.declared.token.Span.{Span}
+use Rattle.ss_tokens.specs.declared.token.Symbol.{Symbol}
+use Rattle.ss_tokens.specs.declared.token.Symbol.TheVariants as symbols
+use Rattle.ss_tokens.specs.declared.token.TokenKind.{TokenKind}
+use Rattle.ss_tokens.specs.declared.token.TokenKind.TheVariants as kinds
+use Rattle.ss_tokens.specs.declared.word.Word.{Word}
+use Rattle.ss_tokens.specs.declared.word.Word.TheVariants as words
 
 -- A shape says of tokens what stands first, and which tokens follow it.
 abbrev pub Shape : Type 1

@@ -1,8 +1,8 @@
 -- Which tokens spell a condition and the head of a loop.
 use Rattle.std.specs.Prelude.{◌≡◌, ℕ, List, [], ◌∷◌}
-use Rattle.ss_lex.specs.declared.token.Symbol.TheVariants.{Equals}
-use Rattle.ss_lex.specs.declared.word.Word.{Word}
-use Rattle.ss_lex.specs.declared.word.Word.TheVariants as words
+use Rattle.ss_tokens.specs.declared.token.Symbol.TheVariants.{Equals}
+use Rattle.ss_tokens.specs.declared.word.Word.{Word}
+use Rattle.ss_tokens.specs.declared.word.Word.TheVariants as words
 use Rattle.ss_tree.specs.declared.condition.Relation.{Relation}
 use Rattle.ss_tree.specs.declared.condition.Relation.TheVariants as relations
 use Rattle.ss_tree.specs.declared.head.GuardKind.{GuardKind}

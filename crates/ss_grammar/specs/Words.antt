@@ -1,7 +1,7 @@
 -- Which tokens spell a word of which any one may stand, names and lists of names.
 use Rattle.std.specs.Prelude.{◌≡◌, ℕ, List, [], ◌∷◌, Bool, true, false}
-use Rattle.ss_lex.specs.declared.word.Word.{Word}
-use Rattle.ss_lex.specs.declared.word.Word.TheVariants as words
+use Rattle.ss_tokens.specs.declared.word.Word.{Word}
+use Rattle.ss_tokens.specs.declared.word.Word.TheVariants as words
 use Rattle.ss_grammar.specs.declared.classes.Class.{Class}
 use Rattle.ss_grammar.specs.declared.classes.Class.TheVariants as classes
 use Rattle.ss_grammar.specs.Shapes.{Shape, ◌▷◌, nothing, optional, Word_is, Name_is, listed}

@@ -7,7 +7,7 @@ ghost use Rattle.ss_grammar.specs.Reading.{Gives};
 
 use crate::failure::Failure;
 use crate::tokens::syntax;
-use ss_lex::{Token, TokenKind, Word};
+use ss_tokens::{Token, TokenKind, Word};
 
 /// Words that mean the same in a place.
 #[derive(Clone, Copy)]

@@ -13,7 +13,7 @@ use crate::places::reference;
 use crate::steps::{alone, beside};
 use crate::tokens::{begins_word, expect_word, skip_word, syntax, too_deep};
 use ss_elements::words::relation_of;
-use ss_lex::{Symbol, Token, TokenKind, Word};
+use ss_tokens::{Symbol, Token, TokenKind, Word};
 use ss_tree::condition::{Condition, Conjunction, Relation, Test};
 use ss_tree::expression::{Designator, Expression, Named};
 use std::alloc::Global;

@@ -13,7 +13,7 @@ use crate::tokens::{
     begins_symbol, begins_word, expect_symbol, skip_separator, skip_symbol, syntax, too_deep,
 };
 use ss_elements::words::function_of;
-use ss_lex::{Symbol, Token, TokenKind, Word};
+use ss_tokens::{Symbol, Token, TokenKind, Word};
 use ss_tree::expression::{Designator, Expression, Function, Named, Sign, Term};
 use std::alloc::{AllocError, Global};
 

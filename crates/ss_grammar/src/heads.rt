@@ -16,8 +16,9 @@ use crate::steps::{alone, beside};
 use crate::tokens::{
     begins_word, behind_first, expect_symbol, expect_word, skip_symbol, skip_word, syntax,
 };
+use ss_bytes::Name;
 use ss_elements::words::{guard_of, phrase_of};
-use ss_lex::{Name, Symbol, Token, TokenKind, Word};
+use ss_tokens::{Symbol, Token, TokenKind, Word};
 use ss_tree::expression::Expression;
 use ss_tree::head::{Guard, GuardKind, Head, MemberStart, Phrase, PhraseKind};
 use std::alloc::Global;

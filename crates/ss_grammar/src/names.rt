@@ -8,7 +8,8 @@ use crate::classes::{Class, skip_class};
 use crate::failure::Failure;
 use crate::steps::alone;
 use crate::tokens::{begins_symbol, begins_word, behind_first, skip_separator, syntax};
-use ss_lex::{Name, Symbol, Token, TokenKind, Word};
+use ss_bytes::Name;
+use ss_tokens::{Symbol, Token, TokenKind, Word};
 use std::alloc::Global;
 
 /// Whether a name is first.

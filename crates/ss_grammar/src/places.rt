@@ -14,7 +14,7 @@ use crate::tokens::{
     begins_symbol, begins_word, behind_first, expect_symbol, skip_separator, skip_symbol, syntax,
     too_deep,
 };
-use ss_lex::{Symbol, Token, TokenKind, Word};
+use ss_tokens::{Symbol, Token, TokenKind, Word};
 use ss_tree::expression::{Designator, Expression, Named};
 use std::alloc::{AllocError, Global};
 

@@ -6,7 +6,7 @@ ghost use Rattle.ss_grammar.specs.declared.failure.Failure.TheVariants.{Refused}
 ghost use Rattle.ss_grammar.specs.Reading.{Gives, word, symbol, same_symbol, expect, begins, skip, skip_separator};
 
 use crate::failure::{Failure, Fault};
-use ss_lex::{Symbol, Token, TokenKind, Word};
+use ss_tokens::{Symbol, Token, TokenKind, Word};
 
 /// What is answered where these tokens can't go on so.
 pub fn syntax(tokens: &[Token]) -> Failure

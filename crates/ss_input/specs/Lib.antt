@@ -1,4 +1,3 @@
-pub mod Blocks
 pub mod Words
 pub mod Sources
 pub mod Numbers

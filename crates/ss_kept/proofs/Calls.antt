@@ -4,7 +4,7 @@ use Rattle.std.specs.Prelude.{Bool, not, ◌&&◌, ◌==◌, take, option_map}
 use Rattle.std.specs.List.{AllZip}
 use Rattle.std.proofs.lemmas.Bool.{eq-eqb}
 use Rattle.std.proofs.lemmas.List.{take_all}
-use Rattle.ss_base.specs.declared.line.Line.{Line}
+use Rattle.ss_bytes.specs.declared.line.Line.{Line}
 use Rattle.ss_base.specs.declared.layout.Mode.{Mode}
 use Rattle.ss_tree.specs.Tree.{ExpressionTree, NamedTree, call_statement}
 use Rattle.ss_walk.specs.declared.mention.Role.TheVariants as roles

@@ -1,7 +1,7 @@
 -- Conditions that keep the rules resolve, and are well typed.
 use Rattle.std.proofs.Common.{◌≡◌, false, List, [], ◌∷◌, Option, Some, refl, subst}
 use Rattle.std.specs.List.{AllByRecursion as Every, flat_map}
-use Rattle.ss_base.specs.declared.line.Line.{Line}
+use Rattle.ss_bytes.specs.declared.line.Line.{Line}
 use Rattle.ss_base.specs.declared.layout.Mode.{Mode}
 use Rattle.ss_base.specs.declared.layout.Mode.TheVariants as modes
 use Rattle.ss_tree.specs.Tree.{ExpressionTree, TestTree, compare, empty, member, data_ended, ConditionTree}

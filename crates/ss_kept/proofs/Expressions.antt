@@ -1,7 +1,7 @@
 -- Expressions that keep the rules resolve, and are well typed.
 use Rattle.std.proofs.Common.{◌≡◌, ℕ, suc, true, false, List, Option, Some, None, refl, sym, subst, ap, ◌∙◌, arith}
 use Rattle.std.specs.Prelude.{not, ◌==◌}
-use Rattle.ss_base.specs.declared.line.Line.{Line}
+use Rattle.ss_bytes.specs.declared.line.Line.{Line}
 use Rattle.ss_base.specs.declared.layout.Mode.TheVariants as modes
 use Rattle.ss_base.specs.declared.value.Value.TheVariants.{Whole as WholeValue, Text}
 use Rattle.ss_tree.specs.declared.expression.Designator.{Designator}

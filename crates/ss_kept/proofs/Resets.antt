@@ -1,6 +1,6 @@
 -- A RESET that keeps the rules resolves, and is well typed.
 use Rattle.std.proofs.Common.{◌≡◌, ℕ, List, Option, Some, None, refl}
-use Rattle.ss_base.specs.declared.line.Line.{Line}
+use Rattle.ss_bytes.specs.declared.line.Line.{Line}
 use Rattle.ss_base.specs.declared.layout.Mode.{Mode}
 use Rattle.ss_tree.specs.declared.expression.Designator.{Designator}
 use Rattle.ss_tree.specs.declared.expression.Designator.TheVariants.{Name, TimeV, TimeA}

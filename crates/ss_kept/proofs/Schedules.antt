@@ -2,7 +2,7 @@
 use Rattle.std.proofs.Common.{◌≡◌, ℕ, ◌≤◌, true, false, List, ◌++◌, length, Option, Some, refl, sym, subst}
 use Rattle.std.specs.Prelude.{nat_le, nat_lt, take, option_map}
 use Rattle.std.proofs.lemmas.Bool.{ltb-false, le-leb}
-use Rattle.ss_base.specs.declared.line.Line.{Line}
+use Rattle.ss_bytes.specs.declared.line.Line.{Line}
 use Rattle.ss_base.specs.declared.layout.Mode.{Mode}
 use Rattle.ss_tree.specs.declared.preamble.ClassKind.TheVariants as class_words
 use Rattle.ss_tree.specs.Tree.{ExpressionTree, NamedTree, WhenTree, at_time, in_units, now, schedule_new, schedule_statement}

@@ -1,6 +1,6 @@
 -- Statements that keep the rules resolve, and are well typed: assignments, sets, printing.
 use Rattle.std.proofs.Common.{◌≡◌, false, List, ◌++◌, Some, refl, subst}
-use Rattle.ss_base.specs.declared.line.Line.{Line}
+use Rattle.ss_bytes.specs.declared.line.Line.{Line}
 use Rattle.ss_base.specs.declared.layout.Mode.TheVariants as modes
 use Rattle.ss_tree.specs.Tree.{ExpressionTree, NamedTree, PositionTree, by_discipline, at_first, at_last, before, after, StatementTree, let_statement, add_statement, subtract_statement, read_statement, file_statement, remove_end, remove_statement, skip_statement}
 use Rattle.ss_tree.specs.declared.statement.SetEnd.{SetEnd}

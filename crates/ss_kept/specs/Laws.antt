@@ -1,7 +1,7 @@
 -- What keeps the rules on uses resolves, and is well typed.
 use Rattle.std.specs.Prelude.{◌≡◌, ℕ, List, Some}
 use Rattle.std.specs.List.{AllByRecursion as Every}
-use Rattle.ss_base.specs.declared.line.Line.{Line}
+use Rattle.ss_bytes.specs.declared.line.Line.{Line}
 use Rattle.ss_base.specs.declared.layout.Mode.{Mode}
 use Rattle.ss_tree.specs.Tree.{ExpressionTree, NamedTree, ConditionTree, HeadTree, over_range, over_members, over_class, guarded, StatementTree, statement_row, SectionTree}
 use Rattle.ss_walk.specs.declared.mention.Role.TheVariants as roles

@@ -3,7 +3,7 @@ use Rattle.std.proofs.Common.{◌≡◌, ℕ, suc, ◌+◌, Bool, true, false, L
 use Rattle.std.specs.Prelude.{slice_get, is_some, if◌then◌else◌}
 use Rattle.std.specs.List.{AllByRecursion as Every, flat_map, fold}
 use Rattle.std.specs.Map.{values_of}
-use Rattle.ss_base.specs.declared.line.Line.{Line}
+use Rattle.ss_bytes.specs.declared.line.Line.{Line}
 use Rattle.ss_tree.specs.declared.preamble.ClassKind.{ClassKind}
 use Rattle.ss_tree.specs.declared.preamble.ClassKind.TheVariants as class_kinds
 use Rattle.ss_tree.specs.declared.preamble.Mode.TheVariants as modes

@@ -6,6 +6,7 @@ pub mod Variables
 pub mod Statements
 pub mod Modes
 pub mod Sets
+pub mod Sizes
 pub mod Tables
 pub mod Counts
 pub mod Subjects

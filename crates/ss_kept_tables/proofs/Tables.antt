@@ -4,19 +4,25 @@ use Rattle.ss_sayings.specs.Sayings.{sayings}
 use Rattle.ss_names.specs.Table.{table}
 use Rattle.ss_entities.specs.Variables.{variables}
 use Rattle.ss_lists.specs.Declared.{KeepsDeclarations}
+use Rattle.ss_lists.proofs.Declarations.{few_enough}
 use Rattle.ss_kept_tables.specs.Tables.{KeepsTable}
 use Rattle.ss_kept_tables.proofs.Counts.{count_is_behind}
 use Rattle.ss_firsts.proofs.Entries.{entry_of_value, told_from_place}
 use Rattle.ss_kept_tables.proofs.Facts.{facts}
 use Rattle.ss_kept_tables.proofs.Modes.{attribute_mode, usual_or_defined}
 use Rattle.ss_kept_tables.proofs.Sets.{has_owner, has_member, ranks_fit, ties_fit}
+use Rattle.ss_kept_tables.proofs.Sizes.{class_limit, field_limit, set_limit}
 use Rattle.ss_kept_tables.proofs.Variables.{class_name_stands, count_is_permanent, variable_mode, variable_stands, variables_once}
 
 pub tables_are_kept : (p : ProgramTree) → KeepsDeclarations p → KeepsTable (table p)
 tables_are_kept p h =
     let says = sayings p in
     let f = facts p h in
+    let few = few_enough p h in
     record {
+      few_classes = class_limit says few;
+      few_sets = set_limit says few;
+      few_fields = field_limit says few;
       attribute_modes = attribute_mode says f p.sections (usual_or_defined p h f);
       variable_modes = λ n v e.
           let at = entry_of_value (variables says) n v e in

@@ -1,7 +1,7 @@
 -- What single sayings tell the table.
 use Rattle.std.proofs.Common.{◌≡◌, ℕ, Bool, true, false, cond, List, [], ◌∷◌, length, ◌⊎◌, ⊎_elim, inl, inr, Option, Some, None, refl, sym, ap, ◌∙◌, arith}
 use Rattle.std.specs.Prelude.{is_some, if◌then◌else◌}
-use Rattle.ss_base.specs.declared.line.Line.{Line}
+use Rattle.ss_bytes.specs.declared.line.Line.{Line}
 use Rattle.ss_tree.specs.declared.preamble.ClassKind.{ClassKind}
 use Rattle.ss_tree.specs.declared.preamble.ClassKind.TheVariants as class_kinds
 use Rattle.ss_tree.specs.declared.preamble.Mode.{Mode}

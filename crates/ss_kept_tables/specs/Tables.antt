@@ -1,5 +1,5 @@
 -- What the table of a program says where the rules on declarations are kept.
-use Rattle.std.specs.Prelude.{◌≡◌, ℕ, ◌+◌, ◌==◌, ◌⊎◌, slice_get, Option, Some}
+use Rattle.std.specs.Prelude.{◌≡◌, ℕ, ◌+◌, ◌==◌, ◌<◌, ◌≤◌, ◌⊎◌, [], length, get_or, slice_get, Option, Some}
 use Rattle.std.specs.List.{AllByRecursion as Every, filter}
 use Rattle.std.specs.Map.{keys_of, values_of}
 use Rattle.ss_base.specs.declared.layout.Owner.{Owner}
@@ -40,6 +40,10 @@ IsKeyOf t class name = (number : ℕ) × (a : Attribute) × (place_in t.attribut
 
 -- what a table says where the rules on declarations are kept
 pub record KeepsTable (t : Table) : Type 0 where
+  -- there are at most 64 classes, 64 sets, and 64 attributes of a class
+  pub few_classes : length t.classes ≤ 64
+  pub few_sets : length t.sets ≤ 64
+  pub few_fields : (class : ℕ) → class < length t.classes → length (get_or t.fields class []) ≤ 64
   -- attributes and global variables have modes, none of which is REAL
   pub attribute_modes : (n : ℕ) (a : Attribute) → slice_get (values_of t.attributes) n ≡ Some a → IsValueMode a.mode
   pub variable_modes : (n : ℕ) (v : Variable) → slice_get (values_of t.variables) n ≡ Some v → IsValueMode (Some v.mode)

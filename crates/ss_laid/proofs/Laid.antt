@@ -9,6 +9,7 @@ use Rattle.ss_base.specs.declared.layout.Mode.{Mode}
 use Rattle.ss_base.specs.declared.layout.Mode.TheVariants.{Integer, Alpha}
 use Rattle.ss_base.specs.declared.layout.RankKey.{RankKey}
 use Rattle.ss_base.specs.declared.layout.SetLayout.{SetLayout}
+use Rattle.ss_base.specs.Layout.{is_layout}
 use Rattle.ss_base.specs.Plain.{PlainClass, PlainLayout}
 use Rattle.ss_tree.specs.declared.preamble.Mode.{Mode as ModeWord}
 use Rattle.ss_sayings.specs.declared.saying.SetRule.{SetRule}
@@ -36,6 +37,7 @@ use Rattle.ss_laid.specs.Declared.{IsKept}
 use Rattle.ss_laid.specs.Tables.{LaysOut}
 use Rattle.ss_firsts.proofs.Entries.{place_of_told, there, value_at}
 use Rattle.ss_laid.proofs.Names.{told_is_placed}
+use Rattle.ss_laid.proofs.Sound.{laid_so, stand_together}
 use Rattle.ss_laid.proofs.Steps.{each_of_every, every_map, goes, holds, numbers_there}
 use Rattle.ss_laid.proofs.Structure.{IsTable, same_number}
 
@@ -73,7 +75,7 @@ module _ (t : Table) (is : IsTable t) (said : KeepsTable t) where
       let cs = numbers_there (class_laid t) (length t.classes) class_there in
       let ss = numbers_there (set_laid t) (length t.sets) set_there in
       let laid : PlainLayout = record { classes = cs.0; sets = ss.0 } in
-      (laid, rw (cs.1, ss.1) refl)
+      (laid, rw (cs.1, ss.1) (laid_so (is_layout laid) laid (stand_together t is said cs.0 ss.0 cs.1 ss.1)))
 
 module _ (t : Table) (is : IsTable t) (k : IsKept t) where
   -- ---- keys

@@ -1,20 +1,19 @@
 -- What the table of a program lays out is well typed.
-use Rattle.std.proofs.Common.{◌≡◌, ◌≢◌, ℕ, ◌<◌, Bool, true, nat_lt, List, [], ◌∷◌, length, get_or, Option, Some, None, refl, sym, ap, subst, ◌∙◌, arith}
+use Rattle.std.proofs.Common.{◌≡◌, ◌≢◌, ℕ, ◌<◌, Bool, true, nat_le, List, [], ◌∷◌, length, get_or, Option, Some, None, refl, sym, ap, subst, ◌∙◌, arith}
 use Rattle.std.specs.Prelude.{◌==◌, ◌&&◌, option_map, slice_get, Contains}
 use Rattle.std.specs.List.{AllByRecursion as Every, filter, flat_map, list_all}
 use Rattle.std.specs.Map.{keys_of, values_of}
 use Rattle.std.specs.Option.{option_and_then}
+use Rattle.std.proofs.lemmas.Bool.{and_parts}
 use Rattle.std.proofs.lemmas.Bool.Decides.{nat_tests}
 use Rattle.std.proofs.lemmas.Option.{same_Some, slice_get_within}
 use Rattle.ss_base.specs.declared.layout.Discipline.{Discipline}
 use Rattle.ss_base.specs.declared.layout.Discipline.TheVariants as disciplines
 use Rattle.ss_base.specs.declared.layout.Mode.{Mode}
 use Rattle.ss_base.specs.declared.layout.Mode.TheVariants.{Integer}
-use Rattle.ss_base.specs.declared.layout.Owner.{Owner}
-use Rattle.ss_base.specs.declared.layout.Owner.TheVariants as owners
 use Rattle.ss_base.specs.declared.layout.RankKey.{RankKey}
 use Rattle.ss_base.specs.declared.layout.SetLayout.{SetLayout}
-use Rattle.ss_base.specs.Layout.{is_sound, names_classes, owns_among}
+use Rattle.ss_base.specs.Layout.{is_layout, is_narrow, is_sound, layout_of}
 use Rattle.ss_base.specs.Plain.{PlainClass, PlainLayout}
 use Rattle.ss_tree.specs.declared.preamble.Mode.TheVariants as mode_words
 use Rattle.ss_sayings.specs.declared.saying.SetRule.{SetRule}
@@ -47,21 +46,12 @@ use Rattle.ss_laid.specs.Declared.{IsKept}
 use Rattle.ss_laid.specs.Tables.{AreWellTyped, HasTables}
 use Rattle.ss_firsts.proofs.Entries.{entry_of_value, place_of_told, there, value_at}
 use Rattle.ss_laid.proofs.Names.{told_is_placed}
+use Rattle.ss_laid.proofs.Sound.{laid_is, set_is}
 use Rattle.ss_laid.proofs.Steps.{contains_flat, each_at, each_every, each_zip, every_flat, every_map, got, held, numbers_at, numbers_length}
 use Rattle.ss_laid.proofs.Structure.{IsClassMode, IsTable}
 
 numbers_same : (a b : ℕ) → (a == b) ≡ true → a ≡ b
 numbers_same a b h = grind (arith, nat_tests, h)
-
-below : (a b : ℕ) → a < b → nat_lt a b ≡ true
-below a b h = grind (arith, nat_tests, h)
-
-pub all_of : {A : Type 0} (test : A → Bool) (xs : List A) → Every (λ x. test x ≡ true) xs → list_all test xs ≡ true
-all_of test [] h = refl
-all_of test (x ∷ xs) h = rw (h.0, all_of test xs h.1) refl
-
-both : (a b : Bool) → a ≡ true → b ≡ true → (a && b) ≡ true
-both a b e h = rw (e, h) refl
 
 module _ (t : Table) (is : IsTable t) (k : IsKept t) (p : Program) (h : HasTables t p) where
   -- ---- classes and sets
@@ -69,14 +59,19 @@ module _ (t : Table) (is : IsTable t) (k : IsKept t) (p : Program) (h : HasTable
   pub record Layout : Type 0 where
     pub classes : each (class_laid t) (upto (length t.classes)) ≡ Some p.layout.classes
     pub sets : each (set_laid t) (upto (length t.sets)) ≡ Some p.layout.sets
+    pub stands : is_layout p.layout ≡ true
 
   pub laid : Layout
   laid =
-      let first = got (each (class_laid t) (upto (length t.classes))) (λ cs. each (set_laid t) (upto (length t.sets)) >>= λ ss. Some (record { classes = cs; sets = ss })) p.layout h.layout in
-      let second = got (each (set_laid t) (upto (length t.sets))) (λ ss. Some (record { classes = first.0; sets = ss })) p.layout first.2 in
+      let first = got (each (class_laid t) (upto (length t.classes))) (λ cs. each (set_laid t) (upto (length t.sets)) >>= λ ss. layout_of cs ss) p.layout h.layout in
+      let second = got (each (set_laid t) (upto (length t.sets))) (λ ss. layout_of first.0 ss) p.layout first.2 in
       let made : PlainLayout = record { classes = first.0; sets = second.0 } in
-      let same : made ≡ p.layout = same_Some made p.layout second.2 in
-      record { classes = first.1 ∙ ap (λ (l : PlainLayout). Some l.classes) same; sets = second.1 ∙ ap (λ (l : PlainLayout). Some l.sets) same }
+      let is = laid_is (is_layout made) made p.layout second.2 in
+      record {
+        classes = first.1 ∙ ap (λ (l : PlainLayout). Some l.classes) is.1;
+        sets = second.1 ∙ ap (λ (l : PlainLayout). Some l.sets) is.1;
+        stands = subst (λ l. is_layout l ≡ true) is.1 is.0;
+      }
 
   pub class_count : length p.layout.classes ≡ length t.classes
   class_count = numbers_length (class_laid t) (length t.classes) p.layout.classes laid.classes
@@ -111,27 +106,10 @@ module _ (t : Table) (is : IsTable t) (k : IsKept t) (p : Program) (h : HasTable
       field_known place.0 name a place.1.1
 
   pub set_known : (n : ℕ) (y : SetLayout) → set_laid t n ≡ Some y → (s : Set) × (slice_get t.sets n ≡ Some s) × (s.owner ≡ Some y.owner) × (s.member ≡ Some y.member)
-  set_known n y e =
-      let first = got (slice_get t.sets n) (λ set. set.owner >>= λ owner. set.member >>= λ member. Some (record { owner = owner; member = member })) y e in
-      let second = got first.0.owner (λ owner. first.0.member >>= λ member. Some (record { owner = owner; member = member })) y first.2 in
-      let third = got first.0.member (λ member. Some (record { owner = second.0; member = member })) y second.2 in
-      let made : SetLayout = record { owner = second.0; member = third.0 } in
-      let same : made ≡ y = same_Some made y third.2 in
-      (first.0, first.1, second.1 ∙ ap (λ (l : SetLayout). Some l.owner) same, third.1 ∙ ap (λ (l : SetLayout). Some l.member) same)
-
-  owns : (o : Owner) → ((class : ℕ) → o ≡ owners.Class class → class < length t.classes) → owns_among (length p.layout.classes) o ≡ true
-  owns owners.System f = refl
-  owns (owners.Class class) f = below class (length p.layout.classes) (subst (λ n. class < n) (sym class_count) (f class refl))
-
-  set_sound : (n : ℕ) (y : SetLayout) → set_laid t n ≡ Some y → names_classes (length p.layout.classes) y ≡ true
-  set_sound n y e =
-      let s = set_known n y e in
-      both (owns_among (length p.layout.classes) y.owner) (nat_lt y.member (length p.layout.classes))
-      (owns y.owner (λ class f. is.owners n s.0 class s.1 (s.2 ∙ ap Some f)))
-      (below y.member (length p.layout.classes) (subst (λ n. y.member < n) (sym class_count) (is.members n s.0 y.member s.1 s.3)))
+  set_known n y e = set_is t n y e
 
   sound : is_sound p.layout ≡ true
-  sound = all_of (names_classes (length p.layout.classes)) p.layout.sets (each_every (set_laid t) (λ y. names_classes (length p.layout.classes) y ≡ true) (upto (length t.sets)) p.layout.sets laid.sets set_sound)
+  sound = (and_parts (is_sound p.layout) (nat_le (length p.layout.classes) 1048576 && (nat_le (length p.layout.sets) 1048576 && list_all is_narrow p.layout.classes)) laid.stands).0
 
   -- ---- disciplines and ties
 

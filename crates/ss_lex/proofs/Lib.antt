@@ -1,4 +1,3 @@
-pub mod Capitals
 pub mod Cutting
 pub mod Due
 pub mod LineEnds

@@ -2,8 +2,6 @@ pub mod Collecting
 pub mod Errors
 pub mod Laws
 pub mod Lines
-pub mod Listings
-pub mod Names
 pub mod Parts
 pub mod Pieces
 pub mod Reading

@@ -1,4 +1,4 @@
-use crate::token::TokenKind;
+use ss_tokens::TokenKind;
 
 /// What can be wrong with a piece of a line.
 #[derive(Clone, Copy)]

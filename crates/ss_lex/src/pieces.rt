@@ -1,14 +1,14 @@
 //! The pieces of a line of code.
 
 ghost use Rattle.std.specs.Prelude.{◌≡◌, ◌≤◌, ◌+◌, ◌==◌, [], ◌∷◌, drop, length, MatchOption};
-ghost use Rattle.ss_base.specs.Values.{text_of};
+ghost use Rattle.ss_bytes.specs.Values.{text_of};
 ghost use Rattle.ss_lex.specs.Pieces.{is_separator, is_word_byte, is_quotable, begins, opens_comment, symbol_of, text_meaning};
 ghost use Rattle.ss_lex.specs.Reading.{run_length, quotable_length, comment_at, quote_step_of, step_of};
 
 use crate::meaning::{Fault, Meaning};
-use crate::token::{Symbol, TokenKind};
 use crate::words::word_meaning;
-use ss_base::Alpha;
+use ss_bytes::Alpha;
+use ss_tokens::{Symbol, TokenKind};
 
 fn is_separator(b: u8) -> bool
     ensures { result ≡ is_separator b }
@@ -45,7 +45,7 @@ fn quotable_length(bytes: &[u8]) -> usize
 }
 
 /// The first byte, and what follows it.
-fn front(bytes: &[u8]) -> Option<(u8, &[u8])>
+fn split_first(bytes: &[u8]) -> Option<(u8, &[u8])>
     ensures { MatchOption result (bytes.now ≡ []) (λ x. bytes.now ≡ x.0 ∷ x.1.now) }
 {
     match bytes {
@@ -85,7 +85,7 @@ fn after_comment(bytes: &[u8]) -> &[u8]
     ensures { result.now ≡ (comment_at bytes.now).1 }
 {
     let mut rest = bytes;
-    'body: while let Some((b, behind)) = front(rest) {
+    'body: while let Some((b, behind)) = split_first(rest) {
         if opens_comment(b, behind) {
             return tail(behind);
         }
@@ -136,7 +136,7 @@ fn symbol_of(b: u8) -> Symbol
 pub fn step(bytes: &[u8]) -> (Meaning, &[u8])
     ensures { (result.0, result.1.now) ≡ step_of bytes.now }
 {
-    match front(bytes) {
+    match split_first(bytes) {
         None => (Meaning::Nothing, bytes),
         Some((b, rest)) => {
             if is_separator(b) {

@@ -4,9 +4,9 @@ ghost use Rattle.std.specs.List.{list_any};
 ghost use Rattle.ss_lex.specs.Words.{is_period, without_end_periods, name_meaning, number_meaning, word_meaning, number_from, largest_number};
 
 use crate::meaning::{Fault, Meaning};
-use crate::name::Name;
 use crate::reserved::reserved_word;
-use crate::token::TokenKind;
+use ss_bytes::Name;
+use ss_tokens::TokenKind;
 
 /// The largest number of a text.
 const LARGEST: u64 = 9_223_372_036_854_775_807;

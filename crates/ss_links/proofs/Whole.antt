@@ -38,7 +38,7 @@ use Rattle.ss_links.proofs.Parts.{HasParts, Laws, is, notice_known, parts_there,
 use Rattle.ss_links.proofs.Ranks.{event_there, rank_known, rank_there}
 use Rattle.ss_links.proofs.Sections.{event_section, notice_said, routine_section}
 use Rattle.ss_laid.proofs.Steps.{every_map, goes, holds, numbers_at, numbers_there}
-use Rattle.ss_laid.proofs.Typed.{all_of}
+use Rattle.ss_laid.proofs.Sound.{all_of}
 
 somewhere_named : (P : NameBytes → Type 0) (names : List NameBytes) (name : NameBytes) → Every P names → Somewhere (λ n. n ≡ name) names → P name
 somewhere_named P [] name h f = absurd f

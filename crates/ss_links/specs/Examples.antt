@@ -1,7 +1,7 @@
 -- A worked example: a small program that breaks no rule.
 use Rattle.std.specs.Prelude.{ℕ, pos, true, false, [], ◌∷◌, None, codes, refl}
 use Rattle.std.specs.List.{AllByRecursion as Every}
-use Rattle.ss_base.specs.declared.line.Line.{Line}
+use Rattle.ss_bytes.specs.declared.line.Line.{Line}
 use Rattle.ss_tree.specs.declared.expression.Designator.TheVariants.{Name}
 use Rattle.ss_tree.specs.declared.preamble.ClassKind.TheVariants.{Permanent, Temporary, EventNotice}
 use Rattle.ss_tree.specs.declared.preamble.Mode.TheVariants.{Integer}

@@ -4,7 +4,7 @@ use Rattle.std.specs.Prelude.{not, ◌&&◌, nat_lt, if◌then◌else◌}
 use Rattle.std.specs.Option.{option_eq}
 use Rattle.std.specs.List.{AllByRecursion as Every, fold}
 use Rattle.std.proofs.lemmas.Bool.{eq-eqb, not-false}
-use Rattle.ss_base.specs.declared.line.Line.{Line}
+use Rattle.ss_bytes.specs.declared.line.Line.{Line}
 use Rattle.ss_tree.specs.Tree.{SectionTree, ProgramTree}
 use Rattle.ss_sayings.specs.declared.saying.SetRule.{SetRule}
 use Rattle.ss_sayings.specs.declared.saying.Said.{Said}

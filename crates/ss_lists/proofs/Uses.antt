@@ -3,7 +3,7 @@ use Rattle.std.proofs.Common.{◌≡◌, ℕ, ◌≤◌, Bool, true, false, List
 use Rattle.std.specs.Prelude.{not, ◌&&◌, ◌==◌, option_map, if◌then◌else◌}
 use Rattle.std.specs.List.{AllByRecursion as Every, flat_map, list_any}
 use Rattle.std.proofs.lemmas.Bool.{eqb-true, ltb-false, not-false}
-use Rattle.ss_base.specs.declared.line.Line.{Line}
+use Rattle.ss_bytes.specs.declared.line.Line.{Line}
 use Rattle.ss_base.specs.declared.layout.Mode.{Mode}
 use Rattle.ss_base.specs.declared.layout.Mode.TheVariants as modes
 use Rattle.ss_tree.specs.declared.preamble.ClassKind.TheVariants as class_kinds

@@ -1,7 +1,7 @@
 -- A loop, made from its end.
 use Rattle.std.proofs.Common.{◌≡◌, ℕ, suc, ◌+◌, List, [], ◌∷◌, ◌++◌, length, Result, Ok, Err, OnOk, is_ok, if◌then◌else◌, ap, ◌∙◌, arith, append_assoc, length-append}
 use Rattle.std.specs.declared.alloc.AllocError.{AllocError}
-use Rattle.ss_base.specs.declared.line.Line.{Line}
+use Rattle.ss_bytes.specs.declared.line.Line.{Line}
 use Rattle.ss_program.specs.Program.{Guard}
 use Rattle.ss_machine_code.specs.declared.instruction.Instruction.{Instruction}
 use Rattle.ss_machine_code.specs.declared.instruction.Instruction.TheVariants as i

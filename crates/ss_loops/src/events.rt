@@ -4,7 +4,7 @@ ghost use Rattle.std.specs.Prelude.{◌≡◌, ◌∷◌, ◌++◌, [], map, OnO
 ghost use Rattle.ss_program.specs.View.{view_expression, view_place, view_when, view_restart};
 ghost use Rattle.ss_machine_code.specs.Translation.{when_code, schedule_new_code, schedule_code, restarts_code};
 
-use ss_base::Line;
+use ss_bytes::Line;
 use ss_machine_code::instruction::Instruction;
 use ss_pieces::emit::{absent, emit_any, emit_entity, emit_expression, emit_values, put};
 use ss_pieces::places::{destination, emit_spot};

@@ -6,7 +6,7 @@ ghost use Rattle.ss_program.specs.Program.{Numbers, Members, Each};
 ghost use Rattle.ss_machine_code.specs.declared.instruction.Instruction.TheVariants.{Begin};
 ghost use Rattle.ss_machine_code.specs.Translation.{expression_code, step_code, items_code, outset_code, members_code, kept, kept_by, is_system, for_code, find_code, guards_code, loop_code};
 
-use ss_base::Line;
+use ss_bytes::Line;
 use ss_machine_code::instruction::Instruction;
 use ss_pieces::conditions::{emit_guards, emit_phrases};
 use ss_pieces::emit::{emit_expression, emit_step, put, system_owns};

@@ -2,7 +2,7 @@
 use Rattle.std.proofs.Common.{◌≡◌, ℕ, zero, suc, ◌+◌, ◌-◌, ◌≤◌, Bool, true, false, not, List, [], ◌∷◌, ◌++◌, length, Option, Some, None, Ok, Err, refl, sym, ap, ◌∙◌, subst, arith, length-append}
 use Rattle.std.specs.Prelude.{slice_get, Result as OkOr, ℤ, pos, int_le, int_lt, ◌+ℤ◌, if◌then◌else◌}
 use Rattle.std.specs.Int.{int_min}
-use Rattle.ss_base.specs.declared.line.Line.{Line}
+use Rattle.ss_bytes.specs.declared.line.Line.{Line}
 use Rattle.ss_base.specs.declared.value.Value.{Value}
 use Rattle.ss_base.specs.declared.value.Value.TheVariants.{Whole}
 use Rattle.ss_program.specs.declared.expression.Variable.{Variable}

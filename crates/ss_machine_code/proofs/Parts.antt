@@ -1,7 +1,7 @@
 -- Code that does what a part of a program does: how such code is put together.
 use Rattle.std.proofs.Common.{◌≡◌, ℕ, zero, suc, ◌+◌, ◌<◌, ◌≤◌, true, false, List, [], ◌∷◌, ◌++◌, length, Option, Some, None, Ok, Err, refl, sym, ap, ◌∙◌, subst, arith, length-append, append-nil}
 use Rattle.std.specs.Prelude.{slice_get, Result as OkOr}
-use Rattle.ss_base.specs.declared.line.Line.{Line}
+use Rattle.ss_bytes.specs.declared.line.Line.{Line}
 use Rattle.ss_base.specs.declared.value.Value.{Value}
 use Rattle.ss_machine_code.specs.declared.instruction.Instruction.{Instruction}
 use Rattle.ss_meaning.specs.Values.{Trouble, Fails, Misfit, if_ok, turned, sure}

@@ -1,7 +1,7 @@
 -- The code of a FOR over the members of a set; and of every FOR and FIND.
 use Rattle.std.proofs.Common.{◌≡◌, ℕ, suc, ◌+◌, ◌-◌, ◌≤◌, Bool, true, false, not, List, [], ◌∷◌, ◌++◌, length, Option, Some, Ok, Err, refl, subst, arith, length-append}
 use Rattle.std.specs.Prelude.{slice_get, Result as OkOr, ℤ, pos, int_le, int_lt}
-use Rattle.ss_base.specs.declared.line.Line.{Line}
+use Rattle.ss_bytes.specs.declared.line.Line.{Line}
 use Rattle.ss_base.specs.declared.value.Value.{Value}
 use Rattle.ss_base.specs.declared.value.Value.TheVariants.{Whole}
 use Rattle.ss_base.specs.declared.fault.FaultKind.TheVariants.{LoopStep}

@@ -6,7 +6,7 @@
 -- left, and goes on with a value or is left. The store (Store) has the variables and, in the scene, everything else.
 use Rattle.std.specs.Prelude.{ℕ, zero, suc, ◌==◌, Bool, ◌++◌, List, [], ◌∷◌, map, length, pos, Option, Some, None, slice_get, if◌then◌else◌}
 use Rattle.std.specs.List.{flat_map}
-use Rattle.ss_base.specs.declared.line.Line.{Line}
+use Rattle.ss_bytes.specs.declared.line.Line.{Line}
 use Rattle.ss_base.specs.declared.fault.FaultKind.{FaultKind}
 use Rattle.ss_base.specs.declared.value.Value.{Value}
 use Rattle.ss_base.specs.declared.layout.Mode.{Mode}

@@ -7,6 +7,7 @@ use Rattle.ss_base.specs.declared.layout.Discipline.TheVariants as orders
 use Rattle.ss_base.specs.declared.layout.Mode.{Mode}
 use Rattle.ss_base.specs.declared.layout.RankKey.{RankKey}
 use Rattle.ss_base.specs.declared.layout.SetLayout.{SetLayout}
+use Rattle.ss_base.specs.Layout.{layout_of}
 use Rattle.ss_base.specs.Plain.{PlainClass, PlainLayout}
 use Rattle.ss_sayings.specs.declared.saying.SetRule.{SetRule}
 use Rattle.ss_sayings.specs.declared.saying.SetRule.TheVariants as rules
@@ -67,7 +68,7 @@ module _ (t : Table) where
   layout = do
     classes ← each class_laid (upto (length t.classes))
     sets ← each set_laid (upto (length t.sets))
-    Some (record { classes = classes; sets = sets })
+    layout_of classes sets
 
   -- ---- disciplines and ties
 

@@ -4,7 +4,7 @@ use Rattle.std.specs.List.{find, list_all}
 use Rattle.std.specs.Map.{keys_of, lookup, values_of}
 use Rattle.ss_base.specs.declared.layout.Mode.{Mode}
 use Rattle.ss_base.specs.declared.layout.RankKey.{RankKey}
-use Rattle.ss_base.specs.declared.line.Line.{Line}
+use Rattle.ss_bytes.specs.declared.line.Line.{Line}
 use Rattle.ss_tree.specs.Tree.{SectionKindTree, main, routine, event, SectionTree, statement_row}
 use Rattle.ss_sayings.specs.Sayings.{NameBytes}
 use Rattle.ss_entities.specs.declared.entry.Event.{Event as EventSection}

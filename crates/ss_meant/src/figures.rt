@@ -6,8 +6,8 @@ ghost use Rattle.ss_meant.specs.Meanings.{figure, figure_owned, statistic, stati
 use crate::variables::class_variable;
 use crate::words::fold_of;
 use ss_base::Owner;
+use ss_bytes::Name;
 use ss_contexts::{Meaning, ResolveError};
-use ss_lex::Name;
 use ss_names::{Names, Subject};
 use ss_program::expression::Fold;
 use ss_scopes::Locals;

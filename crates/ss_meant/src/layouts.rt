@@ -6,9 +6,9 @@ ghost use Rattle.ss_meant.specs.Layouts.{attribute_named, class_laid, field_mode
 
 use crate::words::{class_kind, mode_given};
 use ss_base::{ClassLayout, Layout, Mode, SetLayout};
+use ss_bytes::Name;
 use ss_contexts::ResolveError;
 use ss_entities::Attribute;
-use ss_lex::Name;
 use ss_names::Names;
 use std::alloc::{AllocError, Global};
 
@@ -107,11 +107,11 @@ pub(crate) fn resolve_layout(alloc: Global, names: &Names) -> Result<Layout, Res
 {
     let classes = classes_laid(alloc, names)?;
     let sets = sets_laid(alloc, names)?;
-    Ok(Layout { classes, sets })
+    Layout::new(classes, sets).ok_or(ResolveError::Unresolved)
 }
 
 /// The classes and the sets, by their numbers. None where an attribute has no mode, or the mode REAL, or a set
-/// has no owner or no class of members.
+/// has no owner or no class of members, or where they are too many for a layout.
 ///
 /// # Errors
 /// `AllocError` where memory is refused.

@@ -7,9 +7,9 @@ ghost use Rattle.ss_meant.specs.Meanings.{class_of, count_behind, count_kind, gl
 use crate::variables::{class_variable, variable_of};
 use crate::words::class_kind;
 use ss_base::Owner;
+use ss_bytes::Name;
 use ss_contexts::{ClassMeant, ResolveError, RoutineMeant, SetMeant};
 use ss_entities::VariableKind;
-use ss_lex::Name;
 use ss_names::{Meaning as Global, Names};
 use ss_scopes::Locals;
 use ss_tree::expression::Designator;

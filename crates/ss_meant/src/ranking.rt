@@ -8,9 +8,9 @@ ghost use Rattle.ss_meant.specs.Layouts.{discipline, discipline_ordered, discipl
 
 use crate::layouts::attribute_named;
 use ss_base::{Discipline, RankKey, RankKeys};
+use ss_bytes::Name;
 use ss_contexts::ResolveError;
 use ss_entities::{Ordering, RankedBy, TiedBy};
-use ss_lex::Name;
 use ss_names::Names;
 use ss_sayings::SetRule;
 use std::alloc::{AllocError, Global};

@@ -5,8 +5,8 @@ ghost use Rattle.ss_contexts.specs.Answers.{Gives};
 ghost use Rattle.ss_meant.specs.Meanings.{class_variable, global_variable, local_meaning, variable_of, variable_of_class};
 
 use crate::words::{mode_given, mode_said};
+use ss_bytes::Name;
 use ss_contexts::{Meaning, ResolveError};
-use ss_lex::Name;
 use ss_names::{Meaning as Global, Names};
 use ss_program::expression::Variable;
 use ss_scopes::Locals;

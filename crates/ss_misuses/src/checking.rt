@@ -9,8 +9,7 @@ ghost use Rattle.ss_uses.specs.Seen.{uses_seen};
 ghost use Rattle.ss_uses.specs.Uses.{uses_of};
 
 use indexmap::IndexSet;
-use ss_base::Line;
-use ss_lex::Name;
+use ss_bytes::{Line, Name};
 use ss_scopes::Globals;
 use ss_tree::program::{Program, Section};
 use ss_uses::events::{event_names, has_main};

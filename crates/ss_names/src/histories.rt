@@ -7,7 +7,7 @@ ghost use Rattle.ss_names.specs.Histories.{history_of, subject_of};
 use crate::meaning::{Derived, History, Meaning, Subject};
 use crate::meanings::Meanings;
 use indexmap::IndexMap;
-use ss_lex::Name;
+use ss_bytes::Name;
 use ss_tree::preamble::Weighting;
 use std::alloc::{AllocError, Global};
 

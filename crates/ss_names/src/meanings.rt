@@ -11,8 +11,8 @@ ghost use Rattle.ss_entities.specs.Variables.{count_name};
 use crate::meaning::{Derived, Meaning};
 use crate::numbers::Numbers;
 use indexmap::IndexMap;
-use ss_firsts::{Spelling, keep_spelled, spelled_at};
-use ss_lex::Name;
+use ss_bytes::Name;
+use ss_firsts::{Spelling, insert_spelled, spelled_at};
 use ss_sayings::{Said, Saying};
 use ss_tree::preamble::ClassKind;
 use std::alloc::{AllocError, Global};
@@ -62,26 +62,26 @@ impl Meanings {
     }
 
     // Keeps what a name stands for, unless it stands for something.
-    fn keep(&mut self, name: Spelling, meaning: Meaning) -> Result<(), AllocError>
+    fn insert(&mut self, name: Spelling, meaning: Meaning) -> Result<(), AllocError>
         ensures { OnOk result (self.new ≡ with_first self.old (name, meaning)) }
     {
         // no spelling is longer than SPELLING_LIMIT
         let _ = name.bytes();
-        keep_spelled(&mut self.map, name, meaning)
+        insert_spelled(&mut self.map, name, meaning)
     }
 
     // The same, where there is something.
-    fn keep_if(&mut self, name: Spelling, meaning: Option<Meaning>) -> Result<(), AllocError>
+    fn insert_if(&mut self, name: Spelling, meaning: Option<Meaning>) -> Result<(), AllocError>
         ensures { OnOk result (self.new ≡ fold with_first self.old (entry_if name meaning)) }
     {
         match meaning {
-            Some(meaning) => self.keep(name, meaning),
+            Some(meaning) => self.insert(name, meaning),
             None => Ok(()),
         }
     }
 
     // Keeps a class, and N. of it where it is permanent.
-    fn keep_class(
+    fn insert_class(
         &mut self,
         numbers: &Numbers,
         kind: ClassKind,
@@ -89,9 +89,9 @@ impl Meanings {
     ) -> Result<(), AllocError>
         ensures { OnOk result (self.new ≡ fold with_first self.old (class_meanings numbers.now kind name.now)) }
     {
-        self.keep_if(Spelling::of_name(name), numbers.class(name))?;
+        self.insert_if(Spelling::of_name(name), numbers.class(name))?;
         match kind {
-            ClassKind::Permanent => self.keep_if(
+            ClassKind::Permanent => self.insert_if(
                 Spelling::derived(b'N', name),
                 numbers.count(name),
             ),
@@ -101,50 +101,55 @@ impl Meanings {
     }
 
     // Keeps a derived name of a set.
-    fn keep_derived(&mut self, name: &Name, set: usize, derived: Derived) -> Result<(), AllocError>
+    fn insert_derived(
+        &mut self,
+        name: &Name,
+        set: usize,
+        derived: Derived,
+    ) -> Result<(), AllocError>
         ensures { OnOk result (self.new ≡ with_first self.old (derived_entry name.now set derived)) }
     {
         let spelling = Spelling::derived(letter_of(derived), name);
-        self.keep(spelling, Meaning::Derived { derived, set })
+        self.insert(spelling, Meaning::Derived { derived, set })
     }
 
     // Keeps a set and its derived names.
-    fn keep_set(&mut self, name: &Name, set: usize) -> Result<(), AllocError>
+    fn insert_set(&mut self, name: &Name, set: usize) -> Result<(), AllocError>
         ensures { OnOk result (self.new ≡ fold with_first self.old (set_meanings name.now (Some set))) }
     {
-        self.keep(Spelling::of_name(name), Meaning::Set(set))?;
-        self.keep_derived(name, set, Derived::FirstMember)?;
-        self.keep_derived(name, set, Derived::LastMember)?;
-        self.keep_derived(name, set, Derived::MemberCount)?;
-        self.keep_derived(name, set, Derived::Predecessor)?;
-        self.keep_derived(name, set, Derived::Successor)?;
-        self.keep_derived(name, set, Derived::Membership)
+        self.insert(Spelling::of_name(name), Meaning::Set(set))?;
+        self.insert_derived(name, set, Derived::FirstMember)?;
+        self.insert_derived(name, set, Derived::LastMember)?;
+        self.insert_derived(name, set, Derived::MemberCount)?;
+        self.insert_derived(name, set, Derived::Predecessor)?;
+        self.insert_derived(name, set, Derived::Successor)?;
+        self.insert_derived(name, set, Derived::Membership)
     }
 
     // The same, where it has a number.
-    fn keep_set_if(&mut self, name: &Name, set: Option<usize>) -> Result<(), AllocError>
+    fn insert_set_if(&mut self, name: &Name, set: Option<usize>) -> Result<(), AllocError>
         ensures { OnOk result (self.new ≡ fold with_first self.old (set_meanings name.now set)) }
     {
         match set {
-            Some(set) => self.keep_set(name, set),
+            Some(set) => self.insert_set(name, set),
             None => Ok(()),
         }
     }
 
     // Keeps what is declared by what is said of a name.
-    fn keep_said(&mut self, numbers: &Numbers, said: &Said, name: &Name) -> Result<(), AllocError>
+    fn insert_said(&mut self, numbers: &Numbers, said: &Said, name: &Name) -> Result<(), AllocError>
         ensures { OnOk result (self.new ≡ fold with_first self.old (meaning_told numbers.now said.now (Some name.now))) }
     {
         let spelling = Spelling::of_name(name);
         match said {
-            Said::Class { kind } => self.keep_class(numbers, *kind, name),
-            Said::Attribute { .. } => self.keep_if(spelling, numbers.attribute(name)),
-            Said::SystemSet => self.keep_set_if(name, numbers.set(name)),
-            Said::OwnedSet { .. } => self.keep_set_if(name, numbers.set(name)),
-            Said::MemberSet { .. } => self.keep_set_if(name, numbers.set(name)),
-            Said::Variable { .. } => self.keep_if(spelling, numbers.variable(name)),
-            Said::Statistic { .. } => self.keep_if(spelling, numbers.statistic(name)),
-            Said::Routine { .. } => self.keep_if(spelling, numbers.routine(name)),
+            Said::Class { kind } => self.insert_class(numbers, *kind, name),
+            Said::Attribute { .. } => self.insert_if(spelling, numbers.attribute(name)),
+            Said::SystemSet => self.insert_set_if(name, numbers.set(name)),
+            Said::OwnedSet { .. } => self.insert_set_if(name, numbers.set(name)),
+            Said::MemberSet { .. } => self.insert_set_if(name, numbers.set(name)),
+            Said::Variable { .. } => self.insert_if(spelling, numbers.variable(name)),
+            Said::Statistic { .. } => self.insert_if(spelling, numbers.statistic(name)),
+            Said::Routine { .. } => self.insert_if(spelling, numbers.routine(name)),
             _ => Ok(()),
         }
     }
@@ -154,7 +159,7 @@ impl Meanings {
         ensures { OnOk result (self.new ≡ fold with_first self.old (meaning_by numbers.now saying.now)) }
     {
         match &saying.name {
-            Some(name) => self.keep_said(numbers, &saying.said, name),
+            Some(name) => self.insert_said(numbers, &saying.said, name),
             None => Ok(()),
         }
     }

@@ -14,12 +14,12 @@ use crate::meaning::{History, Meaning};
 use crate::meanings::{Meanings, meanings_of};
 use crate::numbers::{Numbers, numbers_of};
 use indexmap::IndexMap;
+use ss_bytes::Name;
 use ss_entities::{
     Attribute, Class, Event, Notices, RankedBy, Routine, Set, Statistic, TiedBy, Variable, beside,
     notices_of, sets_in, usual_mode,
 };
 use ss_firsts::{key_at, spelled_at, value_at};
-use ss_lex::Name;
 use ss_sayings::Saying;
 use ss_tree::preamble::Mode;
 use std::alloc::{AllocError, Global};

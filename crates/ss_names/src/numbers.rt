@@ -10,12 +10,12 @@ ghost use Rattle.ss_names.specs.Meanings.{class_name_meaning, count_meaning, num
 
 use crate::meaning::Meaning;
 use indexmap::{IndexMap, IndexSet};
+use ss_bytes::Name;
 use ss_entities::{
     Entities, Routine, Tellings, Variable, beside, entities_of, routines_of, set_names,
     tellings_of, variables_of,
 };
 use ss_firsts::Spelling;
-use ss_lex::Name;
 use ss_sayings::Saying;
 use std::alloc::{AllocError, Global};
 use std::marker::Model;

@@ -1,13 +1,13 @@
 -- Preambles: what is read is spelled, and what is spelled is read.
 use Rattle.std.proofs.Common.{◌≡◌, ℕ, zero, suc, ◌<◌, ◌≤◌, Bool, true, false, ◌||◌, List, [], ◌∷◌, ◌++◌, length, map, drop, Option, Some, None, Result, Ok, Err, refl, sym, ap, subst, ◌∙◌, arith, inl, inr, ◌⊎◌}
 use Rattle.std.proofs.lemmas.List.{append-nil, map_push}
-use Rattle.ss_base.specs.declared.line.Line.{Line}
-use Rattle.ss_lex.specs.declared.word.Word.{Word}
-use Rattle.ss_lex.specs.declared.word.Word.TheVariants as words
-use Rattle.ss_lex.specs.declared.token.Span.{Span}
-use Rattle.ss_lex.specs.declared.token.TokenKind.{TokenKind}
-use Rattle.ss_lex.specs.declared.token.TokenKind.TheVariants as kinds
-use Rattle.ss_lex.specs.declared.token.Token.{Token}
+use Rattle.ss_bytes.specs.declared.line.Line.{Line}
+use Rattle.ss_tokens.specs.declared.word.Word.{Word}
+use Rattle.ss_tokens.specs.declared.word.Word.TheVariants as words
+use Rattle.ss_tokens.specs.declared.token.Span.{Span}
+use Rattle.ss_tokens.specs.declared.token.TokenKind.{TokenKind}
+use Rattle.ss_tokens.specs.declared.token.TokenKind.TheVariants as kinds
+use Rattle.ss_tokens.specs.declared.token.Token.{Token}
 use Rattle.ss_tree.specs.declared.preamble.Mode.{Mode}
 use Rattle.ss_tree.specs.declared.preamble.ClassKind.{ClassKind}
 use Rattle.ss_tree.specs.declared.preamble.Key.{Key}

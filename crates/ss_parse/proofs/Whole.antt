@@ -1,6 +1,6 @@
 -- Whole token lists: what is promised of parsing follows from the laws of reading.
 use Rattle.std.proofs.Common.{◌≡◌, ℕ, suc, ◌<◌, ◌≤◌, max, List, [], ◌∷◌, length, Result, Ok, Err, refl, sym, subst, ◌∙◌, arith, inl, inr}
-use Rattle.ss_lex.specs.declared.token.Token.{Token}
+use Rattle.ss_tokens.specs.declared.token.Token.{Token}
 use Rattle.ss_grammar.specs.declared.failure.Fault.{Fault}
 use Rattle.ss_grammar.specs.declared.failure.Fault.TheVariants.{Syntax, TooDeep}
 use Rattle.ss_tree.specs.Tree.{ProgramTree}

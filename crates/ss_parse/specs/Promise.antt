@@ -1,7 +1,7 @@
 -- What reading a program promises.
 use Rattle.std.specs.Prelude.{◌≡◌, ℕ, ◌<◌, ◌⊎◌, List, [], ◌∷◌}
-use Rattle.ss_base.specs.declared.line.Line.{Line}
-use Rattle.ss_lex.specs.declared.token.Token.{Token}
+use Rattle.ss_bytes.specs.declared.line.Line.{Line}
+use Rattle.ss_tokens.specs.declared.token.Token.{Token}
 use Rattle.ss_parse.specs.declared.error.ParseError.{ParseError}
 use Rattle.ss_parse.specs.declared.error.ParseError.TheVariants as errors
 use Rattle.ss_tree.specs.Tree.{ProgramTree}

@@ -1,7 +1,7 @@
 -- The code of what a tree holds in vectors of its own kind.
 use Rattle.std.proofs.Common.{◌≡◌, List, [], ◌∷◌, ◌++◌, sym, ◌∙◌, append_assoc, append-nil}
 use Rattle.std.specs.List.{fold}
-use Rattle.ss_base.specs.declared.line.Line.{Line}
+use Rattle.ss_bytes.specs.declared.line.Line.{Line}
 use Rattle.ss_program.specs.declared.expression.Operation.{Operation}
 use Rattle.ss_program.specs.Program.{Expression}
 use Rattle.ss_program.specs.Views.{with_operation}

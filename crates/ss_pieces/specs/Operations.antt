@@ -1,6 +1,6 @@
 -- The code of what an expression holds in a vector of its own kind, by the list that this is.
 use Rattle.std.specs.Prelude.{List, [], ◌∷◌, ◌++◌}
-use Rattle.ss_base.specs.declared.line.Line.{Line}
+use Rattle.ss_bytes.specs.declared.line.Line.{Line}
 use Rattle.ss_program.specs.declared.expression.Operation.{Operation}
 use Rattle.ss_program.specs.View.{view_expression}
 use Rattle.ss_machine_code.specs.declared.instruction.Instruction.{Instruction}

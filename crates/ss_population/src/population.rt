@@ -1,7 +1,7 @@
 //! The entities of a run, and how many of each permanent class are made.
 
-ghost use Rattle.std.specs.Prelude.{◌≡◌, ◌<◌, length, pos, IfOk, IsTrue, MatchResult, None, Some, Ok, Err, replicate, slice_get, slice_set};
-ghost use Rattle.ss_base.specs.Layout.{is_sound, mode_of};
+ghost use Rattle.std.specs.Prelude.{◌≡◌, ◌<◌, length, pos, IfOk, MatchResult, None, Some, Ok, Err, replicate, slice_get, slice_set};
+ghost use Rattle.ss_base.specs.Layout.{mode_of};
 ghost use Rattle.ss_records.specs.Kept.{IsPermanent};
 ghost use Rattle.ss_records.specs.State.{first_state, is_made, records_in, known_in, value_in, time_in, assigned, timed, created, created_all, destroyed, kind_of, modes_of, RefusedFor};
 ghost use Rattle.ss_records.specs.Sets.{first_in, last_in, count_in, next_in, previous_in, owner_of_member};
@@ -33,9 +33,8 @@ impl Model for Population {
 }
 
 impl Population {
-    /// No entity. The sets of the layout name classes of it. The error comes where memory was refused.
+    /// No entity. The error comes where memory was refused.
     pub fn new(alloc: Global, layout: Layout) -> Result<Population, AllocError>
-        requires sound { IsTrue (is_sound layout) }
         ensures { IfOk result (λ p. p ≡ first_state layout) }
     {
         let made = none_made(alloc, class_count(&layout))?;

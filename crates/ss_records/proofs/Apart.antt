@@ -5,7 +5,7 @@ use denote.RawPtr.{Ptr}
 use Rattle.ss_base.specs.declared.layout.ClassKind.{ClassKind}
 use Rattle.ss_base.specs.declared.layout.ClassKind.TheVariants.{Permanent, Temporary, Notice}
 use Rattle.ss_base.specs.declared.layout.Layout.{Layout}
-use Rattle.ss_records.specs.declared.store.Place.{Place}
+use Rattle.ss_records.specs.declared.store.Address.{Address}
 use Rattle.ss_records.specs.Cells.{Cells, words_at}
 use Rattle.ss_states.specs.State.{State, Members, and_then, of_class, entity, entity_of_kind, kind_of, numbered, indexed, number_in, members_of, owner_of}
 use Rattle.ss_states.specs.Sets.{member_in, member_class, Apart}
@@ -33,7 +33,7 @@ module _ (l : Layout) (cs : Cells) (sys : Ptr) (d : Directory) (ms : List Member
   -- an entity of a class is what its number means
   pub is_entity : (c n : ℕ) → IsOf cs d c n → and_then (entity st c (pos n)) (λ r. Ok (number_in (pos n))) ≡ Ok n
   is_entity c n h = let a = entry_of cs d c n h in ap (λ z. and_then z (λ r. Ok (number_in (pos n)))) (whole a.0 a.1 a.2 a.4 (listed d c a.0 a.1 a.3)) where
-    whole : (i : ℕ) (p : Place) → n ≡ suc i → class_at cs p ≡ c → Lists d i p → entity st c (pos n) ≡ Ok (record_of l (words_at cs p.at))
+    whole : (i : ℕ) (p : Address) → n ≡ suc i → class_at cs p ≡ c → Lists d i p → entity st c (pos n) ≡ Ok (record_of l (words_at cs p.at))
     whole i p e k (inl m) =
         let kind = subst (λ b. IsPermanent (kind_of l b) → ⊥) k (K.kinds i p m) in
         let place : numbered_place d.numbers (pos n) ≡ Ok p = ap (λ z. numbered_place d.numbers (pos z)) e ∙ ap issued_place m in

@@ -13,7 +13,7 @@ use Rattle.ss_base.specs.declared.layout.ClassKind.TheVariants.{Permanent, Tempo
 use Rattle.ss_base.specs.declared.layout.Mode.{Mode}
 use Rattle.ss_base.specs.declared.layout.ClassLayout.{ClassLayout}
 use Rattle.ss_base.specs.declared.layout.Layout.{Layout}
-use Rattle.ss_records.specs.declared.store.Place.{Place}
+use Rattle.ss_records.specs.declared.store.Address.{Address}
 use Rattle.ss_records.specs.Cells.{Word, blank, number, counter, link, Cells, IsNumber, MayBeNumber, words_at, word_of, word_at, with_word, put_word}
 use Rattle.ss_states.specs.State.{Record, State, Members, and_then, entity, numbered, of_notice, notice, value_in, time_in, number_in, kind_in, kind_of, modes_of, is_notice, with_value, with_time, with_indexed, with_entity, with_entity_of_kind, assigned, timed}
 use Rattle.ss_records.specs.Shape.{values_end, links_start}
@@ -47,7 +47,7 @@ with_permanent s Permanent c n r h = refl
 with_permanent s Temporary c n r h = absurd h
 with_permanent s Notice c n r h = absurd h
 
-pub get_row : (l : Layout) (cs : Cells) (ms : Made) (c : ℕ) (ps : List Place) → slice_get ms c ≡ Some (Some ps) → slice_get (map (records_at l cs) ms) c ≡ Some (Some (map (λ (q : Place). record_of l (words_at cs q.at)) ps))
+pub get_row : (l : Layout) (cs : Cells) (ms : Made) (c : ℕ) (ps : List Address) → slice_get ms c ≡ Some (Some ps) → slice_get (map (records_at l cs) ms) c ≡ Some (Some (map (λ (q : Address). record_of l (words_at cs q.at)) ps))
 get_row l cs [] c ps h = cc
 get_row l cs (m ∷ ms) zero ps h = let e : m ≡ Some ps = cc in ap (λ o. Some (records_at l cs o)) e
 get_row l cs (m ∷ ms) (suc c) ps h = get_row l cs ms c ps h
@@ -73,7 +73,7 @@ notice_inside [] c h = cc
 notice_inside (k ∷ ks) zero h = omega arith
 notice_inside (k ∷ ks) (suc c) h = omega (arith, notice_inside ks c h)
 
-module _ (l : Layout) (cs : Cells) (sys : Ptr) (d : Directory) (ms : List Members) (K : Kept l cs sys d ms) (i : ℕ) (p : Place) (g : Lists d i p) where
+module _ (l : Layout) (cs : Cells) (sys : Ptr) (d : Directory) (ms : List Members) (K : Kept l cs sys d ms) (i : ℕ) (p : Address) (g : Lists d i p) where
   -- the number k of the head of the block is written
   module _ (k w : ℕ) (low : 2 ≤ k) (high : k < links_start l (class_at cs p)) where
     abbrev ds : Cells
@@ -110,8 +110,8 @@ module _ (l : Layout) (cs : Cells) (sys : Ptr) (d : Directory) (ms : List Member
           let two = permanents_same l cs sys d ms K ds i p g (written_put cs p.at k (number w)) class_put form_put links_put m in
           λ t. record (state_of l cs d ms) { records = one t; permanents = two t }
 
-      pub state_made : (c : ℕ) (ps : List Place) → slice_get d.classes c ≡ Some (Some ps) → slice_get ps i ≡ Some p
-          → state_of l ds d ms ≡ record (state_of l cs d ms) { permanents = slice_set (map (records_at l cs) d.classes) c (Some (slice_set (map (λ (q : Place). record_of l (words_at cs q.at)) ps) i r)) }
+      pub state_made : (c : ℕ) (ps : List Address) → slice_get d.classes c ≡ Some (Some ps) → slice_get ps i ≡ Some p
+          → state_of l ds d ms ≡ record (state_of l cs d ms) { permanents = slice_set (map (records_at l cs) d.classes) c (Some (slice_set (map (λ (q : Address). record_of l (words_at cs q.at)) ps) i r)) }
       state_made c ps m h =
           let one = records_same l cs sys d ms K ds i p g (written_put cs p.at k (number w)) class_put form_put links_put c ps m h in
           let two = permanents_written l cs sys d ms K ds i p g (written_put cs p.at k (number w)) class_put form_put links_put c ps m h r read_put in
@@ -151,7 +151,7 @@ module _ (l : Layout) (cs : Cells) (sys : Ptr) (d : Directory) (ms : List Member
                 let row = get_row l cs d.classes c ps (subst (λ a. slice_get d.classes a ≡ Some (Some ps)) same m) in
                 with_permanent (state_of l cs d ms) (kind_of l c) c (number_in x) new (subst (λ a. IsPermanent (kind_of l a)) same y.permanent)
                 ∙ ap (λ o. record (state_of l cs d ms) { permanents = slice_set (map (records_at l cs) d.classes) c (with_indexed o (number_in x) new) }) row
-                ∙ ap (λ j. record (state_of l cs d ms) { permanents = slice_set (map (records_at l cs) d.classes) c (Some (slice_set (map (λ (q : Place). record_of l (words_at cs q.at)) ps) j new)) }) n
+                ∙ ap (λ j. record (state_of l cs d ms) { permanents = slice_set (map (records_at l cs) d.classes) c (Some (slice_set (map (λ (q : Address). record_of l (words_at cs q.at)) ps) j new)) }) n
                 ∙ sym (state_made (2 + f) w (omega arith) field_in new value c ps (subst (λ a. slice_get d.classes a ≡ Some (Some ps)) same m) h)
 
     module _ (found : entity (state_of l cs d ms) c x ≡ Ok (record_of l (words_at cs p.at))) (f : ℕ) (m : Mode) (mode : slice_get (modes_of l c) f ≡ Some m) where

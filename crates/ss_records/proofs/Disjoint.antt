@@ -8,7 +8,7 @@ use Rattle.ss_base.specs.declared.layout.Owner.{Owner}
 use Rattle.ss_base.specs.declared.layout.Owner.TheVariants.{System, Class}
 use Rattle.ss_base.specs.declared.layout.SetLayout.{SetLayout}
 use Rattle.ss_base.specs.declared.layout.Layout.{Layout}
-use Rattle.ss_records.specs.declared.store.Place.{Place}
+use Rattle.ss_records.specs.declared.store.Address.{Address}
 use Rattle.ss_records.specs.Cells.{Word, Cells, words_at, put_word}
 use Rattle.ss_states.specs.State.{Members}
 use Rattle.ss_records.specs.Shape.{links_start, owned_start, block_words, joins, owned_by, same_owner, count_before, count_sets}
@@ -82,15 +82,15 @@ lower s r n a b = by_less (ltb s r) refl where
   by_less true e = a (ltb-true s r e)
   by_less false e = b (omega (arith, n, ltb-false s r e))
 
-pub entry_of : (cs : Cells) (d : Directory) (c n : ℕ) → IsOf cs d c n → (i : ℕ) × (p : Place) × (n ≡ suc i) × (slice_get (listing d c) i ≡ Some (Some p)) × (class_at cs p ≡ c)
+pub entry_of : (cs : Cells) (d : Directory) (c n : ℕ) → IsOf cs d c n → (i : ℕ) × (p : Address) × (n ≡ suc i) × (slice_get (listing d c) i ≡ Some (Some p)) × (class_at cs p ≡ c)
 entry_of cs d c zero h = absurd h
 entry_of cs d c (suc i) h = cases (slice_get (listing d c) i) refl h where
-  cases : (o : Option (Option Place)) → slice_get (listing d c) i ≡ o → is_entry cs c o → (j : ℕ) × (p : Place) × (suc i ≡ suc j) × (slice_get (listing d c) j ≡ Some (Some p)) × (class_at cs p ≡ c)
+  cases : (o : Option (Option Address)) → slice_get (listing d c) i ≡ o → is_entry cs c o → (j : ℕ) × (p : Address) × (suc i ≡ suc j) × (slice_get (listing d c) j ≡ Some (Some p)) × (class_at cs p ≡ c)
   cases None e h = absurd h
   cases (Some None) e h = absurd h
   cases (Some (Some p)) e h = (i, p, refl, e, h)
 
-pub is_of : (cs : Cells) (d : Directory) (c i : ℕ) (p : Place) → slice_get (listing d c) i ≡ Some (Some p) → class_at cs p ≡ c → IsOf cs d c (suc i)
+pub is_of : (cs : Cells) (d : Directory) (c i : ℕ) (p : Address) → slice_get (listing d c) i ≡ Some (Some p) → class_at cs p ≡ c → IsOf cs d c (suc i)
 is_of cs d c i p g e = subst (is_entry cs c) (sym g) e
 
 module _ (l : Layout) (cs : Cells) (sys : Ptr) (d : Directory) (ms : List Members) (K : Kept l cs sys d ms) where
@@ -100,7 +100,7 @@ module _ (l : Layout) (cs : Cells) (sys : Ptr) (d : Directory) (ms : List Member
   abbrev home : Owner → ℕ → Ptr
   home = owner_at sys d
 
-  pub at_entry : (c n i : ℕ) (p : Place) → n ≡ suc i → slice_get (listing d c) i ≡ Some (Some p) → at c n ≡ p.at
+  pub at_entry : (c n i : ℕ) (p : Address) → n ≡ suc i → slice_get (listing d c) i ≡ Some (Some p) → at c n ≡ p.at
   at_entry c n i p e g = ap (at c) e ∙ ap place_in g
 
   pub apart_of : (c b x y : ℕ) → IsOf cs d c x → IsOf cs d b y → at c x ≡ at b y → (x ≡ y) × (c ≡ b)
@@ -152,7 +152,7 @@ module _ (l : Layout) (cs : Cells) (sys : Ptr) (d : Directory) (ms : List Member
     }
 
     -- no word of the name is in a block's head
-    pub above_head : (i : ℕ) (p : Place) (k : ℕ) → Lists d i p → k < links_start l (class_at cs p) → OfName l cs sys d s t p.at k → ⊥
+    pub above_head : (i : ℕ) (p : Address) (k : ℕ) → Lists d i p → k < links_start l (class_at cs p) → OfName l cs sys d s t p.at k → ⊥
     above_head i p k h small (inl m) =
         let q = (apart_of (class_at cs p) t.member (suc i) m.0 (is_of cs d (class_at cs p) i p (stands l cs sys d ms K i p h) refl) m.1 (ap place_in (stands l cs sys d ms K i p h) ∙ m.2)).1 in
         omega (arith, small, subst (λ c. links_start l c ≤ k) (sym q) (member_inside l s t k g m.3).0)

@@ -5,7 +5,7 @@ use denote.RawPtr.{Ptr}
 use Rattle.ss_base.specs.declared.layout.ClassLayout.{ClassLayout}
 use Rattle.ss_base.specs.declared.layout.Layout.{Layout}
 use Rattle.ss_base.specs.declared.layout.Owner.TheVariants.{System, Class}
-use Rattle.ss_records.specs.declared.store.Place.{Place}
+use Rattle.ss_records.specs.declared.store.Address.{Address}
 use Rattle.ss_records.specs.Cells.{Cells, words_at, blanks, without}
 use Rattle.ss_states.specs.State.{Members, not_made as unmade, living_numbers, made_entities, living_records}
 use Rattle.ss_records.specs.Shape.{block_words}
@@ -25,7 +25,7 @@ numbers_are l cs [] = refl
 numbers_are l cs (None ∷ ps) = numbers_are l cs ps
 numbers_are l cs (Some p ∷ ps) = ap suc (numbers_are l cs ps)
 
-length_row : (l : Layout) (cs : Cells) (ps : List Place) → length (map (λ (p : Place). record_of l (words_at cs p.at)) ps) ≡ length ps
+length_row : (l : Layout) (cs : Cells) (ps : List Address) → length (map (λ (p : Address). record_of l (words_at cs p.at)) ps) ≡ length ps
 length_row l cs [] = refl
 length_row l cs (p ∷ ps) = ap suc (length_row l cs ps)
 
@@ -38,7 +38,7 @@ pub living_is : (l : Layout) (cs : Cells) (d : Directory) (ms : List Members) �
 living_is l cs d ms = omega (arith, numbers_are l cs d.numbers, made_are l cs d.classes)
 
 -- nothing is listed at first
-nothing_made : (n c : ℕ) (ps : List Place) → slice_get (replicate n None) c ≡ Some (Some ps) → ⊥
+nothing_made : (n c : ℕ) (ps : List Address) → slice_get (replicate n None) c ≡ Some (Some ps) → ⊥
 nothing_made zero c ps h = cc
 nothing_made (suc n) zero ps h = cc
 nothing_made (suc n) (suc c) ps h = nothing_made n c ps h
@@ -47,11 +47,11 @@ none_counted : (n : ℕ) → made_count (replicate n None) ≡ 0
 none_counted zero = refl
 none_counted (suc n) = none_counted n
 
-length_none : (n : ℕ) → length (replicate {A = Option (List Place)} n None) ≡ n
+length_none : (n : ℕ) → length (replicate {A = Option (List Address)} n None) ≡ n
 length_none zero = refl
 length_none (suc n) = ap suc (length_none n)
 
-none_listed : (n i : ℕ) (p : Place) → Lists (lying [] (replicate n None)) i p → ⊥
+none_listed : (n i : ℕ) (p : Address) → Lists (lying [] (replicate n None)) i p → ⊥
 none_listed n i p (inl h) = cc
 none_listed n i p (inr h) = nothing_made n h.0 h.1 h.2
 
@@ -60,7 +60,7 @@ pub none_made : (l : Layout) (cs : Cells) (cl : List ClassLayout) → map (recor
 none_made l cs [] = refl
 none_made l cs (k ∷ ks) = ap (λ rs. None ∷ rs) (none_made l cs ks)
 
-pub kept_first : (l : Layout) (ds : Cells) (q : Place) (w : ℕ) → Small l → w ≡ block_words l System → LaidSystem l ((q.at, blanks w) ∷ []) ds q.at → Kept l ds q.at (lying [] (replicate (length l.classes) None)) []
+pub kept_first : (l : Layout) (ds : Cells) (q : Address) (w : ℕ) → Small l → w ≡ block_words l System → LaidSystem l ((q.at, blanks w) ∷ []) ds q.at → Kept l ds q.at (lying [] (replicate (length l.classes) None)) []
 kept_first l ds q w small size laid = record {
   small = small;
   issued = omega arith;
@@ -83,7 +83,7 @@ living_drop [] (suc i) h = refl
 living_drop (z ∷ zs) zero h = absurd (omega (arith, h))
 living_drop (z ∷ zs) (suc i) h = living_drop zs i (omega (arith, h))
 
-pub living_step : (d : Numbers) (i : ℕ) (p : Place) → slice_get d i ≡ Some (Some p) → living (drop i d) ≡ living (drop (i + 1) d) + 1
+pub living_step : (d : Numbers) (i : ℕ) (p : Address) → slice_get d i ≡ Some (Some p) → living (drop i d) ≡ living (drop (i + 1) d) + 1
 living_step [] i p h = cc
 living_step (None ∷ zs) zero p h = cc
 living_step (Some q ∷ zs) zero p h = omega arith
@@ -101,7 +101,7 @@ made_drop [] (suc c) h = refl
 made_drop (m ∷ ms) zero h = absurd (omega (arith, h))
 made_drop (m ∷ ms) (suc c) h = made_drop ms c (omega (arith, h))
 
-pub made_step : (ms : Made) (c : ℕ) (o : Option (List Place)) → slice_get ms c ≡ Some o → made_count (drop c ms) ≡ length (row_in (Some o)) + made_count (drop (c + 1) ms)
+pub made_step : (ms : Made) (c : ℕ) (o : Option (List Address)) → slice_get ms c ≡ Some o → made_count (drop c ms) ≡ length (row_in (Some o)) + made_count (drop (c + 1) ms)
 made_step [] c o h = cc
 made_step (None ∷ ms) zero None h = omega arith
 made_step (None ∷ ms) zero (Some ps) h = cc
@@ -117,7 +117,7 @@ pub nothing_left : (cs : Cells) (p : Ptr) → length cs ≡ 1 → 0 < length (wo
 nothing_left cs p h k = nothing (without cs p) (omega (arith, blocks_without cs p k, h))
 
 -- the blocks of the permanent entities, where the others were given back
-pub rows_held : (l : Layout) (cs bs : Cells) (sys : Ptr) (d : Directory) (ms : List Members) → Kept l cs sys d ms → ((i : ℕ) (p : Place) → IsMade d.classes i p → words_at bs p.at ≡ words_at cs p.at) → length bs ≡ made_count d.classes + 1 → RowsHeld l bs sys d.classes
+pub rows_held : (l : Layout) (cs bs : Cells) (sys : Ptr) (d : Directory) (ms : List Members) → Kept l cs sys d ms → ((i : ℕ) (p : Address) → IsMade d.classes i p → words_at bs p.at ≡ words_at cs p.at) → length bs ≡ made_count d.classes + 1 → RowsHeld l bs sys d.classes
 rows_held l cs bs sys d ms K same count = record {
   width = K.width;
   size = λ c i ps p m h. let x : IsMade d.classes i p = (c, ps, m, h) in ap length (same i p x) ∙ (K.formed i p (inr x)).size ∙ ap (λ b. block_words l (Class b)) ((K.made c ps m).class i p h);
@@ -130,11 +130,11 @@ rows_held l cs bs sys d ms K same count = record {
 }
 
 -- one more block of a number is given back
-module _ (l : Layout) (cs bs : Cells) (sys : Ptr) (d : Directory) (ms : List Members) (K : Kept l cs sys d ms) (i : ℕ) (p : Place) (g : slice_get d.numbers i ≡ Some (Some p)) (kept : (j : ℕ) (q : Place) → i ≤ j → slice_get d.numbers j ≡ Some (Some q) → words_at bs q.at ≡ words_at cs q.at) where
+module _ (l : Layout) (cs bs : Cells) (sys : Ptr) (d : Directory) (ms : List Members) (K : Kept l cs sys d ms) (i : ℕ) (p : Address) (g : slice_get d.numbers i ≡ Some (Some p)) (kept : (j : ℕ) (q : Address) → i ≤ j → slice_get d.numbers j ≡ Some (Some q) → words_at bs q.at ≡ words_at cs q.at) where
   pub still_here : words_at bs p.at ≡ words_at cs p.at
   still_here = kept i p (omega arith) g
 
-  pub kept_rest : (j : ℕ) (q : Place) → i + 1 ≤ j → slice_get d.numbers j ≡ Some (Some q) → words_at (without bs p.at) q.at ≡ words_at cs q.at
+  pub kept_rest : (j : ℕ) (q : Address) → i + 1 ≤ j → slice_get d.numbers j ≡ Some (Some q) → words_at (without bs p.at) q.at ≡ words_at cs q.at
   kept_rest j q h k = words_without bs p.at q.at (λ z. absurd (less_is_not i j h (K.apart i j p q (inl g) (inl k) z))) ∙ kept j q (omega (arith, h)) k where
     less_is_not : (a b : ℕ) → a + 1 ≤ b → a ≡ b → ⊥
     less_is_not a b x y = omega (arith, x, y)
@@ -142,7 +142,7 @@ module _ (l : Layout) (cs bs : Cells) (sys : Ptr) (d : Directory) (ms : List Mem
   pub kept_system : words_at bs sys ≡ words_at cs sys → words_at (without bs p.at) sys ≡ words_at cs sys
   kept_system h = words_without bs p.at sys (K.off_system i p (inl g)) ∙ h
 
-  pub kept_made : ((j : ℕ) (q : Place) → IsMade d.classes j q → words_at bs q.at ≡ words_at cs q.at) → (j : ℕ) (q : Place) → IsMade d.classes j q → words_at (without bs p.at) q.at ≡ words_at cs q.at
+  pub kept_made : ((j : ℕ) (q : Address) → IsMade d.classes j q → words_at bs q.at ≡ words_at cs q.at) → (j : ℕ) (q : Address) → IsMade d.classes j q → words_at (without bs p.at) q.at ≡ words_at cs q.at
   kept_made h j q m = words_without bs p.at q.at (not_made l cs sys d ms K i p g j q m) ∙ h j q m
 
   pub count_rest : length bs ≡ living (drop i d.numbers) + made_count d.classes + 1 → length (without bs p.at) ≡ living (drop (i + 1) d.numbers) + made_count d.classes + 1

@@ -3,7 +3,7 @@ use Rattle.std.proofs.Common.{◌≡◌, ℕ, zero, suc, ◌+◌, ◌<◌, ◌�
 use denote.RawPtr.{Ptr}
 use Rattle.ss_base.specs.declared.layout.Layout.{Layout}
 use Rattle.ss_base.specs.declared.layout.Owner.TheVariants.{Class}
-use Rattle.ss_records.specs.declared.store.Place.{Place}
+use Rattle.ss_records.specs.declared.store.Address.{Address}
 use Rattle.ss_records.specs.Cells.{Cells, words_at, word_of, blanks, without}
 use Rattle.ss_records.specs.Shape.{block_words}
 use Rattle.ss_records.specs.Laid.{Laid, Born, NoneAt, Placed, Unchanged, LaidTo}
@@ -17,19 +17,19 @@ place_at [] i q h = absurd (omega (arith, h))
 place_at (p ∷ ps) zero q h = refl
 place_at (p ∷ ps) (suc i) q h = place_at ps i q (omega (arith, h))
 
-abbrev pub AreApart : List Place → Type 0
-AreApart ps = (i j : ℕ) (p q : Place) → slice_get ps i ≡ Some p → slice_get ps j ≡ Some q → p.at ≡ q.at → i ≡ j
+abbrev pub AreApart : List Address → Type 0
+AreApart ps = (i j : ℕ) (p q : Address) → slice_get ps i ≡ Some p → slice_get ps j ≡ Some q → p.at ≡ q.at → i ≡ j
 
 -- the first n blocks at these places are given back
-pub record Backed (cs bs : Cells) (ps : List Place) (n : ℕ) : Type 0 where
-  pub rest : (j : ℕ) (p : Place) → n ≤ j → slice_get ps j ≡ Some p → words_at bs p.at ≡ words_at cs p.at
+pub record Backed (cs bs : Cells) (ps : List Address) (n : ℕ) : Type 0 where
+  pub rest : (j : ℕ) (p : Address) → n ≤ j → slice_get ps j ≡ Some p → words_at bs p.at ≡ words_at cs p.at
   pub others : (q : Ptr) → NoneAt ps q → words_at bs q ≡ words_at cs q
   pub count : length bs + n ≡ length cs
 
-pub backed_none : (cs : Cells) (ps : List Place) → Backed cs cs ps 0
+pub backed_none : (cs : Cells) (ps : List Address) → Backed cs cs ps 0
 backed_none cs ps = record { rest = λ j p h g. refl; others = λ q h. refl; count = omega arith }
 
-pub backed_more : (cs bs : Cells) (ps : List Place) (n : ℕ) (p : Place) → slice_get ps n ≡ Some p → AreApart ps → 0 < length (words_at cs p.at) → Backed cs bs ps n → Backed cs (without bs p.at) ps (n + 1)
+pub backed_more : (cs bs : Cells) (ps : List Address) (n : ℕ) (p : Address) → slice_get ps n ≡ Some p → AreApart ps → 0 < length (words_at cs p.at) → Backed cs bs ps n → Backed cs (without bs p.at) ps (n + 1)
 backed_more cs bs ps n p g apart some b = record {
   rest = λ j q h k. words_without bs p.at q.at (λ z. past n j h (apart n j p q g k z)) ∙ b.rest j q (omega (arith, h)) k;
   others = λ q h. words_without bs p.at q (λ z. h n p g z) ∙ b.others q h;
@@ -39,18 +39,18 @@ backed_more cs bs ps n p g apart some b = record {
   past x y h e = omega (arith, h, e)
 
 -- one more place
-get_last : (ps : List Place) (p q : Place) (i : ℕ) → slice_get (ps ++ p ∷ []) i ≡ Some q → ((i ≡ length ps) × (p ≡ q)) ⊎ (slice_get ps i ≡ Some q)
+get_last : (ps : List Address) (p q : Address) (i : ℕ) → slice_get (ps ++ p ∷ []) i ≡ Some q → ((i ≡ length ps) × (p ≡ q)) ⊎ (slice_get ps i ≡ Some q)
 get_last [] p q zero h = let e : p ≡ q = cc in inl (refl, e)
 get_last [] p q (suc i) h = cc
 get_last (r ∷ rs) p q zero h = inr h
 get_last (r ∷ rs) p q (suc i) h = elim (get_last rs p q i h) as (λ _. ((suc i ≡ length (r ∷ rs)) × (p ≡ q)) ⊎ (slice_get rs i ≡ Some q)) [ inl e ↦ inl (ap suc e.0, e.1) | inr k ↦ inr k ]
 
-get_before : (ps : List Place) (p : Place) (i : ℕ) (q : Place) → slice_get ps i ≡ Some q → slice_get (ps ++ p ∷ []) i ≡ Some q
+get_before : (ps : List Address) (p : Address) (i : ℕ) (q : Address) → slice_get ps i ≡ Some q → slice_get (ps ++ p ∷ []) i ≡ Some q
 get_before [] p i q h = cc
 get_before (r ∷ rs) p zero q h = h
 get_before (r ∷ rs) p (suc i) q h = get_before rs p i q h
 
-get_end : (ps : List Place) (p : Place) → slice_get (ps ++ p ∷ []) (length ps) ≡ Some p
+get_end : (ps : List Address) (p : Address) → slice_get (ps ++ p ∷ []) (length ps) ≡ Some p
 get_end [] p = refl
 get_end (r ∷ rs) p = get_end rs p
 
@@ -61,26 +61,26 @@ not_blank : (w : ℕ) → 0 < w → blanks w ≡ [] → ⊥
 not_blank zero h e = omega (arith, h)
 not_blank (suc n) h e = cc
 
-pub placed_more : (cs ds : Cells) (w : ℕ) (ps : List Place) (p : Place) → Placed cs ds w ps → words_at ds p.at ≡ [] → 0 < w → Placed cs ((p.at, blanks w) ∷ ds) w (ps ++ p ∷ [])
+pub placed_more : (cs ds : Cells) (w : ℕ) (ps : List Address) (p : Address) → Placed cs ds w ps → words_at ds p.at ≡ [] → 0 < w → Placed cs ((p.at, blanks w) ∷ ds) w (ps ++ p ∷ [])
 placed_more cs ds w ps p b free some = record {
-  fresh = λ i q h. by_place i q h (λ x y. subst (λ (r : Place). words_at cs r.at ≡ []) y (sym (b.others p.at off) ∙ free)) (λ x. b.fresh i q x);
+  fresh = λ i q h. by_place i q h (λ x y. subst (λ (r : Address). words_at cs r.at ≡ []) y (sym (b.others p.at off) ∙ free)) (λ x. b.fresh i q x);
   blank = λ i q h. by_place i q h
-      (λ x y. subst (λ (r : Place). words_at ((p.at, blanks w) ∷ ds) r.at ≡ blanks w) y (words_new ds p.at (blanks w)))
+      (λ x y. subst (λ (r : Address). words_at ((p.at, blanks w) ∷ ds) r.at ≡ blanks w) y (words_new ds p.at (blanks w)))
       (λ x. words_old ds p.at q.at (blanks w) (λ z. off i q x (sym z)) ∙ b.blank i q x);
   apart = λ i j q r h k z. by_place i q h
-      (λ x y. by_place j r k (λ x' y'. x ∙ sym x') (λ x'. absurd (off j r x' (sym z ∙ ap (λ (o : Place). o.at) (sym y)))))
-      (λ x. by_place j r k (λ x' y'. absurd (off i q x (z ∙ ap (λ (o : Place). o.at) (sym y')))) (λ x'. b.apart i j q r x x' z));
+      (λ x y. by_place j r k (λ x' y'. x ∙ sym x') (λ x'. absurd (off j r x' (sym z ∙ ap (λ (o : Address). o.at) (sym y)))))
+      (λ x. by_place j r k (λ x' y'. absurd (off i q x (z ∙ ap (λ (o : Address). o.at) (sym y')))) (λ x'. b.apart i j q r x x' z));
   others = λ q h. words_old ds p.at q (blanks w) (λ z. h (length ps) p (get_end ps p) z) ∙ b.others q (λ i r g. h i r (get_before ps p i r g));
   count = omega (arith, b.count, length-append ps (p ∷ []));
 } where
   off : NoneAt ps p.at
   off i q h z = not_blank w some (sym (b.blank i q h) ∙ ap (words_at ds) z ∙ free)
 
-  by_place : {P : Type 0} (i : ℕ) (q : Place) → slice_get (ps ++ p ∷ []) i ≡ Some q → ((i ≡ length ps) → (p ≡ q) → P) → (slice_get ps i ≡ Some q → P) → P
+  by_place : {P : Type 0} (i : ℕ) (q : Address) → slice_get (ps ++ p ∷ []) i ≡ Some q → ((i ≡ length ps) → (p ≡ q) → P) → (slice_get ps i ≡ Some q → P) → P
   by_place {P} i q h new was = elim (get_last ps p q i h) as (λ _. P) [ inl x ↦ new x.0 x.1 | inr x ↦ was x ]
 
 -- blank blocks that were given back
-pub unchanged_by : (cs ds es : Cells) (w : ℕ) (ps : List Place) → Placed cs ds w ps → ((q : Ptr) → NoneAt ps q → words_at es q ≡ words_at ds q) → length es + length ps ≡ length ds → Unchanged cs es
+pub unchanged_by : (cs ds es : Cells) (w : ℕ) (ps : List Address) → Placed cs ds w ps → ((q : Ptr) → NoneAt ps q → words_at es q ≡ words_at ds q) → length es + length ps ≡ length ds → Unchanged cs es
 unchanged_by cs ds es w ps b others count = record {
   words = λ q n. let none : NoneAt ps q = λ i p g z. n (subst (λ r. words_at cs r ≡ []) z (b.fresh i p g)) in others q none ∙ b.others q none;
   count = omega (arith, count, b.count);
@@ -102,13 +102,13 @@ born_same l ds es end p c n e b = record {
   same : (k : ℕ) → word_of (words_at es p) k ≡ word_of (words_at ds p) k
   same k = ap (λ us. word_of us k) e
 
-pub laid_none : (l : Layout) (cs : Cells) (end : Ptr) (ps : List Place) (c : ℕ) → LaidTo l cs cs end ps c 0
+pub laid_none : (l : Layout) (cs : Cells) (end : Ptr) (ps : List Address) (c : ℕ) → LaidTo l cs cs end ps c 0
 laid_none l cs end ps c = record { laid = λ i p g h. absurd (omega (arith, h)); rest = λ i p g h. refl; others = λ q h. refl; count = refl }
 
-pub laid_more : (l : Layout) (cs ds es : Cells) (end : Ptr) (ps : List Place) (c n : ℕ) (p : Place) → slice_get ps n ≡ Some p → AreApart ps → length (words_at ds p.at) ≡ block_words l (Class c) → LaidTo l cs ds end ps c n → Laid l ds es end p.at c (n + 1) → LaidTo l cs es end ps c (n + 1)
+pub laid_more : (l : Layout) (cs ds es : Cells) (end : Ptr) (ps : List Address) (c n : ℕ) (p : Address) → slice_get ps n ≡ Some p → AreApart ps → length (words_at ds p.at) ≡ block_words l (Class c) → LaidTo l cs ds end ps c n → Laid l ds es end p.at c (n + 1) → LaidTo l cs es end ps c (n + 1)
 laid_more l cs ds es end ps c n p g apart size b laid = record {
   laid = λ i q h k. by_same i n
-      (λ t z. let same : q ≡ p = cc_place i q h z in subst (λ (r : Place). Born l es end r.at c (suc i)) (sym same) (subst (λ j. Born l es end p.at c j) (next i z) born))
+      (λ t z. let same : q ≡ p = cc_place i q h z in subst (λ (r : Address). Born l es end r.at c (suc i)) (sym same) (subst (λ j. Born l es end p.at c j) (next i z) born))
       (λ t z. born_same l ds es end q.at c (suc i) (laid.written.others q.at (λ y. z (sym (apart n i p q g h y)))) (b.laid i q h (omega (arith, k, z))));
   rest = λ i q h k. laid.written.others q.at (λ y. past n i k (apart n i p q g h y)) ∙ b.rest i q h (omega (arith, k));
   others = λ q h. laid.written.others q (λ z. h n p g z) ∙ b.others q h;
@@ -120,9 +120,9 @@ laid_more l cs ds es end ps c n p g apart size b laid = record {
   next : (i : ℕ) → i ≡ n → n + 1 ≡ suc i
   next i z = omega (arith, z)
 
-  cc_place : (i : ℕ) (q : Place) → slice_get ps i ≡ Some q → i ≡ n → q ≡ p
+  cc_place : (i : ℕ) (q : Address) → slice_get ps i ≡ Some q → i ≡ n → q ≡ p
   cc_place i q h z = some_same (sym h ∙ ap (slice_get ps) z ∙ g) where
-    some_same : {x y : Place} → Some x ≡ Some y → x ≡ y
+    some_same : {x y : Address} → Some x ≡ Some y → x ≡ y
     some_same e = cc
 
   born : Born l es end p.at c (n + 1)

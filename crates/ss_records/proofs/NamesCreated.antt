@@ -5,7 +5,7 @@ use Rattle.ss_base.specs.declared.layout.Owner.{Owner}
 use Rattle.ss_base.specs.declared.layout.Owner.TheVariants.{System, Class}
 use Rattle.ss_base.specs.declared.layout.SetLayout.{SetLayout}
 use Rattle.ss_base.specs.declared.layout.Layout.{Layout}
-use Rattle.ss_records.specs.declared.store.Place.{Place}
+use Rattle.ss_records.specs.declared.store.Address.{Address}
 use Rattle.ss_records.specs.Cells.{Cells, words_at, word_of, word_at, link, counter}
 use Rattle.ss_states.specs.State.{Members, members_of}
 use Rattle.ss_records.specs.Shape.{owned_start, block_words, count_before, owned_by}
@@ -40,8 +40,8 @@ module _ (l : Layout) (cs : Cells) (sys : Ptr) (d : Directory) (ms : List Member
   Newborn ds b n p = Born l ds sys p b n × (IsOf cs d b n → ⊥)
 
   module _ (e : Directory) (ds : Cells) (words_sys : words_at ds sys ≡ words_at cs sys)
-      (which : (b i : ℕ) (p : Place) → slice_get (listing e b) i ≡ Some (Some p) → class_at ds p ≡ b → Newborn ds b (suc i) p.at ⊎ ((slice_get (listing d b) i ≡ Some (Some p)) × (words_at ds p.at ≡ words_at cs p.at)))
-      (still : (b i : ℕ) (p : Place) → slice_get (listing d b) i ≡ Some (Some p) → class_at cs p ≡ b → (slice_get (listing e b) i ≡ Some (Some p)) × (class_at ds p ≡ b)) where
+      (which : (b i : ℕ) (p : Address) → slice_get (listing e b) i ≡ Some (Some p) → class_at ds p ≡ b → Newborn ds b (suc i) p.at ⊎ ((slice_get (listing d b) i ≡ Some (Some p)) × (words_at ds p.at ≡ words_at cs p.at)))
+      (still : (b i : ℕ) (p : Address) → slice_get (listing d b) i ≡ Some (Some p) → class_at cs p ≡ b → (slice_get (listing e b) i ≡ Some (Some p)) × (class_at ds p ≡ b)) where
     abbrev at : ℕ → Ptr
     at = entity_at sys d t.member
 
@@ -69,7 +69,7 @@ module _ (l : Layout) (cs : Cells) (sys : Ptr) (d : Directory) (ms : List Member
     -- an entity of a class is a new one or an old one
     entity : (b n : ℕ) → IsOf ds e b n → Newborn ds b n (entity_at sys e b n) ⊎ ((IsOf cs d b n) × Old (entity_at sys d b) (entity_at sys e b) n)
     entity b n h = by_entry (entry_of ds e b n h) where
-      by_entry : (i : ℕ) × (p : Place) × (n ≡ suc i) × (slice_get (listing e b) i ≡ Some (Some p)) × (class_at ds p ≡ b) → Newborn ds b n (entity_at sys e b n) ⊎ ((IsOf cs d b n) × Old (entity_at sys d b) (entity_at sys e b) n)
+      by_entry : (i : ℕ) × (p : Address) × (n ≡ suc i) × (slice_get (listing e b) i ≡ Some (Some p)) × (class_at ds p ≡ b) → Newborn ds b n (entity_at sys e b n) ⊎ ((IsOf cs d b n) × Old (entity_at sys d b) (entity_at sys e b) n)
       by_entry (i, p, q, r, c) = elim (which b i p r c) as (λ _. Newborn ds b n (entity_at sys e b n) ⊎ ((IsOf cs d b n) × Old (entity_at sys d b) (entity_at sys e b) n)) [
         | inl x ↦ inl (subst (λ v. Newborn ds b v (entity_at sys e b v)) (sym q) (subst (λ v. Newborn ds b (suc i) v) (sym (ap place_in r)) x))
         | inr x ↦

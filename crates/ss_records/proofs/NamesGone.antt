@@ -5,7 +5,7 @@ use Rattle.ss_base.specs.declared.layout.Owner.{Owner}
 use Rattle.ss_base.specs.declared.layout.Owner.TheVariants.{System, Class}
 use Rattle.ss_base.specs.declared.layout.SetLayout.{SetLayout}
 use Rattle.ss_base.specs.declared.layout.Layout.{Layout}
-use Rattle.ss_records.specs.declared.store.Place.{Place}
+use Rattle.ss_records.specs.declared.store.Address.{Address}
 use Rattle.ss_records.specs.Cells.{Cells, words_at, word_of, word_at, link, counter}
 use Rattle.ss_states.specs.State.{Members, members_of}
 use Rattle.ss_records.specs.Shape.{owned_start, block_words, count_before, owned_by}
@@ -21,7 +21,7 @@ use Rattle.ss_records.proofs.Moved.{shows_moved}
 use Rattle.ss_records.proofs.Disjoint.{owner_inside, entry_of, is_of}
 use Rattle.ss_records.proofs.NamesCreated.{owned_words}
 
-module _ (l : Layout) (ds : Cells) (sys : Ptr) (bs : Cells) (laid : LaidSystem l bs ds sys) (d : Directory) (none : (c i : ℕ) (p : Place) → slice_get (listing d c) i ≡ Some (Some p) → ⊥) (s : ℕ) (t : SetLayout) (g : slice_get l.sets s ≡ Some t) where
+module _ (l : Layout) (ds : Cells) (sys : Ptr) (bs : Cells) (laid : LaidSystem l bs ds sys) (d : Directory) (none : (c i : ℕ) (p : Address) → slice_get (listing d c) i ≡ Some (Some p) → ⊥) (s : ℕ) (t : SetLayout) (g : slice_get l.sets s ≡ Some t) where
   none_of : (b n : ℕ) → IsOf ds d b n → ⊥
   none_of b n h = let a = entry_of ds d b n h in none b a.0 a.1 a.3
 
@@ -55,10 +55,10 @@ module _ (l : Layout) (ds : Cells) (sys : Ptr) (bs : Cells) (laid : LaidSystem l
   }
 
 module _ (l : Layout) (cs : Cells) (sys : Ptr) (d : Directory) (ms : List Members) (K : Kept l cs sys d ms) (s : ℕ) (t : SetLayout) (g : slice_get l.sets s ≡ Some t)
-    (ds : Cells) (e : Directory) (i : ℕ) (p : Place) (words_sys : words_at ds sys ≡ words_at cs sys)
+    (ds : Cells) (e : Directory) (i : ℕ) (p : Address) (words_sys : words_at ds sys ≡ words_at cs sys)
     (free : t.member ≡ class_at cs p → (o : ℕ) → NotIn (suc i) (members_of ms s o)) (owns : t.owner ≡ Class (class_at cs p) → members_of ms s (suc i) ≡ [])
-    (entry : (b j : ℕ) (q : Place) → slice_get (listing e b) j ≡ Some (Some q) → (slice_get (listing d b) j ≡ Some (Some q)) × (words_at ds q.at ≡ words_at cs q.at))
-    (other : (b j : ℕ) (q : Place) → slice_get (listing d b) j ≡ Some (Some q) → class_at cs q ≡ b → (j ≡ i → b ≡ class_at cs p → ⊥) → slice_get (listing e b) j ≡ Some (Some q)) where
+    (entry : (b j : ℕ) (q : Address) → slice_get (listing e b) j ≡ Some (Some q) → (slice_get (listing d b) j ≡ Some (Some q)) × (words_at ds q.at ≡ words_at cs q.at))
+    (other : (b j : ℕ) (q : Address) → slice_get (listing d b) j ≡ Some (Some q) → class_at cs q ≡ b → (j ≡ i → b ≡ class_at cs p → ⊥) → slice_get (listing e b) j ≡ Some (Some q)) where
   abbrev at : ℕ → Ptr
   at = entity_at sys d t.member
 

@@ -14,7 +14,7 @@ use Rattle.std.proofs.lemmas.Cmp.{nat_cmp_total}
 use Rattle.std.proofs.Math.Dec.{ltb}
 use Rattle.std.proofs.lemmas.List.Sums.{sum_by-cons}
 use Rattle.std.proofs.lemmas.Bool.{le-leb, leb-true, ltb-true, ltb-false}
-use Rattle.ss_records.specs.declared.store.Place.{Place}
+use Rattle.ss_records.specs.declared.store.Address.{Address}
 use Rattle.ss_records.specs.Places.{living}
 use Rattle.ss_records.specs.Pages.{Page, Pages, in_page, slot, page_of, entry, upto, Paged}
 use Rattle.ss_records.proofs.Same.{same, differs, equal, by_same}
@@ -88,33 +88,33 @@ none_living (None ∷ ps) zero h = refl
 none_living (None ∷ ps) (suc k) h = none_living ps k h
 none_living (Some q ∷ ps) k h = absurd (omega (arith, h))
 
-pub living_set : (p : Page) (k : ℕ) (q : Place) → slice_get p k ≡ Some None → living (slice_set p k (Some q)) ≡ living p + 1
+pub living_set : (p : Page) (k : ℕ) (q : Address) → slice_get p k ≡ Some None → living (slice_set p k (Some q)) ≡ living p + 1
 living_set [] k q h = cc
 living_set (None ∷ ps) zero q h = omega arith
 living_set (Some r ∷ ps) zero q h = cc
 living_set (None ∷ ps) (suc k) q h = living_set ps k q h
 living_set (Some r ∷ ps) (suc k) q h = omega (arith, living_set ps k q h)
 
-pub some_living : (p : Page) (k : ℕ) (q : Place) → slice_get p k ≡ Some (Some q) → 1 ≤ living p
+pub some_living : (p : Page) (k : ℕ) (q : Address) → slice_get p k ≡ Some (Some q) → 1 ≤ living p
 some_living p k q h = omega (arith, living_gone p k q h)
 
 pub living_none : (n : ℕ) → living (replicate n None) ≡ 0
 living_none zero = refl
 living_none (suc n) = living_none n
 
-pub length_none : (n : ℕ) → length (replicate {A = Option Place} n None) ≡ n
+pub length_none : (n : ℕ) → length (replicate {A = Option Address} n None) ≡ n
 length_none zero = refl
 length_none (suc n) = ap suc (length_none n)
 
 pub page_few : (p : Page) → length p ≡ 256 → living p ≤ 256
 page_few p h = omega (arith, living_bound p, h)
 
-slot_set : (p : Page) (k : ℕ) (v : Option Place) → k < length p → slot (Some (slice_set p k v)) k ≡ v
+slot_set : (p : Page) (k : ℕ) (v : Option Address) → k < length p → slot (Some (slice_set p k v)) k ≡ v
 slot_set [] k v h = absurd (less_zero k h)
 slot_set (x ∷ xs) zero v h = refl
 slot_set (x ∷ xs) (suc k) v h = slot_set xs k v (omega (arith, h))
 
-slot_other : (p : Page) (k : ℕ) (v : Option Place) (j : ℕ) → (k ≡ j → ⊥) → slot (Some (slice_set p k v)) j ≡ slot (Some p) j
+slot_other : (p : Page) (k : ℕ) (v : Option Address) (j : ℕ) → (k ≡ j → ⊥) → slot (Some (slice_set p k v)) j ≡ slot (Some p) j
 slot_other [] k v j n = refl
 slot_other (x ∷ xs) zero v zero n = absurd (n refl)
 slot_other (x ∷ xs) zero v (suc j) n = refl
@@ -156,7 +156,7 @@ by_part {P} start i here earlier = by_less (ltb i start) refl where
   by_less false e = here (ltb-false i start e)
 
 module _ (ps : Pages) (cur : Page) (start issued : ℕ) (P : Paged ps cur start issued) where
-  abbrev f : ℕ → Option Place
+  abbrev f : ℕ → Option Address
   f = entry ps cur start
 
   pub living_in_all : sum_by living (values_of ps) + living cur ≡ living (upto f issued)
@@ -166,7 +166,7 @@ module _ (ps : Pages) (cur : Page) (start issued : ℕ) (P : Paged ps cur start 
   pub next_slot : issued < start + 256 → slice_get cur (issued - start) ≡ Some None
   next_slot h = let k : issued - start < length cur = omega (arith, h, P.low, P.size) in slot_is cur (issued - start) k ∙ ap Some (P.rest (issued - start) (omega (arith, P.low)))
 
-  module _ (q : Place) (room : issued < start + 256) where
+  module _ (q : Address) (room : issued < start + 256) where
     abbrev cur' : Page
     cur' = slice_set cur (issued - start) (Some q)
 
@@ -266,13 +266,13 @@ module _ (ps : Pages) (cur : Page) (start issued : ℕ) (P : Paged ps cur start 
         the_same e = cc
 
   -- a number is let go of
-  module _ (i : ℕ) (p : Place) (g : slice_get (upto f issued) i ≡ Some (Some p)) where
+  module _ (i : ℕ) (p : Address) (g : slice_get (upto f issued) i ≡ Some (Some p)) where
     inside : i < issued
     inside = omega (arith, get_inside (upto f issued) i (Some p) g, upto_length f issued)
 
     is_there : f i ≡ Some p
     is_there = the_same (sym (upto_get f issued i inside) ∙ g) where
-      the_same : {v w : Option Place} → Some v ≡ Some w → v ≡ w
+      the_same : {v w : Option Address} → Some v ≡ Some w → v ≡ w
       the_same e = cc
 
     pub gone : living (slice_set (upto f issued) i None) + 1 ≡ living (upto f issued)
@@ -314,7 +314,7 @@ module _ (ps : Pages) (cur : Page) (start issued : ℕ) (P : Paged ps cur start 
 
       pub its_page : (pg : Page) × (page_of ps q ≡ Some pg) × (length pg ≡ 256) × (slice_get pg (i % 256) ≡ Some (Some p))
       its_page = by_case (page_of ps q) refl where
-        clash : {o : Option Place} → o ≡ None → o ≡ Some p → ⊥
+        clash : {o : Option Address} → o ≡ None → o ≡ Some p → ⊥
         clash e k = none_some (sym e ∙ k) where
           none_some : None ≡ Some p → ⊥
           none_some z = cc
@@ -372,10 +372,10 @@ module _ (ps : Pages) (cur : Page) (start issued : ℕ) (P : Paged ps cur start 
     pub room_current : start ≤ i → i - start < 256
     room_current a = omega (arith, a, inside_of, P.high)
 
-    pub read_current : start ≤ i → (e : Option Place) → slice_get cur (i - start) ≡ Some e → slice_get (upto (entry ps cur start) issued) i ≡ Some e
+    pub read_current : start ≤ i → (e : Option Address) → slice_get cur (i - start) ≡ Some e → slice_get (upto (entry ps cur start) issued) i ≡ Some e
     read_current a e g = upto_get (entry ps cur start) issued i inside_of ∙ ap Some (at_current ps cur start i a ∙ ap in_page g)
 
-    pub read_earlier : i < start → (p : Page) → page_of ps (i / 256) ≡ Some p → (e : Option Place) → slice_get p (i % 256) ≡ Some e → slice_get (upto (entry ps cur start) issued) i ≡ Some e
+    pub read_earlier : i < start → (p : Page) → page_of ps (i / 256) ≡ Some p → (e : Option Address) → slice_get p (i % 256) ≡ Some e → slice_get (upto (entry ps cur start) issued) i ≡ Some e
     read_earlier a p w e g = upto_get (entry ps cur start) issued i inside_of ∙ ap Some (at_earlier ps cur start i a ∙ ap (λ o. slot o (i % 256)) w ∙ ap in_page g)
 
     pub read_none : i < start → page_of ps (i / 256) ≡ None → slice_get (upto (entry ps cur start) issued) i ≡ Some None
@@ -402,7 +402,7 @@ paged_first = record {
 
 -- ## A number of an earlier page is let go of
 
-module _ (ps : Pages) (cur : Page) (start issued : ℕ) (P : Paged ps cur start issued) (i : ℕ) (p : Place) (g : slice_get (upto (entry ps cur start) issued) i ≡ Some (Some p)) (a : i < start) where
+module _ (ps : Pages) (cur : Page) (start issued : ℕ) (P : Paged ps cur start issued) (i : ℕ) (p : Address) (g : slice_get (upto (entry ps cur start) issued) i ≡ Some (Some p)) (a : i < start) where
   abbrev found : (pg : Page) × (page_of ps (i / 256) ≡ Some pg) × (length pg ≡ 256) × (slice_get pg (i % 256) ≡ Some (Some p))
   found = its_page ps cur start issued P i p g a
 

@@ -1,14 +1,18 @@
 -- What a plan holds, and how far the words of a layout reach.
-use Rattle.std.proofs.Common.{◌≡◌, ℕ, zero, suc, ◌<◌, ◌≤◌, Bool, true, false, List, [], ◌∷◌, ◌++◌, length, Some, slice_get, refl, ◌∙◌, arith}
-use Rattle.std.specs.Prelude.{cond, slice_index_or}
+use Rattle.std.proofs.Common.{◌≡◌, ℕ, zero, suc, ◌^◌, ◌<◌, ◌≤◌, nat_le, Bool, true, false, ◌&&◌, List, [], ◌∷◌, ◌++◌, length, Some, slice_get, refl, ◌∙◌, arith}
+use Rattle.std.specs.Prelude.{cond, IsTrue, slice_index_or}
+use Rattle.std.specs.List.{list_all}
+use Rattle.std.proofs.lemmas.Bool.{and_parts, leb-true}
 use Rattle.std.proofs.lemmas.Option.{slice_get_within, get_or_from_slice_get}
 use Rattle.ss_base.specs.declared.layout.Owner.{Owner}
 use Rattle.ss_base.specs.declared.layout.Owner.TheVariants.{System, Class}
 use Rattle.ss_base.specs.declared.layout.SetLayout.{SetLayout}
 use Rattle.ss_base.specs.declared.layout.Layout.{Layout}
+use Rattle.ss_base.specs.Layout.{is_layout, is_narrow, is_sound}
+use Rattle.ss_base.specs.Plain.{PlainClass}
 use Rattle.ss_records.specs.declared.plan.Extent.{Extent}
 use Rattle.ss_records.specs.declared.plan.Bases.{Bases}
-use Rattle.ss_states.specs.State.{kind_of, is_notice}
+use Rattle.ss_states.specs.State.{kind_of, is_notice, modes_in}
 use Rattle.ss_records.specs.Shape.{links_start, owned_start, joins, owned_by, count_before, count_sets}
 use Rattle.ss_records.specs.Kept.{Small}
 use Rattle.ss_records.specs.Slotted.{member_base, owner_base}
@@ -27,6 +31,29 @@ few_before : (p : SetLayout → Bool) (ts : List SetLayout) (s : ℕ) → count_
 few_before p [] s = omega arith
 few_before p (t ∷ ts) zero = omega arith
 few_before p (t ∷ ts) (suc s) = omega (arith, few_before p ts s, one (p t))
+
+-- ---- a heap serves every layout
+
+fields_small : (cs : List PlainClass) → list_all is_narrow cs ≡ true → (c : ℕ) → length (modes_in (slice_get cs c)) ≤ 2 ^ 20
+fields_small [] h c = omega arith
+fields_small (x ∷ cs) h zero =
+    let few = leb-true (length x.fields) 1048576 (and_parts (is_narrow x) (list_all is_narrow cs) h).0 in
+    omega (arith, few)
+fields_small (x ∷ cs) h (suc c) = fields_small cs (and_parts (is_narrow x) (list_all is_narrow cs) h).1 c
+
+pub small_law : (l : Layout) → IsTrue (is_layout l) → Small l
+small_law l h =
+    let narrow = list_all is_narrow l.classes in
+    let sets = nat_le (length l.sets) 1048576 in
+    let classes = nat_le (length l.classes) 1048576 in
+    let a = and_parts (is_sound l) (classes && (sets && narrow)) h in
+    let b = and_parts classes (sets && narrow) a.1 in
+    let c = and_parts sets narrow b.1 in
+    let few_classes = leb-true (length l.classes) 1048576 b.0 in
+    let few_sets = leb-true (length l.sets) 1048576 c.0 in
+    record { sound = a.0; classes = omega (arith, few_classes); sets = omega (arith, few_sets); fields = fields_small l.classes c.1 }
+
+-- ---- how far words reach
 
 pub links_reach : (l : Layout) → Small l → (c : ℕ) → links_start l c ≤ 1048579
 links_reach l h c = omega (arith, h.fields c, one (is_notice (kind_of l c)))

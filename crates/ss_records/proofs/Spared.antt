@@ -4,7 +4,7 @@ use Rattle.std.specs.Prelude.{Option}
 use denote.RawPtr.{Ptr}
 use Rattle.ss_base.specs.declared.layout.SetLayout.{SetLayout}
 use Rattle.ss_base.specs.declared.layout.Layout.{Layout}
-use Rattle.ss_records.specs.declared.store.Place.{Place}
+use Rattle.ss_records.specs.declared.store.Address.{Address}
 use Rattle.ss_records.specs.Cells.{Cells, IsNumber, words_at, word_at}
 use Rattle.ss_states.specs.State.{Members, kind_of, members_of}
 use Rattle.ss_records.specs.Shape.{links_start}
@@ -21,13 +21,13 @@ use Rattle.ss_records.proofs.NamesKept.{of_back, of_on, own_back, own_on, names_
 use Rattle.ss_records.proofs.Disjoint.{above_head, above_end, names_apart}
 
 module _ (l : Layout) (cs : Cells) (sys : Ptr) (d : Directory) (ms : List Members) (K : Kept l cs sys d ms) (s : ℕ) (t : SetLayout) (g : slice_get l.sets s ≡ Some t) (ds : Cells) (h : Spares (OfName l cs sys d s t) cs ds) where
-  head_same : (j : ℕ) (q : Place) → Lists d j q → (k : ℕ) → k < links_start l (class_at cs q) → word_at ds q.at k ≡ word_at cs q.at k
+  head_same : (j : ℕ) (q : Address) → Lists d j q → (k : ℕ) → k < links_start l (class_at cs q) → word_at ds q.at k ≡ word_at cs q.at k
   head_same j q e k low = h.word q.at k (λ o. above_head l cs sys d ms K s t g j q k e low o)
 
-  pub class_spared : (j : ℕ) (q : Place) → Lists d j q → class_at ds q ≡ class_at cs q
+  pub class_spared : (j : ℕ) (q : Address) → Lists d j q → class_at ds q ≡ class_at cs q
   class_spared j q e = ap plain (head_same j q e 0 (omega arith))
 
-  formed_spared : (j : ℕ) (q : Place) → Lists d j q → Formed l (class_at cs q) (suc j) (words_at ds q.at)
+  formed_spared : (j : ℕ) (q : Address) → Lists d j q → Formed l (class_at cs q) (suc j) (words_at ds q.at)
   formed_spared j q e = let f = K.formed j q e in record {
     size = h.size q.at ∙ f.size;
     class = head_same j q e 0 (omega arith) ∙ f.class;
@@ -43,7 +43,7 @@ module _ (l : Layout) (cs : Cells) (sys : Ptr) (d : Directory) (ms : List Member
       (λ o k. inl (own_back cs ds d class_spared u.owner o k, refl, refl, refl, refl))
       (λ o y k. let e = n.members o y k in (of_on cs ds d class_spared u.member y e.0, own_on cs ds d class_spared u.owner o e.2))
 
-  made_spared : (c : ℕ) (ps : List Place) → slice_get d.classes c ≡ Some (Some ps) → MadeOf l ds c ps
+  made_spared : (c : ℕ) (ps : List Address) → slice_get d.classes c ≡ Some (Some ps) → MadeOf l ds c ps
   made_spared c ps e = let m = K.made c ps e in record { permanent = m.permanent; class = λ j q h. class_spared j q (inr (c, ps, e, h)) ∙ m.class j q h; few = m.few }
 
   pub kept_spared : (ns : List Members) → NameKept l ds sys d ns s t → ((r p : ℕ) → (s ≡ r → ⊥) → members_of ns r p ≡ members_of ms r p) → Kept l ds sys d ns
@@ -69,12 +69,12 @@ module _ (l : Layout) (cs : Cells) (sys : Ptr) (d : Directory) (ms : List Member
     same_set : {v w : SetLayout} → Some v ≡ Some w → v ≡ w
     same_set e = cc
 
-  read_spared : (j : ℕ) (q : Place) → Lists d j q → record_of l (words_at ds q.at) ≡ record_of l (words_at cs q.at)
+  read_spared : (j : ℕ) (q : Address) → Lists d j q → record_of l (words_at ds q.at) ≡ record_of l (words_at cs q.at)
   read_spared j q e = record_same l (words_at cs q.at) (words_at ds q.at) (λ k low. head_same j q e k low)
 
   pub records_spared : map (record_at l ds) d.numbers ≡ map (record_at l cs) d.numbers
   records_spared = map_same (record_at l cs) (record_at l ds) d.numbers entry where
-    entry : (j : ℕ) (q : Option Place) → slice_get d.numbers j ≡ Some q → record_at l ds q ≡ record_at l cs q
+    entry : (j : ℕ) (q : Option Address) → slice_get d.numbers j ≡ Some q → record_at l ds q ≡ record_at l cs q
     entry j None e = refl
     entry j (Some q) e = ap Some (read_spared j q (inl e))
 

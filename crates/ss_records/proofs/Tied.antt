@@ -5,7 +5,7 @@ use denote.RawPtr.{Ptr}
 use Rattle.ss_base.specs.declared.layout.Owner.TheVariants.{Class}
 use Rattle.ss_base.specs.declared.layout.SetLayout.{SetLayout}
 use Rattle.ss_base.specs.declared.layout.Layout.{Layout}
-use Rattle.ss_records.specs.declared.store.Place.{Place}
+use Rattle.ss_records.specs.declared.store.Address.{Address}
 use Rattle.ss_records.specs.Cells.{Word, number, counter, link, Cells, IsLink, IsCounter, word_at}
 use Rattle.ss_states.specs.State.{Members, members_of, is_filed, has_members}
 use Rattle.ss_records.specs.Shape.{count_before, count_sets}
@@ -36,7 +36,7 @@ counter_is {m} {n} e = ap (λ w. counted w) e where
   counted (counter k) = k
   counted w = 0
 
-module _ (l : Layout) (cs : Cells) (sys : Ptr) (d : Directory) (ms : List Members) (K : Kept l cs sys d ms) (s : ℕ) (t : SetLayout) (g : slice_get l.sets s ≡ Some t) (i : ℕ) (p : Place) (e : Lists d i p) where
+module _ (l : Layout) (cs : Cells) (sys : Ptr) (d : Directory) (ms : List Members) (K : Kept l cs sys d ms) (s : ℕ) (t : SetLayout) (g : slice_get l.sets s ≡ Some t) (i : ℕ) (p : Address) (e : Lists d i p) where
   abbrev at : ℕ → Ptr
   at = entity_at sys d t.member
 

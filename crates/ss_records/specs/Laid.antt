@@ -3,7 +3,7 @@ use Rattle.std.specs.Prelude.{◌≡◌, ℕ, zero, suc, ◌+◌, ◌-◌, ◌<�
 use denote.RawPtr.{Ptr}
 use Rattle.ss_records.specs.Cells.{Word, number, counter, link, Cells, words_at, word_at, blanks}
 use Rattle.ss_base.specs.declared.layout.Layout.{Layout}
-use Rattle.ss_records.specs.declared.store.Place.{Place}
+use Rattle.ss_records.specs.declared.store.Address.{Address}
 use Rattle.ss_base.specs.declared.layout.Owner.TheVariants.{System, Class}
 use Rattle.ss_records.specs.Shape.{links_start, owned_start, block_words}
 use Rattle.ss_records.specs.Kept.{Written}
@@ -55,14 +55,14 @@ pub record Born (l : Layout) (ds : Cells) (end p : Ptr) (c n : ℕ) : Type 0 whe
   pub links : (k : ℕ) → links_start l c ≤ k → k < owned_start l (Class c) → word_at ds p k ≡ link p
   pub owned : (k : ℕ) → owned_start l (Class c) ≤ k → k < block_words l (Class c) → word_at ds p k ≡ owned_from end (owned_start l (Class c)) k
 
-abbrev pub NoneAt : List Place → Ptr → Type 0
-NoneAt ps q = (i : ℕ) (p : Place) → slice_get ps i ≡ Some p → p.at ≡ q → ⊥
+abbrev pub NoneAt : List Address → Ptr → Type 0
+NoneAt ps q = (i : ℕ) (p : Address) → slice_get ps i ≡ Some p → p.at ≡ q → ⊥
 
 -- blank blocks of w words each are new at these places
-pub record Placed (cs ds : Cells) (w : ℕ) (ps : List Place) : Type 0 where
-  pub fresh : (i : ℕ) (p : Place) → slice_get ps i ≡ Some p → words_at cs p.at ≡ []
-  pub blank : (i : ℕ) (p : Place) → slice_get ps i ≡ Some p → words_at ds p.at ≡ blanks w
-  pub apart : (i j : ℕ) (p q : Place) → slice_get ps i ≡ Some p → slice_get ps j ≡ Some q → p.at ≡ q.at → i ≡ j
+pub record Placed (cs ds : Cells) (w : ℕ) (ps : List Address) : Type 0 where
+  pub fresh : (i : ℕ) (p : Address) → slice_get ps i ≡ Some p → words_at cs p.at ≡ []
+  pub blank : (i : ℕ) (p : Address) → slice_get ps i ≡ Some p → words_at ds p.at ≡ blanks w
+  pub apart : (i j : ℕ) (p q : Address) → slice_get ps i ≡ Some p → slice_get ps j ≡ Some q → p.at ≡ q.at → i ≡ j
   pub others : (q : Ptr) → NoneAt ps q → words_at ds q ≡ words_at cs q
   pub count : length ds ≡ length cs + length ps
 
@@ -72,9 +72,9 @@ pub record Unchanged (cs ds : Cells) : Type 0 where
   pub count : length ds ≡ length cs
 
 -- the first n of the blocks at these places have become those of the entities 1 to n of the class c
-pub record LaidTo (l : Layout) (cs ds : Cells) (end : Ptr) (ps : List Place) (c n : ℕ) : Type 0 where
-  pub laid : (i : ℕ) (p : Place) → slice_get ps i ≡ Some p → i < n → Born l ds end p.at c (suc i)
-  pub rest : (i : ℕ) (p : Place) → slice_get ps i ≡ Some p → n ≤ i → words_at ds p.at ≡ words_at cs p.at
+pub record LaidTo (l : Layout) (cs ds : Cells) (end : Ptr) (ps : List Address) (c n : ℕ) : Type 0 where
+  pub laid : (i : ℕ) (p : Address) → slice_get ps i ≡ Some p → i < n → Born l ds end p.at c (suc i)
+  pub rest : (i : ℕ) (p : Address) → slice_get ps i ≡ Some p → n ≤ i → words_at ds p.at ≡ words_at cs p.at
   pub others : (q : Ptr) → NoneAt ps q → words_at ds q ≡ words_at cs q
   pub count : length ds ≡ length cs
 

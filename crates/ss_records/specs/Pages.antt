@@ -4,28 +4,28 @@ use Rattle.std.specs.Ordering.{nat_cmp}
 use Rattle.std.specs.BTreeMap.{is_at}
 use Rattle.std.specs.Map.{lookup, values_of}
 use Rattle.std.specs.List.{sum_by}
-use Rattle.ss_records.specs.declared.store.Place.{Place}
+use Rattle.ss_records.specs.declared.store.Address.{Address}
 use Rattle.ss_records.specs.Places.{living}
 
 -- what a contract sees of the directory: the place of each number, none where it is destroyed; how many pages
 -- are held; where the page of the next number begins
 pub record Listed : Type 0 where
-  pub places : List (Option Place)
+  pub places : List (Option Address)
   pub pages : ℕ
   pub start : ℕ
 
 abbrev pub Page : Type 0
-Page = List (Option Place)
+Page = List (Option Address)
 
 abbrev pub Pages : Type 0
 Pages = List (ℕ × Page)
 
-abbrev pub in_page : Option (Option Place) → Option Place
+abbrev pub in_page : Option (Option Address) → Option Address
 in_page None = None
 in_page (Some p) = p
 
 -- the place of the number k of a page, none where there is no page
-abbrev pub slot : Option Page → ℕ → Option Place
+abbrev pub slot : Option Page → ℕ → Option Address
 slot None k = None
 slot (Some p) k = in_page (slice_get p k)
 
@@ -33,7 +33,7 @@ abbrev pub page_of : Pages → ℕ → Option Page
 page_of ps q = lookup (is_at (nat_cmp q)) ps
 
 -- the place of the number i, from 0 on. The current page begins at `start`
-abbrev pub entry : Pages → Page → ℕ → ℕ → Option Place
+abbrev pub entry : Pages → Page → ℕ → ℕ → Option Address
 entry ps cur start i = cond (nat_le start i) (slot (Some cur) (i - start)) (slot (page_of ps (i / 256)) (i % 256))
 
 -- f 0, f 1 .. up to f (n - 1)

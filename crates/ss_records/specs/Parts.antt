@@ -1,6 +1,6 @@
 -- The parts of a heap, and what its contracts see of them.
 use Rattle.std.specs.Prelude.{◌≡◌, ℕ, suc, ℤ, pos, List, ◌∷◌, ◌++◌, length, slice_get, Some, Ok}
-use Rattle.ss_records.specs.declared.store.Place.{Place}
+use Rattle.ss_records.specs.declared.store.Address.{Address}
 use Rattle.ss_records.specs.declared.records.Records.{Records}
 use Rattle.ss_records.specs.declared.links.Entry.{Entry}
 use Rattle.ss_states.specs.State.{State, Heaped, entity, notice, members_of}
@@ -26,7 +26,7 @@ abbrev pub heaped : Records → Heaped
 heaped r = record { state = state r; touches = r.blocks.touches; total = r.blocks.total; pages = r.directory.pages; blocks = length r.blocks.cells }
 
 -- p is the place of the entity x of the class c
-pub record Found (r : Records) (c : ℕ) (x : ℤ) (p : Place) : Type 0 where
+pub record Found (r : Records) (c : ℕ) (x : ℤ) (p : Address) : Type 0 where
   pub index : ℕ
   pub is : x ≡ pos (suc index)
   pub entry : Lists (places r) index p
@@ -34,7 +34,7 @@ pub record Found (r : Records) (c : ℕ) (x : ℤ) (p : Place) : Type 0 where
   pub entity : entity (state r) c x ≡ Ok (record_of r.layout (words_at r.blocks.cells p.at))
 
 -- p is the place of the notice x
-pub record FoundNotice (r : Records) (x : ℤ) (p : Place) : Type 0 where
+pub record FoundNotice (r : Records) (x : ℤ) (p : Address) : Type 0 where
   pub index : ℕ
   pub is : x ≡ pos (suc index)
   pub entry : slice_get r.directory.places index ≡ Some (Some p)

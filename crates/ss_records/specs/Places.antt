@@ -3,16 +3,16 @@ use Rattle.std.specs.Prelude.{◌≡◌, ℕ, zero, suc, ◌+◌, List, [], ◌�
 use denote.RawPtr.{Ptr, null_ptr}
 use Rattle.ss_base.specs.declared.layout.Owner.{Owner}
 use Rattle.ss_base.specs.declared.layout.Owner.TheVariants.{System, Class}
-use Rattle.ss_records.specs.declared.store.Place.{Place}
+use Rattle.ss_records.specs.declared.store.Address.{Address}
 use Rattle.ss_records.specs.Cells.{Cells, words_at}
 use Rattle.ss_records.specs.Reading.{class_of}
 
 abbrev pub Numbers : Type 0
-Numbers = List (Option Place)
+Numbers = List (Option Address)
 
 -- the permanent entities of each class by index, none until they are made
 abbrev pub Made : Type 0
-Made = List (Option (List Place))
+Made = List (Option (List Address))
 
 -- the places of the creation numbers, none where one is destroyed, and those of the permanent entities
 pub record Directory : Type 0 where
@@ -22,7 +22,7 @@ pub record Directory : Type 0 where
 abbrev pub lying : Numbers → Made → Directory
 lying ns ms = record { numbers = ns; classes = ms }
 
-abbrev pub own_or : Numbers → Option (Option (List Place)) → Numbers
+abbrev pub own_or : Numbers → Option (Option (List Address)) → Numbers
 own_or ns None = ns
 own_or ns (Some None) = ns
 own_or ns (Some (Some ps)) = map Some ps
@@ -32,14 +32,14 @@ abbrev pub listing : Directory → ℕ → Numbers
 listing d c = own_or d.numbers (slice_get d.classes c)
 
 -- p is the place of the permanent entity i + 1 of some class
-abbrev pub IsMade : Made → ℕ → Place → Type 0
-IsMade ms i p = (c : ℕ) × (ps : List Place) × (slice_get ms c ≡ Some (Some ps)) × (slice_get ps i ≡ Some p)
+abbrev pub IsMade : Made → ℕ → Address → Type 0
+IsMade ms i p = (c : ℕ) × (ps : List Address) × (slice_get ms c ≡ Some (Some ps)) × (slice_get ps i ≡ Some p)
 
 -- p is the place of some entity of the number i + 1
-abbrev pub Lists : Directory → ℕ → Place → Type 0
+abbrev pub Lists : Directory → ℕ → Address → Type 0
 Lists d i p = (slice_get d.numbers i ≡ Some (Some p)) ⊎ IsMade d.classes i p
 
-abbrev pub place_in : Option (Option Place) → Ptr
+abbrev pub place_in : Option (Option Address) → Ptr
 place_in None = null_ptr
 place_in (Some None) = null_ptr
 place_in (Some (Some p)) = p.at
@@ -59,7 +59,7 @@ owner_at sys d System n = sys
 owner_at sys d (Class c) n = entity_at sys d c n
 
 -- the class that the words of a block give
-abbrev pub class_at : Cells → Place → ℕ
+abbrev pub class_at : Cells → Address → ℕ
 class_at cs p = class_of (words_at cs p.at)
 
 abbrev pub living : Numbers → ℕ

@@ -10,7 +10,7 @@ use Rattle.ss_base.specs.Room.{before_zero}
 use Rattle.ss_base.specs.declared.layout.Mode.{Mode}
 use Rattle.ss_base.specs.declared.layout.Mode.TheVariants.{Integer, Alpha}
 use Rattle.ss_base.specs.declared.layout.Layout.{Layout}
-use Rattle.ss_records.specs.declared.store.Place.{Place}
+use Rattle.ss_records.specs.declared.store.Address.{Address}
 use Rattle.ss_records.specs.Cells.{Word, blank, number, counter, link, Cells, words_at, word_of}
 use Rattle.ss_states.specs.State.{Record, kind_of, modes_of, is_notice}
 use Rattle.ss_records.specs.Shape.{values_end}
@@ -43,11 +43,11 @@ record_of l ws = record {
 }
 
 -- the record at an entry of the directory
-abbrev pub record_at : Layout → Cells → Option Place → Option Record
+abbrev pub record_at : Layout → Cells → Option Address → Option Record
 record_at l cs None = None
 record_at l cs (Some p) = Some (record_of l (words_at cs p.at))
 
 -- the records at the entries of a permanent class
-abbrev pub records_at : Layout → Cells → Option (List Place) → Option (List Record)
+abbrev pub records_at : Layout → Cells → Option (List Address) → Option (List Record)
 records_at l cs None = None
 records_at l cs (Some ps) = Some (map (λ p. record_of l (words_at cs p.at)) ps)

@@ -5,7 +5,7 @@ use Rattle.ss_base.specs.declared.layout.Owner.{Owner}
 use Rattle.ss_base.specs.declared.layout.Owner.TheVariants.{System, Class}
 use Rattle.ss_base.specs.declared.layout.SetLayout.{SetLayout}
 use Rattle.ss_base.specs.declared.layout.Layout.{Layout}
-use Rattle.ss_records.specs.declared.store.Place.{Place}
+use Rattle.ss_records.specs.declared.store.Address.{Address}
 use Rattle.ss_records.specs.Cells.{Cells, words_at, word_at}
 use Rattle.ss_states.specs.State.{Members, members_of}
 use Rattle.ss_records.specs.Shape.{links_start, owned_start, joins, owned_by, count_before}
@@ -29,7 +29,7 @@ slots_of l s t = record {
   count = owner_base l s t + 2;
 }
 
-abbrev pub is_entry : Cells → ℕ → Option (Option Place) → Type 0
+abbrev pub is_entry : Cells → ℕ → Option (Option Address) → Type 0
 is_entry cs c None = ⊥
 is_entry cs c (Some None) = ⊥
 is_entry cs c (Some (Some p)) = class_at cs p ≡ c

@@ -4,11 +4,11 @@ ghost use Rattle.std.specs.Ordering.{nat_cmp};
 ghost use Rattle.std.specs.BTreeMap.{is_at};
 ghost use Rattle.std.specs.Map.{set_value};
 ghost use Rattle.ss_records.specs.Pages.{page_of};
-ghost use Rattle.ss_records.specs.declared.store.Place.{Place};
+ghost use Rattle.ss_records.specs.declared.store.Address.{Address};
 ghost use Rattle.ss_records.specs.Places.{living};
 
 use crate::page::{PAGE, Page};
-use crate::store::Place;
+use crate::store::Address;
 use std::alloc::{AllocError, Global};
 use std::collections::BTreeMap;
 use std::marker::Model;
@@ -68,7 +68,7 @@ impl Directory {
 
     /// The entry i, from 0 on.
     #[inline(always)]
-    pub(crate) fn get(&self, i: usize) -> Option<Place>
+    pub(crate) fn get(&self, i: usize) -> Option<Address>
         requires { i < length self.now.places }
         ensures { slice_get self.now.places i ≡ Some result }
     {
@@ -82,7 +82,7 @@ impl Directory {
     }
 
     /// The place of the next number.
-    pub(crate) fn push(&mut self, place: Place) -> Result<(), AllocError>
+    pub(crate) fn push(&mut self, place: Address) -> Result<(), AllocError>
         requires room { length self.old.places < 2 ^ 62 }
         ensures { MatchResult result (λ _. self.new.places ≡ self.old.places ++ Some place ∷ []) (λ _. self.new.places ≡ self.old.places) }
     {
@@ -102,7 +102,7 @@ impl Directory {
     }
 
     // Notes the place of the next number, where the current page has room.
-    fn note(&mut self, place: Place)
+    fn note(&mut self, place: Address)
         requires free { length self.old.places < self.old.start + 256 }
         requires room { length self.old.places < 2 ^ 62 }
         ensures { self.new.places ≡ self.old.places ++ Some place ∷ [] }
@@ -139,7 +139,7 @@ impl Directory {
 
     /// Lets go of the entry i.
     pub(crate) fn clear(&mut self, i: usize)
-        requires { (p : Place) × (slice_get self.old.places i ≡ Some (Some p)) }
+        requires { (p : Address) × (slice_get self.old.places i ≡ Some (Some p)) }
         ensures { self.new.places ≡ slice_set self.old.places i None }
     {
         if i >= self.start {
@@ -151,7 +151,7 @@ impl Directory {
 
     // Lets go of an entry in the current page.
     fn clear_current(&mut self, i: usize)
-        requires there { (p : Place) × (slice_get self.old.places i ≡ Some (Some p)) }
+        requires there { (p : Address) × (slice_get self.old.places i ≡ Some (Some p)) }
         requires current { self.old.start ≤ i }
         ensures { self.new.places ≡ slice_set self.old.places i None }
     {
@@ -161,7 +161,7 @@ impl Directory {
 
     // Lets go of an entry in an earlier page, and of the page where none of its numbers is living.
     fn clear_earlier(&mut self, i: usize)
-        requires there { (p : Place) × (slice_get self.old.places i ≡ Some (Some p)) }
+        requires there { (p : Address) × (slice_get self.old.places i ≡ Some (Some p)) }
         requires earlier { i < self.old.start }
         ensures { self.new.places ≡ slice_set self.old.places i None }
     {
@@ -174,9 +174,9 @@ impl Directory {
 
 // Lets go of the entry k of a page, and says whether the page is empty then.
 fn clear_in(pages: &mut BTreeMap<usize, Page>, number: usize, k: usize) -> bool
-    requires there { (page : List (Option Place)) × (p : Place) × (page_of pages.old.entries number ≡ Some page) × (slice_get page k ≡ Some (Some p)) }
-    ensures cleared { (page : List (Option Place)) → page_of pages.old.entries number ≡ Some page → (pages.new.entries ≡ set_value (is_at (nat_cmp number)) pages.old.entries (slice_set page k None)) × ((q : ℕ) → page_of pages.new.entries q ≡ cond (is_at (nat_cmp number) q) (Some (slice_set page k None)) (page_of pages.old.entries q)) }
-    ensures empty { (page : List (Option Place)) → page_of pages.old.entries number ≡ Some page → result ≡ nat_eq (living (slice_set page k None)) 0 }
+    requires there { (page : List (Option Address)) × (p : Address) × (page_of pages.old.entries number ≡ Some page) × (slice_get page k ≡ Some (Some p)) }
+    ensures cleared { (page : List (Option Address)) → page_of pages.old.entries number ≡ Some page → (pages.new.entries ≡ set_value (is_at (nat_cmp number)) pages.old.entries (slice_set page k None)) × ((q : ℕ) → page_of pages.new.entries q ≡ cond (is_at (nat_cmp number) q) (Some (slice_set page k None)) (page_of pages.old.entries q)) }
+    ensures empty { (page : List (Option Address)) → page_of pages.old.entries number ≡ Some page → result ≡ nat_eq (living (slice_set page k None)) 0 }
 {
     match pages.get_mut(&number) {
         Some(page) => {

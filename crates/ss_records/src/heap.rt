@@ -1,5 +1,5 @@
-ghost use Rattle.std.specs.Prelude.{◌≡◌, ◌+◌, ◌<◌, ◌≤◌, length, IsTrue, MatchResult, Ok, Err, Some, IsOk, slice_get, ⊤};
-ghost use Rattle.ss_base.specs.Layout.{mode_of, is_sound};
+ghost use Rattle.std.specs.Prelude.{◌≡◌, ◌+◌, ◌<◌, ◌≤◌, length, MatchResult, Ok, Err, Some, IsOk, slice_get, ⊤};
+ghost use Rattle.ss_base.specs.Layout.{mode_of};
 ghost use Rattle.ss_states.specs.State.{State, first_state, known_in, known_notice_in, kind_of, modes_of, value_in, time_in, created, created_all, destroyed, assigned, timed, RefusedFor, living_numbers, living_records};
 ghost use Rattle.ss_states.specs.Sets.{member_class, first_in, last_in, count_in, next_in, previous_in, owner_of_member, filed_first, filed_last, filed_before, filed_after, removed, Apart};
 ghost use Rattle.ss_records.specs.Kept.{IsPermanent};
@@ -40,9 +40,8 @@ impl Drop for Heap {
 }
 
 impl Heap {
-    /// A heap without entities, all sets empty. The sets of the layout name classes of it.
+    /// A heap without entities, all sets empty. The error comes where memory was refused.
     pub fn new(alloc: Global, layout: Layout) -> Result<Heap, AllocError>
-        requires sound { IsTrue (is_sound layout) }
         ensures { MatchResult result (λ h. h.state ≡ first_state layout) (λ _. ⊤) }
     {
         let records = Records::new(alloc, layout)?;

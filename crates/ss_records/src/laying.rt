@@ -7,11 +7,11 @@ ghost use Rattle.ss_records.specs.Kept.{Small};
 
 use crate::plan::Plan;
 use crate::shape::{CLASS, NUMBER, VALUES};
-use crate::store::{Blocks, Place};
+use crate::store::{Address, Blocks};
 use ss_base::Owner;
 
 /// Zeros.
-pub(crate) fn fill_numbers(blocks: &mut Blocks, place: Place, from: usize, to: usize)
+pub(crate) fn fill_numbers(blocks: &mut Blocks, place: Address, from: usize, to: usize)
     requires order { from ≤ to }
     requires room { to ≤ length (words_at blocks.old.cells place.at) }
     requires blank { (k : ℕ) → from ≤ k → k < to → word_at blocks.old.cells place.at k ≡ blank }
@@ -24,7 +24,13 @@ pub(crate) fn fill_numbers(blocks: &mut Blocks, place: Place, from: usize, to: u
 }
 
 /// Links that lead to one place: a touch each.
-pub(crate) fn fill_links(blocks: &mut Blocks, place: Place, from: usize, to: usize, target: Place)
+pub(crate) fn fill_links(
+    blocks: &mut Blocks,
+    place: Address,
+    from: usize,
+    to: usize,
+    target: Address,
+)
     requires order { from ≤ to }
     requires room { to ≤ length (words_at blocks.old.cells place.at) }
     requires blank { (k : ℕ) → from ≤ k → k < to → word_at blocks.old.cells place.at k ≡ blank }
@@ -38,7 +44,13 @@ pub(crate) fn fill_links(blocks: &mut Blocks, place: Place, from: usize, to: usi
 }
 
 /// Sets without a member, three words each: three touches each.
-pub(crate) fn fill_owned(blocks: &mut Blocks, place: Place, from: usize, count: usize, end: Place)
+pub(crate) fn fill_owned(
+    blocks: &mut Blocks,
+    place: Address,
+    from: usize,
+    count: usize,
+    end: Address,
+)
     requires room { from + 3 * count ≤ length (words_at blocks.old.cells place.at) }
     requires blank { (k : ℕ) → from ≤ k → k < from + 3 * count → word_at blocks.old.cells place.at k ≡ blank }
     requires touches { blocks.old.touches + 3 * count < 2 ^ 64 }
@@ -55,7 +67,7 @@ pub(crate) fn fill_owned(blocks: &mut Blocks, place: Place, from: usize, count: 
 }
 
 // Writes the class and the number.
-fn lay_head(blocks: &mut Blocks, place: Place, class: u64, number: u64)
+fn lay_head(blocks: &mut Blocks, place: Address, class: u64, number: u64)
     requires room { 2 ≤ length (words_at blocks.old.cells place.at) }
     requires blank { (k : ℕ) → word_at blocks.old.cells place.at k ≡ blank }
     ensures filled { Filled blocks.old.cells blocks.new.cells place.at 0 2 (head_word class number) }
@@ -69,10 +81,10 @@ fn lay_head(blocks: &mut Blocks, place: Place, class: u64, number: u64)
 pub(crate) fn lay(
     blocks: &mut Blocks,
     layout: &Plan,
-    place: Place,
+    place: Address,
     class: usize,
     number: u64,
-    end: Place,
+    end: Address,
 )
     requires small { Small layout.now }
     requires class { class < length layout.now.classes }
@@ -93,7 +105,7 @@ pub(crate) fn lay(
 }
 
 /// Makes a blank block that of the system, without members.
-pub(crate) fn lay_system(blocks: &mut Blocks, layout: &Plan, place: Place)
+pub(crate) fn lay_system(blocks: &mut Blocks, layout: &Plan, place: Address)
     requires small { Small layout.now }
     requires room { length (words_at blocks.old.cells place.at) ≡ block_words layout.now Owner.System }
     requires blank { (k : ℕ) → word_at blocks.old.cells place.at k ≡ blank }

@@ -5,18 +5,18 @@ ghost use Rattle.ss_records.specs.Cells.{IsLink, IsCounter, link, number, counte
 ghost use Rattle.ss_records.specs.Links.{Leads, hooked, linked_in, unlinked_in, slots_at};
 
 use crate::shape::NUMBER;
-use crate::store::{Blocks, Place};
+use crate::store::{Address, Blocks};
 
 /// An entity by its block and its number. The system has the number 0.
 #[derive(Clone, Copy)]
 pub(crate) struct Entry {
-    pub(crate) place: Place,
+    pub(crate) place: Address,
     pub(crate) number: u64,
 }
 
 impl Blocks {
     /// The entity that a link leads to: a touch.
-    pub(crate) fn follow(&mut self, place: Place, k: usize) -> Entry
+    pub(crate) fn follow(&mut self, place: Address, k: usize) -> Entry
         requires leads { Leads self.old.cells place.at k }
         requires room { self.old.touches + 1 < 2 ^ 64 }
         ensures word { word_at self.old.cells place.at k ≡ link result.place.at }
@@ -32,7 +32,7 @@ impl Blocks {
     }
 
     // Lets a link lead elsewhere: a touch. Words keep their kinds.
-    fn relink(&mut self, place: Place, k: usize, to: Place)
+    fn relink(&mut self, place: Address, k: usize, to: Address)
         requires word { IsLink (word_at self.old.cells place.at k) }
         requires room { self.old.touches + 1 < 2 ^ 64 }
         ensures cells { self.new.cells ≡ put_word self.old.cells place.at k (link to.at) }
@@ -45,7 +45,15 @@ impl Blocks {
 
     // Lets the word k of the owner lead elsewhere where the neighbour is the end, else the word j of the
     // neighbour: a touch.
-    fn hook(&mut self, ends: bool, owner: Place, k: usize, neighbour: Place, j: usize, to: Place)
+    fn hook(
+        &mut self,
+        ends: bool,
+        owner: Address,
+        k: usize,
+        neighbour: Address,
+        j: usize,
+        to: Address,
+    )
         requires owner { IsLink (word_at self.old.cells owner.at k) }
         requires neighbour { ends ≡ false → IsLink (word_at self.old.cells neighbour.at j) }
         requires room { self.old.touches + 1 < 2 ^ 64 }
@@ -67,11 +75,11 @@ impl Blocks {
         &mut self,
         member: usize,
         set: usize,
-        owner: Place,
-        before: Place,
+        owner: Address,
+        before: Address,
         is_first: bool,
-        x: Place,
-        after: Place,
+        x: Address,
+        after: Address,
         is_last: bool,
         count: u64,
     )
@@ -99,11 +107,11 @@ impl Blocks {
         &mut self,
         member: usize,
         set: usize,
-        owner: Place,
-        before: Place,
+        owner: Address,
+        before: Address,
         is_first: bool,
-        x: Place,
-        after: Place,
+        x: Address,
+        after: Address,
         is_last: bool,
         count: u64,
     )

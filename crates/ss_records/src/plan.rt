@@ -49,13 +49,11 @@ impl Model for Plan {
 }
 
 impl Plan {
-    /// The plan of a layout that a heap can serve; of another one none, which is answered as want of memory.
+    /// The plan of a layout. The error comes where memory was refused.
     pub(crate) fn new(alloc: Global, layout: Layout) -> Result<Plan, AllocError>
         ensures { MatchResult result (λ plan. (plan ≡ layout) × Small layout) (λ _. ⊤) }
     {
-        if !shape::is_small(&layout) {
-            return Err(AllocError);
-        }
+        shape::law(&layout);
         let classes = all_extents(alloc, &layout)?;
         let sets = all_bases(alloc, &layout)?;
         let system_sets = shape::owned_count(&layout, Owner::System);

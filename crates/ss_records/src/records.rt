@@ -1,9 +1,9 @@
 // The records: where each lies, and what its block says.
-ghost use Rattle.std.specs.Prelude.{◌≡◌, ℕ, ◌+◌, ◌-◌, ◌*◌, ◌^◌, ◌<◌, ◌≤◌, length, IsTrue, MatchResult, IfOk, Ok, Err, Some, None, slice_get, true, ⊤, suc};
+ghost use Rattle.std.specs.Prelude.{◌≡◌, ℕ, ◌+◌, ◌-◌, ◌*◌, ◌^◌, ◌<◌, ◌≤◌, length, MatchResult, IfOk, Ok, Err, Some, None, slice_get, true, ⊤, suc};
 ghost use Rattle.ss_states.specs.State.{entity, notice, numbered, and_then, of_class, kind_of, modes_of, is_notice, first_state, living_numbers, living_records, value_in, time_in, in_a_set, owns_members, destroyed, created, created_all, with_made, assigned, timed, RefusedFor};
 ghost use Rattle.ss_records.specs.Cells.{words_at, number};
 ghost use Rattle.ss_records.specs.Reading.{record_of};
-ghost use Rattle.ss_base.specs.Layout.{mode_of, is_sound};
+ghost use Rattle.ss_base.specs.Layout.{mode_of};
 ghost use Rattle.ss_records.specs.Shape.{values_end};
 ghost use Rattle.ss_records.specs.Kept.{Kept, Small, numbered_place, indexed_place, row_in, IsPermanent, RowsHeld};
 ghost use Rattle.ss_records.specs.Places.{class_at, lying};
@@ -14,7 +14,7 @@ use crate::notes::Notes;
 use crate::plan::Plan;
 use crate::row::{self, Row};
 use crate::shape::{CLASS, VALUES};
-use crate::store::{Blocks, Place};
+use crate::store::{Address, Blocks};
 use crate::{laying, placing, ties, words};
 use ss_base::{ClassKind, FaultKind, Layout, Owner, Refused, Value};
 use std::alloc::{AllocError, Global};
@@ -29,7 +29,7 @@ pub(crate) struct Records {
     pub(crate) layout: Plan,
     pub(crate) blocks: Blocks,
     pub(crate) notes: Notes,
-    pub(crate) system: Place,
+    pub(crate) system: Address,
     pub(crate) directory: Directory,
     pub(crate) permanents: Vec<Row>,
 }
@@ -37,7 +37,6 @@ pub(crate) struct Records {
 impl Records {
     /// No record, all sets empty.
     pub(crate) fn new(alloc: Global, layout: Layout) -> Result<Records, AllocError>
-        requires sound { IsTrue (is_sound layout) }
         ensures { MatchResult result (λ r. IsKept r × (state r ≡ first_state layout)) (λ _. ⊤) }
     {
         let layout = Plan::new(alloc, layout)?;
@@ -117,7 +116,7 @@ impl Records {
 
     // The block of a creation number.
     #[inline(always)]
-    fn numbered(&self, r: i64) -> Result<Place, FaultKind>
+    fn numbered(&self, r: i64) -> Result<Address, FaultKind>
         ensures { result ≡ numbered_place self.now.directory.places r }
     {
         if r == 0 {
@@ -138,7 +137,7 @@ impl Records {
 
     /// The block of an entity of a class.
     #[inline(always)]
-    pub(crate) fn find(&self, class: usize, r: i64) -> Result<Place, FaultKind>
+    pub(crate) fn find(&self, class: usize, r: i64) -> Result<Address, FaultKind>
         requires kept { IsKept self.now }
         requires class { class < length self.now.layout.classes }
         ensures found { MatchResult result (λ p. Found self.now class r p) (λ e. entity (state self.now) class r ≡ Err e) }
@@ -152,7 +151,7 @@ impl Records {
 
     // The block of an index of a permanent class.
     #[inline(always)]
-    fn indexed(&self, class: usize, r: i64) -> Result<Place, FaultKind>
+    fn indexed(&self, class: usize, r: i64) -> Result<Address, FaultKind>
         requires class { class < length self.now.permanents.items }
         ensures { result ≡ indexed_place (row_in (slice_get self.now.permanents.items class)) r }
     {
@@ -168,7 +167,7 @@ impl Records {
 
     // The block of a creation number of a class.
     #[inline(always)]
-    fn of_class(&self, class: usize, r: i64) -> Result<Place, FaultKind>
+    fn of_class(&self, class: usize, r: i64) -> Result<Address, FaultKind>
         requires kept { IsKept self.now }
         ensures found { MatchResult result (λ p. (numbered_place self.now.directory.places r ≡ Ok p) × (class_at self.now.blocks.cells p ≡ class) × (and_then (numbered (state self.now) r) (of_class class) ≡ Ok (record_of self.now.layout (words_at self.now.blocks.cells p.at)))) (λ e. and_then (numbered (state self.now) r) (of_class class) ≡ Err e) }
     {
@@ -185,7 +184,7 @@ impl Records {
     }
 
     /// The block of a notice of any class.
-    pub(crate) fn find_notice(&self, r: i64) -> Result<Place, FaultKind>
+    pub(crate) fn find_notice(&self, r: i64) -> Result<Address, FaultKind>
         requires kept { IsKept self.now }
         ensures found { MatchResult result (λ p. FoundNotice self.now r p) (λ e. notice (state self.now) r ≡ Err e) }
     {
@@ -269,7 +268,7 @@ impl Records {
     }
 
     // Where the time of a notice stands.
-    fn time_word(&self, place: Place) -> usize
+    fn time_word(&self, place: Address) -> usize
         requires kept { IsKept self.now }
         requires entry { (i : ℕ) × (slice_get self.now.directory.places i ≡ Some (Some place)) }
         requires notice { is_notice (kind_of self.now.layout (class_at self.now.blocks.cells place)) ≡ true }
@@ -379,7 +378,7 @@ impl Records {
     }
 
     // Whether an entity is in a set.
-    fn in_a_set(&mut self, class: usize, place: Place, number: u64) -> bool
+    fn in_a_set(&mut self, class: usize, place: Address, number: u64) -> bool
         requires kept { IsKept self.old }
         requires entry { (i : ℕ) × (slice_get self.old.directory.places i ≡ Some (Some place)) × (number ≡ suc i) }
         requires class { class_at self.old.blocks.cells place ≡ class }
@@ -403,7 +402,7 @@ impl Records {
     }
 
     // Whether an entity has members in a set.
-    fn owns_members(&mut self, class: usize, place: Place, number: u64) -> bool
+    fn owns_members(&mut self, class: usize, place: Address, number: u64) -> bool
         requires kept { IsKept self.old }
         requires entry { (i : ℕ) × (slice_get self.old.directory.places i ≡ Some (Some place)) × (number ≡ suc i) }
         requires class { class_at self.old.blocks.cells place ≡ class }
@@ -463,7 +462,7 @@ fn give_all_back(
     directory: &Directory,
     permanents: &[Row],
     notes: &Notes,
-    system: Place,
+    system: Address,
 )
     requires kept { Kept layout.now blocks.old.cells system.at (lying directory.now.places permanents.now) notes.now.lists }
     ensures system { words_at blocks.new.cells system.at ≡ words_at blocks.old.cells system.at }
@@ -488,7 +487,7 @@ fn give_rows_back(
     alloc: &Global,
     layout: &Plan,
     permanents: &[Row],
-    system: Place,
+    system: Address,
 )
     requires small { Small layout.now }
     requires held { RowsHeld layout.now blocks.old.cells system.at permanents.now }

@@ -2,7 +2,7 @@
 ghost use Rattle.std.specs.Prelude.{◌≡◌, replicate, is_some, Some, None, MatchResult, ⊤};
 ghost use Rattle.ss_records.specs.Kept.{row_in};
 
-use crate::store::Place;
+use crate::store::Address;
 use std::alloc::{AllocError, Global};
 use std::marker::Model;
 
@@ -10,15 +10,15 @@ use std::marker::Model;
 /// they are made.
 #[derive(Drop)]
 pub(crate) struct Row {
-    places: Vec<Place>,
+    places: Vec<Address>,
     made: bool,
 }
 
 impl Model for Row {
     ghost use Rattle.std.specs.Prelude.{◌≡◌, List, [], Option, Some, None, cond, false};
-    ghost use Rattle.ss_records.specs.declared.store.Place.{Place};
+    ghost use Rattle.ss_records.specs.declared.store.Address.{Address};
 
-    ghost Value = { Option (List Place) };
+    ghost Value = { Option (List Address) };
 
     ghost view = { λ r. cond r.made (Some r.places.items) None };
 
@@ -37,7 +37,7 @@ impl Row {
     }
 
     /// That of the entities at these places.
-    pub(crate) fn of(places: Vec<Place>) -> Row
+    pub(crate) fn of(places: Vec<Address>) -> Row
         ensures { result ≡ Some places.items }
     {
         Row { places, made: true }
@@ -51,7 +51,7 @@ impl Row {
     }
 
     /// The places of the entities.
-    pub(crate) fn places(&self) -> &[Place]
+    pub(crate) fn places(&self) -> &[Address]
         ensures { result.now ≡ row_in (Some self.now) }
     {
         &self.places

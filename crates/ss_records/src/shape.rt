@@ -1,5 +1,5 @@
 // Where the words of a block stand, as it follows from a layout.
-ghost use Rattle.std.specs.Prelude.{◌≡◌, ℕ, ◌+◌, ◌*◌, ◌<◌, ◌≤◌, length, IsTrue, slice_get, Some};
+ghost use Rattle.std.specs.Prelude.{◌≡◌, ℕ, ◌+◌, ◌*◌, ◌<◌, ◌≤◌, length, slice_get, Some};
 ghost use Rattle.ss_states.specs.State.{kind_of, modes_of};
 ghost use Rattle.ss_records.specs.Shape.{values_end, links_start, owned_start, joins, owned_by, count_sets};
 ghost use Rattle.ss_records.specs.Kept.{Small};
@@ -14,22 +14,11 @@ pub(crate) const NUMBER: usize = 1;
 
 pub(crate) const VALUES: usize = 2;
 
-/// The most classes, sets, and attributes of a class, that a heap serves.
-pub(crate) const MOST: usize = 1048576;
-
-/// Whether a heap can serve a layout.
-pub(crate) fn is_small(layout: &Layout) -> bool
-    ensures { IsTrue result → Small layout.now }
+/// What a heap relies on of every layout.
+pub(crate) fn law(layout: &Layout)
+    ensures { Small layout.now }
 {
-    if !layout.is_sound() || layout.classes.len() > MOST || layout.sets.len() > MOST {
-        return false;
-    }
-    for class in &layout.classes {
-        if class.fields.len() > MOST {
-            return false;
-        }
-    }
-    true
+    layout.law();
 }
 
 /// The kind of a class, by which a caller knows which calls of a heap serve it.

@@ -7,21 +7,21 @@ use std::alloc::{AllocError, Allocator, Global};
 use std::marker::Model;
 
 /// Where a block lies. It owns nothing.
-pub(crate) struct Place {
+pub(crate) struct Address {
     at: *mut u64,
 }
 
-impl Clone for Place {
+impl Clone for Address {
     ghost is_clone = { λ x y. y ≡ x };
 
     ghost is_infallible = { λ _. Rattle.std.specs.Prelude.⊤ };
 
-    fn clone(&self) -> Result<Place, AllocError> {
+    fn clone(&self) -> Result<Address, AllocError> {
         Ok(*self)
     }
 }
 
-impl Copy for Place {}
+impl Copy for Address {}
 
 /// The owner of all blocks. It takes no space.
 #[derive(Drop)]
@@ -43,19 +43,19 @@ impl Store {
         Store {}
     }
 
-    fn place(&mut self, alloc: &Global, words: usize) -> Result<Place, AllocError>
+    fn place(&mut self, alloc: &Global, words: usize) -> Result<Address, AllocError>
         requires { (0 < words) × (words * 8 < 2 ^ 63) }
         ensures { MatchResult result (λ p. (words_at self.old.cells p.at ≡ []) × (self.new.cells ≡ (p.at, blanks words) ∷ self.old.cells) × (self.new.total ≡ self.old.total)) (λ _. self.new ≡ self.old) }
     {
         match alloc.allocate(words * 8, 8) {
-            Ok(block) => Ok(Place {
+            Ok(block) => Ok(Address {
                 at: block as *mut u64,
             }),
             Err(error) => Err(error),
         }
     }
 
-    fn give_back(&mut self, alloc: &Global, place: Place, words: usize)
+    fn give_back(&mut self, alloc: &Global, place: Address, words: usize)
         requires { (length (words_at self.old.cells place.at) ≡ words) × (0 < words) }
         ensures { (self.new.cells ≡ without self.old.cells place.at) × (self.new.total ≡ self.old.total) }
     {
@@ -65,7 +65,7 @@ impl Store {
         }
     }
 
-    fn set_number(&mut self, place: Place, k: usize, value: u64)
+    fn set_number(&mut self, place: Address, k: usize, value: u64)
         requires { (k < length (words_at self.old.cells place.at)) × MayBeNumber (word_at self.old.cells place.at k) }
         ensures { (self.new.cells ≡ put_word self.old.cells place.at k (number value)) × (self.new.total ≡ self.old.total) }
     {
@@ -75,7 +75,7 @@ impl Store {
         }
     }
 
-    fn number(&self, place: Place, k: usize) -> u64
+    fn number(&self, place: Address, k: usize) -> u64
         requires { IsNumber (word_at self.now.cells place.at k) }
         ensures { word_at self.now.cells place.at k ≡ number result }
     {
@@ -84,7 +84,7 @@ impl Store {
     }
 
     /// A number that counts as a touch.
-    fn set_count(&mut self, place: Place, k: usize, value: u64)
+    fn set_count(&mut self, place: Address, k: usize, value: u64)
         requires { (k < length (words_at self.old.cells place.at)) × MayBeCounter (word_at self.old.cells place.at k) }
         ensures { (self.new.cells ≡ put_word self.old.cells place.at k (counter value)) × (self.new.total ≡ self.old.total + 1) }
     {
@@ -94,7 +94,7 @@ impl Store {
         }
     }
 
-    fn count(&mut self, place: Place, k: usize) -> u64
+    fn count(&mut self, place: Address, k: usize) -> u64
         requires { IsCounter (word_at self.old.cells place.at k) }
         ensures { (word_at self.old.cells place.at k ≡ counter result) × (self.new.cells ≡ self.old.cells) × (self.new.total ≡ self.old.total + 1) }
     {
@@ -102,7 +102,7 @@ impl Store {
         unsafe { *at.add(k) }
     }
 
-    fn set_link(&mut self, place: Place, k: usize, to: Place)
+    fn set_link(&mut self, place: Address, k: usize, to: Address)
         requires { (k < length (words_at self.old.cells place.at)) × MayBeLink (word_at self.old.cells place.at k) }
         ensures { (self.new.cells ≡ put_word self.old.cells place.at k (link to.at)) × (self.new.total ≡ self.old.total + 1) }
     {
@@ -114,7 +114,7 @@ impl Store {
         }
     }
 
-    fn link(&mut self, place: Place, k: usize) -> Place
+    fn link(&mut self, place: Address, k: usize) -> Address
         requires { IsLink (word_at self.old.cells place.at k) }
         ensures { (word_at self.old.cells place.at k ≡ link result.at) × (self.new.cells ≡ self.old.cells) × (self.new.total ≡ self.old.total + 1) }
     {
@@ -123,7 +123,7 @@ impl Store {
             let word = at.add(k) as *mut *mut u64;
             *word
         };
-        Place { at: target }
+        Address { at: target }
     }
 }
 
@@ -160,7 +160,7 @@ impl Blocks {
     }
 
     /// One new block of so many words, and no other.
-    pub(crate) fn with_one(alloc: &Global, words: usize) -> Result<(Blocks, Place), AllocError>
+    pub(crate) fn with_one(alloc: &Global, words: usize) -> Result<(Blocks, Address), AllocError>
         requires size { (0 < words) × (words * 8 < 2 ^ 63) }
         ensures { IfOk result (λ b. (b.0.cells ≡ (b.1.at, blanks words) ∷ []) × (b.0.touches ≡ 0)) }
     {
@@ -208,7 +208,7 @@ impl Blocks {
     }
 
     /// A new block of so many words.
-    pub(crate) fn place(&mut self, alloc: &Global, words: usize) -> Result<Place, AllocError>
+    pub(crate) fn place(&mut self, alloc: &Global, words: usize) -> Result<Address, AllocError>
         requires size { (0 < words) × (words * 8 < 2 ^ 63) }
         requires room { length self.old.cells + 1 < 2 ^ 64 }
         ensures placed { MatchResult result (λ p. (words_at self.old.cells p.at ≡ []) × (self.new.cells ≡ (p.at, blanks words) ∷ self.old.cells)) (λ _. self.new.cells ≡ self.old.cells) }
@@ -221,7 +221,7 @@ impl Blocks {
 
     /// Gives a block of so many words back.
     #[tactic(auto, using(crate::proofs::Count::blocks_without))]
-    pub(crate) fn give_back(&mut self, alloc: &Global, place: Place, words: usize)
+    pub(crate) fn give_back(&mut self, alloc: &Global, place: Address, words: usize)
         requires size { (length (words_at self.old.cells place.at) ≡ words) × (0 < words) }
         ensures cells { self.new.cells ≡ without self.old.cells place.at }
         ensures touches { (self.new.touches ≡ self.old.touches) × (self.new.total ≡ self.old.total) }
@@ -231,7 +231,7 @@ impl Blocks {
     }
 
     /// A number in a block.
-    pub(crate) fn number(&self, place: Place, k: usize) -> u64
+    pub(crate) fn number(&self, place: Address, k: usize) -> u64
         requires { IsNumber (word_at self.now.cells place.at k) }
         ensures { word_at self.now.cells place.at k ≡ number result }
     {
@@ -240,7 +240,7 @@ impl Blocks {
 
     /// Writes a number.
     #[tactic(auto, using(crate::proofs::Count::blocks_put))]
-    pub(crate) fn set_number(&mut self, place: Place, k: usize, value: u64)
+    pub(crate) fn set_number(&mut self, place: Address, k: usize, value: u64)
         requires { (k < length (words_at self.old.cells place.at)) × MayBeNumber (word_at self.old.cells place.at k) }
         ensures cells { self.new.cells ≡ put_word self.old.cells place.at k (number value) }
         ensures touches { (self.new.touches ≡ self.old.touches) × (self.new.total ≡ self.old.total) }
@@ -249,7 +249,7 @@ impl Blocks {
     }
 
     /// A count of members: one touch.
-    pub(crate) fn count(&mut self, place: Place, k: usize) -> u64
+    pub(crate) fn count(&mut self, place: Address, k: usize) -> u64
         requires word { IsCounter (word_at self.old.cells place.at k) }
         requires room { self.old.touches + 1 < 2 ^ 64 }
         ensures word { word_at self.old.cells place.at k ≡ counter result }
@@ -262,7 +262,7 @@ impl Blocks {
 
     /// Writes a count of members: one touch.
     #[tactic(auto, using(crate::proofs::Count::blocks_put))]
-    pub(crate) fn set_count(&mut self, place: Place, k: usize, value: u64)
+    pub(crate) fn set_count(&mut self, place: Address, k: usize, value: u64)
         requires word { (k < length (words_at self.old.cells place.at)) × MayBeCounter (word_at self.old.cells place.at k) }
         requires room { self.old.touches + 1 < 2 ^ 64 }
         ensures cells { self.new.cells ≡ put_word self.old.cells place.at k (counter value) }
@@ -273,7 +273,7 @@ impl Blocks {
     }
 
     /// Where a link leads: one touch.
-    pub(crate) fn link(&mut self, place: Place, k: usize) -> Place
+    pub(crate) fn link(&mut self, place: Address, k: usize) -> Address
         requires word { IsLink (word_at self.old.cells place.at k) }
         requires room { self.old.touches + 1 < 2 ^ 64 }
         ensures word { word_at self.old.cells place.at k ≡ link result.at }
@@ -286,7 +286,7 @@ impl Blocks {
 
     /// Lets a link lead elsewhere: one touch.
     #[tactic(auto, using(crate::proofs::Count::blocks_put))]
-    pub(crate) fn set_link(&mut self, place: Place, k: usize, to: Place)
+    pub(crate) fn set_link(&mut self, place: Address, k: usize, to: Address)
         requires word { (k < length (words_at self.old.cells place.at)) × MayBeLink (word_at self.old.cells place.at k) }
         requires room { self.old.touches + 1 < 2 ^ 64 }
         ensures cells { self.new.cells ≡ put_word self.old.cells place.at k (link to.at) }

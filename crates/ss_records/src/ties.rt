@@ -10,7 +10,7 @@ use crate::notes::Notes;
 use crate::plan::Plan;
 use crate::row::Row;
 use crate::shape::NUMBER;
-use crate::store::{Blocks, Place};
+use crate::store::{Address, Blocks};
 use ss_base::Owner;
 
 /// Whether the entity is in a set of the name s: a touch.
@@ -20,9 +20,9 @@ pub(crate) fn filed_in(
     directory: &Directory,
     permanents: &[Row],
     notes: &Notes,
-    system: Place,
+    system: Address,
     s: usize,
-    place: Place,
+    place: Address,
     number: u64,
 ) -> bool
     requires kept { Kept layout.now blocks.old.cells system.at (lying directory.now.places permanents.now) notes.now.lists }
@@ -46,9 +46,9 @@ pub(crate) fn owns_in(
     directory: &Directory,
     permanents: &[Row],
     notes: &Notes,
-    system: Place,
+    system: Address,
     s: usize,
-    place: Place,
+    place: Address,
     number: u64,
 ) -> bool
     requires kept { Kept layout.now blocks.old.cells system.at (lying directory.now.places permanents.now) notes.now.lists }
@@ -71,9 +71,9 @@ pub(crate) fn in_a_set(
     directory: &Directory,
     permanents: &[Row],
     notes: &Notes,
-    system: Place,
+    system: Address,
     class: usize,
-    place: Place,
+    place: Address,
     number: u64,
 ) -> bool
     requires kept { Kept layout.now blocks.old.cells system.at (lying directory.now.places permanents.now) notes.now.lists }
@@ -103,9 +103,9 @@ pub(crate) fn owns_members(
     directory: &Directory,
     permanents: &[Row],
     notes: &Notes,
-    system: Place,
+    system: Address,
     class: usize,
-    place: Place,
+    place: Address,
     number: u64,
 ) -> bool
     requires kept { Kept layout.now blocks.old.cells system.at (lying directory.now.places permanents.now) notes.now.lists }

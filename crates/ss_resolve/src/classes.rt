@@ -5,8 +5,8 @@ ghost use Rattle.ss_contexts.specs.Answers.{Gives, each};
 ghost use Rattle.ss_contexts.specs.Contexts.{counted, if_notice, if_permanent, if_single, notice_class, permanent_class, single_class};
 
 use ss_base::ClassKind;
+use ss_bytes::Name;
 use ss_contexts::{ClassMeant, ResolveError, Scope};
-use ss_lex::Name;
 use ss_program::statement::Counted;
 use std::alloc::Global;
 

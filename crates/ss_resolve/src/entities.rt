@@ -13,8 +13,8 @@ use crate::places::{resolve_entity_called, resolve_new_place, resolve_set, resol
 use crate::results::beside;
 use crate::words::end_of;
 use ss_base::Line;
+use ss_bytes::Name;
 use ss_contexts::{ResolveError, Scope};
-use ss_lex::Name;
 use ss_program::statement::{Position as ResolvedPosition, Statement as Resolved};
 use ss_tree::expression::{Expression, Named};
 use ss_tree::statement::{Position, SetEnd};

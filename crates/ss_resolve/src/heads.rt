@@ -14,8 +14,8 @@ use crate::expressions::resolve_expression;
 use crate::places::resolve_set;
 use crate::results::beside;
 use crate::words::{guard_kind_of, phrase_kind_of};
+use ss_bytes::Name;
 use ss_contexts::{Meaning, ResolveError, Scope};
-use ss_lex::Name;
 use ss_program::expression::{Expression as Resolved, Variable};
 use ss_program::head::{
     Guard as ResolvedGuard, Head as ResolvedHead, Phrase as ResolvedPhrase, Start,

@@ -1,7 +1,7 @@
 -- What a program says of its names: a list in the order of the text.
 use Rattle.std.specs.Prelude.{ℕ, ◌+◌, List, [], ◌∷◌, ◌++◌, length, map, Some, None}
 use Rattle.std.specs.List.{flat_map}
-use Rattle.ss_base.specs.declared.line.Line.{Line}
+use Rattle.ss_bytes.specs.declared.line.Line.{Line}
 use Rattle.ss_tree.specs.declared.preamble.ClassKind.TheVariants as class_kinds
 use Rattle.ss_tree.specs.declared.preamble.Key.{Key}
 use Rattle.ss_tree.specs.declared.preamble.Statistic.{Statistic}

@@ -2,7 +2,5 @@
 #![tactic(auto)]
 
 mod saying;
-mod sayings;
 
 pub use saying::{Said, Saying, SetRule};
-pub use sayings::sayings_of;

@@ -1,7 +1,6 @@
 //! What is said of a name.
 
-use ss_base::Line;
-use ss_lex::Name;
+use ss_bytes::{Line, Name};
 use ss_tree::preamble::{ClassKind, Mode, StatisticKind, Weighting};
 
 /// How a DEFINE orders a set. The keys of a ranked one are sayings of their own.

@@ -1,6 +1,6 @@
 -- Worked examples: what is local in small sections, read off by hand.
 use Rattle.std.specs.Prelude.{◌≡◌, pos, Bool, true, false, ◌||◌, List, [], ◌∷◌, Option, Some, None, codes, refl}
-use Rattle.ss_base.specs.declared.line.Line.{Line}
+use Rattle.ss_bytes.specs.declared.line.Line.{Line}
 use Rattle.ss_base.specs.declared.layout.Mode.TheVariants as values
 use Rattle.ss_tree.specs.declared.expression.Designator.TheVariants as designators
 use Rattle.ss_tree.specs.declared.preamble.ClassKind.TheVariants.{Temporary}

@@ -5,7 +5,7 @@ ghost use Rattle.ss_scopes.specs.Whole.{Whole, mode_at};
 
 use crate::known::Known;
 use ss_base::Mode as ValueMode;
-use ss_lex::Name;
+use ss_bytes::Name;
 use ss_tree::preamble::Mode;
 
 /// What the whole program says of names.

@@ -1,6 +1,6 @@
 //! What sections are.
 
-use ss_lex::Name;
+use ss_bytes::Name;
 
 /// What a section is.
 #[derive(Clone, Copy)]

@@ -1,7 +1,7 @@
 //! What the rules on uses know of a name.
 
 use ss_base::Mode;
-use ss_lex::Name;
+use ss_bytes::Name;
 use ss_tree::preamble::ClassKind;
 
 /// Of what there is one: the program, or each entity of a class.

@@ -11,8 +11,8 @@ ghost use Rattle.ss_scopes.specs.Whole.{is_global, locals_of};
 use crate::globals::Globals;
 use crate::modes::{mode_in, modes_of};
 use indexmap::IndexMap;
-use ss_firsts::{keep_first, key_at};
-use ss_lex::Name;
+use ss_bytes::Name;
+use ss_firsts::{insert_first, key_at};
 use ss_tree::preamble::Mode;
 use ss_tree::program::Section;
 use ss_walk::{Mention, Mentioned, Role, mentions_of};
@@ -79,7 +79,7 @@ fn add_mentioned<G: Globals>(
     match mention.what {
         Mentioned::Name(name) => {
             if is_local_at(globals, mention, name) {
-                keep_first(entries, name, mode_in(modes, usual, name))
+                insert_first(entries, name, mode_in(modes, usual, name))
             } else {
                 Ok(())
             }

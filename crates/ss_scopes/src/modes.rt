@@ -8,8 +8,8 @@ ghost use Rattle.ss_firsts.specs.Firsts.{firsts, same_name, with_first};
 ghost use Rattle.ss_scopes.specs.Locals.{all_defined, defined, or_usual};
 
 use indexmap::IndexMap;
-use ss_firsts::keep_first;
-use ss_lex::Name;
+use ss_bytes::Name;
+use ss_firsts::insert_first;
 use ss_tree::preamble::Mode;
 use ss_tree::program::LocalDefinition;
 use std::alloc::{AllocError, Global};
@@ -23,7 +23,7 @@ fn add_defined(
     ensures { OnOk result (entries.new.entries ≡ fold with_first entries.old.entries (map (defined mode) names.now)) }
 {
     for name in names {
-        keep_first(entries, *name, Some(mode))?;
+        insert_first(entries, *name, Some(mode))?;
     }
     Ok(())
 }

@@ -7,7 +7,7 @@ use crate::globals::Globals;
 use crate::known::Known;
 use crate::locals::Locals;
 use ss_base::Mode as ValueMode;
-use ss_lex::Name;
+use ss_bytes::Name;
 use ss_tree::preamble::Mode;
 
 /// The mode of values of a mode that is said: ALPHA where that is, else INTEGER.

@@ -10,7 +10,7 @@ ghost use Rattle.ss_scopes.specs.Signatures.{given_to, heading_of, signature, yi
 use crate::heading::Heading;
 use crate::modes::{mode_in, modes_of};
 use indexmap::IndexMap;
-use ss_lex::Name;
+use ss_bytes::Name;
 use ss_tree::preamble::Mode;
 use ss_tree::program::{Section, SectionKind};
 use std::alloc::{AllocError, Global};

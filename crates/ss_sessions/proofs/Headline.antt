@@ -1,7 +1,7 @@
 -- What a run of the machine says of a program that its code behaves as.
 use Rattle.std.proofs.Common.{◌≡◌, ◌≢◌, ℕ, ◌+◌, ◌<◌, false, List, [], ◌++◌, ◌⊎◌, inl, inr, Option, refl, sym, ap, ◌∙◌, subst, append_assoc, append-nil, arith}
 use Rattle.std.proofs.KnownBytes.{Appends-nil, Consumes-nil}
-use Rattle.ss_input.specs.Blocks.{KnowsEnd}
+use Rattle.ss_reading.specs.Blocks.{KnowsEnd}
 use Rattle.ss_input.specs.declared.source.Source.{Source}
 use Rattle.ss_input.specs.Inputs.{IsFresh, Finds, Reads, source_block, source_reader}
 use Rattle.ss_program.specs.Program.{Program}

@@ -3,7 +3,7 @@ use Rattle.std.proofs.Common.{◌≡◌, ◌≢◌, ℕ, ◌+◌, ◌-◌, ◌^�
 use Rattle.std.proofs.KnownBytes.{Appends-nil, Consumes-nil}
 use Rattle.std.specs.Io.KnownBytes.{Appends}
 use Rattle.ss_base.specs.Failures.{HasRisen, HasRisenBy}
-use Rattle.ss_input.specs.Blocks.{KnowsEnd}
+use Rattle.ss_reading.specs.Blocks.{KnowsEnd}
 use Rattle.ss_input.specs.declared.source.Source.{Source}
 use Rattle.ss_input.specs.Inputs.{source_block}
 use Rattle.ss_meaning.specs.Meaning.{Paused as PausedThere}

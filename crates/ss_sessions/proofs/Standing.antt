@@ -1,7 +1,7 @@
 -- Where the runs of a session stood when memory, its reader or its writer failed.
 use Rattle.std.proofs.Common.{◌≡◌, ℕ, suc, ◌+◌, false, List, [], ◌++◌, inl, Option, Some, None, refl, subst, arith}
 use Rattle.std.proofs.KnownBytes.{Appends-nil, Consumes-nil}
-use Rattle.ss_input.specs.Blocks.{KnowsEnd}
+use Rattle.ss_reading.specs.Blocks.{KnowsEnd}
 use Rattle.ss_input.specs.declared.source.Source.{Source}
 use Rattle.ss_input.specs.Inputs.{IsFresh, source_block, source_reader}
 use Rattle.ss_machine_code.specs.States.{State}

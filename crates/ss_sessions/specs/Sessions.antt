@@ -1,7 +1,7 @@
 -- What a clause sees of a session.
 use Rattle.std.specs.Prelude.{◌≡◌, ◌≢◌, ℕ, ◌≤◌, List, [], Option, Some, None}
 use Rattle.ss_base.specs.Failures.{HasRisen, HasRisenBy}
-use Rattle.ss_input.specs.Blocks.{KnowsEnd}
+use Rattle.ss_reading.specs.Blocks.{KnowsEnd}
 use Rattle.ss_meaning.specs.Meaning.{Paused as PausedThere}
 use Rattle.ss_machine_code.specs.Machine.{Code, Over, step}
 use Rattle.ss_input.specs.declared.source.Source.{Source}

@@ -2,7 +2,7 @@
 
 ghost use Rattle.std.specs.Prelude.{◌≡◌, ℕ, ◌+◌, ◌-◌, ◌^◌, ◌≤◌, List, [], ◌∷◌, ◌++◌, min, IfOk, Some};
 ghost use Rattle.ss_base.specs.Failures.{HasRisen, HasRisenBy};
-ghost use Rattle.ss_input.specs.Blocks.{KnowsEnd};
+ghost use Rattle.ss_reading.specs.Blocks.{KnowsEnd};
 ghost use Rattle.ss_input.specs.Inputs.{source_block};
 ghost use Rattle.ss_machine_code.specs.Machine.{Code};
 ghost use Rattle.ss_machine.specs.Held.{answer_again, kept_after};

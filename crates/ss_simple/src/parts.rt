@@ -8,13 +8,14 @@ ghost use Rattle.ss_grammar.specs.ReadPlaces.{target_in};
 ghost use Rattle.ss_simple.specs.SpelledParts.{end_of};
 ghost use Rattle.ss_simple.specs.ReadSimple.{equals, set_in, called, positive_of, picture_of, items_in, trigger, pictures_at, given_in, yielding_in, position_in, when_in, due_in};
 
+use ss_bytes::PictureLine;
 use ss_grammar::classes::{Class, begins_class, skip_class};
 use ss_grammar::expressions::{sum, sums};
 use ss_grammar::failure::Failure;
 use ss_grammar::places::{reference, target, targets};
 use ss_grammar::steps::beside;
 use ss_grammar::tokens::{begins_word, expect_symbol, expect_word, skip_word, syntax};
-use ss_lex::{PictureLine, Symbol, Token, TokenKind, Word};
+use ss_tokens::{Symbol, Token, TokenKind, Word};
 use ss_tree::expression::{Expression, Named};
 use ss_tree::statement::{Position, SetEnd, When};
 use std::alloc::Global;

@@ -9,7 +9,7 @@ use crate::parts::{
     begins_end, called_target, called_value, given, given_and_due, items, pictures, place,
     positive, set_behind, set_end, target_behind, trigger, value_set, yielding,
 };
-use ss_base::Line;
+use ss_bytes::Line;
 use ss_grammar::classes::{Class, expect_class, skip_class};
 use ss_grammar::expressions::sum;
 use ss_grammar::failure::Failure;
@@ -17,7 +17,7 @@ use ss_grammar::names::{name, names};
 use ss_grammar::places::{target, targets};
 use ss_grammar::steps::beside;
 use ss_grammar::tokens::{begins_word, behind_first, expect_word, skip_word, syntax};
-use ss_lex::{Token, Word};
+use ss_tokens::{Token, Word};
 use ss_tree::expression::Expression;
 use ss_tree::statement::Statement;
 use std::alloc::Global;

@@ -1,7 +1,7 @@
 -- Statements, with those in them.
 use Rattle.std.proofs.Common.{◌+◌, length, arith}
 use Rattle.std.specs.Prelude.{sum_by}
-use Rattle.ss_base.specs.declared.line.Line.{Line}
+use Rattle.ss_bytes.specs.declared.line.Line.{Line}
 use Rattle.ss_tree.specs.declared.statement.FindOutcome.{FindOutcome}
 use Rattle.ss_tree.specs.declared.statement.FindOutcome.TheVariants as outcomes
 use Rattle.ss_tree.specs.Nodes as tree

@@ -2,7 +2,6 @@ mod Layered
 mod Stacked
 mod Below
 mod Wholes
-mod Puts
 mod Yields
 mod Short
 mod Fits

@@ -11,4 +11,3 @@ pub mod operands;
 pub mod spot;
 pub mod stack;
 pub mod taking;
-pub mod variables;

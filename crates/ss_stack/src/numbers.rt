@@ -29,7 +29,7 @@ fn made(operator: Operator, x: i64, y: i64) -> Result<i64, FaultKind>
 
 // A number or a fault.
 #[inline(always)]
-fn whole(answer: Result<i64, FaultKind>) -> Result<Value, Trouble>
+fn as_value(answer: Result<i64, FaultKind>) -> Result<Value, Trouble>
     ensures { told result ≡ turned Whole (due answer) }
 {
     match answer {
@@ -44,7 +44,7 @@ pub fn calculated(operator: Operator, x: Value, y: Value) -> Result<Value, Troub
     ensures { told result ≡ calculated operator x y }
 {
     match (x, y) {
-        (Value::Whole(x), Value::Whole(y)) => whole(made(operator, x, y)),
+        (Value::Whole(x), Value::Whole(y)) => as_value(made(operator, x, y)),
         (Value::Whole(_), Value::Text(_)) => Err(Trouble::Misfit),
         (Value::Text(_), Value::Whole(_)) => Err(Trouble::Misfit),
         (Value::Text(_), Value::Text(_)) => Err(Trouble::Misfit),
@@ -87,7 +87,7 @@ pub fn absolute(value: Value) -> Result<Value, Trouble>
     ensures { told result ≡ absolute value }
 {
     match value {
-        Value::Whole(number) => whole(distance(number)),
+        Value::Whole(number) => as_value(distance(number)),
         Value::Text(_) => Err(Trouble::Misfit),
     }
 }

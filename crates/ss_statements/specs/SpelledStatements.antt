@@ -1,10 +1,10 @@
 -- Which tokens spell a statement.
 use Rattle.std.specs.Prelude.{ℕ, ◌<◌, pos, length}
-use Rattle.ss_base.specs.declared.line.Line.{Line}
-use Rattle.ss_lex.specs.declared.token.TokenKind.TheVariants as kinds
-use Rattle.ss_lex.specs.declared.token.Symbol.TheVariants.{Equals}
-use Rattle.ss_lex.specs.declared.word.Word.{Word}
-use Rattle.ss_lex.specs.declared.word.Word.TheVariants as words
+use Rattle.ss_bytes.specs.declared.line.Line.{Line}
+use Rattle.ss_tokens.specs.declared.token.TokenKind.TheVariants as kinds
+use Rattle.ss_tokens.specs.declared.token.Symbol.TheVariants.{Equals}
+use Rattle.ss_tokens.specs.declared.word.Word.{Word}
+use Rattle.ss_tokens.specs.declared.word.Word.TheVariants as words
 use Rattle.ss_tree.specs.Tree.{StatementTree, let_statement, add_statement, subtract_statement, call_statement, return_statement, stop_statement, read_statement, start_simulation, if_statement, loop_statement, find_statement, find_if_statement, create_statement, create_every, destroy_statement, file_statement, remove_end, remove_statement, schedule_new, schedule_statement, cancel_statement, reset_statement, print_statement, skip_statement, StatementRow, no_statement, and_statement}
 use Rattle.ss_grammar.specs.declared.classes.Class.TheVariants as classes
 use Rattle.ss_grammar.specs.Shapes.{Shape, ◌▷◌, nothing, never, either, optional, provided, Token_is, Word_is, Symbol_is, Name_is, Said, noise, each, listed, at, within}

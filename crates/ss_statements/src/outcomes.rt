@@ -8,7 +8,7 @@ ghost use Rattle.ss_statements.specs.ReadStatements.{begins_outcome};
 use ss_elements::words::outcome_of;
 use ss_grammar::failure::Failure;
 use ss_grammar::tokens::syntax;
-use ss_lex::{Token, TokenKind, Word};
+use ss_tokens::{Token, TokenKind, Word};
 use ss_tree::statement::FindOutcome;
 
 /// FOUND or NONE.

@@ -1,25 +1,15 @@
 -- The first state of a machine.
-use Rattle.std.proofs.Common.{◌≡◌, ℕ, List, refl, sym, ap, subst, ◌∙◌, pos}
+use Rattle.std.proofs.Common.{◌≡◌, ℕ, List, refl, pos}
 use Rattle.std.specs.Ordering.{int_eq}
-use Rattle.std.specs.Prelude.{IsTrue}
-use Rattle.std.proofs.Math.Logic.{∥∥₁_elim}
-use Rattle.std.proofs.Props.{props}
-use Rattle.ss_base.specs.Layout.{is_sound}
 use Rattle.ss_base.specs.declared.layout.Owner.TheVariants.{System}
 use Rattle.ss_states.specs.State.{first_state}
 use Rattle.ss_events.specs.PendingList.{none_pending}
 use Rattle.ss_meaning.specs.Histories.{starting, no_histories}
-use Rattle.ss_code.specs.Emitted.{IsCode}
 use Rattle.ss_machine_code.specs.Machine.{Code}
 use Rattle.ss_machine_code.specs.Running.{begin_store}
 use Rattle.ss_histories.specs.Records.{columns_of}
 use Rattle.ss_store.specs.Seen.{Seen}
 use Rattle.ss_working.specs.Holding.{scene_of}
-
--- the sets of the code of a program name classes
-pub sound_layout : (code : Code) → IsCode code → IsTrue (is_sound code.layout)
-sound_layout code good =
-    ∥∥₁_elim good (hlevel props) (λ g. subst (λ b. IsTrue b) (sym (ap (λ k. is_sound k.layout) g.2 ∙ g.1.sets)) refl)
 
 -- what a scene is that holds no entity, with the histories of the system begun
 pub scene_first : (code : Code) (e : Seen) → e.disciplines ≡ code.setting.disciplines → e.notices ≡ code.setting.notices → e.statistics ≡ code.setting.statistics → e.heap ≡ first_state code.layout → e.time ≡ pos 0 → e.pending ≡ none_pending code.ties → columns_of e.histories ≡ starting code.layout System (int_eq (pos 0)) (pos 0) code.setting.statistics (no_histories code.setting.statistics) → (input : List ℕ) → scene_of e input ≡ (begin_store code input).scene

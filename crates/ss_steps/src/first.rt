@@ -11,8 +11,8 @@ use ss_notices::copied_notices;
 use ss_stack::frames::Frames;
 use ss_stack::operands::Operands;
 use ss_stack::stack::Stack;
-use ss_stack::variables::Variables;
 use ss_store::scene::Scene;
+use ss_variables::variables::Variables;
 use ss_working::working::Working;
 use std::alloc::{AllocError, Global};
 
@@ -30,7 +30,6 @@ pub fn first_working(alloc: Global, code: &Code) -> Result<Working, AllocError>
     ensures state { IfOk result (λ working. IsAtStart code.now working) }
     ensures frames { IfOk result (λ working. frames_of working ≡ []) }
 {
-    let _sound = code.len();
     let globals = Variables::of(alloc, code.globals())?;
     let locals = first_locals(alloc, code)?;
     let layout = code.layout().copied(alloc)?;

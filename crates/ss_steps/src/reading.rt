@@ -5,7 +5,7 @@ ghost use Rattle.ss_base.specs.declared.fault.FaultKind.{FaultKind as FaultSeen}
 ghost use Rattle.ss_base.specs.declared.layout.Mode.TheVariants.{Integer, Alpha as AlphaMode};
 ghost use Rattle.ss_base.specs.declared.value.Value.{Value as ValueSeen};
 ghost use Rattle.ss_base.specs.Failures.{HasRisen, HasRisenBy};
-ghost use Rattle.ss_input.specs.Blocks.{KnowsEnd};
+ghost use Rattle.ss_reading.specs.Blocks.{KnowsEnd};
 ghost use Rattle.ss_input.specs.Inputs.{source_block, source_missed, source_reader, Reads, Finds, missed_of};
 ghost use Rattle.ss_input.specs.Words.{value_given};
 

@@ -1,7 +1,6 @@
 //! What a run works on beside its variables.
 
-ghost use Rattle.std.specs.Prelude.{◌≡◌, IfOk, IsTrue, map, pos};
-ghost use Rattle.ss_base.specs.Layout.{is_sound};
+ghost use Rattle.std.specs.Prelude.{◌≡◌, IfOk, map, pos};
 ghost use Rattle.ss_records.specs.State.{first_state};
 ghost use Rattle.std.specs.Ordering.{int_eq};
 ghost use Rattle.ss_base.specs.declared.layout.Owner.TheVariants.{System};
@@ -39,8 +38,7 @@ impl Model for Scene {
 impl Scene {
     /// A scene without entities, at the time 0, with nothing pending: the sets of the layout are ordered by the
     /// disciplines, and its classes of notices come in this order, with ties of these shapes. The histories of the
-    /// statistics of what the system has are started. The sets of the layout name classes of it. The error comes where
-    /// memory was refused.
+    /// statistics of what the system has are started. The error comes where memory was refused.
     pub fn new(
         alloc: Global,
         layout: Layout,
@@ -49,7 +47,6 @@ impl Scene {
         shapes: &[Vec<TieShape>],
         statistics: &[Statistic],
     ) -> Result<Scene, AllocError>
-        requires sound { IsTrue (is_sound layout) }
         ensures scene { IfOk result (λ scene. scene ≡ record { disciplines = disciplines.items; notices = notices.items; statistics = statistics.now; heap = first_state layout; time = pos 0; pending = none_pending (map (λ ties. ties.items) shapes.now); histories = scene.histories }) }
         ensures histories { IfOk result (λ scene. columns_of scene.histories ≡ starting layout System (int_eq (pos 0)) (pos 0) statistics.now (no_histories statistics.now)) }
     {

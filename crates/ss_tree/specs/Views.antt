@@ -10,7 +10,7 @@ use Rattle.ss_tree.specs.declared.expression.Expression.TheVariants as variants
 use Rattle.ss_tree.specs.declared.expression.Expression.{Expression, Row_of-Expression, end_of-Expression, more_of-Expression, items-the_row-Expression, items_hidden-the_row-Expression-0, Row_of-Term, end_of-Term, more_of-Term, items-the_row-Term, items_hidden-the_row-Term-1}
 use Rattle.ss_tree.specs.declared.expression.Expression.TheBlock.{hidden-the_row-Expression-0, hidden-the_row-Term-1}
 use Rattle.ss_tree.specs.Tree.{ExpressionTree, number, text, named, call, parenthesised, product, signed, sum, expression_row, and_expression, and_term, term_row}
-use Rattle.ss_base.specs.declared.line.Line.{Line}
+use Rattle.ss_bytes.specs.declared.line.Line.{Line}
 use Rattle.ss_tree.specs.declared.condition.Condition.{Condition}
 use Rattle.ss_tree.specs.declared.head.Head.{Head}
 use Rattle.ss_tree.specs.declared.statement.FindOutcome.{FindOutcome}

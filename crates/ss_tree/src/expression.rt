@@ -1,7 +1,6 @@
 //! Expressions, and the places that a program names.
 
-use ss_base::Alpha;
-use ss_lex::Name;
+use ss_bytes::{Alpha, Name};
 
 /// The sign before a term.
 #[derive(Clone, Copy)]

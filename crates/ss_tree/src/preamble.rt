@@ -1,7 +1,6 @@
 //! The statements of a preamble.
 
-use ss_base::Line;
-use ss_lex::Name;
+use ss_bytes::{Line, Name};
 
 /// What a value is.
 #[derive(Clone, Copy)]

@@ -2,8 +2,7 @@
 
 use crate::preamble::{Mode, PreambleStatement};
 use crate::statement::Statement;
-use ss_base::Line;
-use ss_lex::Name;
+use ss_bytes::{Line, Name};
 
 /// A DEFINE at the head of a section's body.
 #[derive(Drop)]

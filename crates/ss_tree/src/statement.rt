@@ -3,8 +3,7 @@
 use crate::condition::Condition;
 use crate::expression::{Expression, Named};
 use crate::head::Head;
-use ss_base::Line;
-use ss_lex::{Name, PictureLine};
+use ss_bytes::{Line, Name, PictureLine};
 
 /// Where a member is filed.
 #[derive(Drop)]

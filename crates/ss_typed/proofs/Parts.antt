@@ -1,7 +1,7 @@
 -- Parts of a well-typed program: they don't go wrong, and keep stores that fit.
 use Rattle.std.proofs.Common.{ℕ, zero, suc, Bool, true, false, List, Ok, Err}
 use Rattle.std.specs.Prelude.{Result}
-use Rattle.ss_base.specs.declared.line.Line.{Line}
+use Rattle.ss_bytes.specs.declared.line.Line.{Line}
 use Rattle.ss_base.specs.declared.layout.Mode.{Mode}
 use Rattle.ss_base.specs.declared.value.Value.{Value}
 use Rattle.ss_program.specs.Program.{Program}

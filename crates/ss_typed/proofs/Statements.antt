@@ -5,7 +5,7 @@ use Rattle.std.specs.Prelude.{Result, slice_get, map, sum, take, ◌==◌, int_l
 use Rattle.std.proofs.lemmas.Bool.{eq-eqb}
 use Rattle.std.specs.List.{AllByRecursion as Every, AllZip}
 use Rattle.std.specs.Option.{IfSome}
-use Rattle.ss_base.specs.declared.line.Line.{Line}
+use Rattle.ss_bytes.specs.declared.line.Line.{Line}
 use Rattle.ss_base.specs.declared.fault.FaultKind.TheVariants.{LoopStep, BadCount}
 use Rattle.ss_base.specs.declared.layout.ClassKind.TheVariants.{Permanent, Notice}
 use Rattle.ss_base.specs.declared.layout.Mode.{Mode}

@@ -3,7 +3,7 @@ use Rattle.std.proofs.Common.{◌≡◌, ℕ, ◌+◌, ◌<◌, List, [], ◌∷
 use Rattle.std.specs.List.{flat_map}
 use Rattle.std.specs.Option.{option_or}
 use Rattle.std.proofs.lemmas.List.{take_more, drop_more, map-append, flat_map_more}
-use Rattle.ss_base.specs.declared.line.Line.{Line}
+use Rattle.ss_bytes.specs.declared.line.Line.{Line}
 use Rattle.ss_uses.specs.declared.rule.Rule.{Rule}
 use Rattle.ss_uses.specs.declared.rule.Broken.{Broken}
 use Rattle.ss_uses.specs.Lines.{first_of}

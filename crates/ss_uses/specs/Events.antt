@@ -1,7 +1,7 @@
 -- Rules 71, 72 and 78: MAIN, the event routine of each class of notices, and where START SIMULATION stands.
 use Rattle.std.specs.Prelude.{Bool, true, false, not, ◌&&◌, List, [], ◌∷◌}
 use Rattle.std.specs.List.{list_any, flat_map}
-use Rattle.ss_base.specs.declared.line.Line.{Line}
+use Rattle.ss_bytes.specs.declared.line.Line.{Line}
 use Rattle.ss_tree.specs.declared.preamble.ClassKind.{ClassKind}
 use Rattle.ss_tree.specs.declared.preamble.ClassKind.TheVariants.{EventNotice}
 use Rattle.ss_tree.specs.Tree.{PreambleTree, event_notices, every, SectionKindTree, event, SectionTree}

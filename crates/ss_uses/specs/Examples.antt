@@ -1,7 +1,7 @@
 -- Worked examples: small programs with the first rule that they break and its line, read off by hand.
 use Rattle.std.specs.Prelude.{◌≡◌, ℕ, pos, false, List, [], ◌∷◌, Option, Some, None, codes, refl}
 use Rattle.std.specs.Map.{lookup}
-use Rattle.ss_base.specs.declared.line.Line.{Line}
+use Rattle.ss_bytes.specs.declared.line.Line.{Line}
 use Rattle.ss_base.specs.declared.layout.Mode.{Mode as ValueMode}
 use Rattle.ss_base.specs.declared.layout.Mode.TheVariants as values
 use Rattle.ss_tree.specs.declared.expression.Designator.TheVariants as designators

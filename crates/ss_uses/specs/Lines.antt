@@ -1,7 +1,7 @@
 -- Lines in which a rule is broken, in the order of the text.
 use Rattle.std.specs.Prelude.{Bool, true, false, List, [], ◌∷◌, Option, Some, None}
 use Rattle.std.specs.List.{flat_map}
-use Rattle.ss_base.specs.declared.line.Line.{Line}
+use Rattle.ss_bytes.specs.declared.line.Line.{Line}
 use Rattle.ss_walk.specs.declared.mention.Mention.{Mention}
 use Rattle.ss_demands.specs.declared.demand.Demand.{Demand}
 

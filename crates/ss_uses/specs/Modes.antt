@@ -1,6 +1,6 @@
 -- Rule 73: values of two modes, or a text where a number has to be.
 use Rattle.std.specs.Prelude.{Bool, true, false, List, [], Option, Some, None}
-use Rattle.ss_base.specs.declared.line.Line.{Line}
+use Rattle.ss_bytes.specs.declared.line.Line.{Line}
 use Rattle.ss_base.specs.declared.layout.Mode.{Mode}
 use Rattle.ss_base.specs.declared.layout.Mode.TheVariants as modes
 use Rattle.ss_tree.specs.Tree.{PreambleTree, statistics}

@@ -1,7 +1,7 @@
 -- The first of the rules 71 to 79 that a program breaks.
 use Rattle.std.specs.Prelude.{Bool, false, List, [], ◌∷◌, ◌++◌, map, Option, Some, None, if◌then◌else◌}
 use Rattle.std.specs.List.{flat_map}
-use Rattle.ss_base.specs.declared.line.Line.{Line}
+use Rattle.ss_bytes.specs.declared.line.Line.{Line}
 use Rattle.ss_tree.specs.Tree.{PreambleTree, SectionTree, ProgramTree}
 use Rattle.ss_walk.specs.declared.mention.Mention.{Mention}
 use Rattle.ss_walk.specs.Mentions.{NameBytes}

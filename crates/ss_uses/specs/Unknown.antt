@@ -1,7 +1,7 @@
 -- Rule 79: a name isn't of the kind that its place needs.
 use Rattle.std.specs.Prelude.{Bool, true, false, not, ◌&&◌, is_some, List, [], Option, Some, None}
 use Rattle.std.specs.Map.{lookup}
-use Rattle.ss_base.specs.declared.line.Line.{Line}
+use Rattle.ss_bytes.specs.declared.line.Line.{Line}
 use Rattle.ss_tree.specs.declared.preamble.ClassKind.TheVariants.{Permanent, Temporary, EventNotice}
 use Rattle.ss_tree.specs.Tree.{PreambleTree, statistics}
 use Rattle.ss_walk.specs.declared.mention.Role.{Role}

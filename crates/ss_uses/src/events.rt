@@ -12,7 +12,7 @@ use crate::lines::line_if;
 use crate::uses::{SectionUses, is_main};
 use indexmap::IndexSet;
 use ss_base::Line;
-use ss_lex::Name;
+use ss_bytes::Name;
 use ss_tree::preamble::ClassKind;
 use ss_tree::program::{Section, SectionKind};
 use ss_walk::{Mention, Role};

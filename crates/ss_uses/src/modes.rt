@@ -5,8 +5,8 @@ ghost use Rattle.ss_scopes.specs.Meanings.{meaning_in};
 ghost use Rattle.ss_uses.specs.Modes.{are_two, aspect_mode, class_implied, class_mode, differ, held_by, known_class, known_mode, mixes, mode_in, mode_of};
 
 use ss_base::Mode;
+use ss_bytes::Name;
 use ss_demands::{Aspect, Demand};
-use ss_lex::Name;
 use ss_scopes::{Globals, Holder, Known, Locals, meaning_in};
 
 // The mode of what a name means. None for a set and a routine.

@@ -16,7 +16,7 @@ use crate::rule::Rule;
 use crate::unknown::tells_of_known;
 use indexmap::IndexSet;
 use ss_base::{Line, Mode};
-use ss_lex::Name;
+use ss_bytes::Name;
 use ss_scopes::Globals;
 use ss_tree::preamble::PreambleStatement;
 

@@ -5,7 +5,7 @@ ghost use Rattle.ss_uses.specs.Subscripts.{has_wrong_subscripts, is_of_program, 
 ghost use Rattle.ss_scopes.specs.Meanings.{meaning_in};
 ghost use Rattle.ss_uses.specs.Unknown.{if_known};
 
-use ss_lex::Name;
+use ss_bytes::Name;
 use ss_scopes::{Globals, Holder, Known, Locals, meaning_in};
 use ss_walk::{Mention, Mentioned};
 

@@ -3,7 +3,7 @@
 ghost use Rattle.std.specs.Prelude.{◌≡◌};
 ghost use Rattle.ss_uses.specs.Unknown.{has_value, if_known, is_notice, is_permanent, is_routine, is_set, is_told_here, is_transient, is_unknown, is_variable, may_be_told, suits, suits_here, suits_there, suits_times};
 
-use ss_lex::Name;
+use ss_bytes::Name;
 use ss_scopes::{Globals, Known, Locals, meaning_in};
 use ss_tree::preamble::ClassKind;
 use ss_walk::{Mention, Mentioned, Role};

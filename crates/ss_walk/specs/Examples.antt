@@ -1,6 +1,6 @@
 -- Worked examples: what small sections mention, read off by hand.
 use Rattle.std.specs.Prelude.{◌≡◌, ℕ, pos, Bool, true, false, [], ◌∷◌, Some, None, codes, refl}
-use Rattle.ss_base.specs.declared.line.Line.{Line}
+use Rattle.ss_bytes.specs.declared.line.Line.{Line}
 use Rattle.ss_tree.specs.declared.expression.Sign.TheVariants.{Plus}
 use Rattle.ss_tree.specs.declared.expression.Designator.TheVariants as designators
 use Rattle.ss_tree.specs.declared.condition.Relation.TheVariants.{Equal}

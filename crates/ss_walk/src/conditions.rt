@@ -7,7 +7,7 @@ ghost use Rattle.ss_walk.specs.Mentions.{in_condition, in_test};
 
 use crate::expressions::{note_expression, note_named};
 use crate::mention::{Mention, Role};
-use ss_base::Line;
+use ss_bytes::Line;
 use ss_tree::condition::{Condition, Test};
 use std::alloc::AllocError;
 

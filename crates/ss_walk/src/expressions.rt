@@ -6,8 +6,7 @@ ghost use Rattle.ss_tree.specs.View.{view_expression, view_named, view_option, v
 ghost use Rattle.ss_walk.specs.Mentions.{class_named, in_all, in_all_named, in_expression, in_named, in_option, in_term, is_bare, mentioned, place, plain};
 
 use crate::mention::{Mention, Mentioned, Role};
-use ss_base::Line;
-use ss_lex::Name;
+use ss_bytes::{Line, Name};
 use ss_tree::expression::{Designator, Expression, Named, Term};
 use std::alloc::AllocError;
 

@@ -7,7 +7,7 @@ ghost use Rattle.ss_walk.specs.Mentions.{in_guards, in_head, in_phrases, in_star
 use crate::conditions::note_condition;
 use crate::expressions::{note_class, note_expression, note_maybe, note_named, note_plain};
 use crate::mention::{Mention, Role};
-use ss_base::Line;
+use ss_bytes::Line;
 use ss_tree::head::{Guard, Head, MemberStart, Phrase};
 use std::alloc::AllocError;
 

@@ -4,7 +4,7 @@ ghost use Rattle.std.specs.Prelude.{◌≡◌};
 ghost use Rattle.ss_tree.specs.View.{view_statement};
 ghost use Rattle.ss_walk.specs.Mentions.{line_of};
 
-use ss_base::Line;
+use ss_bytes::Line;
 use ss_tree::statement::Statement;
 
 /// The line of the first word of a statement.

@@ -1,7 +1,6 @@
 //! Mentions.
 
-use ss_base::Line;
-use ss_lex::Name;
+use ss_bytes::{Line, Name};
 use ss_tree::preamble::Mode;
 
 /// As what a name stands in a section.

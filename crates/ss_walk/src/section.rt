@@ -7,7 +7,7 @@ ghost use Rattle.ss_walk.specs.Mentions.{in_definitions, in_kind, mentions};
 use crate::expressions::{note_all_plain, note_plain};
 use crate::mention::{Mention, Role};
 use crate::statements::note_body;
-use ss_base::Line;
+use ss_bytes::Line;
 use ss_tree::program::{LocalDefinition, Section, SectionKind};
 use std::alloc::{AllocError, Global};
 

@@ -11,8 +11,7 @@ use crate::expressions::{
 };
 use crate::heads::note_head;
 use crate::mention::{Mention, Mentioned, Role};
-use ss_base::Line;
-use ss_lex::Name;
+use ss_bytes::{Line, Name};
 use ss_tree::expression::{Expression, Named};
 use ss_tree::statement::{Position, Statement, When};
 use std::alloc::AllocError;

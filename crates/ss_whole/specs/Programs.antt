@@ -5,7 +5,7 @@ use Rattle.ss_base.specs.declared.layout.Discipline.TheVariants as orders
 use Rattle.ss_base.specs.declared.layout.Mode.TheVariants.{Integer, Alpha}
 use Rattle.ss_base.specs.declared.layout.Owner.TheVariants as owners
 use Rattle.ss_base.specs.declared.layout.RankKey.{RankKey}
-use Rattle.ss_base.specs.declared.line.Line.{Line}
+use Rattle.ss_bytes.specs.declared.line.Line.{Line}
 use Rattle.ss_base.specs.declared.value.Value.TheVariants.{Whole as WholeNumber}
 use Rattle.ss_base.specs.Plain.{PlainLayout}
 use Rattle.ss_tree.specs.declared.expression.Designator.TheVariants.{Name}

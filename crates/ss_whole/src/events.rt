@@ -9,9 +9,9 @@ ghost use Rattle.ss_whole.specs.View.{view_parts};
 
 use crate::sections::{Parts, parts_at, split};
 use ss_base::{RankKey, RankKeys};
+use ss_bytes::Name;
 use ss_contexts::ResolveError;
 use ss_entities::Event as EventSection;
-use ss_lex::Name;
 use ss_meant::resolve_ties;
 use ss_names::{Meaning, Names};
 use ss_program::sections::Event;

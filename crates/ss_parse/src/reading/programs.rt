@@ -8,15 +8,15 @@ ghost use Rattle.ss_grammar.specs.ReadWords.{names};
 ghost use Rattle.ss_parse.specs.ReadPrograms.{begins_section, saving, routine_kind, event_kind, kind_at, variables, definition, definitions, body_in, section_at, section_in, program_in, program_of};
 
 use crate::reading::preambles::{preamble, variable_mode};
-use ss_base::Line;
+use ss_bytes::{Line, Name};
 use ss_elements::nesting::levels;
 use ss_grammar::classes::{Class, skip_class};
 use ss_grammar::failure::Failure;
 use ss_grammar::names::{name, names};
 use ss_grammar::steps::beside;
 use ss_grammar::tokens::{begins_word, behind_first, expect_word, skip_word, syntax};
-use ss_lex::{Name, Token, TokenKind, Word};
 use ss_statements::statements::statements;
+use ss_tokens::{Token, TokenKind, Word};
 use ss_tree::preamble::Mode;
 use ss_tree::program::{LocalDefinition, Program, Section, SectionKind};
 use ss_tree::statement::Statement;

@@ -1,5 +1,5 @@
 use Rattle.std.proofs.Common.{◌≡◌, length, map}
-use Rattle.ss_lex.specs.declared.word.Word.TheVariants as words
+use Rattle.ss_tokens.specs.declared.word.Word.TheVariants as words
 use Rattle.ss_tree.specs.View.{view_conjunction}
 use Rattle.ss_grammar.specs.Reading.{rows, word, begins, skip}
 use Rattle.ss_grammar.specs.ReadConditions.{conjunction_in, condition_in}

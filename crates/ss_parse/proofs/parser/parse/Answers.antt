@@ -1,5 +1,5 @@
 use Rattle.std.proofs.Common.{◌≡◌, ℕ, ◌<◌, List, ap, subst, ◌∙◌, Err}
-use Rattle.ss_lex.specs.declared.token.Token.{Token}
+use Rattle.ss_tokens.specs.declared.token.Token.{Token}
 use Rattle.ss_grammar.specs.declared.failure.Fault.{Fault}
 use Rattle.ss_tree.specs.View.{view_program}
 use Rattle.ss_parse.specs.SpelledPrograms.{Spell}

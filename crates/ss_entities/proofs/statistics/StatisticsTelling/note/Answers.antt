@@ -15,4 +15,4 @@ returns-in-Some c =
     ap (λ w. statistic_told ws w s.name) c.in-Statistic.is
     ∙ ap (statistic_told ws (said.Statistic c.in-Statistic.weighting kind c.in-Statistic.subject)) c.in-Some.is
     ∙ ap (statistic_of kind name) (sym c.get_index_of.ensures.index) in
-    subst (λ l. OnOk c.keep_statistic.result (c.keep_statistic.new.entries.entries ≡ fold with_first c.args.entries.now.entries l)) (sym e) c.keep_statistic.ensures
+    subst (λ l. OnOk c.insert_statistic.result (c.insert_statistic.new.entries.entries ≡ fold with_first c.args.entries.now.entries l)) (sym e) c.insert_statistic.ensures

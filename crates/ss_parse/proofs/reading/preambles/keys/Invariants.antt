@@ -1,5 +1,5 @@
 use Rattle.std.proofs.Common.{◌≡◌, length}
-use Rattle.ss_lex.specs.declared.word.Word.TheVariants as words
+use Rattle.ss_tokens.specs.declared.word.Word.TheVariants as words
 use Rattle.ss_grammar.specs.Reading.{rows, word}
 use Rattle.ss_grammar.specs.ReadWords.{begins_noisy}
 use Rattle.ss_grammar.proofs.Rows.{with_front}

@@ -1,5 +1,5 @@
 use Rattle.std.proofs.Common.{◌≡◌, length, map}
-use Rattle.ss_lex.specs.declared.word.Word.TheVariants as words
+use Rattle.ss_tokens.specs.declared.word.Word.TheVariants as words
 use Rattle.ss_tree.specs.View.{view_definition}
 use Rattle.ss_grammar.specs.Reading.{rows, word, begins}
 use Rattle.ss_parse.specs.ReadPrograms.{definition, definitions}

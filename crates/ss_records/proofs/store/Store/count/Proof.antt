@@ -30,7 +30,7 @@ use Rattle.ss_records.proofs.Memory.{word_ptr, store_take, store_knows, null_wor
 use Rattle.ss_records.proofs.Numbers.{counter_inside, is_counter, put_seen}
 use Rattle.ss_records.proofs.Values.{place_val, place_told, place_typed}
 use Rattle.ss_records.specs.contracts.store.Store as S
-use Rattle.ss_records.specs.contracts.store.Place as P
+use Rattle.ss_records.specs.contracts.store.Address as P
 use Rattle.ss_records.specs.contracts.store.Store.count.{ended, clauses}
 use Rattle.ss_records.specs.contracts.store.Store.count.Key.{name as #self}
 use Rattle.ss_records.proofs.store.Store.count.Statement.{statement}

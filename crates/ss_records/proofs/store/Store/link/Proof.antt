@@ -29,7 +29,7 @@ use Rattle.ss_records.proofs.Memory.{word_ptr, store_take, store_knows, null_wor
 use Rattle.ss_records.proofs.Numbers.{link_inside, is_link, put_seen}
 use Rattle.ss_records.proofs.Values.{place_val, place_told, place_typed, place_made, ptr_typed}
 use Rattle.ss_records.specs.contracts.store.Store as S
-use Rattle.ss_records.specs.contracts.store.Place as P
+use Rattle.ss_records.specs.contracts.store.Address as P
 use Rattle.ss_records.specs.contracts.store.Store.link.{ended, clauses}
 use Rattle.ss_records.specs.contracts.store.Store.link.Key.{name as #self}
 use Rattle.ss_records.proofs.store.Store.link.Statement.{statement}

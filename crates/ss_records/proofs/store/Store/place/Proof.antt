@@ -40,7 +40,7 @@ use Rattle.ss_records.proofs.Blocks.{block_cut, blanks_fresh, length-blanks, kno
 use Rattle.ss_records.proofs.Calls.{token, Takes, at_takes, Answered, Takes-goes, Takes-gives, answers}
 use Rattle.ss_records.proofs.Values.{place_val, place_made, then_runs}
 use Rattle.ss_records.specs.contracts.store.Store as S
-use Rattle.ss_records.specs.contracts.store.Place as P
+use Rattle.ss_records.specs.contracts.store.Address as P
 use Rattle.ss_records.specs.contracts.store.Store.place.{ended, clauses}
 use Rattle.ss_records.specs.contracts.store.Store.place.Key.{name as #self}
 use Rattle.ss_records.proofs.store.Store.place.Statement.{statement}

@@ -29,7 +29,7 @@ use Rattle.ss_records.specs.Ownership.{word_owns, store_owns}
 use Rattle.ss_records.proofs.Memory.{word_ptr, store_take, store_knows, null_word, word_room}
 use Rattle.ss_records.proofs.Values.{place_val, place_told, place_typed}
 use Rattle.ss_records.specs.contracts.store.Store as S
-use Rattle.ss_records.specs.contracts.store.Place as P
+use Rattle.ss_records.specs.contracts.store.Address as P
 use Rattle.ss_records.specs.contracts.store.Store.set_count.{ended, clauses}
 use Rattle.ss_records.specs.contracts.store.Store.set_count.Key.{name as #self}
 use Rattle.ss_records.proofs.store.Store.set_count.Statement.{statement}

@@ -1,0 +1,5 @@
+//! Worked examples of command lines.
+#![tactic(auto)]
+
+#[cfg(test)]
+mod orders;

@@ -1,0 +1,4 @@
+//! Variables by their numbers.
+#![tactic(auto)]
+
+pub mod variables;
