@@ -161,13 +161,10 @@ impl Scene {
         }
     }
 
-    /// The sum and the number of which a statistic is the mean, of its subject, of an entity if one has that. They can be
-    /// printed: the number is at least 0, and their quotient lies from -2^63 to 2^63. Faults: 1 to 5.
-    pub fn mean(
-        &mut self,
-        statistic: usize,
-        whose: Option<Value>,
-    ) -> Result<(i128, i64), Trouble>
+    /// The exact sum and the number of which a statistic is the mean, of its subject, of an entity if one has that. The
+    /// number is at least 0, and their quotient, where it isn't 0, lies from -2^63 to 2^63, so that they can be printed.
+    /// Faults: 1 to 5.
+    pub fn mean(&mut self, statistic: usize, whose: Option<Value>) -> Result<(i128, i64), Trouble>
         ensures value { Looks (mean statistic whose) self.old result }
         ensures is_mean { IfOk result (λ mean. IsMean mean.0 mean.1) }
         ensures same { self.new ≡ self.old }
