@@ -4,5 +4,6 @@
 mod backward;
 pub mod conditions;
 pub mod emit;
+pub mod items;
 pub mod places;
 pub mod sets;
