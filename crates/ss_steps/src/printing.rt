@@ -113,10 +113,13 @@ fn items_behind<'a>(fields: &[Field], items: &'a [Item]) -> Option<&'a [Item]>
     let mut rest = items;
     for field in fields {
         match rest {
-            [item, later @ ..] if takes(*field, item) => {
+            [] => return None,
+            [item, later @ ..] => {
+                if !takes(*field, item) {
+                    return None;
+                }
                 rest = later;
             }
-            _ => return None,
         }
     }
     Some(rest)
