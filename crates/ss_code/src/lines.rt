@@ -57,8 +57,11 @@ impl Lines {
         ensures { IfOk result (λ made. made ≡ lines_of (map view_item items.now) (map (λ line. line.items) lines.now)) }
     {
         let pictures = pictures_of(alloc, lines)?;
-        let items = kinds_of(alloc, items)?;
-        Ok(Lines { pictures, items })
+        let kinds = kinds_of(alloc, items)?;
+        Ok(Lines {
+            pictures,
+            items: kinds,
+        })
     }
 
     /// The pictures, from the first line on.

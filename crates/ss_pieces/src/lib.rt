@@ -1,4 +1,4 @@
-//! The code of expressions, conditions, targets, and what is done to sets.
+//! The code of expressions, conditions, targets, items of PRINT, and what is done to sets.
 #![tactic(auto)]
 
 mod backward;
