@@ -156,7 +156,7 @@ module _ (w : Whole) (locals : Moded) (c : Context) (s : Scope) where
 
   module _ (linked : Linked w locals c s) (line : Line) where
     -- the value of what is named, with its subscript
-    abbrev NamedValue : Designator → ExpressionRow → Type 0
+    abbrev pub NamedValue : Designator → ExpressionRow → Type 0
     NamedValue d es = Resolves w locals c s (named d es)
 
     pub name_resolves : (name : NameBytes) (es : ExpressionRow) (e : Option Expression) (known : Known) →
