@@ -1,8 +1,9 @@
 //! Statistics: what histories note, what they say, and RESET.
 
-ghost use Rattle.std.specs.Prelude.{◌≡◌, [], false, pos};
-ghost use Rattle.ss_meaning.specs.Histories.{noted, figure_kept};
-ghost use Rattle.ss_meaning.specs.Statistics.{bearer, figure, reset};
+ghost use Rattle.std.specs.Prelude.{◌≡◌, [], false, pos, IfOk};
+ghost use Rattle.ss_meaning.specs.Histories.{noted, figure_kept, mean_kept};
+ghost use Rattle.ss_meaning.specs.Statistics.{bearer, figure, mean, reset};
+ghost use Rattle.ss_picture.specs.Suited.{IsMean};
 ghost use Rattle.ss_histories.specs.Records.{figured};
 ghost use Rattle.ss_population.specs.Told.{told, numbered};
 ghost use Rattle.ss_program.specs.declared.sections.Subject.TheVariants.{OfVariable, OfAttribute};
@@ -145,6 +146,34 @@ impl Scene {
             Some(subject) => match self.bearer(subject, &whose) {
                 Err(trouble) => Err(trouble),
                 Ok(known) => self.figure_kept(fold, statistic, known),
+            },
+        }
+    }
+
+    // The mean of the history of an entity in a statistic, by its number.
+    fn mean_kept(&self, statistic: usize, known: Known) -> Result<(i128, i64), Trouble>
+        ensures value { Looks (mean_kept statistic known.number) self.now result }
+        ensures is_mean { IfOk result (λ mean. IsMean mean.0 mean.1) }
+    {
+        match self.timeline.mean(statistic, known.number) {
+            None => Err(Trouble::Misfit),
+            Some(mean) => Ok(mean),
+        }
+    }
+
+    /// The exact sum and the number of which a statistic is the mean, of its subject, of an entity if one has that. The
+    /// number is at least 0, and their quotient, where it isn't 0, lies from -2^63 to 2^63, so that they can be printed.
+    /// Faults: 1 to 5.
+    pub fn mean(&mut self, statistic: usize, whose: Option<Value>) -> Result<(i128, i64), Trouble>
+        ensures value { Looks (mean statistic whose) self.old result }
+        ensures is_mean { IfOk result (λ mean. IsMean mean.0 mean.1) }
+        ensures same { self.new ≡ self.old }
+    {
+        match self.subject(statistic) {
+            None => Err(Trouble::Misfit),
+            Some(subject) => match self.bearer(subject, &whose) {
+                Err(trouble) => Err(trouble),
+                Ok(known) => self.mean_kept(statistic, known),
             },
         }
     }
