@@ -8,5 +8,5 @@ use Rattle.ss_records.proofs.directory.Directory.pages.Goals as goal
 
 pub returns-clause-bound : goal.returns-clause-bound
 returns-clause-bound c =
-    let k = pages_few c.self.inside.earlier.entries c.self.inside.current c.self.inside.start c.self.inside.issued c.self.invariant (λ i q p g. btree_map_get_place nat_cmp_total c.self.inside.earlier i q p c.len.ensures.ordered g) in
+    let k = pages_few c.self.inside.earlier c.self.inside.current c.self.inside.start c.self.inside.issued c.self.invariant (λ i q p g. btree_map_get_place nat_cmp_total c.self.inside.earlier i q p c.len.ensures.ordered g) in
     subst (λ (w : Listed). c.len.result + 1 ≤ living w.places + 1) c.self.view_is (omega (arith, k, c.len.ensures.len))
