@@ -154,6 +154,27 @@ by_part {P} start i here earlier = by_less (ltb i start) refl where
   by_less true e = earlier (ltb-true i start e)
   by_less false e = here (ltb-false i start e)
 
+-- ## A page behind the others
+
+last_passes : (test : ℕ → Bool) (es : Pages) (q : ℕ) (cur : Page) → lookup test es ≡ None → test q ≡ true → lookup test (es ++ (q, cur) ∷ []) ≡ Some cur
+last_passes test [] q cur h t = ap (λ b. cond b (Some cur) None) t
+last_passes test (e ∷ es) q cur h t = by_test (test e.0) h (λ z. last_passes test es q cur z t) where
+  by_test : (b : Bool) → cond b (Some e.1) (lookup test es) ≡ None → (lookup test es ≡ None → lookup test (es ++ (q, cur) ∷ []) ≡ Some cur) → cond b (Some e.1) (lookup test (es ++ (q, cur) ∷ [])) ≡ Some cur
+  by_test true z later = cc
+  by_test false z later = later z
+
+last_fails : (test : ℕ → Bool) (es : Pages) (q : ℕ) (cur : Page) → test q ≡ false → lookup test (es ++ (q, cur) ∷ []) ≡ lookup test es
+last_fails test [] q cur t = ap (λ b. cond b (Some cur) None) t
+last_fails test (e ∷ es) q cur t = ap (cond (test e.0) (Some e.1)) (last_fails test es q cur t)
+
+page_turned : (ps : Pages) (q : ℕ) (cur : Page) → page_of ps q ≡ None → (r : ℕ) → page_of (ps ++ (q, cur) ∷ []) r ≡ cond (is_at (nat_cmp q) r) (Some cur) (page_of ps r)
+page_turned ps q cur none r = by_same q r
+    (λ _ e. last_passes (is_at (nat_cmp r)) ps q cur (ap (page_of ps) (sym e) ∙ none) (ap (is_at (nat_cmp r)) e ∙ is_at_same r) ∙ sym (ap (λ b. cond b (Some cur) (page_of ps r)) (ap (is_at (nat_cmp q)) (sym e) ∙ is_at_same q)))
+    (λ _ n. last_fails (is_at (nat_cmp r)) ps q cur (is_at_other r q (λ e. n (sym e))) ∙ sym (ap (λ b. cond b (Some cur) (page_of ps r)) (is_at_other q r n)))
+
+sum_turned : (ps : Pages) (q : ℕ) (cur : Page) → sum_by living (values_of (ps ++ (q, cur) ∷ [])) ≡ sum_by living (values_of ps) + living cur
+sum_turned ps q cur = ap (sum_by living) (map-append (λ (e : ℕ × Page). e.1) ps ((q, cur) ∷ [])) ∙ sum_by_push living (values_of ps) cur
+
 module _ (ps : Pages) (cur : Page) (start issued : ℕ) (P : Paged ps cur start issued) where
   abbrev f : ℕ → Option Address
   f = entry ps cur start
@@ -237,15 +258,18 @@ module _ (ps : Pages) (cur : Page) (start issued : ℕ) (P : Paged ps cur start 
     below_here q p e = let k = (P.pages q p e).2 in omega (arith, k, start_is)
 
     -- it goes behind the others, and a new one serves the next
-    module _ (es : Pages) (has : (q : ℕ) → page_of es q ≡ cond (is_at (nat_cmp here) q) (Some cur) (page_of ps q)) (sum : sum_by living (values_of es) ≡ sum_by living (values_of ps) + living cur) (some : 1 ≤ living cur) where
+    module _ (some : 1 ≤ living cur) where
+      abbrev es : Pages
+      es = ps ++ (here, cur) ∷ []
+
       abbrev new : Page
       new = replicate 256 None
 
       has_here : page_of es here ≡ Some cur
-      has_here = has here ∙ ap (λ b. cond b (Some cur) (page_of ps here)) (is_at_same here)
+      has_here = page_turned ps here cur no_page_here here ∙ ap (λ b. cond b (Some cur) (page_of ps here)) (is_at_same here)
 
       has_other : (q : ℕ) → (here ≡ q → ⊥) → page_of es q ≡ page_of ps q
-      has_other q n = has q ∙ ap (λ b. cond b (Some cur) (page_of ps q)) (is_at_other here q n)
+      has_other q n = page_turned ps here cur no_page_here q ∙ ap (λ b. cond b (Some cur) (page_of ps q)) (is_at_other here q n)
 
       pub places_turned : upto (entry es new (start + 256)) issued ≡ upto f issued
       places_turned = upto_same f (entry es new (start + 256)) issued (λ i h. at_earlier es new (start + 256) i (omega (arith, h, full)) ∙ by_part start i
@@ -262,7 +286,7 @@ module _ (ps : Pages) (cur : Page) (start issued : ℕ) (P : Paged ps cur start 
         low = omega (arith, full);
         high = omega (arith, full);
         rest = λ k h. none_living new k (living_none 256);
-        total = omega (arith, sum, P.total, ap living places_turned, living_none 256);
+        total = omega (arith, sum_turned ps here cur, P.total, ap living places_turned, living_none 256);
       } where
         the_same : {v w : Page} → Some v ≡ Some w → v ≡ w
         the_same e = cc
@@ -460,27 +484,6 @@ module _ (ps : Pages) (cur : Page) (start issued : ℕ) (P : Paged ps cur start 
 
       pub paged_given : Paged es cur start issued
       paged_given = paged_dropped ps cur start issued P i p g a found.0 found.1 es None drops (λ k. sym (none_living left k zero_left)) of_none sum_less
-
--- ## The current page goes behind the others
-
-last_passes : (test : ℕ → Bool) (es : Pages) (q : ℕ) (cur : Page) → lookup test es ≡ None → test q ≡ true → lookup test (es ++ (q, cur) ∷ []) ≡ Some cur
-last_passes test [] q cur h t = ap (λ b. cond b (Some cur) None) t
-last_passes test (e ∷ es) q cur h t = by_test (test e.0) h (λ z. last_passes test es q cur z t) where
-  by_test : (b : Bool) → cond b (Some e.1) (lookup test es) ≡ None → (lookup test es ≡ None → lookup test (es ++ (q, cur) ∷ []) ≡ Some cur) → cond b (Some e.1) (lookup test (es ++ (q, cur) ∷ [])) ≡ Some cur
-  by_test true z later = cc
-  by_test false z later = later z
-
-last_fails : (test : ℕ → Bool) (es : Pages) (q : ℕ) (cur : Page) → test q ≡ false → lookup test (es ++ (q, cur) ∷ []) ≡ lookup test es
-last_fails test [] q cur t = ap (λ b. cond b (Some cur) None) t
-last_fails test (e ∷ es) q cur t = ap (cond (test e.0) (Some e.1)) (last_fails test es q cur t)
-
-pub page_turned : (ps : Pages) (q : ℕ) (cur : Page) → page_of ps q ≡ None → (r : ℕ) → page_of (ps ++ (q, cur) ∷ []) r ≡ cond (is_at (nat_cmp q) r) (Some cur) (page_of ps r)
-page_turned ps q cur none r = by_same q r
-    (λ _ e. last_passes (is_at (nat_cmp r)) ps q cur (ap (page_of ps) (sym e) ∙ none) (ap (is_at (nat_cmp r)) e ∙ is_at_same r) ∙ sym (ap (λ b. cond b (Some cur) (page_of ps r)) (ap (is_at (nat_cmp q)) (sym e) ∙ is_at_same q)))
-    (λ _ n. last_fails (is_at (nat_cmp r)) ps q cur (is_at_other r q (λ e. n (sym e))) ∙ sym (ap (λ b. cond b (Some cur) (page_of ps r)) (is_at_other q r n)))
-
-pub sum_turned : (ps : Pages) (q : ℕ) (cur : Page) → sum_by living (values_of (ps ++ (q, cur) ∷ [])) ≡ sum_by living (values_of ps) + living cur
-sum_turned ps q cur = ap (sum_by living) (map-append (λ (e : ℕ × Page). e.1) ps ((q, cur) ∷ [])) ∙ sum_by_push living (values_of ps) cur
 
 pub full_is : (ps : Pages) (cur : Page) (start issued : ℕ) → Paged ps cur start issued → nat_eq (issued - start) 256 ≡ nat_eq (length (upto (entry ps cur start) issued)) (start + 256)
 full_is ps cur start issued P = by_same (issued - start) 256

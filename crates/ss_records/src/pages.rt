@@ -1,5 +1,5 @@
 // The pages of a directory by their numbers.
-ghost use Rattle.std.specs.Prelude.{◌≡◌, ℕ, ◌<◌, ◌++◌, [], ◌∷◌, List, length, cond, true, nat_eq, Option, Some, None, slice_get, slice_set, MatchOption, MatchResult, option_copied};
+ghost use Rattle.std.specs.Prelude.{◌≡◌, ℕ, ◌^◌, ◌<◌, ◌++◌, [], ◌∷◌, List, length, cond, true, nat_eq, Option, Some, None, slice_get, slice_set, MatchOption, MatchResult, option_copied};
 ghost use Rattle.std.specs.Ordering.{nat_cmp};
 ghost use Rattle.std.specs.BTreeMap.{is_at};
 ghost use Rattle.std.specs.Map.{set_value, remove_entry};
@@ -45,6 +45,7 @@ impl PageMap {
     /// How many pages there are.
     pub(crate) fn len(&self) -> usize
         ensures value { result ≡ length self.now }
+        ensures small { result < 2 ^ 63 }
         ensures found { (k q : ℕ) (page : List (Option Address)) → slice_get self.now k ≡ Some (q, page) → page_of self.now q ≡ Some page }
     {
         self.entries.len()
