@@ -1,4 +1,4 @@
-use Rattle.std.proofs.Common.{◌≡◌, ℕ, Some, ◌/◌, ◌+◌, length, sym, ap, subst, ◌∙◌, arith}
+use Rattle.std.proofs.Common.{◌≡◌, ◌+◌, length, sym, ap, subst, ◌∙◌, arith}
 use Rattle.ss_records.specs.Places.{living}
 use Rattle.ss_records.specs.Pages.{Listed, entry}
 use Rattle.ss_records.proofs.Same.{equal}
