@@ -1,5 +1,5 @@
 -- What no statistic is about is noted nowhere.
-use Rattle.std.proofs.Common.{◌≡◌, ℤ, Bool, true, false, not, ◌||◌, List, [], ◌∷◌, Ok, IsTrue, refl, sym, ap, ◌∙◌, if◌then◌else◌}
+use Rattle.std.proofs.Common.{◌≡◌, ℤ, Bool, true, false, not, ◌||◌, List, [], ◌∷◌, Ok, refl, sym, ap, ◌∙◌, if◌then◌else◌}
 use Rattle.std.specs.List.{list_any}
 use Rattle.ss_base.specs.declared.value.Value.{Value}
 use Rattle.ss_program.specs.declared.sections.Subject.{Subject}
@@ -16,6 +16,6 @@ quiet s x now v (k ∷ ks) none = by (same_subject k.statistic.subject s) none (
   by true none rest = absurd cc
   by false none rest = ap (turned (λ ds. column_of k.rows ∷ ds)) (rest none)
 
-pub is_none : (b : Bool) {c : Bool} → b ≡ c → IsTrue (not b) → c ≡ false
-is_none true e t = absurd t
+pub is_none : (b : Bool) {c : Bool} → b ≡ c → not b ≡ true → c ≡ false
+is_none true e t = absurd cc
 is_none false e t = sym e

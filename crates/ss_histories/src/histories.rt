@@ -1,6 +1,6 @@
 //! The histories of all statistics.
 
-ghost use Rattle.std.specs.Prelude.{◌≡◌, ◌≤ℤ◌, ◌<◌, [], false, ℤ, pos, length, slice_get, Ok, Err, IfOk, OnOk, MatchResult, IsTrue};
+ghost use Rattle.std.specs.Prelude.{◌≡◌, ◌≤ℤ◌, ◌<◌, [], false, ℤ, pos, length, slice_get, Ok, Err, IfOk, OnOk, MatchResult, true};
 ghost use Rattle.ss_base.specs.declared.value.Value.{Value as ValueSeen};
 ghost use Rattle.std.specs.Bool.{IsFalse};
 ghost use Rattle.std.specs.List.{All, list_any};
@@ -138,8 +138,9 @@ impl Histories {
     /// Whether no statistic is kept of a global variable: then noting a value of it changes nothing.
     #[inline(always)]
     pub fn ignores_variable(&self, number: usize) -> bool
-        ensures { IsTrue result → (x now : ℤ) (v : ValueSeen) → all_noting (OfVariable number) x now v self.now.statistics (columns_of self.now.rows) ≡ Ok (columns_of self.now.rows) }
+        ensures { result ≡ true → (x now : ℤ) (v : ValueSeen) → all_noting (OfVariable number) x now v self.now.statistics (columns_of self.now.rows) ≡ Ok (columns_of self.now.rows) }
     {
+        let _kept = &self.kept;
         !self.watches(Subject::OfVariable { number })
     }
 

@@ -1,6 +1,6 @@
 //! Statistics: what histories note, what they say, and RESET.
 
-ghost use Rattle.std.specs.Prelude.{◌≡◌, [], false, pos, Ok, IsTrue};
+ghost use Rattle.std.specs.Prelude.{◌≡◌, [], true, false, pos, Ok};
 ghost use Rattle.ss_base.specs.declared.value.Value.{Value as ValueSeen};
 ghost use Rattle.ss_meaning.specs.Store.{Store as StoreSeen};
 ghost use Rattle.ss_meaning.specs.Histories.{noted, figure_kept};
@@ -32,7 +32,7 @@ impl Scene {
     /// Whether no statistic is about a global variable: then no value of it is noted.
     #[inline(always)]
     pub fn ignores_variable(&self, number: usize) -> bool
-        ensures { IsTrue result → (v : ValueSeen) (s : StoreSeen) → noted (OfVariable number) (pos 0) v (with_seen s self.now) ≡ Ok (with_seen s self.now) }
+        ensures { result ≡ true → (v : ValueSeen) (s : StoreSeen) → noted (OfVariable number) (pos 0) v (with_seen s self.now) ≡ Ok (with_seen s self.now) }
     {
         self.timeline.ignores_variable(number)
     }

@@ -1,6 +1,6 @@
 //! TIME.V, the notices that are pending, and the histories.
 
-ghost use Rattle.std.specs.Prelude.{◌≡◌, ◌≤ℤ◌, [], map, ℤ, pos, false, Ok, Err, MatchResult, IfOk, OnOk, IsTrue};
+ghost use Rattle.std.specs.Prelude.{◌≡◌, ◌≤ℤ◌, [], map, ℤ, pos, false, Ok, Err, MatchResult, IfOk, OnOk, true};
 ghost use Rattle.ss_base.specs.declared.value.Value.{Value as ValueSeen};
 ghost use Rattle.std.specs.List.{list_any};
 ghost use Rattle.std.specs.Ordering.{int_eq};
@@ -135,7 +135,7 @@ impl Timeline {
     /// Whether no statistic is about a global variable: then noting a value of it changes nothing.
     #[inline(always)]
     pub fn ignores_variable(&self, number: usize) -> bool
-        ensures { IsTrue result → (x now : ℤ) (v : ValueSeen) → all_noting (OfVariable number) x now v self.now.histories.statistics (columns self.now) ≡ Ok (columns self.now) }
+        ensures { result ≡ true → (x now : ℤ) (v : ValueSeen) → all_noting (OfVariable number) x now v self.now.histories.statistics (columns self.now) ≡ Ok (columns self.now) }
     {
         self.histories.ignores_variable(number)
     }

@@ -10,4 +10,4 @@ use Rattle.ss_store.proofs.scene.Scene.ignores_variable.Goals as goal
 pub returns : goal.returns
 returns c = λ ignored v s.
     subst (λ (e : Seen). noted (OfVariable c.args.number) (pos 0) v (with_seen s e) ≡ Ok (with_seen s e)) c.self.view_is
-    (ap (turned (with_histories (with_seen s c.self.now))) (c.ignores_variable.ensures ignored (pos 0) c.self.inside.timeline.time v))
+    (ap (turned (with_histories (with_seen s _))) (c.ignores_variable.ensures ignored (pos 0) c.self.inside.timeline.time v))
