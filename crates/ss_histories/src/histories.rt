@@ -1,6 +1,7 @@
 //! The histories of all statistics.
 
-ghost use Rattle.std.specs.Prelude.{◌≡◌, ◌≤ℤ◌, ◌<◌, [], false, pos, length, slice_get, Ok, Err, IfOk, OnOk, IfSome, MatchResult};
+ghost use Rattle.std.specs.Prelude.{◌≡◌, ◌≤ℤ◌, ◌<◌, [], true, false, ℤ, pos, length, slice_get, Ok, Err, IfOk, OnOk, IfSome, MatchResult};
+ghost use Rattle.ss_base.specs.declared.value.Value.{Value as ValueSeen};
 ghost use Rattle.std.specs.Bool.{IsFalse};
 ghost use Rattle.std.specs.List.{All, list_any};
 ghost use Rattle.std.specs.Option.{option_map};
@@ -8,7 +9,7 @@ ghost use Rattle.std.specs.Ordering.{int_eq};
 ghost use Rattle.ss_base.specs.declared.layout.Owner.TheVariants.{Class};
 ghost use Rattle.ss_program.specs.declared.sections.Statistic.{Statistic};
 ghost use Rattle.ss_program.specs.declared.sections.Subject.{Subject as TheSubject};
-ghost use Rattle.ss_program.specs.declared.sections.Subject.TheVariants.{OfAttribute};
+ghost use Rattle.ss_program.specs.declared.sections.Subject.TheVariants.{OfVariable, OfAttribute};
 ghost use Rattle.ss_picture.specs.Suited.{IsMean};
 ghost use Rattle.ss_meaning.specs.Values.{if_ok, sure};
 ghost use Rattle.ss_meaning.specs.Histories.{no_histories, starting, ending, all_noting, history_of, folded, renewed};
@@ -133,6 +134,15 @@ impl Histories {
         ensures { result ≡ list_any (is_about subject) self.now.statistics }
     {
         !self.kept.is_empty() && each::has_some(self.about.places(subject))
+    }
+
+    /// Whether no statistic is kept of a global variable: then noting a value of it changes nothing.
+    #[inline(always)]
+    pub fn ignores_variable(&self, number: usize) -> bool
+        ensures { result ≡ true → (x now : ℤ) (v : ValueSeen) → all_noting (OfVariable number) x now v self.now.statistics (columns_of self.now.rows) ≡ Ok (columns_of self.now.rows) }
+    {
+        let _kept = &self.kept;
+        !self.watches(Subject::OfVariable { number })
     }
 
     /// The subject of a statistic, if there is one of that number.

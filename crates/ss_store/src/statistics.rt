@@ -1,6 +1,8 @@
 //! Statistics: what histories note, what they say, and RESET.
 
-ghost use Rattle.std.specs.Prelude.{◌≡◌, [], false, pos, IfOk};
+ghost use Rattle.std.specs.Prelude.{◌≡◌, [], true, false, pos, Ok, IfOk};
+ghost use Rattle.ss_base.specs.declared.value.Value.{Value as ValueSeen};
+ghost use Rattle.ss_meaning.specs.Store.{Store as StoreSeen};
 ghost use Rattle.ss_meaning.specs.Histories.{noted, figure_kept, mean_kept};
 ghost use Rattle.ss_meaning.specs.Statistics.{bearer, figure, mean, reset};
 ghost use Rattle.ss_picture.specs.Suited.{IsMean};
@@ -9,7 +11,7 @@ ghost use Rattle.ss_population.specs.Told.{told, numbered};
 ghost use Rattle.ss_program.specs.declared.sections.Subject.TheVariants.{OfVariable, OfAttribute};
 ghost use Rattle.ss_timeline.specs.Figures.{subject_in, variable_in, variable_of, held_by, present_with, renewed_known, reset_of};
 ghost use Rattle.ss_store.specs.Filed.{IsCountable, CountsWatched, recounted_now};
-ghost use Rattle.ss_store.specs.Seen.{Looks, Changes, ChangesWhere, or_unnoted};
+ghost use Rattle.ss_store.specs.Seen.{Looks, Changes, ChangesWhere, or_unnoted, with_seen};
 
 use crate::scene::Scene;
 use ss_base::{FaultKind, Value};
@@ -26,6 +28,14 @@ impl Scene {
         ensures { result ≡ false → self.now.statistics ≡ [] }
     {
         self.timeline.has_statistics()
+    }
+
+    /// Whether no statistic is about a global variable: then no value of it is noted.
+    #[inline(always)]
+    pub fn ignores_variable(&self, number: usize) -> bool
+        ensures { result ≡ true → (v : ValueSeen) (s : StoreSeen) → noted (OfVariable number) (pos 0) v (with_seen s self.now) ≡ Ok (with_seen s self.now) }
+    {
+        self.timeline.ignores_variable(number)
     }
 
     // Notes a value of a subject in its histories of an entity, by its number.

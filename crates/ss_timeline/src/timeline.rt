@@ -1,16 +1,17 @@
 //! TIME.V, the notices that are pending, and the histories.
 
-ghost use Rattle.std.specs.Prelude.{◌≡◌, ◌≤ℤ◌, [], map, pos, false, Ok, Err, MatchResult, IfOk, IfSome, OnOk};
+ghost use Rattle.std.specs.Prelude.{◌≡◌, ◌≤ℤ◌, [], map, ℤ, pos, true, false, Ok, Err, MatchResult, IfOk, IfSome, OnOk};
+ghost use Rattle.ss_base.specs.declared.value.Value.{Value as ValueSeen};
 ghost use Rattle.std.specs.List.{list_any};
 ghost use Rattle.std.specs.Ordering.{int_eq};
 ghost use Rattle.ss_base.specs.declared.layout.Owner.TheVariants.{System, Class};
 ghost use Rattle.ss_events.specs.PendingList.{none_pending, is_pending, cancelled, next};
 ghost use Rattle.ss_histories.specs.Places.{is_about};
 ghost use Rattle.ss_histories.specs.Records.{HasRooms, is_up_to, renewed_where, figured, mean_in, columns_of};
-ghost use Rattle.ss_meaning.specs.Histories.{no_histories, starting, ending, history_of, folded, renewed};
+ghost use Rattle.ss_meaning.specs.Histories.{no_histories, starting, ending, all_noting, history_of, folded, renewed};
 ghost use Rattle.ss_meaning.specs.Values.{if_ok, sure};
 ghost use Rattle.ss_picture.specs.Suited.{IsMean};
-ghost use Rattle.ss_program.specs.declared.sections.Subject.TheVariants.{OfAttribute};
+ghost use Rattle.ss_program.specs.declared.sections.Subject.TheVariants.{OfVariable, OfAttribute};
 ghost use Rattle.ss_timeline.specs.Figures.{subject_in};
 ghost use Rattle.ss_timeline.specs.Times.{IsAt, Schedules, Noted, columns, passed_by};
 
@@ -130,6 +131,14 @@ impl Timeline {
         ensures { result ≡ list_any (is_about subject) self.now.histories.statistics }
     {
         self.histories.watches(subject)
+    }
+
+    /// Whether no statistic is about a global variable: then noting a value of it changes nothing.
+    #[inline(always)]
+    pub fn ignores_variable(&self, number: usize) -> bool
+        ensures { result ≡ true → (x now : ℤ) (v : ValueSeen) → all_noting (OfVariable number) x now v self.now.histories.statistics (columns self.now) ≡ Ok (columns self.now) }
+    {
+        self.histories.ignores_variable(number)
     }
 
     /// What a statistic is about.
