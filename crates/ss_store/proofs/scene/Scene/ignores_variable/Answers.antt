@@ -9,5 +9,8 @@ use Rattle.ss_store.proofs.scene.Scene.ignores_variable.Goals as goal
 
 pub returns : goal.returns
 returns c = λ ignored v s.
+    let i = c.self.inside in
+    let t = i.timeline in
+    let seen : Seen = record { disciplines = i.disciplines.items; notices = i.notices.items; statistics = t.histories.statistics; heap = i.population; time = t.time; pending = t.pending; histories = t.histories.rows } in
     subst (λ (e : Seen). noted (OfVariable c.args.number) (pos 0) v (with_seen s e) ≡ Ok (with_seen s e)) c.self.view_is
-    (ap (turned (with_histories (with_seen s _))) (c.ignores_variable.ensures ignored (pos 0) c.self.inside.timeline.time v))
+    (ap (turned (with_histories (with_seen s seen))) (c.ignores_variable.ensures ignored (pos 0) t.time v))
