@@ -1,5 +1,5 @@
 -- Fields that take items.
-use Rattle.std.proofs.Common.{◌≡◌, ℕ, ◌+◌, ◌<◌, Bool, true, false, ◌&&◌, List, [], ◌∷◌, ◌++◌, length, get_or, take, drop, min, refl, sym, ap, ◌∙◌, subst}
+use Rattle.std.proofs.Common.{◌≡◌, ℕ, ◌+◌, ◌<◌, Bool, true, false, ◌&&◌, List, [], ◌∷◌, ◌++◌, length, get_or, take, drop, min, refl, sym, ap, ◌∙◌, subst, arith}
 use Rattle.std.specs.List.{flat_map, AllByRecursion}
 use Rattle.std.proofs.lemmas.List.{drop_more, take_min, drop_min}
 use Rattle.std.proofs.lemmas.Bool.{eqb-true, leb-true}
@@ -11,26 +11,11 @@ use Rattle.ss_picture.specs.Suited.{Suits, EachSuits}
 use Rattle.ss_meaning.specs.Values.{takes, take_all}
 use Rattle.ss_steps.specs.Shown.{IsPrintable}
 
--- ## One field more
-
-module _ (fields : List Field) (i : ℕ) (f : Field) (lt : i < length fields) (is : f ≡ get_or fields i f) (more : List Field) where
-  first : drop i fields ++ more ≡ f ∷ (drop (i + 1) fields ++ more)
-  first = ap (λ fs. fs ++ more) (drop_more fields i f lt ∙ ap (λ x. x ∷ drop (i + 1) fields) (sym is))
-
-  -- no item is left
-  pub none_left : (rest : List Item) → rest ≡ [] → take_all (drop i fields ++ more) rest ≡ false
-  none_left rest e = λ k. take_all (first k) (e k)
-
-  by_one : (rest later : List Item) (item : Item) (b : Bool) → rest ≡ item ∷ later → takes f item ≡ b → take_all (drop i fields ++ more) rest ≡ (b && take_all (drop (i + 1) fields ++ more) later)
-  by_one rest later item b e t = (λ k. take_all (first k) (e k)) ∙ ap (λ b. b && take_all (drop (i + 1) fields ++ more) later) t
-
-  -- it takes its item
-  pub one_taken : (rest later : List Item) (item : Item) → rest ≡ item ∷ later → takes f item ≡ true → take_all (drop i fields ++ more) rest ≡ take_all (drop (i + 1) fields ++ more) later
-  one_taken rest later item e t = by_one rest later item true e t
-
-  -- it does not
-  pub not_taken : (rest later : List Item) (item : Item) → rest ≡ item ∷ later → takes f item ≡ false → take_all (drop i fields ++ more) rest ≡ false
-  not_taken rest later item e t = by_one rest later item false e t
+-- no item is left
+pub none_left : (fields : List Field) (i : ℕ) (more : List Field) (rest : List Item) → i < length fields → length rest < 1 → take_all (drop i fields ++ more) rest ≡ false
+none_left fields i more [] lt e =
+    ap (λ fs. take_all (fs ++ more) []) (drop_more fields i (record { width = 0; decimals = 0 }) lt)
+none_left fields i more (x ∷ xs) lt e = absurd (omega (arith, e))
 
 -- ## One picture more
 

@@ -1,5 +1,5 @@
 -- The items of a PRINT, made one by one.
-use Rattle.std.proofs.Common.{◌≡◌, ℕ, ◌+◌, ◌<◌, min, List, [], ◌∷◌, ◌++◌, length, get_or, drop, Option, Some, None, refl, sym, ap, ◌∙◌}
+use Rattle.std.proofs.Common.{◌≡◌, ℕ, ◌+◌, ◌<◌, List, [], ◌∷◌, ◌++◌, length, get_or, drop, Option, Some, None, refl, sym, ap, ◌∙◌}
 use Rattle.std.specs.List.{AllByRecursion}
 use Rattle.std.proofs.lemmas.List.{append_assoc, drop_more}
 use Rattle.ss_base.specs.declared.value.Value.{Value}
@@ -31,18 +31,21 @@ one_moved : (xs : List Item) (x : Item) (o : Option (List Item)) → in_front xs
 one_moved xs x None = refl
 one_moved xs x (Some ys) = ap Some (sym (append_assoc xs (x ∷ []) ys))
 
-module _ (ks : List ItemKind) (i : ℕ) (k : ItemKind) (lt : i < length ks) (is : k ≡ get_or ks i k) (vs : List Value) (s : Store) where
-  next : shown (drop i ks) vs s ≡ item_before (item_of k vs s) (shown (drop (i + 1) ks) (drop (taken_by k) vs) s)
-  next = ap (λ l. shown l vs s) (drop_more ks i k lt ∙ ap (λ x. x ∷ drop (i + 1) ks) (sym is)) ∙ one_by_one k (drop (i + 1) ks) vs s
+module _ (ks : List ItemKind) (i : ℕ) (d : ItemKind) (lt : i < length ks) (vs : List Value) (s : Store) where
+  abbrev kind : ItemKind
+  kind = get_or ks i d
+
+  next : shown (drop i ks) vs s ≡ item_before (item_of kind vs s) (shown (drop (i + 1) ks) (drop (taken_by kind) vs) s)
+  next = ap (λ l. shown l vs s) (drop_more ks i d lt) ∙ one_by_one kind (drop (i + 1) ks) vs s
 
   -- there is no next item
-  pub none_more : (xs : List Item) → item_of k vs s ≡ None → in_front xs (shown (drop i ks) vs s) ≡ None
-  none_more xs e = ap (in_front xs) (next ∙ ap (λ o. item_before o (shown (drop (i + 1) ks) (drop (taken_by k) vs) s)) e)
+  pub none_more : (xs : List Item) → item_of kind vs s ≡ None → in_front xs (shown (drop i ks) vs s) ≡ None
+  none_more xs e = ap (in_front xs) (next ∙ ap (λ o. item_before o (shown (drop (i + 1) ks) (drop (taken_by kind) vs) s)) e)
 
   -- there is one
-  pub one_more : (xs : List Item) (x : Item) → item_of k vs s ≡ Some x → in_front xs (shown (drop i ks) vs s) ≡ in_front (xs ++ x ∷ []) (shown (drop (i + 1) ks) (drop (taken_by k) vs) s)
+  pub one_more : (xs : List Item) (x : Item) → item_of kind vs s ≡ Some x → in_front xs (shown (drop i ks) vs s) ≡ in_front (xs ++ x ∷ []) (shown (drop (i + 1) ks) (drop (taken_by kind) vs) s)
   one_more xs x e =
-      ap (in_front xs) (next ∙ ap (λ o. item_before o (shown (drop (i + 1) ks) (drop (taken_by k) vs) s)) e) ∙ one_moved xs x (shown (drop (i + 1) ks) (drop (taken_by k) vs) s)
+      ap (in_front xs) (next ∙ ap (λ o. item_before o (shown (drop (i + 1) ks) (drop (taken_by kind) vs) s)) e) ∙ one_moved xs x (shown (drop (i + 1) ks) (drop (taken_by kind) vs) s)
 
 pub printable_more : (xs : List Item) (x : Item) → AllByRecursion IsPrintable xs → IsPrintable x → AllByRecursion IsPrintable (xs ++ x ∷ [])
 printable_more [] x h p = (p, tt)
