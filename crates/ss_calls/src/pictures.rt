@@ -1,42 +1,97 @@
+ghost use Rattle.std.specs.Prelude.{◌≡◌, true};
+ghost use Rattle.ss_picture.specs.Suited.{Suits, EachSuits};
+
 use ss_base::{Alpha, Faulty, FaultyWrite, Value};
-use ss_picture::{Picture, Sink, SinkError};
+use ss_picture::{Field, Item, Picture, Sink, SinkError};
 use ss_streams::{MemoryWrite, Plan, Trouble};
 use std::alloc::{AllocError, Global};
 use std::io;
 use std::io::ErrorKind;
 
-// Whether a picture has these widths, and gives this line with these values.
-fn gives(
-    alloc: Global,
-    picture: &Picture,
-    widths: &[usize],
-    values: &[Value],
-    line: &[u8],
-) -> bool {
-    let fields = picture.fields();
-    if fields != widths || fields.len() != values.len() {
+// Whether an item is a value, and its field has no decimals.
+fn is_plain(field: &Field, item: &Item) -> bool
+    ensures { result ≡ true → Suits field.now.decimals item.now }
+{
+    match item {
+        Item::Is(_) => field.decimals == 0,
+        Item::Mean(_, _) => false,
+    }
+}
+
+// Whether the items are values, and their fields have no decimals.
+fn are_plain(fields: &[Field], items: &[Item]) -> bool
+    ensures { result ≡ true → EachSuits fields.now items.now }
+{
+    let mut rest = items;
+    for field in fields {
+        match rest {
+            [] => return true,
+            [item, later @ ..] => {
+                if !is_plain(field, item) {
+                    return false;
+                }
+                rest = later;
+            }
+        }
+    }
+    true
+}
+
+// The width of a field, and its decimals.
+type Shape = (usize, usize);
+
+// Whether these are the fields.
+fn have_shapes(fields: &[Field], shapes: &[Shape]) -> bool {
+    if fields.len() != shapes.len() {
         return false;
     }
-    match picture.fill(alloc, values) {
+    for (field, (width, decimals)) in fields.iter().zip(shapes) {
+        if field.width != *width || field.decimals != *decimals {
+            return false;
+        }
+    }
+    true
+}
+
+// Whether a picture has these fields, and gives this line with these values.
+fn gives(alloc: Global, picture: &Picture, shapes: &[Shape], items: &[Item], line: &[u8]) -> bool {
+    let fields = picture.fields();
+    if !have_shapes(fields, shapes) || fields.len() != items.len() || !are_plain(fields, items) {
+        return false;
+    }
+    match picture.fill(alloc, items) {
         Ok(filled) => filled.as_slice() == line,
         Err(_) => false,
     }
 }
 
 // Whether the picture of these bytes does.
-fn is_line(alloc: Global, bytes: &[u8], widths: &[usize], values: &[Value], line: &[u8]) -> bool {
+fn is_line(alloc: Global, bytes: &[u8], shapes: &[Shape], items: &[Item], line: &[u8]) -> bool {
     match Picture::of(alloc, bytes) {
-        Ok(picture) => gives(alloc, &picture, widths, values, line),
+        Ok(picture) => gives(alloc, &picture, shapes, items, line),
         Err(_) => false,
     }
+}
+
+// Whether the picture of these bytes has these fields.
+fn is_shaped(alloc: Global, bytes: &[u8], shapes: &[Shape]) -> bool {
+    match Picture::of(alloc, bytes) {
+        Ok(picture) => have_shapes(picture.fields(), shapes),
+        Err(_) => false,
+    }
+}
+
+// The item that shows a number.
+fn number(value: i64) -> Item {
+    Item::Is(Value::Whole(value))
 }
 
 // A picture of one field, its width, and the line that it gives with this number.
 type NumberRow = (&'static [u8], usize, i64, &'static [u8]);
 
 fn are_numbers(alloc: Global, rows: &[NumberRow]) -> bool {
-    for (picture, width, number, line) in rows {
-        if !is_line(alloc, picture, &[*width], &[Value::Whole(*number)], line) {
+    for (picture, width, value, line) in rows {
+        if !is_line(alloc, picture, &[(*width, 0)], &[number(*value)], line) {
             return false;
         }
     }
@@ -77,14 +132,23 @@ fn numbers(rt: HostRuntime) {
 fn no_field_and_several(rt: HostRuntime) {
     assert!(rt; is_line(rt.alloc(), b"", &[], &[], b""));
     assert!(rt; is_line(rt.alloc(), b"BEFORE", &[], &[], b"BEFORE"));
-    let values = [
-        Value::Whole(3),
-        Value::Whole(9),
-        Value::Whole(7),
-        Value::Whole(-2),
-    ];
-    let widths = [2, 2, 2, 2];
-    assert!(rt; is_line(rt.alloc(), b"** ** ** **", &widths, &values, b" 3  9  7 -2"));
+    let items = [number(3), number(9), number(7), number(-2)];
+    let shapes = [(2, 0), (2, 0), (2, 0), (2, 0)];
+    assert!(rt; is_line(rt.alloc(), b"** ** ** **", &shapes, &items, b" 3  9  7 -2"));
+}
+
+#[test]
+fn fields_with_decimals(rt: HostRuntime) {
+    assert!(rt; is_shaped(rt.alloc(), b"[***.**]", &[(6, 2)]));
+    assert!(rt; is_shaped(rt.alloc(), b"*.*.**", &[(3, 1), (2, 0)]));
+    assert!(rt;
+        is_shaped(
+            rt.alloc(),
+            b".* *. **..**",
+            &[(1, 0), (1, 0), (2, 0), (2, 0)]
+        )
+    );
+    assert!(rt; is_shaped(rt.alloc(), b"*.**********", &[(12, 10)]));
 }
 
 // A picture of one field, its width, and the line that it gives with this text.
@@ -95,7 +159,13 @@ fn are_texts(alloc: Global, rows: &[TextRow]) -> bool {
         let Some(text) = Alpha::of(text) else {
             return false;
         };
-        if !is_line(alloc, picture, &[*width], &[Value::Text(text)], line) {
+        if !is_line(
+            alloc,
+            picture,
+            &[(*width, 0)],
+            &[Item::Is(Value::Text(text))],
+            line,
+        ) {
             return false;
         }
     }
@@ -123,20 +193,21 @@ fn pictured(alloc: Global, picture: &[u8]) -> Result<Picture, AllocError> {
 }
 
 // The line that a picture makes of values, one for each field, where memory may be refused: then the next try succeeds.
-fn filled(alloc: Global, picture: &Picture, values: &[Value]) -> Result<Vec<u8>, AllocError> {
-    if picture.fields().len() != values.len() {
+fn filled(alloc: Global, picture: &Picture, items: &[Item]) -> Result<Vec<u8>, AllocError> {
+    let fields = picture.fields();
+    if fields.len() != items.len() || !are_plain(fields, items) {
         return Err(AllocError);
     }
-    match picture.fill(alloc, values) {
+    match picture.fill(alloc, items) {
         Ok(line) => Ok(line),
-        Err(_) => picture.fill(alloc, values),
+        Err(_) => picture.fill(alloc, items),
     }
 }
 
 // Whether a picture makes this line of a number, where memory may be refused, and then has its one field of this width.
-fn is_filled(alloc: Global, picture: &Picture, number: i64, line: &[u8], width: usize) -> bool {
-    match filled(alloc, picture, &[Value::Whole(number)]) {
-        Ok(filled) => filled.as_slice() == line && picture.fields() == [width].as_slice(),
+fn is_filled(alloc: Global, picture: &Picture, value: i64, line: &[u8], width: usize) -> bool {
+    match filled(alloc, picture, &[number(value)]) {
+        Ok(filled) => filled.as_slice() == line && have_shapes(picture.fields(), &[(width, 0)]),
         Err(_) => false,
     }
 }
@@ -154,25 +225,22 @@ fn refused_memory_leaves_the_picture(rt: HostRuntime) {
     assert!(rt; is_kept(rt.alloc(), b"A**", 7, b"A 7", 2));
 }
 
-// Whether a picture with this value, or with none, adds a line to make these bytes.
-fn adds(picture: &Picture, line: &mut Vec<u8>, value: Option<i64>, wanted: &[u8]) -> bool {
-    if picture.fields().is_empty() {
+// Whether a picture with these values, which may be fewer than its fields, adds a line to make these bytes.
+fn adds(picture: &Picture, line: &mut Vec<u8>, items: &[Item], wanted: &[u8]) -> bool {
+    let fields = picture.fields();
+    if fields.len() < items.len() || !are_plain(fields, items) {
         return false;
     }
-    let filled = match value {
-        Some(number) => picture.fill_into(line, &[Value::Whole(number)]),
-        None => picture.fill_into(line, &[]),
-    };
-    filled.is_ok() && line.as_slice() == wanted
+    picture.fill_into(line, items).is_ok() && line.as_slice() == wanted
 }
 
 // Whether a picture adds its lines to a buffer, also after that was cleared.
 fn adds_lines(picture: &Picture, line: &mut Vec<u8>) -> bool {
-    if !adds(picture, line, Some(5), b"1: < 5>") {
+    if !adds(picture, line, &[number(5)], b"1: < 5>") {
         return false;
     }
     line.clear();
-    adds(picture, line, Some(-5), b"<-5>") && adds(picture, line, None, b"<-5><**>")
+    adds(picture, line, &[number(-5)], b"<-5>") && adds(picture, line, &[], b"<-5><**>")
 }
 
 // Whether the picture of these bytes does, and the buffer begins so.

@@ -7,10 +7,11 @@ use Rattle.ss_program.specs.declared.statement.Statement as statements
 use Rattle.ss_program.specs.declared.statement.Statement.TheVariants as forms
 use Rattle.ss_program.specs.Program as p
 use Rattle.ss_program.specs.Program.{Statement}
-use Rattle.ss_program.specs.View.{view_expression, view_place, view_target, view_position, view_owner, view_when, view_restart, view_statement}
+use Rattle.ss_program.specs.View.{view_expression, view_place, view_target, view_position, view_owner, view_when, view_restart, view_item, view_statement}
 use Rattle.ss_machine_code.specs.declared.instruction.Instruction.{Instruction}
 use Rattle.ss_machine_code.specs.declared.instruction.Instruction.TheVariants as i
-use Rattle.ss_machine_code.specs.Translation.{values_code, gives_code, statement_code, statement_pictures}
+use Rattle.ss_machine_code.specs.Machine.{Lines}
+use Rattle.ss_machine_code.specs.Translation.{values_code, gives_code, shown_code, values_taken, statement_code, statement_prints}
 
 -- nothing was, where there was no memory
 pub failed : (P : Type 0) (Q : AllocError → Type 0) (r : Result (Unit {0}) AllocError) → IsErrAnd r Q → OnOk r P
@@ -22,11 +23,11 @@ pub emitted : (r : Result (Unit {0}) AllocError) (new old made : List Instructio
 emitted r new old made n s form seen h is e f =
     on_ok_weaker r (λ q. q ∙ ap (λ k. old ++ k) (f ∙ sym (ap (λ x. statement_code n (view_statement x)) is ∙ ap (statement_code n) e))) h
 
--- a form without pictures
-pub unpictured : (r : Result (Unit {0}) AllocError) (old : List (List (List ℕ))) (s form : statements.Statement) (seen : Statement) → s ≡ form → view_statement form ≡ seen → statement_pictures seen ≡ [] → OnOk r (old ≡ old ++ statement_pictures (view_statement s))
-unpictured (Ok u) old s form seen is e none =
-    sym (ap (λ x. old ++ statement_pictures (view_statement x)) is ∙ ap (λ x. old ++ statement_pictures x) e ∙ ap (λ k. old ++ k) none ∙ append-nil old)
-unpictured (Err x) old s form seen is e none = tt
+-- a form without lines
+pub unprinted : (r : Result (Unit {0}) AllocError) (old : List Lines) (s form : statements.Statement) (seen : Statement) → s ≡ form → view_statement form ≡ seen → statement_prints seen ≡ [] → OnOk r (old ≡ old ++ statement_prints (view_statement s))
+unprinted (Ok u) old s form seen is e none =
+    sym (ap (λ x. old ++ statement_prints (view_statement x)) is ∙ ap (λ x. old ++ statement_prints x) e ∙ ap (λ k. old ++ k) none ∙ append-nil old)
+unprinted (Err x) old s form seen is e none = tt
 
 pub let_seen : (l : _) (x : _) (e : _) → view_statement (forms.Let l x e) ≡ p.Let l (view_place x) (view_expression e)
 unfolding view_statement
@@ -96,7 +97,7 @@ pub reset_seen : (l : _) (restarts : _) → view_statement (forms.Reset l restar
 unfolding view_statement
 reset_seen l restarts = refl
 
-pub print_seen : (l : _) (items : _) (pictures : _) → view_statement (forms.Print l items pictures) ≡ p.Print l (map view_expression items.items) (map (λ line. line.items) pictures.items)
+pub print_seen : (l : _) (items : _) (pictures : _) → view_statement (forms.Print l items pictures) ≡ p.Print l (map view_item items.items) (map (λ line. line.items) pictures.items)
 unfolding view_statement
 print_seen l items pictures = refl
 
@@ -112,7 +113,5 @@ called n l routine given es yielding xs e f =
     ∙ ap (λ k. values_code l (map view_expression k) ++ (i.Call routine (length (map view_expression k)) (length (map view_place yielding)) ∷ gives_code l (map view_place yielding))) e
     ∙ ap (λ k. values_code l (map view_expression es) ++ (i.Call routine (length (map view_expression es)) (length (map view_place k)) ∷ gives_code l (map view_place k))) f
 
-pub printed : (n : ℕ) (l : _) (items es : _) (pictures : List (List ℕ)) → items ≡ es → values_code l (map view_expression items) ++ (i.Print n (length items) ∷ []) ≡ statement_code n (p.Print l (map view_expression es) pictures)
-printed n l items es pictures e =
-    ap (λ k. values_code l (map view_expression items) ++ (i.Print n k ∷ [])) (sym (length-map items view_expression))
-    ∙ ap (λ k. values_code l (map view_expression k) ++ (i.Print n (length (map view_expression k)) ∷ [])) e
+pub printed : (n : ℕ) (l : _) (items xs : _) (pictures : List (List ℕ)) → items ≡ xs → shown_code l (map view_item items) ++ (i.Print n (values_taken (map view_item items)) ∷ []) ≡ statement_code n (p.Print l (map view_item xs) pictures)
+printed n l items xs pictures e = ap (λ k. shown_code l (map view_item k) ++ (i.Print n (values_taken (map view_item k)) ∷ [])) e

@@ -7,11 +7,11 @@ use Rattle.ss_program.specs.declared.head.GuardKind.TheVariants as guards
 use Rattle.ss_program.specs.declared.head.PhraseKind.{PhraseKind}
 use Rattle.ss_program.specs.declared.head.PhraseKind.TheVariants as kinds
 use Rattle.ss_program.specs.declared.statement.Counted.{Counted}
-use Rattle.ss_program.specs.Program.{Expression, Constant, Fetch, Attribute, OfSystemSet, OfSet, OfMember, Clock, TimeOf, Figure, FigureOf, Signed, Absolute, Calculate, SetOwner, TheSystem, Entity, Test, Compare, DataEnded, Empty, Member, Condition, Head, Numbers, Members, Each, Start, AtEnd, From, After, Phrase, Guard, Place, ToVariable, ToAttribute, ToCount, Target, Position, ByDiscipline, AsFirst, AsLast, BeforeMember, AfterMember, When, At, In, Now, Restart, Statement, Let, Change, Call, Return, Stop, Read, Simulate, If, Loop, For, Find, Create, CreateEvery, Destroy, File, RemoveEnd, Remove, ScheduleNew, Schedule, Cancel, Reset, Print, Skip, Block, Done, Then, Routine, Event, Program}
-use Rattle.ss_program.specs.Nodes.{total, option_nodes, expression_nodes, subscript_nodes, set_nodes, test_nodes, alternative_nodes, condition_nodes, guard_nodes, phrase_nodes, place_nodes, target_nodes, start_nodes, head_nodes, position_nodes, when_nodes, restart_nodes, statement_nodes, block_nodes, routine_nodes, event_nodes, nodes}
+use Rattle.ss_program.specs.Program.{Expression, Constant, Fetch, Attribute, OfSystemSet, OfSet, OfMember, Clock, TimeOf, Figure, FigureOf, Signed, Absolute, Calculate, SetOwner, TheSystem, Entity, Test, Compare, DataEnded, Empty, Member, Condition, Head, Numbers, Members, Each, Start, AtEnd, From, After, Phrase, Guard, Place, ToVariable, ToAttribute, ToCount, Target, Position, ByDiscipline, AsFirst, AsLast, BeforeMember, AfterMember, When, At, In, Now, Restart, Item, AValue, AMean, AMeanOf, Statement, Let, Change, Call, Return, Stop, Read, Simulate, If, Loop, For, Find, Create, CreateEvery, Destroy, File, RemoveEnd, Remove, ScheduleNew, Schedule, Cancel, Reset, Print, Skip, Block, Done, Then, Routine, Event, Program}
+use Rattle.ss_program.specs.Nodes.{total, option_nodes, expression_nodes, subscript_nodes, set_nodes, test_nodes, alternative_nodes, condition_nodes, guard_nodes, phrase_nodes, place_nodes, target_nodes, start_nodes, head_nodes, position_nodes, when_nodes, restart_nodes, item_nodes, statement_nodes, block_nodes, routine_nodes, event_nodes, nodes}
 use Rattle.ss_machine_code.specs.declared.instruction.Instruction.{Instruction}
 use Rattle.ss_machine_code.specs.declared.instruction.Instruction.TheVariants as i
-use Rattle.ss_machine_code.specs.Translation.{expression_code, values_code, entity_code, member_code, owner_code, is_system, is_absent, any_code, test_code, tests_code, alternatives_code, condition_code, negated_code, guard_code, guards_code, phrase_code, phrases_code, items_code, step_code, range_code, outset_code, kept, kept_by, members_code, for_code, find_code, if_code, loop_code, destination_of, spot_code, give_code, gives_code, reads_code, creates_code, filing_of, beside_code, file_code, when_code, schedule_new_code, schedule_code, restarts_code, block_pictures, statement_pictures, statement_code, block_code, section_code, sections_code, routine_bodies, event_bodies, prints_of_main, prints_before_events, main_code, routines_code, events_code, code_of}
+use Rattle.ss_machine_code.specs.Translation.{expression_code, values_code, entity_code, member_code, owner_code, is_system, is_absent, any_code, test_code, tests_code, alternatives_code, condition_code, negated_code, guard_code, guards_code, phrase_code, phrases_code, items_code, step_code, range_code, outset_code, kept, kept_by, members_code, for_code, find_code, if_code, loop_code, destination_of, spot_code, give_code, gives_code, reads_code, creates_code, filing_of, beside_code, file_code, when_code, schedule_new_code, schedule_code, restarts_code, item_code, shown_code, values_taken, block_prints, statement_prints, statement_code, block_code, section_code, sections_code, routine_bodies, event_bodies, prints_of_main, prints_before_events, main_code, routines_code, events_code, code_of}
 
 -- code, and one instruction more
 one_more : (xs : List Instruction) (x : Instruction) → length (xs ++ x ∷ []) ≡ length xs + 1
@@ -247,6 +247,15 @@ restarts_size l (r ∷ rs) =
     let last = i.Reset r.statistic (is_absent r.of) l in
     omega (arith, any_size l r.of, restarts_size l rs, length-append (any_code l r.of ++ last ∷ []) (restarts_code l rs), one_more (any_code l r.of) last)
 
+item_size : (l : Line) (x : Item) → length (item_code l x) ≤ 2 * item_nodes x
+item_size l (AValue e) = expression_size l e
+item_size l (AMean k) = omega arith
+item_size l (AMeanOf k e) = omega (arith, meant_size l e, one_more (expression_code l e) (i.LookMean k false l))
+
+shown_size : (l : Line) (xs : List Item) → length (shown_code l xs) ≤ 2 * total item_nodes xs
+shown_size l [] = omega arith
+shown_size l (x ∷ xs) = omega (arith, item_size l x, shown_size l xs, length-append (item_code l x) (shown_code l xs))
+
 -- ---- statements
 
 if_size : (l : Line) (c : Condition) (a b : List Instruction) → length (if_code l c a b) ≤ 1 + 3 * condition_nodes c + length a + length b
@@ -280,14 +289,14 @@ mutual
   statement_size first (Read l targets) = omega (arith, reads_size l targets)
   statement_size first Simulate = omega arith
   statement_size first (If l c a b) =
-      let behind = first + length (block_pictures a) in
+      let behind = first + length (block_prints a) in
       omega (arith, if_size l c (block_code first a) (block_code behind b), block_size first a, block_size behind b)
   statement_size first (Loop l gs a) = omega (arith, loop_size l gs (block_code first a), block_size first a)
   statement_size first (For l h ps a) =
       let turn = phrases_code l ps (block_code first a) in
       omega (arith, for_size l h turn, phrases_size l ps (block_code first a), block_size first a)
   statement_size first (Find l h ps a b) =
-      let behind = first + length (block_pictures a) in
+      let behind = first + length (block_prints a) in
       omega (arith, find_size l h ps (block_code first a) (block_code behind b), block_size first a, block_size behind b)
   statement_size first (Create l class x) = omega (arith, give_size l x (i.Create class l ∷ []))
   statement_size first (CreateEvery l classes) = omega (arith, creates_size l classes)
@@ -303,13 +312,13 @@ mutual
   statement_size first (Schedule l class e given w) = omega (arith, schedule_size l class e given w)
   statement_size first (Cancel l class e) = omega (arith, expression_size l e, one_more (expression_code l e) (i.Cancel class l))
   statement_size first (Reset l restarts) = omega (arith, restarts_size l restarts)
-  statement_size first (Print l items pictures) = omega (arith, values_size l items, one_more (values_code l items) (i.Print first (length items)))
+  statement_size first (Print l items pictures) = omega (arith, shown_size l items, one_more (shown_code l items) (i.Print first (values_taken items)))
   statement_size first (Skip l e) = omega (arith, expression_size l e, one_more (expression_code l e) (i.Skip l))
 
   block_size : (first : ℕ) (b : Block) → length (block_code first b) ≤ 64 * block_nodes b
   block_size first Done = omega arith
   block_size first (Then s rest) =
-      let behind = first + length (statement_pictures s) in
+      let behind = first + length (statement_prints s) in
       omega (arith, statement_size first s, block_size behind rest, length-append (statement_code first s) (block_code behind rest))
 
 -- ---- programs
@@ -320,13 +329,13 @@ section_size first b = omega (arith, block_size first b, one_more (block_code fi
 routines_size : (first : ℕ) (rs : List Routine) → length (sections_code first (routine_bodies rs)) ≤ 64 * total routine_nodes rs
 routines_size first [] = omega arith
 routines_size first (r ∷ rs) =
-    let behind = first + length (block_pictures r.body) in
+    let behind = first + length (block_prints r.body) in
     omega (arith, section_size first r.body, routines_size behind rs, length-append (section_code first r.body) (sections_code behind (routine_bodies rs)))
 
 events_size : (first : ℕ) (es : List Event) → length (sections_code first (event_bodies es)) ≤ 64 * total event_nodes es
 events_size first [] = omega arith
 events_size first (e ∷ es) =
-    let behind = first + length (block_pictures e.body) in
+    let behind = first + length (block_prints e.body) in
     omega (arith, section_size first e.body, events_size behind es, length-append (section_code first e.body) (sections_code behind (event_bodies es)))
 
 pub code_size : (p : Program) → length (code_of p).instructions ≤ 64 * nodes p

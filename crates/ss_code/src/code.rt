@@ -34,14 +34,14 @@ impl Model for Sayings {
     ghost view = { λ s. record { layout = s.layout; setting = record { disciplines = s.disciplines.items; notices = s.notices.items; statistics = s.statistics.items }; ties = map (λ shapes. shapes.items) s.ties.items } };
 }
 
-/// The instructions of a program, the pictures that they print by, where its routines and those of its events begin, what it
+/// The instructions of a program, the lines that they print, where its routines and those of its events begin, what it
 /// says of classes, sets, notices and statistics, and the modes of the global variables and of MAIN's own.
 ///
 /// A contract sees it as a record of these. It is the code of a program.
 #[derive(Drop)]
 pub struct Code {
     instructions: Vec<Instruction>,
-    pictures: Vec<Lines>,
+    prints: Vec<Lines>,
     routines: Vec<Entry>,
     events: Vec<Entry>,
     sayings: Sayings,
@@ -55,28 +55,28 @@ impl Model for Code {
 
     ghost Value = { CodeValue };
 
-    ghost view = { λ c. record { instructions = c.instructions.items; pictures = c.pictures.items; routines = c.routines.items; events = c.events.items; layout = c.sayings.layout; setting = c.sayings.setting; ties = c.sayings.ties; globals = c.globals.items; locals = c.locals.items } };
+    ghost view = { λ c. record { instructions = c.instructions.items; prints = c.prints.items; routines = c.routines.items; events = c.events.items; layout = c.sayings.layout; setting = c.sayings.setting; ties = c.sayings.ties; globals = c.globals.items; locals = c.locals.items } };
 
-    ghost invariant = { λ c. IsCode (record { instructions = c.instructions.items; pictures = c.pictures.items; routines = c.routines.items; events = c.events.items; layout = c.sayings.layout; setting = c.sayings.setting; ties = c.sayings.ties; globals = c.globals.items; locals = c.locals.items }) };
+    ghost invariant = { λ c. IsCode (record { instructions = c.instructions.items; prints = c.prints.items; routines = c.routines.items; events = c.events.items; layout = c.sayings.layout; setting = c.sayings.setting; ties = c.sayings.ties; globals = c.globals.items; locals = c.locals.items }) };
 }
 
 impl Code {
     /// The code of a program, of these parts.
     pub(crate) fn new(
         instructions: Vec<Instruction>,
-        pictures: Vec<Lines>,
+        prints: Vec<Lines>,
         routines: Vec<Entry>,
         events: Vec<Entry>,
         sayings: Sayings,
         globals: Vec<Mode>,
         locals: Vec<Mode>,
     ) -> Code
-        requires { IsCode (record { instructions = instructions.items; pictures = pictures.items; routines = routines.items; events = events.items; layout = sayings.layout; setting = sayings.setting; ties = sayings.ties; globals = globals.items; locals = locals.items }) }
-        ensures { result ≡ record { instructions = instructions.items; pictures = pictures.items; routines = routines.items; events = events.items; layout = sayings.layout; setting = sayings.setting; ties = sayings.ties; globals = globals.items; locals = locals.items } }
+        requires { IsCode (record { instructions = instructions.items; prints = prints.items; routines = routines.items; events = events.items; layout = sayings.layout; setting = sayings.setting; ties = sayings.ties; globals = globals.items; locals = locals.items }) }
+        ensures { result ≡ record { instructions = instructions.items; prints = prints.items; routines = routines.items; events = events.items; layout = sayings.layout; setting = sayings.setting; ties = sayings.ties; globals = globals.items; locals = locals.items } }
     {
         Code {
             instructions,
-            pictures,
+            prints,
             routines,
             events,
             sayings,
@@ -113,11 +113,11 @@ impl Code {
         &self.instructions
     }
 
-    /// The pictures of each PRINT, by the number that its instruction has.
-    pub fn pictures(&self) -> &[Lines]
-        ensures { result.now ≡ self.now.pictures }
+    /// The lines of each PRINT, by the number that its instruction has.
+    pub fn prints(&self) -> &[Lines]
+        ensures { result.now ≡ self.now.prints }
     {
-        &self.pictures
+        &self.prints
     }
 
     /// Where the routines begin, by their numbers.

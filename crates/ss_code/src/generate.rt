@@ -7,7 +7,7 @@ ghost use Rattle.ss_program.specs.View.{view_routine, view_event, view_program};
 ghost use Rattle.ss_program.specs.WellTyped.{WellTyped};
 ghost use Rattle.ss_machine_code.specs.Running.{Behaves, Lands};
 ghost use Rattle.ss_code.specs.Limits.{instruction_limit as most_instructions, small_program};
-ghost use Rattle.ss_machine_code.specs.Translation.{code_of, sections_code, sections_pictures, routine_bodies, event_bodies, routine_entry, event_entry, routine_entries, event_entries};
+ghost use Rattle.ss_machine_code.specs.Translation.{code_of, sections_code, sections_prints, routine_bodies, event_bodies, routine_entry, event_entry, routine_entries, event_entries};
 
 use crate::code::Code;
 use crate::error::CodeError;
@@ -54,18 +54,18 @@ fn entry_of_event(alloc: Global, place: usize, event: &Event) -> Result<Entry, A
 fn emit_routines(
     alloc: Global,
     code: &mut Vec<Instruction>,
-    pictures: &mut Vec<Lines>,
+    prints: &mut Vec<Lines>,
     entries: &mut Vec<Entry>,
     routines: &[Routine],
 ) -> Result<(), AllocError>
-    ensures code { OnOk result (code.new.items ≡ code.old.items ++ sections_code (length pictures.old.items) (routine_bodies (map view_routine routines.now))) }
-    ensures pictures { OnOk result (pictures.new.items ≡ pictures.old.items ++ sections_pictures (routine_bodies (map view_routine routines.now))) }
-    ensures entries { OnOk result (entries.new.items ≡ entries.old.items ++ routine_entries (length code.old.items) (length pictures.old.items) (map view_routine routines.now)) }
+    ensures code { OnOk result (code.new.items ≡ code.old.items ++ sections_code (length prints.old.items) (routine_bodies (map view_routine routines.now))) }
+    ensures prints { OnOk result (prints.new.items ≡ prints.old.items ++ sections_prints (routine_bodies (map view_routine routines.now))) }
+    ensures entries { OnOk result (entries.new.items ≡ entries.old.items ++ routine_entries (length code.old.items) (length prints.old.items) (map view_routine routines.now)) }
 {
     for routine in routines {
         let entry = entry_of_routine(alloc, code.len(), routine)?;
         entries.push(entry)?;
-        emit_section(alloc, code, pictures, &routine.body)?;
+        emit_section(alloc, code, prints, &routine.body)?;
     }
     Ok(())
 }
@@ -74,18 +74,18 @@ fn emit_routines(
 fn emit_events(
     alloc: Global,
     code: &mut Vec<Instruction>,
-    pictures: &mut Vec<Lines>,
+    prints: &mut Vec<Lines>,
     entries: &mut Vec<Entry>,
     events: &[Event],
 ) -> Result<(), AllocError>
-    ensures code { OnOk result (code.new.items ≡ code.old.items ++ sections_code (length pictures.old.items) (event_bodies (map view_event events.now))) }
-    ensures pictures { OnOk result (pictures.new.items ≡ pictures.old.items ++ sections_pictures (event_bodies (map view_event events.now))) }
-    ensures entries { OnOk result (entries.new.items ≡ entries.old.items ++ event_entries (length code.old.items) (length pictures.old.items) (map view_event events.now)) }
+    ensures code { OnOk result (code.new.items ≡ code.old.items ++ sections_code (length prints.old.items) (event_bodies (map view_event events.now))) }
+    ensures prints { OnOk result (prints.new.items ≡ prints.old.items ++ sections_prints (event_bodies (map view_event events.now))) }
+    ensures entries { OnOk result (entries.new.items ≡ entries.old.items ++ event_entries (length code.old.items) (length prints.old.items) (map view_event events.now)) }
 {
     for event in events {
         let entry = entry_of_event(alloc, code.len(), event)?;
         entries.push(entry)?;
-        emit_section(alloc, code, pictures, &event.body)?;
+        emit_section(alloc, code, prints, &event.body)?;
     }
     Ok(())
 }
@@ -102,21 +102,21 @@ fn made(alloc: Global, program: &Program) -> Result<Code, CodeError>
 {
     laws();
     let mut instructions = Vec::new(alloc);
-    let mut pictures = Vec::new(alloc);
+    let mut prints = Vec::new(alloc);
     let mut routines = Vec::new(alloc);
     let mut events = Vec::new(alloc);
-    emit_section(alloc, &mut instructions, &mut pictures, &program.main)?;
+    emit_section(alloc, &mut instructions, &mut prints, &program.main)?;
     emit_routines(
         alloc,
         &mut instructions,
-        &mut pictures,
+        &mut prints,
         &mut routines,
         &program.routines,
     )?;
     emit_events(
         alloc,
         &mut instructions,
-        &mut pictures,
+        &mut prints,
         &mut events,
         &program.events,
     )?;
@@ -129,7 +129,7 @@ fn made(alloc: Global, program: &Program) -> Result<Code, CodeError>
     let locals = Vec::from_slice(alloc, &program.locals)?;
     Ok(Code::new(
         instructions,
-        pictures,
+        prints,
         routines,
         events,
         said,

@@ -1,44 +1,80 @@
-//! The pictures of a PRINT.
+//! The lines of a PRINT.
 
 ghost use Rattle.std.specs.Prelude.{◌≡◌, map, IfOk};
+ghost use Rattle.ss_program.specs.View.{view_item};
+ghost use Rattle.ss_machine_code.specs.Translation.{item_kind, lines_of};
 
+use ss_machine_code::item::ItemKind;
 use ss_picture::Picture;
+use ss_pieces::items::kind_of;
+use ss_program::statement::Item;
 use std::alloc::{AllocError, Global};
 use std::marker::Model;
 
-/// The pictures of a PRINT, one for each of its lines.
+/// The lines of a PRINT: a picture for each of them, and what the items are that go into their fields.
 ///
-/// A contract sees it as the list of their bytes.
+/// A contract sees it as a record of the bytes of the pictures, and of the items.
 #[derive(Drop)]
 pub struct Lines {
     pictures: Vec<Picture>,
+    items: Vec<ItemKind>,
 }
 
 impl Model for Lines {
-    ghost use Rattle.std.specs.Prelude.{ℕ, List};
+    ghost use Rattle.ss_machine_code.specs.Machine.{Lines as LinesValue};
 
-    ghost Value = { List (List ℕ) };
+    ghost Value = { LinesValue };
 
-    ghost view = { λ l. l.pictures.items };
+    ghost view = { λ l. record { pictures = l.pictures.items; items = l.items.items } };
+}
+
+// The pictures of these bytes.
+fn pictures_of(alloc: Global, lines: &[Vec<u8>]) -> Result<Vec<Picture>, AllocError>
+    ensures { IfOk result (λ made. made.items ≡ map (λ line. line.items) lines.now) }
+{
+    let mut pictures = Vec::new(alloc);
+    for line in lines {
+        let picture = Picture::of(alloc, line)?;
+        pictures.push(picture)?;
+    }
+    Ok(pictures)
+}
+
+// What these items are.
+fn kinds_of(alloc: Global, items: &[Item]) -> Result<Vec<ItemKind>, AllocError>
+    ensures { IfOk result (λ kinds. kinds.items ≡ map item_kind (map view_item items.now)) }
+{
+    let mut kinds = Vec::new(alloc);
+    for item in items {
+        kinds.push(kind_of(item))?;
+    }
+    Ok(kinds)
 }
 
 impl Lines {
-    /// The pictures of these bytes. The error comes where memory was refused.
-    pub(crate) fn of(alloc: Global, lines: &[Vec<u8>]) -> Result<Lines, AllocError>
-        ensures { IfOk result (λ made. made ≡ map (λ line. line.items) lines.now) }
+    /// The lines of these pictures, with these items. The error comes where memory was refused.
+    pub(crate) fn of(alloc: Global, items: &[Item], lines: &[Vec<u8>]) -> Result<Lines, AllocError>
+        ensures { IfOk result (λ made. made ≡ lines_of (map view_item items.now) (map (λ line. line.items) lines.now)) }
     {
-        let mut pictures = Vec::new(alloc);
-        for line in lines {
-            let picture = Picture::of(alloc, line)?;
-            pictures.push(picture)?;
-        }
-        Ok(Lines { pictures })
+        let pictures = pictures_of(alloc, lines)?;
+        let kinds = kinds_of(alloc, items)?;
+        Ok(Lines {
+            pictures,
+            items: kinds,
+        })
     }
 
     /// The pictures, from the first line on.
     pub fn pictures(&self) -> &[Picture]
-        ensures { result.now ≡ self.now }
+        ensures { result.now ≡ self.now.pictures }
     {
         &self.pictures
+    }
+
+    /// What the items are, in the order in which they stand in the fields.
+    pub fn items(&self) -> &[ItemKind]
+        ensures { result.now ≡ self.now.items }
+    {
+        &self.items
     }
 }

@@ -2,9 +2,9 @@
 
 ghost use Rattle.std.specs.Prelude.{◌≡◌, ◌∷◌, ◌++◌, [], length, map, IfOk, OnOk};
 ghost use Rattle.ss_program.specs.Program.{Simulate};
-ghost use Rattle.ss_program.specs.View.{view_expression, view_condition, view_place, view_statement, view_body};
+ghost use Rattle.ss_program.specs.View.{view_expression, view_condition, view_place, view_item, view_statement, view_body};
 ghost use Rattle.ss_machine_code.specs.declared.instruction.Instruction.TheVariants.{Call, Destroy, Cancel, Skip, Print};
-ghost use Rattle.ss_machine_code.specs.Translation.{expression_code, values_code, gives_code, if_code, statement_code, statement_pictures, block_code, block_pictures, section_code};
+ghost use Rattle.ss_machine_code.specs.Translation.{expression_code, values_code, gives_code, if_code, shown_code, values_taken, lines_of, statement_code, statement_prints, block_code, block_prints, section_code};
 
 use crate::lines::Lines;
 use ss_base::Line;
@@ -13,13 +13,14 @@ use ss_loops::loops::{emit_find, emit_for, emit_loop};
 use ss_machine_code::instruction::Instruction;
 use ss_pieces::conditions::{emit_condition, emit_phrases};
 use ss_pieces::emit::{emit_expression, emit_values, put};
+use ss_pieces::items::{count_values, emit_items};
 use ss_pieces::places::{
     emit_change, emit_create, emit_creates, emit_gives, emit_let, emit_reads, emit_remove_end,
 };
 use ss_pieces::sets::{emit_file, emit_remove};
 use ss_program::condition::Condition;
 use ss_program::expression::Expression;
-use ss_program::statement::{Place, Statement};
+use ss_program::statement::{Item, Place, Statement};
 use std::alloc::{AllocError, Global};
 
 // A condition, and two sides.
@@ -114,23 +115,23 @@ fn emit_skip(code: &mut Vec<Instruction>, line: Line, count: &Expression) -> Res
 fn emit_print(
     alloc: Global,
     code: &mut Vec<Instruction>,
-    pictures: &mut Vec<Lines>,
+    prints: &mut Vec<Lines>,
     line: Line,
-    items: &[Expression],
+    items: &[Item],
     lines: &[Vec<u8>],
 ) -> Result<(), AllocError>
-    ensures code { OnOk result (code.new.items ≡ code.old.items ++ (values_code line (map view_expression items.now) ++ Print (length pictures.old.items) (length items.now) ∷ [])) }
-    ensures pictures { OnOk result (pictures.new.items ≡ pictures.old.items ++ map (λ line. line.items) lines.now ∷ []) }
+    ensures code { OnOk result (code.new.items ≡ code.old.items ++ (shown_code line (map view_item items.now) ++ Print (length prints.old.items) (values_taken (map view_item items.now)) ∷ [])) }
+    ensures prints { OnOk result (prints.new.items ≡ prints.old.items ++ lines_of (map view_item items.now) (map (λ line. line.items) lines.now) ∷ []) }
 {
-    let number = pictures.len();
-    let made = Lines::of(alloc, lines)?;
-    pictures.push(made)?;
-    emit_values(code, line, items)?;
+    let number = prints.len();
+    let made = Lines::of(alloc, items, lines)?;
+    prints.push(made)?;
+    emit_items(code, line, items)?;
     put(
         code,
         Instruction::Print {
             lines: number,
-            items: items.len(),
+            values: count_values(items),
         },
     )
 }
@@ -141,11 +142,11 @@ fn emit_print(
 fn emit_statement(
     alloc: Global,
     code: &mut Vec<Instruction>,
-    pictures: &mut Vec<Lines>,
+    prints: &mut Vec<Lines>,
     s: &Statement,
 ) -> Result<(), AllocError>
-    ensures code { OnOk result (code.new.items ≡ code.old.items ++ statement_code (length pictures.old.items) (view_statement s.now)) }
-    ensures pictures { OnOk result (pictures.new.items ≡ pictures.old.items ++ statement_pictures (view_statement s.now)) }
+    ensures code { OnOk result (code.new.items ≡ code.old.items ++ statement_code (length prints.old.items) (view_statement s.now)) }
+    ensures prints { OnOk result (prints.new.items ≡ prints.old.items ++ statement_prints (view_statement s.now)) }
 {
     match s {
         Statement::Let {
@@ -175,12 +176,12 @@ fn emit_statement(
             then,
             otherwise,
         } => {
-            let first = emit_body(alloc, pictures, then)?;
-            let second = emit_body(alloc, pictures, otherwise)?;
+            let first = emit_body(alloc, prints, then)?;
+            let second = emit_body(alloc, prints, otherwise)?;
             emit_if(alloc, code, *line, condition, first, second)
         }
         Statement::Loop { line, guards, body } => {
-            let turn = emit_body(alloc, pictures, body)?;
+            let turn = emit_body(alloc, prints, body)?;
             emit_loop(alloc, code, *line, guards, turn)
         }
         Statement::For {
@@ -189,7 +190,7 @@ fn emit_statement(
             phrases,
             body,
         } => {
-            let inner = emit_body(alloc, pictures, body)?;
+            let inner = emit_body(alloc, prints, body)?;
             let turn = emit_phrases(alloc, *line, phrases, inner)?;
             emit_for(code, *line, head, turn)
         }
@@ -200,8 +201,8 @@ fn emit_statement(
             found,
             none,
         } => {
-            let first = emit_body(alloc, pictures, found)?;
-            let second = emit_body(alloc, pictures, none)?;
+            let first = emit_body(alloc, prints, found)?;
+            let second = emit_body(alloc, prints, none)?;
             emit_find(alloc, code, *line, head, phrases, first, second)
         }
         Statement::Create { line, class, into } => emit_create(code, *line, *class, into),
@@ -255,7 +256,7 @@ fn emit_statement(
             line,
             items,
             pictures: lines,
-        } => emit_print(alloc, code, pictures, *line, items, lines),
+        } => emit_print(alloc, code, prints, *line, items, lines),
         Statement::Skip { line, count } => emit_skip(code, *line, count),
     }
 }
@@ -264,15 +265,15 @@ fn emit_statement(
 #[cycle(statements)]
 fn emit_body(
     alloc: Global,
-    pictures: &mut Vec<Lines>,
+    prints: &mut Vec<Lines>,
     body: &[Statement],
 ) -> Result<Vec<Instruction>, AllocError>
-    ensures code { IfOk result (λ code. code.items ≡ block_code (length pictures.old.items) (view_body body.now)) }
-    ensures pictures { OnOk result (pictures.new.items ≡ pictures.old.items ++ block_pictures (view_body body.now)) }
+    ensures code { IfOk result (λ code. code.items ≡ block_code (length prints.old.items) (view_body body.now)) }
+    ensures prints { OnOk result (prints.new.items ≡ prints.old.items ++ block_prints (view_body body.now)) }
 {
     let mut code = Vec::new(alloc);
     for s in body {
-        emit_statement(alloc, &mut code, pictures, s)?;
+        emit_statement(alloc, &mut code, prints, s)?;
     }
     Ok(code)
 }
@@ -281,13 +282,13 @@ fn emit_body(
 pub(crate) fn emit_section(
     alloc: Global,
     code: &mut Vec<Instruction>,
-    pictures: &mut Vec<Lines>,
+    prints: &mut Vec<Lines>,
     body: &[Statement],
 ) -> Result<(), AllocError>
-    ensures code { OnOk result (code.new.items ≡ code.old.items ++ section_code (length pictures.old.items) (view_body body.now)) }
-    ensures pictures { OnOk result (pictures.new.items ≡ pictures.old.items ++ block_pictures (view_body body.now)) }
+    ensures code { OnOk result (code.new.items ≡ code.old.items ++ section_code (length prints.old.items) (view_body body.now)) }
+    ensures prints { OnOk result (prints.new.items ≡ prints.old.items ++ block_prints (view_body body.now)) }
 {
-    let mut own = emit_body(alloc, pictures, body)?;
+    let mut own = emit_body(alloc, prints, body)?;
     code.append(&mut own)?;
     put(code, Instruction::Leave)
 }

@@ -1,5 +1,5 @@
 -- Expressions, targets and sets in which each name is replaced by what it stands for.
-use Rattle.std.specs.Prelude.{ℕ, List, [], ◌∷◌, Option, Some, None}
+use Rattle.std.specs.Prelude.{ℕ, List, [], ◌∷◌, option_map, Option, Some, None}
 use Rattle.ss_base.specs.declared.value.Value.TheVariants.{Whole, Text}
 use Rattle.ss_tree.specs.declared.expression.Sign.{Sign as SignWord}
 use Rattle.ss_tree.specs.declared.expression.Sign.TheVariants as signs
@@ -11,7 +11,7 @@ use Rattle.ss_program.specs.declared.expression.Sign.{Sign}
 use Rattle.ss_program.specs.declared.expression.Sign.TheVariants.{Plus, Minus}
 use Rattle.ss_program.specs.declared.expression.Operator.{Operator}
 use Rattle.ss_program.specs.declared.expression.Operator.TheVariants.{Add, Subtract, Multiply, Quotient, Remainder, Least, Greatest}
-use Rattle.ss_program.specs.Program.{Expression, Constant, Fetch, Attribute, OfSystemSet, OfSet, OfMember, Clock, TimeOf, Figure, FigureOf, Signed, Absolute, Calculate, SetOwner, TheSystem, Entity, Place, ToVariable, ToAttribute, ToCount, Target, Restart}
+use Rattle.ss_program.specs.Program.{Expression, Constant, Fetch, Attribute, OfSystemSet, OfSet, OfMember, Clock, TimeOf, Figure, FigureOf, Signed, Absolute, Calculate, Item, AValue, AMean, AMeanOf, SetOwner, TheSystem, Entity, Place, ToVariable, ToAttribute, ToCount, Target, Restart}
 use Rattle.ss_contexts.specs.declared.meaning.Meaning.{Meaning}
 use Rattle.ss_contexts.specs.declared.meaning.Meaning.TheVariants as meanings
 use Rattle.ss_contexts.specs.declared.meaning.SetMeant.{SetMeant}
@@ -59,6 +59,15 @@ value_of (meanings.Figure fold statistic) e = plain e (Figure fold statistic)
 value_of (meanings.FigureOf fold statistic implied) e = Some (FigureOf fold statistic (entity_of implied e))
 value_of meanings.Clock e = plain e Clock
 value_of meanings.NoticeTime e = time_of e
+-- a mean is no value
+value_of (meanings.Mean statistic) e = None
+value_of (meanings.MeanOf statistic implied) e = None
+
+-- what PRINT shows of what is named, with the subscript if there is one
+abbrev pub item_of : Meaning → Option Expression → Option Item
+item_of (meanings.Mean statistic) e = plain e (AMean statistic)
+item_of (meanings.MeanOf statistic implied) e = Some (AMeanOf statistic (entity_of implied e))
+item_of meaning e = option_map AValue (value_of meaning e)
 
 -- a target: a variable, an attribute or N. of a class
 abbrev pub place_of : Meaning → Option Expression → Option Place
@@ -144,6 +153,15 @@ module _ (c : Context) where
     terms left (and_term sign e es) = do
       x ← expression e
       terms (Calculate (operator_of sign) left x) es
+
+  -- an item of PRINT: a mean where that is named alone, through any parentheses, and else a value
+  abbrev pub item : ExpressionTree → Option Item
+  item (parenthesised e) = item e
+  item (named designator subscripts) = do
+    e ← subscript subscripts
+    meaning ← c.meaning designator
+    item_of meaning e
+  item e = option_map AValue (expression e)
 
   -- a target
   abbrev pub target : NamedTree → Option Place

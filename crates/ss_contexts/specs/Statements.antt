@@ -21,7 +21,7 @@ use Rattle.ss_contexts.specs.declared.meaning.Meaning.TheVariants as meanings
 use Rattle.ss_contexts.specs.declared.meaning.RoutineMeant.{RoutineMeant}
 use Rattle.ss_contexts.specs.Answers.{◌>>=◌, each, where_holds}
 use Rattle.ss_contexts.specs.Contexts.{Context, single_class, notice_class, counted}
-use Rattle.ss_contexts.specs.Expressions.{entity_of, plain, expression, subscript, target, set_named}
+use Rattle.ss_contexts.specs.Expressions.{entity_of, plain, expression, item, subscript, target, set_named}
 use Rattle.ss_contexts.specs.Conditions.{condition}
 use Rattle.ss_contexts.specs.Heads.{phrase, guard, phrases_of, head}
 
@@ -231,8 +231,8 @@ module _ (c : Context) where
       restarts ← each (restart c) targets
       Some (Reset line restarts)
     statement (print_statement line items pictures) = do
-      values ← each (expression c) items
-      Some (Print line values pictures)
+      shown ← each (item c) items
+      Some (Print line shown pictures)
     statement (skip_statement line e) = do
       count ← expression c e
       Some (Skip line count)

@@ -52,6 +52,15 @@ pub enum Meaning {
         statistic: usize,
         implied: Variable,
     },
+    /// The mean of a global variable, or of N. of a set of THE SYSTEM.
+    Mean {
+        statistic: usize,
+    },
+    /// The mean of an attribute, or of N. of a set that the entities of a class own.
+    MeanOf {
+        statistic: usize,
+        implied: Variable,
+    },
     /// TIME.V
     Clock,
     /// TIME.A

@@ -20,7 +20,7 @@ use Rattle.ss_tree.specs.View.{view_expression, view_named, view_statement, view
 use Rattle.ss_tree.specs.Views.{view_named_made, view_call_made, view_product_made, view_sum_made, view_if_made, view_loop_made, view_find_if_made}
 use Rattle.ss_demands.specs.declared.demand.Aspect.TheVariants.{Count, ArgumentCount}
 use Rattle.ss_demands.specs.declared.demand.Demand.{Demand}
-use Rattle.ss_demands.specs.Demands.{row_length, demand, a_number, mode_of, implied, in_expression, in_numbers, in_terms, in_term, in_all_numbers, in_named, in_itself, in_inner, in_row, in_statement, in_body, in_places}
+use Rattle.ss_demands.specs.Demands.{row_length, demand, a_number, mode_of, implied, in_expression, in_numbers, in_terms, in_term, in_all_numbers, in_named, in_itself, in_inner, in_row, in_statement, in_body, in_places, valued, in_item}
 
 -- ---- rows
 
@@ -42,8 +42,11 @@ in_named_listed line n =
     ap (λ (k : ℕ). implied line n.designator k ++ in_numbers line (expression_row (map view_expression n.subscripts.items))) (row_counted n.subscripts.items) ∙
     ap (λ ds. implied line n.designator (length n.subscripts.items) ++ ds) (in_number_row line (map view_expression n.subscripts.items))
 
-pub in_named_made : (line : Line) (n : Named) → in_expression line (view_expression (variants.Named n)) ≡ implied line n.designator (length n.subscripts.items) ++ in_all_numbers line (map view_expression n.subscripts.items)
-in_named_made line n = ap (in_expression line) (view_named_made n) ∙ in_named_listed line n
+pub in_named_made : (line : Line) (n : Named) → in_expression line (view_expression (variants.Named n)) ≡ valued line n.designator ++ implied line n.designator (length n.subscripts.items) ++ in_all_numbers line (map view_expression n.subscripts.items)
+in_named_made line n =
+    ap (in_expression line) (view_named_made n) ∙
+    ap (λ (k : ℕ). valued line n.designator ++ implied line n.designator k ++ in_numbers line (expression_row (map view_expression n.subscripts.items))) (row_counted n.subscripts.items) ∙
+    ap (λ ds. valued line n.designator ++ implied line n.designator (length n.subscripts.items) ++ ds) (in_number_row line (map view_expression n.subscripts.items))
 
 pub in_call_made : (line : Line) (f : Function) (v : Vec Expression) → in_expression line (view_expression (variants.Call f v)) ≡ demand line (Count (length v.items)) (ArgumentCount f) ∷ in_all_numbers line (map view_expression v.items)
 in_call_made line f v =
@@ -60,6 +63,20 @@ pub in_sum_made : (line : Line) (b : Box Expression) (v : Vec Term) → in_expre
 in_sum_made line b v =
     ap (in_expression line) (view_sum_made b v) ∙
     ap (λ ds. a_number line (mode_of (view_expression b.value)) ∷ in_expression line (view_expression b.value) ++ ds) (in_term_row line (map view_term v.items))
+
+-- ---- items
+
+pub item_named : (line : Line) (n : Named) → in_item line (view_expression (variants.Named n)) ≡ in_named line (view_named n)
+item_named line n = ap (in_item line) (view_named_made n)
+
+pub item_call : (line : Line) (f : Function) (v : Vec Expression) → in_item line (view_expression (variants.Call f v)) ≡ in_expression line (view_expression (variants.Call f v))
+item_call line f v = ap (in_item line) (view_call_made f v) ∙ sym (ap (in_expression line) (view_call_made f v))
+
+pub item_product : (line : Line) (b : Box Expression) (v : Vec Expression) → in_item line (view_expression (variants.Product b v)) ≡ in_expression line (view_expression (variants.Product b v))
+item_product line b v = ap (in_item line) (view_product_made b v) ∙ sym (ap (in_expression line) (view_product_made b v))
+
+pub item_sum : (line : Line) (b : Box Expression) (v : Vec Term) → in_item line (view_expression (variants.Sum b v)) ≡ in_expression line (view_expression (variants.Sum b v))
+item_sum line b v = ap (in_item line) (view_sum_made b v) ∙ sym (ap (in_expression line) (view_sum_made b v))
 
 -- ---- the next of a list
 

@@ -1,16 +1,17 @@
 -- What a section demands of the modes and counts of its values, in the order of the text.
-use Rattle.std.specs.Prelude.{ℕ, zero, suc, ◌+◌, ◌==◌, true, List, [], ◌∷◌, ◌++◌, length, Option, Some, None}
+use Rattle.std.specs.Prelude.{ℕ, zero, suc, ◌+◌, ◌==◌, nat_le, true, false, List, [], ◌∷◌, ◌++◌, length, slice_get, Option, Some, None}
 use Rattle.std.specs.List.{flat_map}
 use Rattle.ss_bytes.specs.declared.line.Line.{Line}
 use Rattle.ss_tree.specs.declared.expression.Sign.{Sign}
 use Rattle.ss_tree.specs.declared.expression.Designator.{Designator}
 use Rattle.ss_tree.specs.declared.expression.Designator.TheVariants as designators
 use Rattle.ss_tree.specs.Tree.{ExpressionTree, number, text, named, call, parenthesised, product, signed, sum, ExpressionRow, no_expression, and_expression, TermRow, no_term, and_term, NamedTree, TestTree, compare, empty, member, data_ended, ConditionTree, PhraseTree, GuardTree, StartTree, from_end, from_member, after_member, HeadTree, over_range, over_members, over_class, guarded, PositionTree, by_discipline, at_first, at_last, before, after, WhenTree, at_time, in_units, now, StatementTree, let_statement, add_statement, subtract_statement, call_statement, return_statement, stop_statement, read_statement, start_simulation, if_statement, loop_statement, find_statement, find_if_statement, create_statement, create_every, destroy_statement, file_statement, remove_end, remove_statement, schedule_new, schedule_statement, cancel_statement, reset_statement, print_statement, skip_statement, StatementRow, no_statement, and_statement, SectionKindTree, main, routine, event, SectionTree}
-use Rattle.ss_picture.specs.Pictures.{field_count}
+use Rattle.ss_picture.specs.declared.field.Field.{Field}
+use Rattle.ss_picture.specs.Pictures.{picture_fields}
 use Rattle.ss_demands.specs.declared.handed.Receiver.{Receiver}
 use Rattle.ss_demands.specs.declared.handed.Receiver.TheVariants as receivers
 use Rattle.ss_demands.specs.declared.demand.Aspect.{Aspect}
-use Rattle.ss_demands.specs.declared.demand.Aspect.TheVariants.{Integer, Alpha, Named, Implied, Given, Yielded, Attribute, Count, ArgumentCount, GivenCount, YieldedCount, AttributeCount, Fits}
+use Rattle.ss_demands.specs.declared.demand.Aspect.TheVariants.{Integer, Alpha, Named, Implied, Given, Yielded, Attribute, Count, ArgumentCount, GivenCount, YieldedCount, AttributeCount, Fits, Value, Mean}
 use Rattle.ss_demands.specs.declared.demand.Demand.{Demand}
 
 -- a name, as the list of its bytes, in capitals
@@ -55,13 +56,19 @@ abbrev pub implied : Line → Designator → ℕ → List Demand
 implied line (designators.Name name) zero = a_number line (Implied name) ∷ []
 implied line _ _ = []
 
+-- a name that stands as a value is of something that is one, as a MEAN isn't
+abbrev pub valued : Line → Designator → List Demand
+valued line (designators.Name name) = demand line (Value name) (Fits true) ∷ []
+valued line _ = []
+
 abbrev mutual
   -- the demands of an expression in a statement of this line, from left to right: subscripts, the arguments of
   -- functions, and what is added, subtracted, multiplied or stands behind a sign are numbers
   pub in_expression : Line → ExpressionTree → List Demand
   in_expression line (number z) = []
   in_expression line (text t) = []
-  in_expression line (named designator subscripts) = implied line designator (row_length subscripts) ++ in_numbers line subscripts
+  in_expression line (named designator subscripts) =
+      valued line designator ++ implied line designator (row_length subscripts) ++ in_numbers line subscripts
   in_expression line (call function arguments) = demand line (Count (row_length arguments)) (ArgumentCount function) ∷ in_numbers line arguments
   in_expression line (parenthesised e) = in_expression line e
   in_expression line (product e further) = a_number line (mode_of e) ∷ in_expression line e ++ in_numbers line further
@@ -87,10 +94,6 @@ in_all_numbers line es = flat_map (in_number line) es
 -- a term behind its sign
 abbrev pub in_term : Line → Sign × ExpressionTree → List Demand
 in_term line t = in_number line t.1
-
--- expressions of any mode
-abbrev pub in_all : Line → List ExpressionTree → List Demand
-in_all line es = flat_map (in_expression line) es
 
 -- the mode of a target
 abbrev pub target_mode : NamedTree → Aspect
@@ -217,10 +220,43 @@ in_entity_statement (schedule_statement line class called given when) = in_old l
 in_entity_statement (cancel_statement line class called) = in_old line class called
 in_entity_statement _ = []
 
--- how many fields pictures have in all
-abbrev pub fields_of : List (List ℕ) → ℕ
-fields_of [] = 0
-fields_of (picture ∷ pictures) = field_count picture + fields_of pictures
+-- ---- items and fields of PRINT
+
+-- the demands of an item: it may be the name of a MEAN, through any parentheses, and is else an expression
+abbrev pub in_item : Line → ExpressionTree → List Demand
+in_item line (named designator subscripts) = in_named line (record { designator = designator; subscripts = subscripts })
+in_item line (parenthesised e) = in_item line e
+in_item line e = in_expression line e
+
+abbrev pub in_items : Line → List ExpressionTree → List Demand
+in_items line es = flat_map (in_item line) es
+
+-- whether a name means a MEAN; times are none
+abbrev pub mean_designated : Designator → Aspect
+mean_designated (designators.Name name) = Mean name
+mean_designated _ = Fits false
+
+-- whether an item is a MEAN: through any parentheses a name that means one
+abbrev pub mean_of : ExpressionTree → Aspect
+mean_of (named designator subscripts) = mean_designated designator
+mean_of (parenthesised e) = mean_of e
+mean_of _ = Fits false
+
+-- a field of so many decimals with an item: where it has any, there are at most 9 and the item is a MEAN
+abbrev pub with_decimals : Line → ExpressionTree → ℕ → List Demand
+with_decimals line e zero = []
+with_decimals line e (suc more) = demand line (Fits (nat_le (suc more) 9)) (Fits true) ∷ demand line (mean_of e) (Fits true) ∷ []
+
+abbrev pub in_field : Line → ExpressionTree → Field → List Demand
+in_field line e field = with_decimals line e field.decimals
+
+-- the item in a place, and the field in the same place of these, where there is one
+abbrev pub in_field_at : Line → List Field → ℕ → ExpressionTree → List Demand
+in_field_at line fields place e = in_option (in_field line e) (slice_get fields place)
+
+-- the fields of pictures, from the left, one picture after another
+abbrev pub fields_of : List (List ℕ) → List Field
+fields_of pictures = flat_map picture_fields pictures
 
 -- what is given to a routine, and what takes the values that it yields
 abbrev pub in_call : Line → NameBytes → List ExpressionTree → List NamedTree → List Demand
@@ -232,9 +268,13 @@ in_call line name given yielding =
 abbrev pub in_let : Line → NamedTree → ExpressionTree → List Demand
 in_let line place e = demand line (target_mode place) (mode_of e) ∷ in_named line place ++ in_expression line e
 
--- as many items as the pictures have fields
+-- as many items as there are fields, each with the field in its place
+abbrev pub in_fields : Line → List ExpressionTree → List Field → List Demand
+in_fields line items fields =
+    demand line (Fits (length items == length fields)) (Fits true) ∷ in_places (in_field_at line fields) 0 items ++ in_items line items
+
 abbrev pub in_print : Line → List ExpressionTree → List (List ℕ) → List Demand
-in_print line items pictures = demand line (Fits (length items == fields_of pictures)) (Fits true) ∷ in_all line items
+in_print line items pictures = in_fields line items (fields_of pictures)
 
 -- the demands of a statement, but for those of the statements in it: of an IF its condition, of a loop its head
 abbrev pub in_itself : StatementTree → List Demand

@@ -3,7 +3,7 @@
 use ss_bytes::{Line, Name};
 use ss_tree::expression::Function;
 
-/// What a demand compares: modes, or counts.
+/// What a demand compares: modes, counts, or what holds.
 #[derive(Clone, Copy)]
 pub enum Aspect {
     /// The mode of whole numbers.
@@ -31,8 +31,12 @@ pub enum Aspect {
     YieldedCount(Name),
     /// How many attributes a class has, which is the most that there may be.
     AttributeCount(Name),
-    /// Whether the pictures of a PRINT have as many fields as it has items.
+    /// Whether this holds of the fields of a PRINT.
     Fits(bool),
+    /// Whether a name means what is a value, as a MEAN isn't.
+    Value(Name),
+    /// Whether a name means a MEAN.
+    Mean(Name),
 }
 
 /// A demand: what is found in the text is what is wanted there.

@@ -3,7 +3,7 @@
 ghost use Rattle.std.specs.Prelude.{◌≡◌, ◌++◌, ◌∷◌, [], map, IfOk};
 ghost use Rattle.std.specs.List.{flat_map};
 ghost use Rattle.ss_tree.specs.View.{view_expression, view_named, view_option, view_term};
-ghost use Rattle.ss_demands.specs.Demands.{a_number, demand, designated, implied, in_all, in_all_named, in_all_numbers, in_expression, in_named, in_number, in_number_target, in_option, in_term, mode_of, target_mode};
+ghost use Rattle.ss_demands.specs.Demands.{a_number, demand, designated, implied, in_all_named, in_all_numbers, in_expression, in_named, in_number, in_number_target, in_option, in_term, mode_of, target_mode, valued};
 
 use crate::demand::{Aspect, Demand};
 use ss_bytes::Line;
@@ -93,6 +93,16 @@ fn note_implied(
     }
 }
 
+// Notes that a named place that stands as a value is of something that is one.
+fn note_valued(into: &mut Vec<Demand>, line: Line, designator: Designator) -> Result<(), AllocError>
+    ensures { IfOk result (λ _. into.new.items ≡ into.old.items ++ valued line designator) }
+{
+    match designator {
+        Designator::Name(name) => note(into, line, Aspect::Value(name), Aspect::Fits(true)),
+        Designator::TimeV | Designator::TimeA => Ok(()),
+    }
+}
+
 // Notes the demands of an expression, from left to right.
 #[cycle(demanding)]
 #[tactic(auto, unfolding(ss_tree::specs::View::view_expression))]
@@ -106,6 +116,7 @@ pub(crate) fn note_expression(
     match expression {
         Expression::Number(_) | Expression::Text(_) => Ok(()),
         Expression::Named(named) => {
+            note_valued(into, line, named.designator)?;
             note_implied(into, line, named.designator, named.subscripts.len())?;
             note_numbers(into, line, &named.subscripts)
         }
@@ -187,20 +198,6 @@ pub(crate) fn note_maybe_number(
         Some(expression) => note_number(into, line, expression),
         None => Ok(()),
     }
-}
-
-// Notes the demands of expressions of any mode.
-pub(crate) fn note_expressions(
-    into: &mut Vec<Demand>,
-    line: Line,
-    expressions: &[Expression],
-) -> Result<(), AllocError>
-    ensures { IfOk result (λ _. into.new.items ≡ into.old.items ++ in_all line (map view_expression expressions.now)) }
-{
-    for expression in expressions {
-        note_expression(into, line, expression)?;
-    }
-    Ok(())
 }
 
 // Notes the demands of a target, a set or what RESET names.

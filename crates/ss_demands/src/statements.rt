@@ -2,18 +2,18 @@
 
 ghost use Rattle.std.specs.Prelude.{◌≡◌, ◌++◌, map, IfOk};
 ghost use Rattle.ss_tree.specs.View.{view_expression, view_named, view_option, view_position, view_statement, view_when};
-ghost use Rattle.ss_demands.specs.Demands.{in_body, in_call, in_entity_statement, in_given, in_inner, in_itself, in_let, in_new, in_old, in_position, in_print, in_when};
+ghost use Rattle.ss_demands.specs.Demands.{in_body, in_call, in_entity_statement, in_given, in_inner, in_itself, in_let, in_new, in_old, in_position, in_when};
 
 use crate::conditions::note_condition;
 use crate::demand::{Aspect, Demand};
 use crate::expressions::{
-    mode_of, note, note_all_named, note_expression, note_expressions, note_named, note_number,
-    note_number_target, target_mode,
+    mode_of, note, note_all_named, note_expression, note_named, note_number, note_number_target,
+    target_mode,
 };
 use crate::handed::{Receiver, note_handed, note_taken};
 use crate::heads::note_head;
-use crate::pictures::has_fields;
-use ss_bytes::{Line, Name, PictureLine};
+use crate::pictures::note_print;
+use ss_bytes::{Line, Name};
 use ss_tree::expression::{Expression, Named};
 use ss_tree::statement::{Position, Statement, When};
 use std::alloc::{AllocError, Global};
@@ -100,21 +100,6 @@ fn note_call(
     note(into, line, taken, Aspect::YieldedCount(routine))?;
     note_handed(into, line, &Receiver::Given(routine), given)?;
     note_taken(into, line, &Receiver::Yielding(routine), yielding)
-}
-
-// Notes the demands of a PRINT.
-fn note_print(
-    alloc: Global,
-    into: &mut Vec<Demand>,
-    line: Line,
-    items: &[Expression],
-    pictures: &[PictureLine],
-) -> Result<(), AllocError>
-    ensures { IfOk result (λ _. into.new.items ≡ into.old.items ++ in_print line (map view_expression items.now) pictures.now) }
-{
-    let fits = has_fields(alloc, pictures, items.len())?;
-    note(into, line, Aspect::Fits(fits), Aspect::Fits(true))?;
-    note_expressions(into, line, items)
 }
 
 // Notes the demands of a statement on entities, sets or notices; of others it notes nothing.

@@ -71,4 +71,5 @@ statistic_of words.Number = Some statistics_kinds.Number
 statistic_of words.Sum = Some statistics_kinds.Sum
 statistic_of words.Maximum = Some statistics_kinds.Maximum
 statistic_of words.Minimum = Some statistics_kinds.Minimum
+statistic_of words.Mean = Some statistics_kinds.Mean
 statistic_of _ = None

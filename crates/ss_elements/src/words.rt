@@ -106,6 +106,7 @@ pub fn statistic_of(word: Word) -> Option<StatisticKind>
         Word::Sum => Some(StatisticKind::Sum),
         Word::Maximum => Some(StatisticKind::Maximum),
         Word::Minimum => Some(StatisticKind::Minimum),
+        Word::Mean => Some(StatisticKind::Mean),
         _ => None,
     }
 }

@@ -4,19 +4,19 @@ use Rattle.ss_bytes.specs.declared.line.Line.{Line}
 use Rattle.ss_base.specs.declared.layout.Mode.TheVariants as values
 use Rattle.ss_tree.specs.declared.preamble.ClassKind.TheVariants.{Permanent, Temporary}
 use Rattle.ss_tree.specs.declared.preamble.Mode.TheVariants.{Integer, Alpha}
-use Rattle.ss_tree.specs.declared.preamble.StatisticKind.TheVariants.{Sum}
+use Rattle.ss_tree.specs.declared.preamble.StatisticKind.TheVariants.{Sum, Mean}
 use Rattle.ss_tree.specs.declared.preamble.Weighting.TheVariants.{Tally}
 use Rattle.ss_tree.specs.Tree.{has, owns, belongs_to, normally, every, system_owns, define_variables, statistics, routine, ProgramTree}
 use Rattle.ss_scopes.specs.declared.known.Holder.TheVariants.{Program, Entity}
-use Rattle.ss_scopes.specs.declared.known.Known.TheVariants.{Variable, Class, Attribute, Set, MemberCount, Membership, EntityCount, Statistic}
+use Rattle.ss_scopes.specs.declared.known.Known.TheVariants.{Variable, Class, Attribute, Set, MemberCount, Membership, EntityCount, Statistic, Mean as AMean}
 use Rattle.ss_globals.specs.WholeOf.{whole_of}
 
 abbrev line : ℕ → Line
 line n = record { 0 = n }
 
 -- NORMALLY, MODE IS INTEGER; PERMANENT: EVERY MACHINE OWNS A QUEUE; TEMPORARY: EVERY JOB HAS A RANK, A NAME AND MAY BELONG
--- TO A QUEUE, A POOL; THE SYSTEM OWNS A POOL; DEFINE W, NAME AS ALPHA VARIABLES; TALLY S1 AS THE SUM OF RANK; and
--- ROUTINE R GIVEN A YIELDING B DEFINE B AS AN ALPHA VARIABLE
+-- TO A QUEUE, A POOL; THE SYSTEM OWNS A POOL; DEFINE W, NAME AS ALPHA VARIABLES; TALLY S1 AS THE SUM, M1 AS THE MEAN OF RANK;
+-- and ROUTINE R GIVEN A YIELDING B DEFINE B AS AN ALPHA VARIABLE
 abbrev p : ProgramTree
 p =
     record {
@@ -24,7 +24,7 @@ p =
           normally (line 2) Integer ∷ every (line 4) Permanent (codes "MACHINE") (owns (codes "QUEUE" ∷ []) ∷ [])
           ∷ every (line 6) Temporary (codes "JOB") (has (codes "RANK" ∷ codes "NAME" ∷ []) ∷ belongs_to (codes "QUEUE" ∷ codes "POOL" ∷ []) ∷ [])
           ∷ system_owns (line 10) (codes "POOL" ∷ []) ∷ define_variables (line 11) (codes "W" ∷ codes "NAME" ∷ []) Alpha
-          ∷ statistics (line 12) Tally (record { name = codes "S1"; kind = Sum } ∷ []) (codes "RANK") ∷ [];
+          ∷ statistics (line 12) Tally (record { name = codes "S1"; kind = Sum } ∷ record { name = codes "M1"; kind = Mean } ∷ []) (codes "RANK") ∷ [];
       sections = record { line = line 14; kind = routine (codes "R") (codes "A" ∷ []) (codes "B" ∷ []); definitions = record { line = line 15; names = codes "B" ∷ []; mode = Alpha } ∷ []; body = [] } ∷ [];
     }
 
@@ -60,9 +60,12 @@ a_count_of_the_system = refl
 pub a_successor_of_the_system : (whole_of p).meanings (codes "S.POOL") ≡ Some (Membership (Entity (codes "JOB")))
 a_successor_of_the_system = refl
 
--- a statistic of an attribute, of which a TALLY is
+-- statistics of an attribute, of which a TALLY is: a SUM, and a MEAN
 pub a_statistic : (whole_of p).meanings (codes "S1") ≡ Some (Statistic (Entity (codes "JOB")))
 a_statistic = refl
+
+pub a_mean : (whole_of p).meanings (codes "M1") ≡ Some (AMean (Entity (codes "JOB")))
+a_mean = refl
 
 pub told : (whole_of p).is_told (codes "RANK") ≡ true
 told = refl

@@ -6,6 +6,8 @@ use Rattle.ss_base.specs.declared.layout.Mode.TheVariants.{Integer}
 use Rattle.ss_base.specs.declared.layout.Owner.{Owner}
 use Rattle.ss_base.specs.declared.layout.Owner.TheVariants as owners
 use Rattle.ss_tree.specs.declared.preamble.Mode.{Mode}
+use Rattle.ss_tree.specs.declared.preamble.StatisticKind.{StatisticKind}
+use Rattle.ss_tree.specs.declared.preamble.StatisticKind.TheVariants as kinds
 use Rattle.ss_tree.specs.Tree.{ProgramTree}
 use Rattle.ss_walk.specs.Mentions.{NameBytes}
 use Rattle.ss_entities.specs.declared.entry.Attribute.{Attribute}
@@ -26,7 +28,7 @@ use Rattle.ss_names.specs.Table.{Table, table}
 use Rattle.ss_scopes.specs.declared.known.Holder.{Holder}
 use Rattle.ss_scopes.specs.declared.known.Holder.TheVariants.{Program, Entity}
 use Rattle.ss_scopes.specs.declared.known.Known.{Known}
-use Rattle.ss_scopes.specs.declared.known.Known.TheVariants.{Variable, Class, Attribute as AttributeMeaning, Set, MemberCount, Membership, EntityCount, Statistic, Routine}
+use Rattle.ss_scopes.specs.declared.known.Known.TheVariants.{Variable, Class, Attribute as AttributeMeaning, Set, MemberCount, Membership, EntityCount, Statistic, Mean, Routine}
 use Rattle.ss_scopes.specs.Meanings.{value_mode}
 use Rattle.ss_scopes.specs.Signatures.{Signed, signature}
 use Rattle.ss_scopes.specs.Whole.{Whole}
@@ -74,9 +76,8 @@ abbrev pub history_holder : Table → Option History → Holder
 history_holder t (Some history) = subject_holder t history.subject
 history_holder t None = Program
 
-abbrev pub statistic_holder : Table → Option StatisticSaid → Holder
-statistic_holder t (Some s) = history_holder t (slice_get t.histories s.history)
-statistic_holder t None = Program
+abbrev pub statistic_holder : Table → StatisticSaid → Holder
+statistic_holder t s = history_holder t (slice_get t.histories s.history)
 
 -- ---- what names mean
 
@@ -105,6 +106,15 @@ derived_meaning t deriveds.Predecessor set = Membership (membership_holder t (sl
 derived_meaning t deriveds.Successor set = Membership (membership_holder t (slice_get t.sets set))
 derived_meaning t deriveds.Membership set = Membership (membership_holder t (slice_get t.sets set))
 
+-- a statistic that something has: a MEAN, or one that is a value
+abbrev pub statistic_known : Holder → StatisticKind → Known
+statistic_known holder kinds.Mean = Mean holder
+statistic_known holder _ = Statistic holder
+
+abbrev pub statistic_meaning : Table → Option StatisticSaid → Known
+statistic_meaning t (Some s) = statistic_known (statistic_holder t s) s.kind
+statistic_meaning t None = Statistic Program
+
 -- what a name means by what it stands for in the table
 abbrev pub meaning_by : Table → Numbered → Option Known
 meaning_by t (numbered.Variable variable) = variable_meaning (slice_get (values_of t.variables) variable)
@@ -113,7 +123,7 @@ meaning_by t (numbered.Count class variable) = Some EntityCount
 meaning_by t (numbered.Attribute attribute) = attribute_meaning t (slice_get (values_of t.attributes) attribute)
 meaning_by t (numbered.Set set) = Some (Set (set_holder t (slice_get t.sets set)))
 meaning_by t (numbered.Derived derived set) = Some (derived_meaning t derived set)
-meaning_by t (numbered.Statistic statistic) = Some (Statistic (statistic_holder t (slice_get (values_of t.statistics) statistic)))
+meaning_by t (numbered.Statistic statistic) = Some (statistic_meaning t (slice_get (values_of t.statistics) statistic))
 meaning_by t (numbered.Routine routine) = Some Routine
 
 abbrev pub meaning_of : Table → Option Numbered → Option Known

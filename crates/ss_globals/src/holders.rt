@@ -5,6 +5,7 @@ ghost use Rattle.std.specs.Map.{values_of};
 ghost use Rattle.ss_globals.specs.WholeOf.{attribute_holder, entity_at, history_holder, member_holder, membership_holder, owner_holder, set_holder, statistic_holder, subject_holder};
 
 use ss_base::Owner;
+use ss_entities::Statistic;
 use ss_names::{Names, Subject};
 use ss_scopes::Holder;
 
@@ -89,12 +90,9 @@ fn history_holder(names: &Names, history: usize) -> Holder
     }
 }
 
-// Who has the statistic of this number.
-pub(crate) fn statistic_holder(names: &Names, statistic: usize) -> Holder
-    ensures { result ≡ statistic_holder names.now (slice_get (values_of names.now.statistics) statistic) }
+// Who has a statistic.
+pub(crate) fn statistic_holder(names: &Names, statistic: Statistic) -> Holder
+    ensures { result ≡ statistic_holder names.now statistic }
 {
-    match names.statistic(statistic) {
-        Some(statistic) => history_holder(names, statistic.history),
-        None => Holder::Program,
-    }
+    history_holder(names, statistic.history)
 }

@@ -2,15 +2,15 @@
 
 ghost use Rattle.std.specs.Prelude.{◌≡◌, slice_get};
 ghost use Rattle.std.specs.Map.{keys_of, values_of};
-ghost use Rattle.ss_globals.specs.WholeOf.{attribute_meaning, attribute_of_class, class_meaning, derived_meaning, field_mode, meaning_by, mode_of_attribute, variable_meaning};
+ghost use Rattle.ss_globals.specs.WholeOf.{attribute_meaning, attribute_of_class, class_meaning, derived_meaning, field_mode, meaning_by, mode_of_attribute, statistic_known, statistic_meaning, variable_meaning};
 
 use crate::holders::{membership_holder, set_holder, statistic_holder};
 use ss_base::Mode as ValueMode;
 use ss_bytes::Name;
 use ss_entities::Attribute;
 use ss_names::{Derived, Meaning as Numbered, Names};
-use ss_scopes::{Known, value_mode};
-use ss_tree::preamble::Mode;
+use ss_scopes::{Holder, Known, value_mode};
+use ss_tree::preamble::{Mode, StatisticKind};
 
 // The global variable of this number.
 fn variable_meaning(names: &Names, variable: usize) -> Option<Known>
@@ -68,6 +68,32 @@ fn derived_meaning(names: &Names, derived: Derived, set: usize) -> Known
     }
 }
 
+// A statistic of this kind that something has.
+fn statistic_known(holder: Holder, kind: StatisticKind) -> Known
+    ensures { result ≡ statistic_known holder kind }
+{
+    match kind {
+        StatisticKind::Mean => Known::Mean(holder),
+        StatisticKind::Number
+        | StatisticKind::Sum
+        | StatisticKind::Maximum
+        | StatisticKind::Minimum => Known::Statistic(holder),
+    }
+}
+
+// The statistic of this number.
+fn statistic_meaning(names: &Names, statistic: usize) -> Known
+    ensures { result ≡ statistic_meaning names.now (slice_get (values_of names.now.statistics) statistic) }
+{
+    match names.statistic(statistic) {
+        Some(statistic) => {
+            let holder = statistic_holder(names, statistic);
+            statistic_known(holder, statistic.kind)
+        }
+        None => Known::Statistic(Holder::Program),
+    }
+}
+
 // What a name means by what it stands for.
 pub(crate) fn meaning_by(names: &Names, stands: Numbered) -> Option<Known>
     ensures { result ≡ meaning_by names.now stands }
@@ -79,9 +105,7 @@ pub(crate) fn meaning_by(names: &Names, stands: Numbered) -> Option<Known>
         Numbered::Attribute(attribute) => attribute_meaning(names, attribute),
         Numbered::Set(set) => Some(Known::Set(set_holder(names, set))),
         Numbered::Derived { derived, set } => Some(derived_meaning(names, derived, set)),
-        Numbered::Statistic(statistic) => {
-            Some(Known::Statistic(statistic_holder(names, statistic)))
-        }
+        Numbered::Statistic(statistic) => Some(statistic_meaning(names, statistic)),
         Numbered::Routine(_) => Some(Known::Routine),
     }
 }

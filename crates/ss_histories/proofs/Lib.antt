@@ -6,3 +6,4 @@ pub mod Fullness
 pub mod Noted
 pub mod Bare
 pub mod Unstarted
+mod Quiet

@@ -10,7 +10,7 @@ use Rattle.ss_base.specs.declared.value.Value.TheVariants.{Whole, Text}
 use Rattle.ss_base.specs.declared.layout.Owner.{Owner}
 use Rattle.ss_base.specs.declared.layout.Owner.TheVariants.{Class}
 use Rattle.ss_base.specs.declared.layout.Layout.{Layout}
-use Rattle.ss_stats.specs.History.{History, is_full, with_value, restarted}
+use Rattle.ss_stats.specs.History.{History, mean_of, is_full, with_value, restarted}
 use Rattle.ss_program.specs.declared.sections.Subject.{Subject}
 use Rattle.ss_program.specs.declared.sections.Statistic.{Statistic}
 use Rattle.ss_meaning.specs.Values.{Trouble, Misfit, if_ok, turned, due, sure, unless_fault}
@@ -20,7 +20,7 @@ use Rattle.ss_histories.specs.declared.unnoted.Unnoted.{Unnoted}
 use Rattle.ss_histories.specs.declared.unnoted.Unnoted.TheVariants.{Full}
 use Rattle.ss_histories.specs.declared.unnoted.Unnoted.TheVariants as unnoted
 use Rattle.ss_histories.specs.Places.{places, is_about, has_some}
-use Rattle.ss_histories.specs.Records.{Records, Recorded, Rows, column_of, columns_of, statistics_of, rows_of, rooms_of, noted_to, renewed_to, figure_of, figured, why}
+use Rattle.ss_histories.specs.Records.{Records, Recorded, Rows, column_of, columns_of, statistics_of, rows_of, rooms_of, noted_to, renewed_to, figure_of, figured, mean_in, why}
 use Rattle.ss_histories.specs.Each.{Shown, shown, bare, begun_shown, ended_shown, noted_by, renewed_one, changed_at, refused_in, refused_at, stops_at, first_at, has_at}
 use Rattle.ss_histories.proofs.Columns.{head_of, tail_of, not_none, joined}
 
@@ -310,3 +310,19 @@ pub figure_nowhere : (fold : Fold) (x now : ℤ) (ks : List Recorded) (j : ℕ) 
 figure_nowhere fold x now [] j e = refl
 figure_nowhere fold x now (n ∷ ns) zero e = absurd (none_there n (sym e))
 figure_nowhere fold x now (n ∷ ns) (suc j) e = figure_nowhere fold x now ns j e
+
+mean_asked : (now : ℤ) (o : Option History) → turned (λ h. mean_of h now) (sure o) ≡ sure (option_map (λ (h : History). mean_of h now) o)
+mean_asked now None = refl
+mean_asked now (Some h) = refl
+
+pub mean_there : (x now : ℤ) (ks : List Recorded) (j : ℕ) (k : Recorded) → slice_get ks j ≡ Some k →
+    mean_in j x now (columns_of (rows_of ks)) ≡ sure (option_map (λ (h : History). mean_of h now) (column_of k.rows x))
+mean_there x now [] j k e = absurd (none_there k e)
+mean_there x now (n ∷ ns) zero k e =
+    mean_asked now (column_of n.rows x) ∙ ap (λ (r : Recorded). sure (option_map (λ (h : History). mean_of h now) (column_of r.rows x))) (some_there n k e)
+mean_there x now (n ∷ ns) (suc j) k e = mean_there x now ns j k e
+
+pub mean_nowhere : (x now : ℤ) (ks : List Recorded) (j : ℕ) → slice_get ks j ≡ None → mean_in j x now (columns_of (rows_of ks)) ≡ Err Misfit
+mean_nowhere x now [] j e = refl
+mean_nowhere x now (n ∷ ns) zero e = absurd (none_there n (sym e))
+mean_nowhere x now (n ∷ ns) (suc j) e = mean_nowhere x now ns j e

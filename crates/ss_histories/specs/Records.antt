@@ -11,10 +11,10 @@ use Rattle.ss_base.specs.declared.value.Value.TheVariants.{Whole}
 use Rattle.ss_program.specs.declared.expression.Fold.{Fold}
 use Rattle.ss_program.specs.declared.expression.Fold.TheVariants.{Number, Sum, Maximum, Minimum}
 use Rattle.ss_program.specs.declared.sections.Statistic.{Statistic}
-use Rattle.ss_stats.specs.History.{History, last_moment, number_of, sum_of, maximum_of, minimum_of, is_full, with_value, restarted}
+use Rattle.ss_stats.specs.History.{History, last_moment, number_of, sum_of, mean_of, maximum_of, minimum_of, is_full, with_value, restarted}
 use Rattle.ss_meaning.specs.Values.{Trouble, Fails, Misfit, turned, due}
 use Rattle.ss_meaning.specs.Store.{Column}
-use Rattle.ss_meaning.specs.Histories.{with_history, home, same_owner}
+use Rattle.ss_meaning.specs.Histories.{history_of, with_history, home, same_owner}
 use Rattle.ss_histories.specs.declared.unnoted.Unnoted.{Unnoted}
 use Rattle.ss_histories.specs.declared.unnoted.Unnoted.TheVariants.{Full}
 use Rattle.ss_histories.specs.declared.unnoted.Unnoted.TheVariants as unnoted
@@ -98,6 +98,10 @@ none_in s = []
 abbrev pub figured : Option (Result ℤ FaultKind) → Result Value Trouble
 figured None = Err Misfit
 figured (Some answer) = turned Whole (due answer)
+
+-- the mean of the history of a statistic of an entity, now: its exact sum and its number
+abbrev pub mean_in : (statistic : ℕ) → (entity now : ℤ) → List Column → Result (ℤ × ℤ) Trouble
+mean_in j x now cs = turned (λ h. mean_of h now) (history_of j x cs)
 
 -- what starting afresh comes to: histories, where there is one to start
 abbrev pub renewed_where : Bool → List Column → Result (List Column) Trouble

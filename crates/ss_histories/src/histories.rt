@@ -1,6 +1,7 @@
 //! The histories of all statistics.
 
-ghost use Rattle.std.specs.Prelude.{◌≡◌, ◌≤ℤ◌, ◌<◌, [], false, pos, length, slice_get, Ok, Err, IfOk, OnOk, MatchResult};
+ghost use Rattle.std.specs.Prelude.{◌≡◌, ◌≤ℤ◌, ◌<◌, [], true, false, ℤ, pos, length, slice_get, Ok, Err, IfOk, OnOk, IfSome, MatchResult};
+ghost use Rattle.ss_base.specs.declared.value.Value.{Value as ValueSeen};
 ghost use Rattle.std.specs.Bool.{IsFalse};
 ghost use Rattle.std.specs.List.{All, list_any};
 ghost use Rattle.std.specs.Option.{option_map};
@@ -8,10 +9,11 @@ ghost use Rattle.std.specs.Ordering.{int_eq};
 ghost use Rattle.ss_base.specs.declared.layout.Owner.TheVariants.{Class};
 ghost use Rattle.ss_program.specs.declared.sections.Statistic.{Statistic};
 ghost use Rattle.ss_program.specs.declared.sections.Subject.{Subject as TheSubject};
-ghost use Rattle.ss_program.specs.declared.sections.Subject.TheVariants.{OfAttribute};
-ghost use Rattle.ss_meaning.specs.Values.{if_ok};
+ghost use Rattle.ss_program.specs.declared.sections.Subject.TheVariants.{OfVariable, OfAttribute};
+ghost use Rattle.ss_picture.specs.Suited.{IsMean};
+ghost use Rattle.ss_meaning.specs.Values.{if_ok, sure};
 ghost use Rattle.ss_meaning.specs.Histories.{no_histories, starting, ending, all_noting, history_of, folded, renewed};
-ghost use Rattle.ss_histories.specs.Records.{columns_of, statistics_of, rows_of, figured, HasRooms, is_up_to, why, renewed_where};
+ghost use Rattle.ss_histories.specs.Records.{columns_of, statistics_of, rows_of, figured, mean_in, HasRooms, is_up_to, why, renewed_where};
 ghost use Rattle.ss_histories.specs.Each.{KeptUntil};
 ghost use Rattle.ss_histories.specs.Places.{is_about, places as places_of};
 
@@ -134,6 +136,15 @@ impl Histories {
         !self.kept.is_empty() && each::has_some(self.about.places(subject))
     }
 
+    /// Whether no statistic is kept of a global variable: then noting a value of it changes nothing.
+    #[inline(always)]
+    pub fn ignores_variable(&self, number: usize) -> bool
+        ensures { result ≡ true → (x now : ℤ) (v : ValueSeen) → all_noting (OfVariable number) x now v self.now.statistics (columns_of self.now.rows) ≡ Ok (columns_of self.now.rows) }
+    {
+        let _kept = &self.kept;
+        !self.watches(Subject::OfVariable { number })
+    }
+
     /// The subject of a statistic, if there is one of that number.
     pub fn subject(&self, statistic: usize) -> Option<Subject>
         ensures { result ≡ option_map (λ (s : Statistic). s.subject) (slice_get self.now.statistics statistic) }
@@ -200,6 +211,19 @@ impl Histories {
     {
         match self.kept.get(statistic) {
             Some(kept) => kept.figure(fold, entity, now),
+            None => None,
+        }
+    }
+
+    /// The mean of the history of an entity in a statistic, if it has one: its exact sum and its number, by which it is
+    /// divided where it is printed.
+    pub fn mean(&self, statistic: usize, entity: i64, now: i64) -> Option<(i128, i64)>
+        requires { self.now.latest ≤ℤ now }
+        ensures value { mean_in statistic entity now (columns_of self.now.rows) ≡ sure result }
+        ensures is_mean { IfSome result (λ mean. IsMean mean.0 mean.1) }
+    {
+        match self.kept.get(statistic) {
+            Some(kept) => kept.mean(entity, now),
             None => None,
         }
     }

@@ -1,9 +1,11 @@
 //! The histories of one statistic.
 
-ghost use Rattle.std.specs.Prelude.{◌≡◌, is_some, ◌+◌, ◌<◌, ◌≤◌, [], pos, ◌≤ℤ◌, OnOk};
+ghost use Rattle.std.specs.Prelude.{◌≡◌, is_some, ◌+◌, ◌<◌, ◌≤◌, [], pos, ◌≤ℤ◌, OnOk, IfSome};
 ghost use Rattle.std.specs.Ordering.{int_eq};
 ghost use Rattle.std.specs.Option.{option_map};
 ghost use Rattle.ss_histories.specs.Each.{refused_in};
+ghost use Rattle.ss_picture.specs.Suited.{IsMean};
+ghost use Rattle.ss_stats.specs.History.{History, mean_of};
 ghost use Rattle.ss_meaning.specs.Histories.{at_start, begun_in, ended_in};
 ghost use Rattle.ss_histories.specs.Records.{column_of, IsUntil, figure_of, noted_column, renewed_column, is_up_to};
 
@@ -132,6 +134,18 @@ impl Kept {
     {
         match self.watched.get(&entity) {
             Some(watched) => Some(watched.figure(fold, now)),
+            None => None,
+        }
+    }
+
+    /// The mean of the history of an entity, if it has one: its exact sum and its number.
+    pub(crate) fn mean(&self, entity: i64, now: i64) -> Option<(i128, i64)>
+        requires { IsUntil now (column_of self.now.rows) }
+        ensures value { result ≡ option_map (λ (h : History). mean_of h now) (column_of self.now.rows entity) }
+        ensures is_mean { IfSome result (λ mean. IsMean mean.0 mean.1) }
+    {
+        match self.watched.get(&entity) {
+            Some(watched) => Some(watched.mean(now)),
             None => None,
         }
     }

@@ -1,9 +1,10 @@
 //! The totals of one history.
 
 ghost use Rattle.std.specs.Prelude.{◌≡◌, pos, ◌≤ℤ◌};
+ghost use Rattle.ss_picture.specs.Suited.{IsMean};
 ghost use Rattle.ss_meaning.specs.Histories.{at_start};
 ghost use Rattle.ss_histories.specs.Records.{figure_of, noted_value};
-ghost use Rattle.ss_stats.specs.History.{is_full, last_moment, restarted};
+ghost use Rattle.ss_stats.specs.History.{is_full, last_moment, mean_of, restarted};
 
 use crate::told::Told;
 use ss_base::FaultKind;
@@ -84,6 +85,15 @@ impl Watched {
             Fold::Maximum => Ok(self.totals.maximum()),
             Fold::Minimum => Ok(self.totals.minimum()),
         }
+    }
+
+    /// The mean of it, now: its exact sum and its number.
+    pub(crate) fn mean(&self, now: i64) -> (i128, i64)
+        requires { last_moment self.now ≤ℤ now }
+        ensures value { result ≡ mean_of self.now now }
+        ensures is_mean { IsMean result.0 result.1 }
+    {
+        self.totals.mean(now)
     }
 
     /// It starts afresh, with the present value.

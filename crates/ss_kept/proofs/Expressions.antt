@@ -1,5 +1,5 @@
 -- Expressions that keep the rules resolve, and are well typed.
-use Rattle.std.proofs.Common.{◌≡◌, ℕ, suc, true, false, List, Option, Some, None, refl, sym, subst, ap, ◌∙◌, arith}
+use Rattle.std.proofs.Common.{◌≡◌, ℕ, suc, true, false, List, ◌++◌, Option, Some, None, refl, sym, subst, ap, ◌∙◌, arith}
 use Rattle.std.specs.Prelude.{not, ◌==◌}
 use Rattle.ss_bytes.specs.declared.line.Line.{Line}
 use Rattle.ss_base.specs.declared.layout.Mode.TheVariants as modes
@@ -19,7 +19,7 @@ use Rattle.ss_scopes.specs.Meanings.{meaning_in}
 use Rattle.ss_scopes.specs.Whole.{Whole}
 use Rattle.ss_uses.specs.Unknown.{has_value, if_known}
 use Rattle.ss_uses.specs.Subscripts.{is_single}
-use Rattle.ss_uses.specs.Modes.{aspect_mode, class_mode, known_class, known_mode, differ}
+use Rattle.ss_uses.specs.Modes.{aspect_mode, class_mode, known_class, known_mode, differ, is_mean}
 use Rattle.ss_program.specs.declared.expression.Operator.{Operator}
 use Rattle.ss_program.specs.declared.expression.Operator.TheVariants.{Multiply, Quotient, Remainder, Least, Greatest}
 use Rattle.ss_program.specs.Program.{Expression, Constant, Clock, TimeOf, Signed, Absolute, Calculate}
@@ -156,16 +156,16 @@ module _ (w : Whole) (locals : Moded) (c : Context) (s : Scope) where
 
   module _ (linked : Linked w locals c s) (line : Line) where
     -- the value of what is named, with its subscript
-    abbrev NamedValue : Designator → ExpressionRow → Type 0
+    abbrev pub NamedValue : Designator → ExpressionRow → Type 0
     NamedValue d es = Resolves w locals c s (named d es)
 
-    name_resolves : (name : NameBytes) (es : ExpressionRow) (e : Option Expression) (known : Known) →
-        subscript c es ≡ Some e → meaning_in w.meanings locals name ≡ Some known → has_value known ≡ true → SubscriptFits w locals s known e →
+    pub name_resolves : (name : NameBytes) (es : ExpressionRow) (e : Option Expression) (known : Known) →
+        subscript c es ≡ Some e → meaning_in w.meanings locals name ≡ Some known → has_value known ≡ true → SubscriptFits w locals s known e → is_mean known ≡ false →
         NamedValue (Name name) es
     unfolding expression
-    name_resolves name es e known h k v f =
+    name_resolves name es e known h k v f i =
         let stands = linked.value name known k v in
-        let r = known_value w locals s known stands.0 e stands.2 f in (
+        let r = known_value w locals s known stands.0 e stands.2 f i in (
           r.2.0,
           r.0,
           two_steps (subscript c es) (c.meaning (Name name)) (λ y m. value_of m y) e stands.0 r.2.0 h stands.1 r.2.1,
@@ -182,25 +182,27 @@ module _ (w : Whole) (locals : Moded) (c : Context) (s : Scope) where
     one_subscript e n = step (expression c e) (λ x. Some (Some x)) n.0 (Some n.0) n.1 refl
 
     named_resolves : (d : Designator) (es : ExpressionRow) → KeptMention w locals (place line roles.Value d (row_length es)) →
-        KeptDemands w locals (demanded.implied line d (demanded.row_length es)) → Numbers es → NamedValue d es
+        KeptDemands w locals (demanded.valued line d) → KeptDemands w locals (demanded.implied line d (demanded.row_length es)) → Numbers es → NamedValue d es
     unfolding expression
-    named_resolves (Name name) no_expression m d n =
+    named_resolves (Name name) no_expression m v d n =
         let known = known_of (meaning_in w.meanings locals name) has_value m.0 in
         name_resolves name no_expression None known.0 no_subscript known.1 known.2
         (subst (λ o. differ (class_mode w locals (known_class o)) (Some modes.Integer) ≡ false) known.1 d.0.0)
-    named_resolves (Name name) (and_expression e no_expression) m d n =
+        (subst (λ o. if_known is_mean o ≡ false) known.1 v.0.3)
+    named_resolves (Name name) (and_expression e no_expression) m v d n =
         let known = known_of (meaning_in w.meanings locals name) has_value m.0 in
         name_resolves name (and_expression e no_expression) (Some n.0.0) known.0 (one_subscript e n.0) known.1 known.2
         (subst (λ o. if_known is_single o ≡ false) known.1 m.1, n.0.2)
-    named_resolves (Name name) (and_expression e (and_expression f es)) m d n = absurd cc
-    named_resolves TimeV no_expression m d n =
+        (subst (λ o. if_known is_mean o ≡ false) known.1 v.0.3)
+    named_resolves (Name name) (and_expression e (and_expression f es)) m v d n = absurd cc
+    named_resolves TimeV no_expression m v d n =
         (Clock, modes.Integer, two_steps (subscript c no_expression) (c.meaning TimeV) (λ y m. value_of m y) None meanings.Clock Clock no_subscript linked.clock refl, refl, refl)
-    named_resolves TimeV (and_expression e es) m d n = absurd cc
-    named_resolves TimeA no_expression m d n = absurd cc
-    named_resolves TimeA (and_expression e no_expression) m d n =
+    named_resolves TimeV (and_expression e es) m v d n = absurd cc
+    named_resolves TimeA no_expression m v d n = absurd cc
+    named_resolves TimeA (and_expression e no_expression) m v d n =
         let x : Expression = TimeOf n.0.0 in
         (x, modes.Integer, two_steps (subscript c (and_expression e no_expression)) (c.meaning TimeA) (λ y m. value_of m y) (Some n.0.0) meanings.NoticeTime x (one_subscript e n.0) linked.notice_time refl, refl, (refl, n.0.2))
-    named_resolves TimeA (and_expression e (and_expression f es)) m d n = absurd cc
+    named_resolves TimeA (and_expression e (and_expression f es)) m v d n = absurd cc
 
     -- ---- expressions
 
@@ -209,9 +211,11 @@ module _ (w : Whole) (locals : Moded) (c : Context) (s : Scope) where
       resolves (number z) m d = number_resolves z
       resolves (text t) m d = text_resolves t
       resolves (named designator es) m d =
-          named_resolves designator es m.0
-          (left_of (KeptDemand w locals) (demanded.implied line designator (demanded.row_length es)) (demanded.in_numbers line es) d)
-          (numbers es m.1 (right_of (KeptDemand w locals) (demanded.implied line designator (demanded.row_length es)) (demanded.in_numbers line es) d))
+          let v = demanded.valued line designator in
+          let i = demanded.implied line designator (demanded.row_length es) in
+          let front = left_of (KeptDemand w locals) (v ++ i) (demanded.in_numbers line es) d in
+          named_resolves designator es m.0 (left_of (KeptDemand w locals) v i front) (right_of (KeptDemand w locals) v i front)
+          (numbers es m.1 (right_of (KeptDemand w locals) (v ++ i) (demanded.in_numbers line es) d))
       resolves (call f es) m d = from_number (call f es) (call_resolves line f es d.0 (numbers es m d.1)) refl
       resolves (parenthesised e) m d = parenthesised_resolves e (resolves e m d)
       resolves (product e es) m d =

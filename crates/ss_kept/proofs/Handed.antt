@@ -26,22 +26,22 @@ use Rattle.ss_kept.proofs.Expressions.{resolves}
 use Rattle.ss_kept.proofs.Places.{target_resolves}
 use Rattle.ss_kept.proofs.Conditions.{GoesWell, same_mode}
 
--- the modes in places from one on
-abbrev pub Follow : (ℕ → Option Mode) → ℕ → List Mode → Type 0
-Follow at i modes = (k : ℕ) → at (i + k) ≡ slice_get modes k
+-- what stands in places from one on, as the modes of what is handed over
+abbrev pub Follow : {A : Type 0} → (ℕ → Option A) → ℕ → List A → Type 0
+Follow at i xs = (k : ℕ) → at (i + k) ≡ slice_get xs k
 
 next_of : {A : Type 0} (x : A) (xs : List A) (k : ℕ) → slice_get (x ∷ xs) (k + 1) ≡ slice_get xs k
 next_of x xs k = ap (λ n. slice_get (x ∷ xs) n) (add-one k)
 
-pub first_follows : (at : ℕ → Option Mode) (i : ℕ) (m : Mode) (modes : List Mode) → Follow at i (m ∷ modes) → at i ≡ Some m
-first_follows at i m modes f =
+pub first_follows : {A : Type 0} (at : ℕ → Option A) (i : ℕ) (x : A) (xs : List A) → Follow at i (x ∷ xs) → at i ≡ Some x
+first_follows at i x xs f =
     let e : i + 0 ≡ i = omega arith in
-    subst (λ n. at n ≡ Some m) e (f 0)
+    subst (λ n. at n ≡ Some x) e (f 0)
 
-pub rest_follows : (at : ℕ → Option Mode) (i : ℕ) (m : Mode) (modes : List Mode) → Follow at i (m ∷ modes) → Follow at (i + 1) modes
-rest_follows at i m modes f k =
+pub rest_follows : {A : Type 0} (at : ℕ → Option A) (i : ℕ) (x : A) (xs : List A) → Follow at i (x ∷ xs) → Follow at (i + 1) xs
+rest_follows at i x xs f k =
     let e : i + (k + 1) ≡ (i + 1) + k = omega arith in
-    subst (λ n. at n ≡ slice_get modes k) e (f (k + 1) ∙ next_of m modes k)
+    subst (λ n. at n ≡ slice_get xs k) e (f (k + 1) ∙ next_of x xs k)
 
 module _ (w : Whole) (locals : Moded) where
   -- what each of some things in their places comes to, and of which mode it is

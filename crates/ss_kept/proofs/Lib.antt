@@ -6,6 +6,7 @@ pub mod Conditions
 pub mod Heads
 pub mod Statements
 pub mod Handed
+pub mod Items
 pub mod Printing
 pub mod Calls
 pub mod Classes

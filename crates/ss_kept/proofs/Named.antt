@@ -1,23 +1,26 @@
 -- What is named has its value, of the mode that the rules know.
-use Rattle.std.proofs.Common.{◌≡◌, true, false, Option, Some, None, refl, subst}
+use Rattle.std.proofs.Common.{◌≡◌, ◌≤◌, true, false, Option, Some, None, refl, subst, ap}
+use Rattle.std.specs.Prelude.{option_map}
 use Rattle.ss_base.specs.declared.layout.Mode.{Mode}
 use Rattle.ss_base.specs.declared.layout.Mode.TheVariants.{Integer}
+use Rattle.ss_picture.specs.declared.field.Field.{Field}
 use Rattle.ss_walk.specs.Mentions.{NameBytes}
 use Rattle.ss_scopes.specs.declared.known.Holder.TheVariants.{Program as TheProgram, Entity as EachOf}
 use Rattle.ss_scopes.specs.declared.known.Known.{Known}
 use Rattle.ss_scopes.specs.declared.known.Known.TheVariants as knowns
 use Rattle.ss_scopes.specs.Locals.{Moded}
 use Rattle.ss_scopes.specs.Whole.{Whole}
-use Rattle.ss_uses.specs.Modes.{mode_in, mode_of, class_implied, class_mode, differ}
+use Rattle.ss_uses.specs.Modes.{mode_in, mode_of, class_implied, class_mode, differ, is_mean}
 use Rattle.ss_uses.specs.Subscripts.{is_single}
 use Rattle.ss_program.specs.declared.expression.Variable.{Variable}
 use Rattle.ss_program.specs.declared.expression.Variable.TheVariants.{Global}
-use Rattle.ss_program.specs.Program.{Expression, Fetch, Attribute, OfSystemSet, OfSet, OfMember, Figure, FigureOf}
-use Rattle.ss_program.specs.WellTyped.{Scope, HasMode, mode_at}
+use Rattle.ss_program.specs.Program.{Expression, Fetch, Attribute, OfSystemSet, OfSet, OfMember, Figure, FigureOf, Item, AValue, AMean, AMeanOf}
+use Rattle.ss_program.specs.WellTyped.{Scope, HasMode, TakesItem, mode_at}
 use Rattle.ss_contexts.specs.declared.meaning.Meaning.{Meaning}
 use Rattle.ss_contexts.specs.declared.meaning.Meaning.TheVariants as meanings
-use Rattle.ss_contexts.specs.Expressions.{entity_of, value_of}
-use Rattle.ss_kept.specs.Links.{IsImplied, IsVariable, IsAttribute, IsCount, IsTold, IsFigure, Fits}
+use Rattle.ss_contexts.specs.Answers.{◌>>=◌}
+use Rattle.ss_contexts.specs.Expressions.{entity_of, value_of, item_of}
+use Rattle.ss_kept.specs.Links.{IsImplied, IsVariable, IsAttribute, IsCount, IsTold, IsFigure, IsMean, Fits}
 use Rattle.ss_kept.proofs.Steps.{is_integer}
 
 module _ (w : Whole) (locals : Moded) (s : Scope) where
@@ -97,21 +100,58 @@ module _ (w : Whole) (locals : Moded) (s : Scope) where
   abbrev pub KnownValue : Known → Meaning → Option Expression → Type 0
   KnownValue known stands e = (m : Mode) × (mode_of known ≡ Some m) × HasValue m stands e
 
-  pub known_value : (known : Known) (stands : Meaning) (e : Option Expression) → Fits w locals s known stands → SubscriptFits known e → KnownValue known stands e
-  known_value (knowns.Local m) stands e f d = (m, refl, variable_value m stands e f (alone (knowns.Local m) e refl d))
-  known_value (knowns.Variable m) stands e f d = (m, refl, variable_value m stands e f (alone (knowns.Variable m) e refl d))
-  known_value (knowns.Class kind) stands e f d = (Integer, refl, variable_value Integer stands e f (alone (knowns.Class kind) e refl d))
-  known_value (knowns.Attribute class m) stands e f d =
+  -- all but a MEAN has a value
+  pub known_value : (known : Known) (stands : Meaning) (e : Option Expression) → Fits w locals s known stands → SubscriptFits known e → is_mean known ≡ false → KnownValue known stands e
+  known_value (knowns.Local m) stands e f d v = (m, refl, variable_value m stands e f (alone (knowns.Local m) e refl d))
+  known_value (knowns.Variable m) stands e f d v = (m, refl, variable_value m stands e f (alone (knowns.Variable m) e refl d))
+  known_value (knowns.Class kind) stands e f d v = (Integer, refl, variable_value Integer stands e f (alone (knowns.Class kind) e refl d))
+  known_value (knowns.Attribute class m) stands e f d v =
       (m, refl, attribute_value class m stands e f (entity_fits (knowns.Attribute class m) class e refl d))
-  known_value (knowns.Set holder) stands e f d = absurd f
-  known_value (knowns.MemberCount TheProgram) stands e f d = (Integer, refl, told_alone stands e f (alone (knowns.MemberCount TheProgram) e refl d))
-  known_value (knowns.MemberCount (EachOf class)) stands e f d =
+  known_value (knowns.Set holder) stands e f d v = absurd f
+  known_value (knowns.MemberCount TheProgram) stands e f d v = (Integer, refl, told_alone stands e f (alone (knowns.MemberCount TheProgram) e refl d))
+  known_value (knowns.MemberCount (EachOf class)) stands e f d v =
       (Integer, refl, told_of_each class stands e f (entity_fits (knowns.MemberCount (EachOf class)) class e refl d))
-  known_value (knowns.Membership TheProgram) stands e f d = (Integer, refl, told_alone stands e f (alone (knowns.Membership TheProgram) e refl d))
-  known_value (knowns.Membership (EachOf class)) stands e f d =
+  known_value (knowns.Membership TheProgram) stands e f d v = (Integer, refl, told_alone stands e f (alone (knowns.Membership TheProgram) e refl d))
+  known_value (knowns.Membership (EachOf class)) stands e f d v =
       (Integer, refl, told_of_each class stands e f (entity_fits (knowns.Membership (EachOf class)) class e refl d))
-  known_value knowns.EntityCount stands e f d = (Integer, refl, count_value stands e f (alone knowns.EntityCount e refl d))
-  known_value (knowns.Statistic TheProgram) stands e f d = (Integer, refl, figure_alone stands e f (alone (knowns.Statistic TheProgram) e refl d))
-  known_value (knowns.Statistic (EachOf class)) stands e f d =
+  known_value knowns.EntityCount stands e f d v = (Integer, refl, count_value stands e f (alone knowns.EntityCount e refl d))
+  known_value (knowns.Statistic TheProgram) stands e f d v = (Integer, refl, figure_alone stands e f (alone (knowns.Statistic TheProgram) e refl d))
+  known_value (knowns.Statistic (EachOf class)) stands e f d v =
       (Integer, refl, figure_of_each class stands e f (entity_fits (knowns.Statistic (EachOf class)) class e refl d))
-  known_value knowns.Routine stands e f d = absurd f
+  known_value (knowns.Mean holder) stands e f d v = absurd cc
+  known_value knowns.Routine stands e f d v = absurd f
+
+  -- ---- means
+
+  -- a MEAN has an item, which each field of at most 9 decimals takes
+  abbrev pub HasMean : Meaning → Option Expression → Type 0
+  HasMean stands e = (x : Item) × (item_of stands e ≡ Some x) × ((field : Field) → field.decimals ≤ 9 → TakesItem s field x)
+
+  mean_alone : (stands : Meaning) (e : Option Expression) → IsMean w locals s TheProgram stands → Alone e → HasMean stands e
+  mean_alone (meanings.Mean k) None f a = (AMean k, refl, λ field few. (f, few))
+  mean_alone (meanings.Mean k) (Some e) f a = absurd a
+  mean_alone _ e f a = absurd f
+
+  mean_of_each : (class : NameBytes) (stands : Meaning) (e : Option Expression) → IsMean w locals s (EachOf class) stands → EntityFits class e → HasMean stands e
+  mean_of_each class (meanings.MeanOf k implied) e f g =
+      (AMeanOf k (entity_of implied e), refl, λ field few. (f.0, entity_is_number class implied e f.1 g, few))
+  mean_of_each class _ e f g = absurd f
+
+  pub known_mean : (known : Known) (stands : Meaning) (e : Option Expression) → Fits w locals s known stands → SubscriptFits known e → is_mean known ≡ true → HasMean stands e
+  known_mean (knowns.Mean TheProgram) stands e f d v = mean_alone stands e f (alone (knowns.Mean TheProgram) e refl d)
+  known_mean (knowns.Mean (EachOf class)) stands e f d v =
+      mean_of_each class stands e f (entity_fits (knowns.Mean (EachOf class)) class e refl d)
+  known_mean _ stands e f d v = absurd cc
+
+-- ---- items
+
+-- what has a value is shown as that
+valued_item : (stands : Meaning) (e : Option Expression) (x : Expression) → value_of stands e ≡ Some x → item_of stands e ≡ Some (AValue x)
+valued_item (meanings.Mean k) e x h = absurd cc
+valued_item (meanings.MeanOf k implied) e x h = absurd cc
+valued_item _ e x h = ap (option_map AValue) h
+
+pub valued_steps : (o : Option (Option Expression)) (p : Option Meaning) (x : Expression) → (o >>= λ e. p >>= λ m. value_of m e) ≡ Some x → (o >>= λ e. p >>= λ m. item_of m e) ≡ Some (AValue x)
+valued_steps None p x h = absurd cc
+valued_steps (Some e) None x h = absurd cc
+valued_steps (Some e) (Some m) x h = valued_item m e x h

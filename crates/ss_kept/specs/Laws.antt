@@ -3,6 +3,7 @@ use Rattle.std.specs.Prelude.{◌≡◌, ℕ, List, Some}
 use Rattle.std.specs.List.{AllByRecursion as Every}
 use Rattle.ss_bytes.specs.declared.line.Line.{Line}
 use Rattle.ss_base.specs.declared.layout.Mode.{Mode}
+use Rattle.ss_picture.specs.declared.field.Field.{Field}
 use Rattle.ss_tree.specs.Tree.{ExpressionTree, NamedTree, ConditionTree, HeadTree, over_range, over_members, over_class, guarded, StatementTree, statement_row, SectionTree}
 use Rattle.ss_walk.specs.declared.mention.Role.TheVariants as roles
 use Rattle.ss_walk.specs.Mentions as mentioned
@@ -11,11 +12,11 @@ use Rattle.ss_scopes.specs.Locals.{Moded}
 use Rattle.ss_scopes.specs.Whole.{Whole, locals_of}
 use Rattle.ss_uses.specs.Modes.{aspect_mode}
 use Rattle.ss_uses.specs.Uses.{is_main}
-use Rattle.ss_program.specs.Program.{Expression, SetOwner, Condition, Place, Head, Phrase, Guard, Block}
-use Rattle.ss_program.specs.WellTyped.{Scope, HasMode, TakesMode, OwnerFits, GoodCondition, GoodHead, GoodPhrase, GoodBlock}
+use Rattle.ss_program.specs.Program.{Expression, Item, SetOwner, Condition, Place, Head, Phrase, Guard, Block}
+use Rattle.ss_program.specs.WellTyped.{Scope, HasMode, TakesMode, TakesItem, OwnerFits, GoodCondition, GoodHead, GoodPhrase, GoodBlock}
 use Rattle.ss_contexts.specs.declared.meaning.Meaning.{Meaning}
 use Rattle.ss_contexts.specs.Contexts.{Context}
-use Rattle.ss_contexts.specs.Expressions.{expression, target, set_named}
+use Rattle.ss_contexts.specs.Expressions.{expression, item, target, set_named}
 use Rattle.ss_contexts.specs.Conditions.{condition}
 use Rattle.ss_contexts.specs.Answers.{each}
 use Rattle.ss_contexts.specs.Heads.{head, phrase, guard, phrases_of}
@@ -39,6 +40,10 @@ TargetResolves w locals c s n =
 -- the set has a resolved form, with an owner such as its sets have
 abbrev pub SetResolves : Context → Scope → NamedTree → Type 0
 SetResolves c s n = (p : ℕ × SetOwner) × (set_named c n ≡ Some p) × OwnerFits s p.0 p.1
+
+-- the item of PRINT has a resolved form, which the field takes
+abbrev pub ItemResolves : Context → Scope → Field → ExpressionTree → Type 0
+ItemResolves c s field e = (x : Item) × (item c e ≡ Some x) × TakesItem s field x
 
 -- the condition has a resolved form, which is well typed
 abbrev pub ConditionResolves : Context → Scope → ConditionTree → Type 0
@@ -80,6 +85,13 @@ KeptSetsResolve =
     (w : Whole) (locals : Moded) (c : Context) (s : Scope) → Linked w locals c s → (line : Line) (n : NamedTree) →
     KeptMentions w locals (mentioned.in_named line roles.Set n) → KeptDemands w locals (demanded.in_named line n) →
     SetResolves c s n
+
+-- the same of an item of PRINT, to one that its field takes
+abbrev pub KeptItemsResolve : Type 0
+KeptItemsResolve =
+    (w : Whole) (locals : Moded) (c : Context) (s : Scope) → Linked w locals c s → (line : Line) (field : Field) (e : ExpressionTree) →
+    KeptMentions w locals (mentioned.in_expression line e) → KeptDemands w locals (demanded.in_field line e field) → KeptDemands w locals (demanded.in_item line e) →
+    ItemResolves c s field e
 
 -- the same of a condition
 abbrev pub KeptConditionsResolve : Type 0

@@ -60,13 +60,19 @@ module _ (w : Whole) (locals : Moded) (s : Scope) where
   IsTold (EachOf class) (meanings.OfMember query set implied) = IsSet s.program set × IsImplied class implied
   IsTold _ _ = ⊥
 
-  -- a statistic
+  -- a statistic that is a value
   abbrev pub IsFigure : Holder → Meaning → Type 0
   IsFigure TheProgram (meanings.Figure fold statistic) = HasSubject s.program IsAlone statistic
   IsFigure (EachOf class) (meanings.FigureOf fold statistic implied) = HasSubject s.program IsOfEntities statistic × IsImplied class implied
   IsFigure _ _ = ⊥
 
-  -- what the rules know of a name, and what it stands for; a set and a routine are no values
+  -- a MEAN
+  abbrev pub IsMean : Holder → Meaning → Type 0
+  IsMean TheProgram (meanings.Mean statistic) = HasSubject s.program IsAlone statistic
+  IsMean (EachOf class) (meanings.MeanOf statistic implied) = HasSubject s.program IsOfEntities statistic × IsImplied class implied
+  IsMean _ _ = ⊥
+
+  -- what the rules know of a name, and what it stands for; a set and a routine have no meaning as values, targets or items
   abbrev pub Fits : Known → Meaning → Type 0
   Fits (knowns.Local m) stands = IsVariable m stands
   Fits (knowns.Variable m) stands = IsVariable m stands
@@ -77,6 +83,7 @@ module _ (w : Whole) (locals : Moded) (s : Scope) where
   Fits (knowns.Membership holder) stands = IsTold holder stands
   Fits knowns.EntityCount stands = IsCount stands
   Fits (knowns.Statistic holder) stands = IsFigure holder stands
+  Fits (knowns.Mean holder) stands = IsMean holder stands
   Fits knowns.Routine stands = ⊥
 
   -- what the rules know of the subject of a TALLY or an ACCUMULATE, what it stands for, and the number of its statistic

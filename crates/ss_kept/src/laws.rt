@@ -1,16 +1,17 @@
 //! Laws of what keeps the rules.
 
-ghost use Rattle.ss_kept.specs.Laws.{KeptBodiesResolve, KeptConditionsResolve, KeptExpressionsResolve, KeptHeadsResolve, KeptSectionsResolve, KeptSetsResolve, KeptTargetsResolve};
+ghost use Rattle.ss_kept.specs.Laws.{KeptBodiesResolve, KeptConditionsResolve, KeptExpressionsResolve, KeptHeadsResolve, KeptItemsResolve, KeptSectionsResolve, KeptSetsResolve, KeptTargetsResolve};
 ghost use Rattle.ss_kept.specs.Parameters.{EventsAreGivenAttributes, LocalsStandOnce, ParametersStandFirst, PartsAreAll, SignaturesStandFirst};
 
 /// What is proved of what keeps the rules on uses, where each name stands for what the rules know of it:
 /// an expression, a target, a set, a condition and the head of a loop without a broken mention or demand
-/// has a resolved form, and that is well typed. So have the statements of a body, with those in them, and
-/// a section.
+/// has a resolved form, and that is well typed. An item of PRINT has one that its field takes. So have the
+/// statements of a body, with those in them, and a section.
 pub fn laws()
     ensures expressions { KeptExpressionsResolve }
     ensures targets { KeptTargetsResolve }
     ensures sets { KeptSetsResolve }
+    ensures items { KeptItemsResolve }
     ensures conditions { KeptConditionsResolve }
     ensures heads { KeptHeadsResolve }
     ensures bodies { KeptBodiesResolve }

@@ -9,6 +9,7 @@ pub mod Sets
 pub mod Sizes
 pub mod Tables
 pub mod Counts
+pub mod Statistics
 pub mod Subjects
 pub mod Walks
 pub mod Known

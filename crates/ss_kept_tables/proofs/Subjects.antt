@@ -38,7 +38,7 @@ use Rattle.ss_names.specs.Table.{table}
 use Rattle.ss_scopes.specs.declared.known.Known.{Known}
 use Rattle.ss_scopes.specs.declared.known.Known.TheVariants as knowns
 use Rattle.ss_scopes.specs.Meanings.{value_mode}
-use Rattle.ss_globals.specs.WholeOf.{attribute_meaning, attribute_of_class, class_meaning as known_class, derived_meaning, set_holder, statistic_holder, meaning_by, meaning_of, variable_meaning, whole_of}
+use Rattle.ss_globals.specs.WholeOf.{attribute_meaning, attribute_of_class, class_meaning as known_class, derived_meaning, set_holder, statistic_meaning, meaning_by, meaning_of, variable_meaning, whole_of}
 use Rattle.ss_uses.specs.Modes.{mode_of}
 use Rattle.ss_uses.specs.Unknown.{may_be_told}
 use Rattle.ss_lists.specs.Declared.{KeepsDeclarations}
@@ -52,6 +52,7 @@ use Rattle.ss_kept_tables.proofs.Entries.{told_by}
 use Rattle.ss_kept_tables.proofs.Facts.{facts}
 use Rattle.ss_kept_tables.proofs.Names.{Fits, names_fit}
 use Rattle.ss_kept_tables.proofs.Statements.{Well, SubjectWell, program_well}
+use Rattle.ss_kept_tables.proofs.Statistics.{of_statistic}
 use Rattle.ss_kept_tables.proofs.Tables.{tables_are_kept}
 use Rattle.ss_kept_tables.proofs.Told.{weighing_is_told}
 
@@ -176,7 +177,9 @@ module _ (p : ProgramTree) (h : KeepsDeclarations p) where
   of_meaning name (meanings.Class class variable) meant t e may mode = absurd (no_class (slice_get (values_of (table p).classes) class) meant e may)
   of_meaning name (meanings.Count class variable) meant t e may mode = absurd (untold meant knowns.EntityCount e refl may)
   of_meaning name (meanings.Set set) meant t e may mode = absurd (untold meant (knowns.Set (set_holder (table p) (slice_get (table p).sets set))) e refl may)
-  of_meaning name (meanings.Statistic s) meant t e may mode = absurd (untold meant (knowns.Statistic (statistic_holder (table p) (slice_get (values_of (table p).statistics) s))) e refl may)
+  of_meaning name (meanings.Statistic k) meant t e may mode =
+      let o = slice_get (values_of (table p).statistics) k in
+      absurd (untold meant (statistic_meaning (table p) o) e (of_statistic (λ known. may_be_told known ≡ false) (λ holder. refl) (λ holder. refl) (table p) o) may)
   of_meaning name (meanings.Routine s) meant t e may mode = absurd (untold meant knowns.Routine e refl may)
 
   of_known : (name : NameBytes) (o : Option Meaning) (meant : Known) → told_of (table p).names name ≡ o → meaning_of (table p) o ≡ Some meant → may_be_told meant ≡ true → mode_of meant ≡ Some values.Integer →

@@ -14,6 +14,7 @@ use Rattle.ss_names.specs.declared.meaning.Derived.{Derived}
 use Rattle.ss_names.specs.declared.meaning.Derived.TheVariants as deriveds
 use Rattle.ss_names.specs.declared.meaning.Meaning.{Meaning}
 use Rattle.ss_names.specs.declared.meaning.Meaning.TheVariants as meanings
+use Rattle.ss_entities.specs.declared.entry.Statistic.{Statistic}
 use Rattle.ss_entities.specs.declared.entry.Variable.{Variable}
 use Rattle.ss_firsts.specs.Firsts.{place_in, told_of}
 use Rattle.ss_names.specs.Meanings.{numbered}
@@ -22,7 +23,7 @@ use Rattle.ss_scopes.specs.declared.known.Holder.{Holder}
 use Rattle.ss_scopes.specs.declared.known.Known.{Known}
 use Rattle.ss_scopes.specs.declared.known.Known.TheVariants as knowns
 use Rattle.ss_scopes.specs.Meanings.{value_mode}
-use Rattle.ss_globals.specs.WholeOf.{attribute_meaning, attribute_of_class, class_meaning as known_class, derived_meaning, meaning_by as known_by, meaning_of, variable_meaning as known_variable, whole_of}
+use Rattle.ss_globals.specs.WholeOf.{attribute_meaning, attribute_of_class, class_meaning as known_class, derived_meaning, meaning_by as known_by, meaning_of, statistic_meaning, variable_meaning as known_variable, whole_of}
 use Rattle.ss_lists.specs.Declared.{KeepsDeclarations}
 use Rattle.ss_lists.proofs.Lists.{some_equal}
 use Rattle.ss_firsts.proofs.Entries.{key_at, told_by_place, value_at}
@@ -30,6 +31,7 @@ use Rattle.ss_kept_tables.proofs.Facts.{facts, attribute_declared, attribute_the
 use Rattle.ss_kept_tables.proofs.Known.{fits_as, placed_class, placed_variable, stands_as}
 use Rattle.ss_kept_tables.proofs.Meant.{name_known}
 use Rattle.ss_kept_tables.proofs.Names.{Fits, names_fit}
+use Rattle.ss_kept_tables.proofs.Statistics.{of_statistic}
 
 -- ---- what is no set
 
@@ -58,6 +60,9 @@ module _ (p : ProgramTree) (h : KeepsDeclarations p) where
   derived_no_set deriveds.Successor k holder e = absurd cc
   derived_no_set deriveds.Membership k holder e = absurd cc
 
+  statistic_no_set : (o : Option Statistic) (holder : Holder) → Some (statistic_meaning (table p) o) ≡ Some (knowns.Set holder) → ⊥
+  statistic_no_set o holder e = of_statistic (λ known. Some known ≡ Some (knowns.Set holder) → ⊥) (λ other f. absurd cc) (λ other f. absurd cc) (table p) o e
+
   -- what means a set is declared as one
   only_set : (m : Meaning) (holder : Holder) → known_by (table p) m ≡ Some (knowns.Set holder) → stands_as m ≡ standings.Set
   only_set (meanings.Variable k) holder e = absurd (variable_no_set (slice_get (values_of (table p).variables) k) holder e)
@@ -66,7 +71,7 @@ module _ (p : ProgramTree) (h : KeepsDeclarations p) where
   only_set (meanings.Attribute k) holder e = absurd (attribute_no_set (slice_get (values_of (table p).attributes) k) holder e)
   only_set (meanings.Set k) holder e = refl
   only_set (meanings.Derived d k) holder e = absurd (derived_no_set d k holder e)
-  only_set (meanings.Statistic k) holder e = absurd cc
+  only_set (meanings.Statistic k) holder e = absurd (statistic_no_set (slice_get (values_of (table p).statistics) k) holder e)
   only_set (meanings.Routine k) holder e = absurd cc
 
   pub set_declared : (name : NameBytes) (holder : Holder) → (whole_of p).meanings name ≡ Some (knowns.Set holder) → standing_of (declarations (sayings p)) name ≡ Some standings.Set

@@ -1,5 +1,5 @@
 -- Sets and statistics are what the rules know of them.
-use Rattle.std.proofs.Common.{◌≡◌, ℕ, ◌<◌, List, length, Option, Some, refl, sym, ap, subst, ◌∙◌}
+use Rattle.std.proofs.Common.{◌≡◌, ℕ, ◌<◌, List, length, Option, Some, None, refl, sym, ap, subst, ◌∙◌}
 use Rattle.std.specs.Prelude.{option_map, slice_get}
 use Rattle.std.specs.Map.{keys_of, values_of}
 use Rattle.std.proofs.lemmas.Option.{same_Some, slice_get_within}
@@ -16,6 +16,8 @@ use Rattle.ss_names.specs.Table.{Table}
 use Rattle.ss_scopes.specs.Locals.{Moded}
 use Rattle.ss_scopes.specs.Signatures.{Signed}
 use Rattle.ss_globals.specs.WholeOf.{attribute_holder, entity_of, member_holder, owner_holder, set_holder, subject_holder}
+use Rattle.ss_scopes.specs.declared.known.Holder.{Holder}
+use Rattle.ss_scopes.specs.declared.known.Holder.TheVariants.{Program as TheProgram, Entity as EachOf}
 use Rattle.ss_program.specs.declared.expression.Fold.{Fold}
 use Rattle.ss_program.specs.declared.expression.MemberQuery.{MemberQuery}
 use Rattle.ss_program.specs.declared.expression.SetQuery.{SetQuery}
@@ -29,9 +31,9 @@ use Rattle.ss_contexts.specs.declared.meaning.Meaning.TheVariants as meanings
 use Rattle.ss_contexts.specs.declared.meaning.SetMeant.{SetMeant}
 use Rattle.ss_contexts.specs.declared.meaning.SetMeant.TheVariants.{OfSystem, OfEntity}
 use Rattle.ss_meant.specs.Layouts.{set_laid, statistic_kept, subject_of}
-use Rattle.ss_meant.specs.Meanings.{class_variable, figure, figure_owned, of_member, of_owner, of_set, set_owned}
+use Rattle.ss_meant.specs.Meanings.{class_variable, figure, figure_alone, figure_of_each, figure_owned, of_member, of_owner, of_set, set_owned}
 use Rattle.ss_meant.specs.Resolved.{local_modes}
-use Rattle.ss_kept.specs.Links.{IsFigure, IsImplied, IsSetOf, IsTold}
+use Rattle.ss_kept.specs.Links.{IsFigure, IsImplied, IsMean, IsSetOf, IsTold}
 use Rattle.ss_kept_tables.specs.Subjects.{IsWhole}
 use Rattle.ss_laid.specs.Declared.{IsKept}
 use Rattle.ss_laid.specs.Tables.{HasTables}
@@ -160,37 +162,51 @@ module _ (t : Table) (signatures : List Signed) (is : IsTable t) (k : IsKept t) 
       let entry = entry_of_value t.attributes n a e in
       class_there a.class (is.fields n entry.0 a entry.1).0
 
-  pub figure_known : (fold : Fold) (i : ℕ) (history : History) (number : SubjectNumber) → slice_get t.histories i ≡ Some history → history.subject ≡ Some number → (stands : Meaning) × (figure t locals fold i number ≡ Some stands) × IsFigure (w t signatures is k s h locals modes) locals s (subject_holder t (Some number)) stands
-  figure_known fold i history (subjects.Variable n) e f = (meanings.Figure fold i, refl, variable_alone i n history e f)
+  -- what is asked of a statistic, if it is a value, and what it stands for
+  abbrev pub IsAsked : Option Fold → Holder → Meaning → Type 0
+  IsAsked (Some fold) holder stands = IsFigure (w t signatures is k s h locals modes) locals s holder stands
+  IsAsked None holder stands = IsMean (w t signatures is k s h locals modes) locals s holder stands
+
+  asked_alone : (fold : Option Fold) (i : ℕ) → HasSubject s.program IsAlone i → IsAsked fold TheProgram (figure_alone fold i)
+  asked_alone (Some fold) i f = f
+  asked_alone None i f = f
+
+  asked_of_each : (fold : Option Fold) (i : ℕ) (class : NameBytes) (x : Variable) → HasSubject s.program IsOfEntities i → Implied class x → IsAsked fold (EachOf class) (figure_of_each fold i x)
+  asked_of_each (Some fold) i class x f g = (f, g)
+  asked_of_each None i class x f g = (f, g)
+
+  pub figure_known : (fold : Option Fold) (i : ℕ) (history : History) (number : SubjectNumber) → slice_get t.histories i ≡ Some history → history.subject ≡ Some number → (stands : Meaning) × (figure t locals fold i number ≡ Some stands) × IsAsked fold (subject_holder t (Some number)) stands
+  figure_known fold i history (subjects.Variable n) e f = (figure_alone fold i, refl, asked_alone fold i (variable_alone i n history e f))
   figure_known fold i history (subjects.Attribute n) e f =
       let whole = (subject_kept i history (subjects.Attribute n) e f).3 in
       let c = attribute_there n whole.0 whole.1 in
-      let stands : Meaning = meanings.FigureOf fold i c.1 in (
+      let stands : Meaning = figure_of_each fold i c.1 in (
         stands,
-        rw (whole.1, c.3) refl,
-        subst (λ o. IsFigure (w t signatures is k s h locals modes) locals s (attribute_holder t o) stands) (sym whole.1)
-            (subst (λ o. IsFigure (w t signatures is k s h locals modes) locals s (entity_of o) stands) (sym c.2) (attribute_of_each i n history e f, c.4)),
+        goes (slice_get (values_of t.attributes) n) (λ x. class_variable t locals x.class >>= λ implied. Some (figure_of_each fold i implied)) whole.0 stands whole.1
+            (goes (class_variable t locals whole.0.class) (λ implied. Some (figure_of_each fold i implied)) c.1 stands c.3 refl),
+        subst (λ o. IsAsked fold (attribute_holder t o) stands) (sym whole.1)
+            (subst (λ o. IsAsked fold (entity_of o) stands) (sym c.2) (asked_of_each fold i c.0 c.1 (attribute_of_each i n history e f) c.4)),
       )
   figure_known fold i history (subjects.MemberCount n) e f =
       let whole = (subject_kept i history (subjects.MemberCount n) e f).3 in
       let o = owner_there n whole.0 whole.1 in
       by whole.0 whole.1 o.0 o.1 o.2
     where
-      by : (set : Set) → slice_get t.sets n ≡ Some set → (o : Owner) → set.owner ≡ Some o → owner_of s.program n ≡ Some o → (stands : Meaning) × (figure t locals fold i (subjects.MemberCount n) ≡ Some stands) × IsFigure (w t signatures is k s h locals modes) locals s (subject_holder t (Some (subjects.MemberCount n))) stands
+      by : (set : Set) → slice_get t.sets n ≡ Some set → (o : Owner) → set.owner ≡ Some o → owner_of s.program n ≡ Some o → (stands : Meaning) × (figure t locals fold i (subjects.MemberCount n) ≡ Some stands) × IsAsked fold (subject_holder t (Some (subjects.MemberCount n))) stands
       by set g owners.System q r = (
-        meanings.Figure fold i,
+        figure_alone fold i,
         rw (g, q) refl,
-        subst (λ o. IsFigure (w t signatures is k s h locals modes) locals s (set_holder t o) (meanings.Figure fold i)) (sym g)
-            (subst (λ o. IsFigure (w t signatures is k s h locals modes) locals s (owner_holder t o) (meanings.Figure fold i)) (sym q) (count_alone i n history e f r)),
+        subst (λ o. IsAsked fold (set_holder t o) (figure_alone fold i)) (sym g)
+            (subst (λ o. IsAsked fold (owner_holder t o) (figure_alone fold i)) (sym q) (asked_alone fold i (count_alone i n history e f r))),
       )
       by set g (owners.Class class) q r =
           let c = class_there class (is.owners n set class g q) in
-          let stands : Meaning = meanings.FigureOf fold i c.1 in (
+          let stands : Meaning = figure_of_each fold i c.1 in (
             stands,
             goes (slice_get t.sets n) (λ x. x.owner >>= λ o. figure_owned t locals fold i o) set stands g
                 (goes set.owner (λ o. figure_owned t locals fold i o) (owners.Class class) stands q
-                (goes (class_variable t locals class) (λ implied. Some (meanings.FigureOf fold i implied)) c.1 stands c.3 refl)),
-            subst (λ o. IsFigure (w t signatures is k s h locals modes) locals s (set_holder t o) stands) (sym g)
-                (subst (λ o. IsFigure (w t signatures is k s h locals modes) locals s (owner_holder t o) stands) (sym q)
-                (subst (λ o. IsFigure (w t signatures is k s h locals modes) locals s (entity_of o) stands) (sym c.2) (count_of_each i n class history e f r, c.4))),
+                (goes (class_variable t locals class) (λ implied. Some (figure_of_each fold i implied)) c.1 stands c.3 refl)),
+            subst (λ o. IsAsked fold (set_holder t o) stands) (sym g)
+                (subst (λ o. IsAsked fold (owner_holder t o) stands) (sym q)
+                (subst (λ o. IsAsked fold (entity_of o) stands) (sym c.2) (asked_of_each fold i c.0 c.1 (count_of_each i n class history e f r) c.4))),
           )

@@ -7,6 +7,8 @@ use Rattle.ss_base.specs.declared.layout.Mode.TheVariants.{Integer}
 use Rattle.ss_tree.specs.declared.expression.Designator.TheVariants.{Name}
 use Rattle.ss_tree.specs.declared.preamble.ClassKind.{ClassKind as ClassWord}
 use Rattle.ss_tree.specs.declared.preamble.Mode.{Mode as ModeWord}
+use Rattle.ss_tree.specs.declared.preamble.StatisticKind.{StatisticKind}
+use Rattle.ss_tree.specs.declared.preamble.StatisticKind.TheVariants as statistics
 use Rattle.ss_sayings.specs.Sayings.{NameBytes}
 use Rattle.ss_names.specs.declared.meaning.Derived.{Derived}
 use Rattle.ss_names.specs.declared.meaning.Derived.TheVariants as derived
@@ -42,11 +44,12 @@ use Rattle.ss_kept.specs.Links.{Fits, IsTold}
 use Rattle.ss_kept_tables.specs.Tables.{standing_of}
 use Rattle.ss_laid.specs.Declared.{IsKept}
 use Rattle.ss_laid.specs.Tables.{HasTables}
+use Rattle.ss_kept_tables.proofs.Statistics.{of_statistic}
 use Rattle.ss_links.proofs.Known.{class_variable_whole, count_stands, defined_is_no_count, hidden, local_known, value_is, variable_stands, w}
 use Rattle.ss_firsts.proofs.Entries.{no_place, there, value_at}
 use Rattle.ss_laid.proofs.Steps.{goes}
 use Rattle.ss_laid.proofs.Structure.{IsClassMode, IsTable}
-use Rattle.ss_links.proofs.Told.{attribute_there, figure_known, of_member_known, of_set_known}
+use Rattle.ss_links.proofs.Told.{IsAsked, attribute_there, figure_known, of_member_known, of_set_known}
 use Rattle.ss_laid.proofs.Typed.{count_there, field_known, global_known, plain}
 
 module _ (t : Table) (signatures : List Signed) (is : IsTable t) (k : IsKept t) (s : Scope) (h : HasTables t s.program)
@@ -179,23 +182,32 @@ module _ (t : Table) (signatures : List Signed) (is : IsTable t) (k : IsKept t) 
       let set = is.names name (globals.Derived derived.Membership n) e in
       told_of_member derived.Membership Membership n set.0 set.1 refl refl
 
+  -- a statistic that is a value, or a MEAN
+  asked_known : (kind : StatisticKind) (holder : Holder) (stands : Meaning) → IsAsked t signatures is k s h locals modes (fold_of kind) holder stands → Fits here locals s (whole.statistic_known holder kind) stands
+  asked_known statistics.Number holder stands f = f
+  asked_known statistics.Sum holder stands f = f
+  asked_known statistics.Maximum holder stands f = f
+  asked_known statistics.Minimum holder stands f = f
+  asked_known statistics.Mean holder stands f = f
+
   statistic_known : (n : ℕ) (name : NameBytes) → told_of t.names name ≡ Some (globals.Statistic n) → KnownAs (globals.Statistic n)
   statistic_known n name e =
       let x = is.names name (globals.Statistic n) e in
       let value : slice_get (values_of t.statistics) n ≡ Some x.0 = value_at t.statistics n name x.0 x.1 in
       let history = there t.histories x.0.history (is.statistics n name x.0 x.1) in
       let number = k.subjects x.0.history history.0 history.1 in
-      let told = figure_known t signatures is k s h locals modes (fold_of x.0.kind) x.0.history history.0 number.0 history.1 number.1 in (
-        knowns.Statistic (whole.subject_holder t (Some number.0)),
-        ap (λ o. Some (knowns.Statistic (whole.statistic_holder t o))) value
-            ∙ ap (λ o. Some (knowns.Statistic (whole.history_holder t o))) history.1
-            ∙ ap (λ o. Some (knowns.Statistic (whole.subject_holder t o))) number.1,
+      let told = figure_known t signatures is k s h locals modes (fold_of x.0.kind) x.0.history history.0 number.0 history.1 number.1 in
+      let holder = whole.subject_holder t (Some number.0) in (
+        whole.statistic_known holder x.0.kind,
+        ap (λ o. Some (whole.statistic_meaning t o)) value
+            ∙ ap (λ o. Some (whole.statistic_known (whole.history_holder t o) x.0.kind)) history.1
+            ∙ ap (λ o. Some (whole.statistic_known (whole.subject_holder t o) x.0.kind)) number.1,
         (
           told.0,
           goes (slice_get (values_of t.statistics) n) (λ y. slice_get t.histories y.history >>= λ hist. hist.subject >>= λ subject. figure t locals (fold_of y.kind) y.history subject) x.0 told.0 value
               (goes (slice_get t.histories x.0.history) (λ hist. hist.subject >>= λ subject. figure t locals (fold_of x.0.kind) x.0.history subject) history.0 told.0 history.1
               (goes history.0.subject (λ subject. figure t locals (fold_of x.0.kind) x.0.history subject) number.0 told.0 number.1 told.1)),
-          told.2,
+          asked_known x.0.kind holder told.0 told.2,
         ),
       )
 
@@ -287,7 +299,8 @@ module _ (t : Table) (signatures : List Signed) (is : IsTable t) (k : IsKept t) 
   class_told (globals.Derived derived.Predecessor n) name kind e f = absurd cc
   class_told (globals.Derived derived.Successor n) name kind e f = absurd cc
   class_told (globals.Derived derived.Membership n) name kind e f = absurd cc
-  class_told (globals.Statistic n) name kind e f = absurd cc
+  class_told (globals.Statistic n) name kind e f =
+      absurd (of_statistic (λ known. Some known ≡ Some (knowns.Class kind) → ⊥) (λ holder g. absurd cc) (λ holder g. absurd cc) t (slice_get (values_of t.statistics) n) f)
   class_told (globals.Routine n) name kind e f = absurd cc
 
   pub routine_told : (m : Global) (name : NameBytes) → told_of t.names name ≡ Some m → whole.meaning_by t m ≡ Some knowns.Routine → (n : ℕ) × (m ≡ globals.Routine n)

@@ -2,10 +2,11 @@
 use Rattle.std.specs.Prelude.{ℕ, pos, true, false, [], ◌∷◌, None, codes, refl}
 use Rattle.std.specs.List.{AllByRecursion as Every}
 use Rattle.ss_bytes.specs.declared.line.Line.{Line}
+use Rattle.ss_picture.specs.Pictures.{picture_fields}
 use Rattle.ss_tree.specs.declared.expression.Designator.TheVariants.{Name}
 use Rattle.ss_tree.specs.declared.preamble.ClassKind.TheVariants.{Permanent, Temporary, EventNotice}
 use Rattle.ss_tree.specs.declared.preamble.Mode.TheVariants.{Integer}
-use Rattle.ss_tree.specs.declared.preamble.StatisticKind.TheVariants.{Sum}
+use Rattle.ss_tree.specs.declared.preamble.StatisticKind.TheVariants.{Sum, Mean}
 use Rattle.ss_tree.specs.declared.preamble.Weighting.TheVariants.{Tally}
 use Rattle.ss_tree.specs.Tree as tree
 use Rattle.ss_sayings.specs.Sayings.{NameBytes}
@@ -32,7 +33,7 @@ a_routine = record {
   body = tree.let_statement (line 15) (target (codes "B")) (value (codes "A")) ∷ tree.return_statement (line 16) ∷ [];
 }
 
--- EVENT ARRIVAL GIVEN K CREATE A JOB FILE JOB IN QUEUE(K) RETURN END
+-- EVENT ARRIVAL GIVEN K CREATE A JOB FILE JOB IN QUEUE(K) PRINT 1 LINE WITH RANK, M1 THUS ** **.** RETURN END
 abbrev an_event : tree.SectionTree
 an_event = record {
   line = line 18;
@@ -41,27 +42,28 @@ an_event = record {
   body =
       tree.create_statement (line 19) (codes "JOB") None
       ∷ tree.file_statement (line 20) (value (codes "JOB")) tree.by_discipline (record { designator = Name (codes "QUEUE"); subscripts = tree.and_expression (value (codes "K")) tree.no_expression })
-      ∷ tree.return_statement (line 21) ∷ [];
+      ∷ tree.print_statement (line 21) (value (codes "RANK") ∷ value (codes "M1") ∷ []) (codes "** **.**" ∷ [])
+      ∷ tree.return_statement (line 23) ∷ [];
 }
 
 -- MAIN LET N.MACHINE = 2 CREATE EVERY MACHINE CALL R GIVEN 1 YIELDING X SCHEDULE AN ARRIVAL GIVEN X AT 5 START SIMULATION
 -- STOP END
 abbrev a_main : tree.SectionTree
 a_main = record {
-  line = line 23;
+  line = line 25;
   kind = tree.main;
   definitions = [];
   body =
-      tree.let_statement (line 24) (target (codes "N.MACHINE")) (tree.number (pos 2))
-      ∷ tree.create_every (line 24) (codes "MACHINE" ∷ [])
-      ∷ tree.call_statement (line 25) (codes "R") (tree.number (pos 1) ∷ []) (target (codes "X") ∷ [])
-      ∷ tree.schedule_new (line 26) (codes "ARRIVAL") None (value (codes "X") ∷ []) (tree.at_time (tree.number (pos 5)))
-      ∷ tree.start_simulation (line 27) ∷ tree.stop_statement (line 28) ∷ [];
+      tree.let_statement (line 26) (target (codes "N.MACHINE")) (tree.number (pos 2))
+      ∷ tree.create_every (line 26) (codes "MACHINE" ∷ [])
+      ∷ tree.call_statement (line 27) (codes "R") (tree.number (pos 1) ∷ []) (target (codes "X") ∷ [])
+      ∷ tree.schedule_new (line 28) (codes "ARRIVAL") None (value (codes "X") ∷ []) (tree.at_time (tree.number (pos 5)))
+      ∷ tree.start_simulation (line 29) ∷ tree.stop_statement (line 30) ∷ [];
 }
 
 -- NORMALLY, MODE IS INTEGER; PERMANENT: EVERY MACHINE OWNS A QUEUE; TEMPORARY: EVERY JOB HAS A RANK AND MAY BELONG TO A
 -- QUEUE; EVENT NOTICES: EVERY ARRIVAL HAS A PLACE; DEFINE QUEUE AS A SET RANKED BY HIGH RANK; BREAK ARRIVAL TIES BY LOW
--- PLACE; TALLY S1 AS THE SUM OF RANK; and these sections
+-- PLACE; TALLY S1 AS THE SUM, M1 AS THE MEAN OF RANK; and these sections
 abbrev p : tree.ProgramTree
 p = record {
   preamble =
@@ -70,7 +72,7 @@ p = record {
       ∷ tree.every (line 8) EventNotice (codes "ARRIVAL") (tree.has (codes "PLACE" ∷ []) ∷ [])
       ∷ tree.define_sets (line 10) (codes "QUEUE" ∷ []) (tree.ranked (record { name = codes "RANK"; high = true } ∷ []))
       ∷ tree.break_ties (line 11) (codes "ARRIVAL") (record { name = codes "PLACE"; high = false } ∷ [])
-      ∷ tree.statistics (line 12) Tally (record { name = codes "S1"; kind = Sum } ∷ []) (codes "RANK") ∷ [];
+      ∷ tree.statistics (line 12) Tally (record { name = codes "S1"; kind = Sum } ∷ record { name = codes "M1"; kind = Mean } ∷ []) (codes "RANK") ∷ [];
   sections = a_routine ∷ an_event ∷ a_main ∷ [];
 }
 
@@ -79,7 +81,8 @@ pub keeps_declarations : KeepsDeclarations p
 keeps_declarations = refl
 
 pub keeps_uses : KeepsUses (whole_of p) p
+unfolding picture_fields
 keeps_uses = refl
 
 pub formed : Every (λ (s : tree.SectionTree). Every Formed s.body) p.sections
-formed = ((tt, (tt, tt)), ((tt, (tt, (tt, tt))), ((tt, (tt, (tt, (tt, (tt, (tt, tt)))))), tt)))
+formed = ((tt, (tt, tt)), ((tt, (tt, (tt, (tt, tt)))), ((tt, (tt, (tt, (tt, (tt, (tt, tt)))))), tt)))

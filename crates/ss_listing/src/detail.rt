@@ -322,6 +322,16 @@ pub(crate) fn add_detail(
             Operand::Owned(*set, *system),
             *line,
         ),
+        Instruction::LookMean {
+            statistic,
+            system,
+            line,
+        } => add_one_at(
+            text,
+            "look mean",
+            Operand::Statistic(*statistic, *system),
+            *line,
+        ),
         Instruction::Assign { to, line } => add_one_at(text, "assign", Operand::Place(*to), *line),
         Instruction::Change { sign, to, line } => add_two_at(
             text,
@@ -337,11 +347,11 @@ pub(crate) fn add_detail(
             Operand::Word(Word::Mode(*mode)),
             *line,
         ),
-        Instruction::Print { lines, items } => add_two(
+        Instruction::Print { lines, values } => add_two(
             text,
             "print",
             Operand::Pictures(*lines),
-            Operand::Values(*items),
+            Operand::Values(*values),
         ),
         Instruction::Skip { line } => add_bare_at(text, "skip", *line),
         Instruction::Turn => add_bare(text, "turn"),

@@ -32,10 +32,9 @@ pub each_of_two : {A : Type 0} (P Q R : A → Type 0) → ((x : A) → P x → Q
 each_of_two P Q R f [] h g = tt
 each_of_two P Q R f (x ∷ xs) h g = (f x h.0 g.0, each_of_two P Q R f xs h.1 g.1)
 
--- three things hold of each item
-pub all_three : {A : Type 0} (P Q R : A → Type 0) (xs : List A) → Every P xs → Every Q xs → Every R xs → Every (λ x. P x × Q x × R x) xs
-all_three P Q R [] h g k = tt
-all_three P Q R (x ∷ xs) h g k = ((h.0, g.0, k.0), all_three P Q R xs h.1 g.1 k.1)
+pub each_of_three : {A : Type 0} (P Q R S : A → Type 0) → ((x : A) → P x → Q x → R x → S x) → (xs : List A) → Every P xs → Every Q xs → Every R xs → Every S xs
+each_of_three P Q R S f [] h g k = tt
+each_of_three P Q R S f (x ∷ xs) h g k = (f x h.0 g.0 k.0, each_of_three P Q R S f xs h.1 g.1 k.1)
 
 -- each item of a list of images
 pub each_image : {A B : Type 0} (f : A → B) (P : B → Type 0) (xs : List A) → Every P (map f xs) → Every (λ x. P (f x)) xs

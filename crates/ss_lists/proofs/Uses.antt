@@ -2,7 +2,7 @@
 use Rattle.std.proofs.Common.{◌≡◌, ℕ, ◌≤◌, Bool, true, false, List, [], ◌∷◌, ◌++◌, length, map, ⊎_elim, inl, inr, Option, Some, None, refl, subst, sym, ap, ◌∙◌}
 use Rattle.std.specs.Prelude.{not, ◌&&◌, ◌==◌, option_map, if◌then◌else◌}
 use Rattle.std.specs.List.{AllByRecursion as Every, flat_map, list_any}
-use Rattle.std.proofs.lemmas.Bool.{eqb-true, ltb-false, not-false}
+use Rattle.std.proofs.lemmas.Bool.{eqb-true, ltb-false, not-false, or_parts}
 use Rattle.ss_bytes.specs.declared.line.Line.{Line}
 use Rattle.ss_base.specs.declared.layout.Mode.{Mode}
 use Rattle.ss_base.specs.declared.layout.Mode.TheVariants as modes
@@ -27,7 +27,7 @@ use Rattle.ss_uses.specs.declared.rule.Broken.{Broken}
 use Rattle.ss_uses.specs.Arguments.{argument_count, is_other, is_more, is_miscounted, counts_differ, miscounts}
 use Rattle.ss_uses.specs.Events.{is_main_section, has_main, event_named, event_in, event_names, lacks_event, eventless, declares_eventless, is_start}
 use Rattle.ss_uses.specs.Lines.{line_if, first_of, mention_line, mention_lines, demand_line, demand_lines}
-use Rattle.ss_uses.specs.Modes.{mixes, differ, known_mode, mode_of, tells_of_text}
+use Rattle.ss_uses.specs.Modes.{mixes, misplaces, breaks_modes, differ, known_mode, mode_of, tells_of_text}
 use Rattle.ss_uses.specs.Refusal.{in_preamble, mention_breaks, demand_breaks, in_section, in_program, lines, rules_in_order, or_next, first_broken}
 use Rattle.ss_uses.specs.Unknown.{is_unknown, is_notice, if_known, may_be_told, tells_of_unknown}
 use Rattle.ss_uses.specs.Subscripts.{has_wrong_subscripts}
@@ -37,7 +37,7 @@ use Rattle.ss_uses.specs.Uses.{uses_of, is_main}
 use Rattle.ss_lists.specs.Lists.{Somewhere}
 use Rattle.ss_lists.specs.Rules.{KeptMention, KeptDemand, KeptMentions, KeptDemands}
 use Rattle.ss_lists.specs.Uses.{KeepsUses, KeptSection, IsEventOf, notices_in, CountFits, IsCounted, CountKept, EventFits, SubjectFits}
-use Rattle.ss_lists.proofs.Lists.{left_of, each, each_of_two, some_equal, all_three, each_image, both_empty, each_empty, pieces, somewhere, found, any_of_both, only_one, names_equal}
+use Rattle.ss_lists.proofs.Lists.{left_of, each, each_of_two, each_of_three, some_equal, each_image, both_empty, each_empty, pieces, somewhere, found, any_of_both, only_one, names_equal}
 
 -- ---- no line
 
@@ -61,6 +61,12 @@ no_mention breaks ms h = each (λ m. mention_line breaks m ≡ []) (λ m. breaks
 
 no_demand : (breaks : Demand → Bool) (ds : List Demand) → demand_lines breaks ds ≡ [] → Every (λ d. breaks d ≡ false) ds
 no_demand breaks ds h = each (λ d. demand_line breaks d ≡ []) (λ d. breaks d ≡ false) (λ d. no_line (breaks d) d.line) ds (each_empty (demand_line breaks) ds h)
+
+-- a demand that breaks no rule
+demand_kept : (w : Whole) (locals : Moded) (d : Demand) → breaks_modes w locals d ≡ false → miscounts w d ≡ false → misfits w locals d ≡ false → KeptDemand w locals d
+demand_kept w locals d h g k =
+    let parts = or_parts (mixes w locals d) (misplaces w locals d) h in
+    (parts.0, g, k, parts.1)
 
 module _ (w : Whole) (p : ProgramTree) where
   abbrev lacks : NameBytes → Bool
@@ -138,8 +144,8 @@ module _ (w : Whole) (p : ProgramTree) where
       let ms = mentions s in
       let ds = demands s in
       record {
-        mentions_kept = all_three (λ m. is_unknown w locals m ≡ false) (λ m. has_wrong_subscripts w locals m ≡ false) (λ m. is_not_assignable w locals m ≡ false) ms unknown.0 subscript.0 target.0;
-        demands_kept = all_three (λ d. mixes w locals d ≡ false) (λ d. miscounts w d ≡ false) (λ d. misfits d ≡ false) ds mode.1 arguments.1 fields.1;
+        mentions_kept = each_of_three (λ m. is_unknown w locals m ≡ false) (λ m. has_wrong_subscripts w locals m ≡ false) (λ m. is_not_assignable w locals m ≡ false) (KeptMention w locals) (λ m h g k. (h, g, k)) ms unknown.0 subscript.0 target.0;
+        demands_kept = each_of_three (λ d. breaks_modes w locals d ≡ false) (λ d. miscounts w d ≡ false) (λ d. misfits w locals d ≡ false) (KeptDemand w locals) (demand_kept w locals) ds mode.1 arguments.1 fields.1;
         starts_in_main = starts (is_main s.kind) ms start.0;
       }
 

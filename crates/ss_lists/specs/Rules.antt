@@ -9,16 +9,17 @@ use Rattle.ss_uses.specs.Unknown.{is_unknown}
 use Rattle.ss_uses.specs.Subscripts.{has_wrong_subscripts}
 use Rattle.ss_uses.specs.Targets.{is_not_assignable}
 use Rattle.ss_uses.specs.Arguments.{miscounts}
-use Rattle.ss_uses.specs.Modes.{mixes}
+use Rattle.ss_uses.specs.Modes.{mixes, misplaces}
 use Rattle.ss_uses.specs.Fields.{misfits}
 
 -- what is mentioned is of the kind that its place needs, has as many subscripts as it takes, and is assignable where it is a target
 abbrev pub KeptMention : Whole → Moded → Mention → Type 0
 KeptMention w locals m = (is_unknown w locals m ≡ false) × (has_wrong_subscripts w locals m ≡ false) × (is_not_assignable w locals m ≡ false)
 
--- modes agree, as many arguments are given as are taken, and as many items as there are fields
+-- modes agree, as many arguments are given as are taken, there are as many items as fields and a field with decimals has
+-- a MEAN, and a MEAN stands for no value
 abbrev pub KeptDemand : Whole → Moded → Demand → Type 0
-KeptDemand w locals d = (mixes w locals d ≡ false) × (miscounts w d ≡ false) × (misfits d ≡ false)
+KeptDemand w locals d = (mixes w locals d ≡ false) × (miscounts w d ≡ false) × (misfits w locals d ≡ false) × (misplaces w locals d ≡ false)
 
 abbrev pub KeptMentions : Whole → Moded → List Mention → Type 0
 KeptMentions w locals = Every (KeptMention w locals)

@@ -18,6 +18,7 @@ use ss_machine_code::laws::laws;
 use ss_picture::Sink;
 use ss_steps::first::release_working;
 use ss_steps::laws::run_laws;
+use ss_steps::showing::Buffers;
 use ss_steps::stop::Stop;
 use ss_working::working::Working;
 use std::alloc::{AllocError, Global};
@@ -32,7 +33,7 @@ pub struct Machine {
     code: Code,
     fused: Fused,
     working: Working,
-    line: Vec<u8>,
+    buffers: Buffers,
     counts: Counts,
     stopped: Option<Stop>,
 }
@@ -81,7 +82,7 @@ impl Machine {
             code,
             fused,
             working,
-            line: Vec::new(alloc),
+            buffers: Buffers::new(alloc),
             counts: Counts { used: 0, steps: 0 },
             stopped: None,
         })
@@ -141,7 +142,7 @@ impl Machine {
             &self.code,
             &self.fused,
             &mut self.working,
-            &mut self.line,
+            &mut self.buffers,
             self.counts,
             last,
             source,

@@ -14,7 +14,7 @@ use Rattle.ss_meaning.specs.Statements.{Calls, effects}
 use Rattle.ss_meaning.specs.Meaning.{with_locals, come_back, enclosed, routine_called, event_routine, begin, event_taken, calls, Fault}
 use Rattle.ss_machine_code.specs.States.{Called, ARoutine, AnEvent, Frame, Core, State, Stuck, core_of, did, fit, with_taken}
 use Rattle.ss_machine_code.specs.Machine.{Entry, Code, enter_with, enter_if, enter, take_event, act, is_due, when_due, with_rest, step_at}
-use Rattle.ss_machine_code.specs.Translation.{block_code, section_code, block_pictures}
+use Rattle.ss_machine_code.specs.Translation.{block_code, section_code, block_prints}
 use Rattle.ss_machine_code.proofs.Steps.{HasAt, has_front, has_back, Reaches, reaches_on, at, arrive, landed, Ticks, onwards, ends, ticks_reach}
 use Rattle.ss_machine_code.proofs.Parts.{IfWentOn, onto, take_them, rests, sticks, with_core, ticked, pause_run, out_run}
 use Rattle.ss_machine_code.proofs.Statements.{CallsRun, leave_run, block_runs}
@@ -81,7 +81,7 @@ pub record IsSection (code : Code) (body : Block) (given : List Mode) (yielding 
   pub first : ℕ
   pub is : e ≡ record { place = place; given = given; yielding = yielding; others = others }
   pub here : HasAt code.instructions place (section_code first body)
-  pub pictures : HasAt code.pictures first (block_pictures body)
+  pub prints : HasAt code.prints first (block_prints body)
 
 abbrev pub RoutineAt : Code → Option Routine → Option Entry → Type 0
 RoutineAt code None None = Unit {0}
@@ -136,7 +136,7 @@ module _ (code : Code) where
           onwards (at link.1.place [] (f ∷ frames) w')
           (ap (λ o. step_at o code (with_core core (ticked (suc w.ticks) w))) has ∙ ap (λ b. when_due b w.report (suc w.ticks) (act code i core)) due ∙ ap (with_rest w.report w.ticks) q) refl
           (back_run n (link.1.place + length b) f frames (at link.1.place [] (f ∷ frames) w') (effects h n body w') (has_back code.instructions link.1.place b _ link.1.here).0
-          ((block_runs code n h ok link.1.first body link.1.pictures).by link.1.place [] (f ∷ frames) w' (has_front code.instructions link.1.place b _ link.1.here) le))
+          ((block_runs code n h ok link.1.first body link.1.prints).by link.1.place [] (f ∷ frames) w' (has_front code.instructions link.1.place b _ link.1.here) le))
 
   -- what is called yields as many values as are wanted, or is stuck
   module _ (p : Program) (linked : Linked code p) where

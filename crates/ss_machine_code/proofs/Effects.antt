@@ -97,7 +97,7 @@ module _ (code : Code) (n : ℕ) where
       seq code n (give_runs l t.place (get_runs code n (i.Read t.mode l) l same put_on (read_word t.mode) refl (λ place stack frames s. refl))) (λ u. reads_run l ts)
 
   -- an instruction that writes the bytes that a look gives
-  told_runs : (i : Instruction) (l : Line) (before : List Value → List Value) (f : Store → OkOr (List ℕ) Trouble) → is_due i ≡ false → ((place : ℕ) (stack : List Value) (frames : List Frame) (s : Store) → act code i (core_of place (before stack) frames s) ≡ did l (f s) (λ bytes. Sends bytes (core_of (place + 1) stack frames s))) → Runs code n before (i ∷ []) done (λ w. and_then (look l f w) send)
+  pub told_runs : (i : Instruction) (l : Line) (before : List Value → List Value) (f : Store → OkOr (List ℕ) Trouble) → is_due i ≡ false → ((place : ℕ) (stack : List Value) (frames : List Frame) (s : Store) → act code i (core_of place (before stack) frames s) ≡ did l (f s) (λ bytes. Sends bytes (core_of (place + 1) stack frames s))) → Runs code n before (i ∷ []) done (λ w. and_then (look l f w) send)
   told_runs i l before f free e = record {
     by = λ place stack frames w has le. tells place stack frames w has.0 (f w.store) (ap (λ b. when_due b w.report w.ticks (act code i (core_of place (before stack) frames w.store))) free ∙ ap (with_rest w.report w.ticks) (e place stack frames w.store));
   }
@@ -116,16 +116,6 @@ module _ (code : Code) (n : ℕ) where
   skip_runs l e =
       alike code n (λ w. then_sent l (value e w.store) empty_lines w)
       (seq code n (value_runs code n l e) (λ v. told_runs (i.Skip l) l (put_on v) (λ s. empty_lines v) refl (λ place stack frames s. refl)))
-
-  pub print_runs : (l : Line) (first : ℕ) (items : List Expression) (pictures : List (List ℕ)) → slice_get code.pictures first ≡ Some pictures → Runs code n same (values_code l items ++ i.Print first (length items) ∷ []) done (print l items pictures)
-  print_runs l first items pictures has =
-      alike code n (λ w. then_sent l (values items w.store) (λ vs. sure (printed pictures vs)) w)
-      (seq_such code n (λ vs. length items ≡ length vs) (values_length l items) (values_run code n l items) (λ vs such.
-      told_runs (i.Print first (length items)) l (onto vs) (λ s. sure (printed pictures vs)) refl
-      (λ place stack frames s.
-      ap (λ o. fit o (λ pictures. with_taken (take_off (length items) (onto vs stack) []) (λ vs rest. fit (printed pictures vs) (λ bytes. Sends bytes (core_of (place + 1) rest frames s))))) has
-      ∙ ap (λ o. with_taken o (λ vs rest. fit (printed pictures vs) (λ bytes. Sends bytes (core_of (place + 1) rest frames s)))) (take_them vs stack (length items) such)
-      ∙ fit_did code l (printed pictures vs) (λ bytes. Sends bytes (core_of (place + 1) stack frames s)))))
 
   -- ## Entities and sets
 

@@ -149,12 +149,12 @@ module _ (code : Code) (n : ℕ) where
       (seq code n (above code n below (entity_runs code n l class e)) (λ x. r (destinations.Attribute class field) (InAttribute class field x) (record { by = λ stack go. refl })))
   spot_seq l (ToCount k) below c m r = r (destinations.Count k) (InCount k) (record { by = λ stack go. refl })
 
--- as many values as expressions
-abbrev AsMany : ℕ → OkOr (List Value) Trouble → Type 0
+-- so many values
+abbrev pub AsMany : ℕ → OkOr (List Value) Trouble → Type 0
 AsMany k (Ok vs) = k ≡ length vs
 AsMany k (Err t) = Unit {0}
 
-one_more : (v : OkOr Value Trouble) (o : OkOr (List Value) Trouble) (k : ℕ) → AsMany k o → AsMany (suc k) (if_ok v (λ v. turned (λ vs. v ∷ vs) o))
+pub one_more : (v : OkOr Value Trouble) (o : OkOr (List Value) Trouble) (k : ℕ) → AsMany k o → AsMany (suc k) (if_ok v (λ v. turned (λ vs. v ∷ vs) o))
 one_more (Ok v) (Ok vs) k h = ap suc h
 one_more (Ok v) (Err t) k h = tt
 one_more (Err t) o k h = tt
@@ -163,10 +163,10 @@ as_many : (es : List Expression) (s : Store) → AsMany (length es) (values es s
 as_many [] s = refl
 as_many (e ∷ es) s = one_more (value e s) (values es s) (length es) (as_many es s)
 
+pub many_looked : (l : Line) (k : ℕ) (o : OkOr (List Value) Trouble) (w : World) → AsMany k o → IfWentOn (λ vs. k ≡ length vs) (looked l o w)
+many_looked l k (Ok vs) w h = h
+many_looked l k (Err (Fails kind)) w h = tt
+many_looked l k (Err Misfit) w h = tt
+
 pub values_length : (l : Line) (es : List Expression) (w : World) → IfWentOn (λ vs. length es ≡ length vs) (look l (values es) w)
-values_length l es w = told (values es w.store) (as_many es w.store)
-  where
-    told : (o : OkOr (List Value) Trouble) → AsMany (length es) o → IfWentOn (λ vs. length es ≡ length vs) (looked l o w)
-    told (Ok vs) h = h
-    told (Err (Fails k)) h = tt
-    told (Err Misfit) h = tt
+values_length l es w = many_looked l (length es) (values es w.store) w (as_many es w.store)

@@ -7,6 +7,7 @@ pub mod Conditions
 pub mod Looping
 pub mod Walking
 pub mod Effects
+pub mod Printing
 pub mod Statements
 pub mod Calling
 pub mod Whole

@@ -14,7 +14,7 @@ use Rattle.ss_meaning.specs.Statements.{Calls, effect, effects, event_turn, next
 use Rattle.ss_meaning.specs.Meaning.{Ended, with_locals}
 use Rattle.ss_machine_code.specs.States.{Frame, To, core_of, fit, past}
 use Rattle.ss_machine_code.specs.Machine.{Code, with_rest, backwards}
-use Rattle.ss_machine_code.specs.Translation.{condition_code, statement_pictures, block_pictures, statement_code, block_code}
+use Rattle.ss_machine_code.specs.Translation.{condition_code, statement_prints, block_prints, statement_code, block_code}
 use Rattle.ss_machine_code.proofs.Steps.{HasAt, has_front, has_back, Reaches, here, at, arrive, left_to, landed, Ticks, ticks_and}
 use Rattle.ss_machine_code.proofs.Parts.{Runs, IfWentOn, same, done, put_on, onto, seq, seq_such, none, get_runs, goes, rests, sticks, ticked}
 use Rattle.ss_machine_code.proofs.Branching.{if_run}
@@ -23,7 +23,8 @@ use Rattle.ss_machine_code.proofs.Expressions.{value_runs, values_run, values_le
 use Rattle.ss_machine_code.proofs.Conditions.{condition_lands}
 use Rattle.ss_machine_code.proofs.Looping.{leap, guarded_runs}
 use Rattle.ss_machine_code.proofs.Walking.{for_runs, find_runs}
-use Rattle.ss_machine_code.proofs.Effects.{heap_on, give_runs, gives_run, change_by_runs, reads_run, skip_runs, print_runs, creates_run, destroy_runs, file_runs, remove_runs, remove_end_runs, schedule_new_runs, schedule_runs, cancel_runs, restarts_run}
+use Rattle.ss_machine_code.proofs.Printing.{print_runs}
+use Rattle.ss_machine_code.proofs.Effects.{heap_on, give_runs, gives_run, change_by_runs, reads_run, skip_runs, creates_run, destroy_runs, file_runs, remove_runs, remove_end_runs, schedule_new_runs, schedule_runs, cancel_runs, restarts_run}
 
 -- the code of a call does what h says, and yields as many values as are wanted; and so does that of an event, behind its tick
 pub record CallsRun (code : Code) (n : ℕ) (h : Calls) : Type 0 where
@@ -89,41 +90,41 @@ module _ (code : Code) (n : ℕ) where
             (leap code n (i.Await 2) place (place + 1 + 2) (place + 3) stack stack frames w _ has.0 refl (ap (λ b. To (core_of (past 2 b (place + 1)) stack frames w.store)) q) (omega arith) here)
 
     mutual
-      pub statement_runs : (first : ℕ) (s : Statement) → HasAt code.pictures first (statement_pictures s) → Runs code n same (statement_code first s) done (effect h n s)
-      statement_runs first (Let l t e) pics = give_runs code n l t (value_runs code n l e)
-      statement_runs first (Change l sign t e) pics = change_by_runs code n l sign t e
-      statement_runs first (Call l routine given yielding) pics =
+      pub statement_runs : (first : ℕ) (s : Statement) → HasAt code.prints first (statement_prints s) → Runs code n same (statement_code first s) done (effect h n s)
+      statement_runs first (Let l t e) prints = give_runs code n l t (value_runs code n l e)
+      statement_runs first (Change l sign t e) prints = change_by_runs code n l sign t e
+      statement_runs first (Call l routine given yielding) prints =
           seq_such code n (λ vs. length given ≡ length vs) (values_length l given) (values_run code n l given) (λ vs many.
           seq_such code n (λ us. length yielding ≡ length us) (λ w. ok.such routine (length yielding) vs w) (ok.by routine (length given) (length yielding) vs many) (λ us many'. gives_run code n l yielding us many'))
-      statement_runs first Return pics = return_run
-      statement_runs first Stop pics = stop_run
-      statement_runs first (Read l targets) pics = reads_run code n l targets
-      statement_runs first Simulate pics = simulate_runs
-      statement_runs first (If l c a b) pics =
+      statement_runs first Return prints = return_run
+      statement_runs first Stop prints = stop_run
+      statement_runs first (Read l targets) prints = reads_run code n l targets
+      statement_runs first Simulate prints = simulate_runs
+      statement_runs first (If l c a b) prints =
           if_run code n (λ skip. condition_code l skip c) (look l (holds c)) (λ skip. condition_lands code n l skip c)
-          (block_runs first a (has_front code.pictures first (block_pictures a) (block_pictures b) pics))
-          (block_runs (first + length (block_pictures a)) b (has_back code.pictures first (block_pictures a) (block_pictures b) pics))
-      statement_runs first (Loop l gs a) pics = guarded_runs code n l gs (block_code first a) (effects h n a) (block_runs first a pics)
-      statement_runs first (For l head ps a) pics = for_runs code n l head ps (block_runs first a pics)
-      statement_runs first (Find l head ps a b) pics =
+          (block_runs first a (has_front code.prints first (block_prints a) (block_prints b) prints))
+          (block_runs (first + length (block_prints a)) b (has_back code.prints first (block_prints a) (block_prints b) prints))
+      statement_runs first (Loop l gs a) prints = guarded_runs code n l gs (block_code first a) (effects h n a) (block_runs first a prints)
+      statement_runs first (For l head ps a) prints = for_runs code n l head ps (block_runs first a prints)
+      statement_runs first (Find l head ps a b) prints =
           find_runs code n l head ps
-          (block_runs first a (has_front code.pictures first (block_pictures a) (block_pictures b) pics))
-          (block_runs (first + length (block_pictures a)) b (has_back code.pictures first (block_pictures a) (block_pictures b) pics))
-      statement_runs first (Create l class t) pics = give_runs code n l t (get_runs code n (i.Create class l) l same put_on (made_one class) refl (λ place stack frames s. refl))
-      statement_runs first (CreateEvery l classes) pics = creates_run code n l classes
-      statement_runs first (Destroy l class e) pics = destroy_runs code n l class e
-      statement_runs first (File l set e position owner) pics = file_runs code n l set e position owner
-      statement_runs first (RemoveEnd l end set t owner) pics = give_runs code n l t (remove_end_runs code n l end set owner)
-      statement_runs first (Remove l set e owner) pics = remove_runs code n l set e owner
-      statement_runs first (ScheduleNew l class t given when) pics = schedule_new_runs code n l class t given when
-      statement_runs first (Schedule l class e given when) pics = schedule_runs code n l class e given when
-      statement_runs first (Cancel l class e) pics = cancel_runs code n l class e
-      statement_runs first (Reset l restarts) pics = restarts_run code n l restarts
-      statement_runs first (Print l items pictures) pics = print_runs code n l first items pictures pics.0
-      statement_runs first (Skip l e) pics = skip_runs code n l e
+          (block_runs first a (has_front code.prints first (block_prints a) (block_prints b) prints))
+          (block_runs (first + length (block_prints a)) b (has_back code.prints first (block_prints a) (block_prints b) prints))
+      statement_runs first (Create l class t) prints = give_runs code n l t (get_runs code n (i.Create class l) l same put_on (made_one class) refl (λ place stack frames s. refl))
+      statement_runs first (CreateEvery l classes) prints = creates_run code n l classes
+      statement_runs first (Destroy l class e) prints = destroy_runs code n l class e
+      statement_runs first (File l set e position owner) prints = file_runs code n l set e position owner
+      statement_runs first (RemoveEnd l end set t owner) prints = give_runs code n l t (remove_end_runs code n l end set owner)
+      statement_runs first (Remove l set e owner) prints = remove_runs code n l set e owner
+      statement_runs first (ScheduleNew l class t given when) prints = schedule_new_runs code n l class t given when
+      statement_runs first (Schedule l class e given when) prints = schedule_runs code n l class e given when
+      statement_runs first (Cancel l class e) prints = cancel_runs code n l class e
+      statement_runs first (Reset l restarts) prints = restarts_run code n l restarts
+      statement_runs first (Print l items pictures) prints = print_runs code n l first items pictures prints.0
+      statement_runs first (Skip l e) prints = skip_runs code n l e
 
-      pub block_runs : (first : ℕ) (b : Block) → HasAt code.pictures first (block_pictures b) → Runs code n same (block_code first b) done (effects h n b)
-      block_runs first Done pics = none code n tt
-      block_runs first (Then s rest) pics =
-          seq code n (statement_runs first s (has_front code.pictures first (statement_pictures s) (block_pictures rest) pics))
-          (λ u. block_runs (first + length (statement_pictures s)) rest (has_back code.pictures first (statement_pictures s) (block_pictures rest) pics))
+      pub block_runs : (first : ℕ) (b : Block) → HasAt code.prints first (block_prints b) → Runs code n same (block_code first b) done (effects h n b)
+      block_runs first Done prints = none code n tt
+      block_runs first (Then s rest) prints =
+          seq code n (statement_runs first s (has_front code.prints first (statement_prints s) (block_prints rest) prints))
+          (λ u. block_runs (first + length (statement_prints s)) rest (has_back code.prints first (statement_prints s) (block_prints rest) prints))

@@ -9,40 +9,40 @@ use Rattle.ss_meaning.specs.Meaning.{Ending, Ended, Fault, Paused, WentWrong, Ru
 use Rattle.ss_machine_code.specs.States.{State}
 use Rattle.ss_machine_code.specs.Machine.{Code}
 use Rattle.ss_machine_code.specs.Running.{start, result_at, result_of, Behaves}
-use Rattle.ss_machine_code.specs.Translation.{block_code, section_code, sections_code, sections_pictures, block_pictures, routine_entries, event_entries, routine_bodies, event_bodies, prints_of_main, prints_before_events, main_code, routines_code, events_code, code_of}
+use Rattle.ss_machine_code.specs.Translation.{block_code, section_code, sections_code, sections_prints, block_prints, routine_entries, event_entries, routine_bodies, event_bodies, prints_of_main, prints_before_events, main_code, routines_code, events_code, code_of}
 use Rattle.ss_machine_code.proofs.Steps.{HasAt, has_front, has_back, has_all, Reaches, reaches_on, in_steps, IsEnd, Agrees, agrees, at, arrive}
 use Rattle.ss_machine_code.proofs.Parts.{rests}
 use Rattle.ss_machine_code.proofs.Statements.{block_runs}
 use Rattle.ss_machine_code.proofs.Calling.{RoutineAt, EventAt, Linked, calls_run}
 
 module _ (code : Code) where
-  linked_routines : (rs : List Routine) (place first : ℕ) → HasAt code.instructions place (sections_code first (routine_bodies rs)) → HasAt code.pictures first (sections_pictures (routine_bodies rs)) → (r : ℕ) → RoutineAt code (slice_get rs r) (slice_get (routine_entries place first rs) r)
-  linked_routines [] place first has pics r = tt
-  linked_routines (x ∷ rs) place first has pics zero = record {
+  linked_routines : (rs : List Routine) (place first : ℕ) → HasAt code.instructions place (sections_code first (routine_bodies rs)) → HasAt code.prints first (sections_prints (routine_bodies rs)) → (r : ℕ) → RoutineAt code (slice_get rs r) (slice_get (routine_entries place first rs) r)
+  linked_routines [] place first has prints r = tt
+  linked_routines (x ∷ rs) place first has prints zero = record {
     place = place;
     first = first;
     is = refl;
-    here = has_front code.instructions place (section_code first x.body) (sections_code (first + length (block_pictures x.body)) (routine_bodies rs)) has;
-    pictures = has_front code.pictures first (block_pictures x.body) (sections_pictures (routine_bodies rs)) pics;
+    here = has_front code.instructions place (section_code first x.body) (sections_code (first + length (block_prints x.body)) (routine_bodies rs)) has;
+    prints = has_front code.prints first (block_prints x.body) (sections_prints (routine_bodies rs)) prints;
   }
-  linked_routines (x ∷ rs) place first has pics (suc r) =
-      linked_routines rs (place + length (section_code first x.body)) (first + length (block_pictures x.body))
-      (has_back code.instructions place (section_code first x.body) (sections_code (first + length (block_pictures x.body)) (routine_bodies rs)) has)
-      (has_back code.pictures first (block_pictures x.body) (sections_pictures (routine_bodies rs)) pics) r
+  linked_routines (x ∷ rs) place first has prints (suc r) =
+      linked_routines rs (place + length (section_code first x.body)) (first + length (block_prints x.body))
+      (has_back code.instructions place (section_code first x.body) (sections_code (first + length (block_prints x.body)) (routine_bodies rs)) has)
+      (has_back code.prints first (block_prints x.body) (sections_prints (routine_bodies rs)) prints) r
 
-  linked_events : (es : List Event) (place first : ℕ) → HasAt code.instructions place (sections_code first (event_bodies es)) → HasAt code.pictures first (sections_pictures (event_bodies es)) → (r : ℕ) → EventAt code (slice_get es r) (slice_get (event_entries place first es) r)
-  linked_events [] place first has pics r = tt
-  linked_events (x ∷ es) place first has pics zero = record {
+  linked_events : (es : List Event) (place first : ℕ) → HasAt code.instructions place (sections_code first (event_bodies es)) → HasAt code.prints first (sections_prints (event_bodies es)) → (r : ℕ) → EventAt code (slice_get es r) (slice_get (event_entries place first es) r)
+  linked_events [] place first has prints r = tt
+  linked_events (x ∷ es) place first has prints zero = record {
     place = place;
     first = first;
     is = refl;
-    here = has_front code.instructions place (section_code first x.body) (sections_code (first + length (block_pictures x.body)) (event_bodies es)) has;
-    pictures = has_front code.pictures first (block_pictures x.body) (sections_pictures (event_bodies es)) pics;
+    here = has_front code.instructions place (section_code first x.body) (sections_code (first + length (block_prints x.body)) (event_bodies es)) has;
+    prints = has_front code.prints first (block_prints x.body) (sections_prints (event_bodies es)) prints;
   }
-  linked_events (x ∷ es) place first has pics (suc r) =
-      linked_events es (place + length (section_code first x.body)) (first + length (block_pictures x.body))
-      (has_back code.instructions place (section_code first x.body) (sections_code (first + length (block_pictures x.body)) (event_bodies es)) has)
-      (has_back code.pictures first (block_pictures x.body) (sections_pictures (event_bodies es)) pics) r
+  linked_events (x ∷ es) place first has prints (suc r) =
+      linked_events es (place + length (section_code first x.body)) (first + length (block_prints x.body))
+      (has_back code.instructions place (section_code first x.body) (sections_code (first + length (block_prints x.body)) (event_bodies es)) has)
+      (has_back code.prints first (block_prints x.body) (sections_prints (event_bodies es)) prints) r
 
 module _ (p : Program) where
   abbrev code : Code
@@ -59,19 +59,19 @@ module _ (p : Program) where
       let e : 0 + length (main_code p) ≡ length (main_code p) = omega arith in
       subst (λ j. HasAt code.instructions j (routines_code p ++ events_code p)) e (has_back code.instructions 0 (main_code p) (routines_code p ++ events_code p) all_here)
 
-  all_pictures : HasAt code.pictures 0 (block_pictures p.main ++ (sections_pictures (routine_bodies p.routines) ++ sections_pictures (event_bodies p.events)))
-  all_pictures = has_all (block_pictures p.main ++ (sections_pictures (routine_bodies p.routines) ++ sections_pictures (event_bodies p.events))) []
+  all_prints : HasAt code.prints 0 (block_prints p.main ++ (sections_prints (routine_bodies p.routines) ++ sections_prints (event_bodies p.events)))
+  all_prints = has_all (block_prints p.main ++ (sections_prints (routine_bodies p.routines) ++ sections_prints (event_bodies p.events))) []
 
-  pictures_behind : HasAt code.pictures (prints_of_main p) (sections_pictures (routine_bodies p.routines) ++ sections_pictures (event_bodies p.events))
-  pictures_behind =
+  prints_behind : HasAt code.prints (prints_of_main p) (sections_prints (routine_bodies p.routines) ++ sections_prints (event_bodies p.events))
+  prints_behind =
       let e : 0 + prints_of_main p ≡ prints_of_main p = omega arith in
-      subst (λ j. HasAt code.pictures j (sections_pictures (routine_bodies p.routines) ++ sections_pictures (event_bodies p.events))) e
-      (has_back code.pictures 0 (block_pictures p.main) (sections_pictures (routine_bodies p.routines) ++ sections_pictures (event_bodies p.events)) all_pictures)
+      subst (λ j. HasAt code.prints j (sections_prints (routine_bodies p.routines) ++ sections_prints (event_bodies p.events))) e
+      (has_back code.prints 0 (block_prints p.main) (sections_prints (routine_bodies p.routines) ++ sections_prints (event_bodies p.events)) all_prints)
 
   pub program_linked : Linked code p
   program_linked = record {
-    routines = linked_routines code p.routines (length (main_code p)) (prints_of_main p) (has_front code.instructions (length (main_code p)) (routines_code p) (events_code p) behind_main) (has_front code.pictures (prints_of_main p) (sections_pictures (routine_bodies p.routines)) (sections_pictures (event_bodies p.events)) pictures_behind);
-    events = linked_events code p.events (length (main_code p) + length (routines_code p)) (prints_before_events p) (has_back code.instructions (length (main_code p)) (routines_code p) (events_code p) behind_main) (has_back code.pictures (prints_of_main p) (sections_pictures (routine_bodies p.routines)) (sections_pictures (event_bodies p.events)) pictures_behind);
+    routines = linked_routines code p.routines (length (main_code p)) (prints_of_main p) (has_front code.instructions (length (main_code p)) (routines_code p) (events_code p) behind_main) (has_front code.prints (prints_of_main p) (sections_prints (routine_bodies p.routines)) (sections_prints (event_bodies p.events)) prints_behind);
+    events = linked_events code p.events (length (main_code p) + length (routines_code p)) (prints_before_events p) (has_back code.instructions (length (main_code p)) (routines_code p) (events_code p) behind_main) (has_back code.prints (prints_of_main p) (sections_prints (routine_bodies p.routines)) (sections_prints (event_bodies p.events)) prints_behind);
   }
 
   main_end : (q : ℕ) (s : State) (o : Outcome (Unit {0})) → slice_get code.instructions q ≡ Some i.Leave → Reaches code s (arrive (λ u w. at q [] [] w) [] o) → Reaches code s (result_of (run_of o))
@@ -87,7 +87,7 @@ module _ (p : Program) where
   program_runs input n =
       let b = block_code 0 p.main in
       main_end (0 + length b) (start code input n) (effects (calls p n) n p.main (first_world p input n)) (has_back code.instructions 0 b (i.Leave ∷ []) main_here).0
-      ((block_runs code n (calls p n) (calls_run code p program_linked n) 0 p.main (has_front code.pictures 0 (block_pictures p.main) (sections_pictures (routine_bodies p.routines) ++ sections_pictures (event_bodies p.events)) all_pictures)).by 0 [] [] (first_world p input n) (has_front code.instructions 0 b (i.Leave ∷ []) main_here) (omega arith))
+      ((block_runs code n (calls p n) (calls_run code p program_linked n) 0 p.main (has_front code.prints 0 (block_prints p.main) (sections_prints (routine_bodies p.routines) ++ sections_prints (event_bodies p.events)) all_prints)).by 0 [] [] (first_world p input n) (has_front code.instructions 0 b (i.Leave ∷ []) main_here) (omega arith))
 
   is_end : (e : Ending) (r : Run) → IsEnd (result_at e r)
   is_end Ended r = tt

@@ -8,7 +8,7 @@ use Rattle.ss_program.specs.declared.head.GuardKind.TheVariants as guards
 use Rattle.ss_program.specs.declared.head.PhraseKind.{PhraseKind}
 use Rattle.ss_program.specs.declared.head.PhraseKind.TheVariants as kinds
 use Rattle.ss_program.specs.declared.statement.Counted.{Counted}
-use Rattle.ss_program.specs.Program.{Expression, Constant, Fetch, Attribute, OfSystemSet, OfSet, OfMember, Clock, TimeOf, Figure, FigureOf, Signed, Absolute, Calculate, SetOwner, TheSystem, Entity, Test, Compare, DataEnded, Empty, Member, Condition, Head, Numbers, Members, Each, Start, AtEnd, From, After, Phrase, Guard, Place, ToVariable, ToAttribute, ToCount, Target, Position, ByDiscipline, AsFirst, AsLast, BeforeMember, AfterMember, When, At, In, Now, Restart, Statement, Let, Change, Call, Return, Stop, Read, Simulate, If, Loop, For, Find, Create, CreateEvery, Destroy, File, RemoveEnd, Remove, ScheduleNew, Schedule, Cancel, Reset, Print, Skip, Block, Done, Then, Routine, Event, Program}
+use Rattle.ss_program.specs.Program.{Expression, Constant, Fetch, Attribute, OfSystemSet, OfSet, OfMember, Clock, TimeOf, Figure, FigureOf, Signed, Absolute, Calculate, SetOwner, TheSystem, Entity, Test, Compare, DataEnded, Empty, Member, Condition, Head, Numbers, Members, Each, Start, AtEnd, From, After, Phrase, Guard, Place, ToVariable, ToAttribute, ToCount, Target, Position, ByDiscipline, AsFirst, AsLast, BeforeMember, AfterMember, When, At, In, Now, Restart, Item, AValue, AMean, AMeanOf, Statement, Let, Change, Call, Return, Stop, Read, Simulate, If, Loop, For, Find, Create, CreateEvery, Destroy, File, RemoveEnd, Remove, ScheduleNew, Schedule, Cancel, Reset, Print, Skip, Block, Done, Then, Routine, Event, Program}
 use Rattle.ss_machine_code.specs.declared.instruction.Destination.{Destination}
 use Rattle.ss_machine_code.specs.declared.instruction.Destination.TheVariants as destinations
 use Rattle.ss_machine_code.specs.declared.instruction.Filing.{Filing}
@@ -16,7 +16,9 @@ use Rattle.ss_machine_code.specs.declared.instruction.Filing.TheVariants as fili
 use Rattle.ss_machine_code.specs.declared.instruction.Instruction.{Instruction}
 use Rattle.ss_machine_code.specs.declared.instruction.Instruction.TheVariants as i
 use Rattle.ss_meaning.specs.Meaning.{setting_of, tie_shapes}
-use Rattle.ss_machine_code.specs.Machine.{Entry, Code}
+use Rattle.ss_machine_code.specs.declared.item.ItemKind.{ItemKind}
+use Rattle.ss_machine_code.specs.declared.item.ItemKind.TheVariants as shows
+use Rattle.ss_machine_code.specs.Machine.{Entry, Lines, Code}
 
 -- ## Expressions
 
@@ -241,6 +243,39 @@ abbrev pub schedule_code : Line → (class : ℕ) → Expression → List Expres
 schedule_code l class e given when =
     entity_code l class e ++ (values_code l given ++ (when_code l when ++ i.Reschedule class (length given) l ∷ []))
 
+-- ## Items of PRINT
+
+-- an item: the value that it takes on top of the stack; a mean is looked at where it stands
+abbrev pub item_code : Line → Item → List Instruction
+item_code l (AValue e) = expression_code l e
+item_code l (AMean j) = i.LookMean j true l ∷ []
+item_code l (AMeanOf j e) = expression_code l e ++ i.LookMean j false l ∷ []
+
+-- several items, one after the other
+abbrev pub shown_code : Line → List Item → List Instruction
+shown_code l [] = []
+shown_code l (x ∷ xs) = item_code l x ++ shown_code l xs
+
+-- how many values an item takes
+abbrev pub values_of : Item → ℕ
+values_of (AValue e) = 1
+values_of (AMean j) = 0
+values_of (AMeanOf j e) = 1
+
+abbrev pub values_taken : List Item → ℕ
+values_taken [] = 0
+values_taken (x ∷ xs) = values_of x + values_taken xs
+
+-- what an item is
+abbrev pub item_kind : Item → ItemKind
+item_kind (AValue e) = shows.Value
+item_kind (AMean j) = shows.Mean j
+item_kind (AMeanOf j e) = shows.MeanOf j
+
+-- the lines of a PRINT of these items
+abbrev pub lines_of : List Item → (pictures : List (List ℕ)) → Lines
+lines_of items pictures = record { pictures = pictures; items = map item_kind items }
+
 -- ## Statements
 
 abbrev pub restarts_code : Line → List Restart → List Instruction
@@ -248,35 +283,35 @@ restarts_code l [] = []
 restarts_code l (r ∷ rs) = (any_code l r.of ++ i.Reset r.statistic (is_absent r.of) l ∷ []) ++ restarts_code l rs
 
 abbrev mutual
-  -- the pictures of each PRINT of a statement
-  pub statement_pictures : Statement → List (List (List ℕ))
-  statement_pictures (Let l t e) = []
-  statement_pictures (Change l sign t e) = []
-  statement_pictures (Call l routine given yielding) = []
-  statement_pictures Return = []
-  statement_pictures Stop = []
-  statement_pictures (Read l targets) = []
-  statement_pictures Simulate = []
-  statement_pictures (If l c a b) = block_pictures a ++ block_pictures b
-  statement_pictures (Loop l gs a) = block_pictures a
-  statement_pictures (For l head ps a) = block_pictures a
-  statement_pictures (Find l head ps a b) = block_pictures a ++ block_pictures b
-  statement_pictures (Create l class t) = []
-  statement_pictures (CreateEvery l classes) = []
-  statement_pictures (Destroy l class e) = []
-  statement_pictures (File l set e position owner) = []
-  statement_pictures (RemoveEnd l end set t owner) = []
-  statement_pictures (Remove l set e owner) = []
-  statement_pictures (ScheduleNew l class t given when) = []
-  statement_pictures (Schedule l class e given when) = []
-  statement_pictures (Cancel l class e) = []
-  statement_pictures (Reset l restarts) = []
-  statement_pictures (Print l items pictures) = pictures ∷ []
-  statement_pictures (Skip l e) = []
+  -- the lines of each PRINT of a statement
+  pub statement_prints : Statement → List Lines
+  statement_prints (Let l t e) = []
+  statement_prints (Change l sign t e) = []
+  statement_prints (Call l routine given yielding) = []
+  statement_prints Return = []
+  statement_prints Stop = []
+  statement_prints (Read l targets) = []
+  statement_prints Simulate = []
+  statement_prints (If l c a b) = block_prints a ++ block_prints b
+  statement_prints (Loop l gs a) = block_prints a
+  statement_prints (For l head ps a) = block_prints a
+  statement_prints (Find l head ps a b) = block_prints a ++ block_prints b
+  statement_prints (Create l class t) = []
+  statement_prints (CreateEvery l classes) = []
+  statement_prints (Destroy l class e) = []
+  statement_prints (File l set e position owner) = []
+  statement_prints (RemoveEnd l end set t owner) = []
+  statement_prints (Remove l set e owner) = []
+  statement_prints (ScheduleNew l class t given when) = []
+  statement_prints (Schedule l class e given when) = []
+  statement_prints (Cancel l class e) = []
+  statement_prints (Reset l restarts) = []
+  statement_prints (Print l items pictures) = lines_of items pictures ∷ []
+  statement_prints (Skip l e) = []
 
-  pub block_pictures : Block → List (List (List ℕ))
-  block_pictures Done = []
-  block_pictures (Then s rest) = statement_pictures s ++ block_pictures rest
+  pub block_prints : Block → List Lines
+  block_prints Done = []
+  block_prints (Then s rest) = statement_prints s ++ block_prints rest
 
 abbrev mutual
   -- a statement, before which there are so many PRINTs
@@ -289,11 +324,11 @@ abbrev mutual
   statement_code first Stop = i.Halt ∷ []
   statement_code first (Read l targets) = reads_code l targets
   statement_code first Simulate = i.Await 2 ∷ (i.TakeEvent ∷ (i.NextEvent 1 ∷ []))
-  statement_code first (If l c a b) = if_code l c (block_code first a) (block_code (first + length (block_pictures a)) b)
+  statement_code first (If l c a b) = if_code l c (block_code first a) (block_code (first + length (block_prints a)) b)
   statement_code first (Loop l gs a) = loop_code l gs (block_code first a)
   statement_code first (For l head ps a) = for_code l head (phrases_code l ps (block_code first a))
   statement_code first (Find l head ps a b) =
-      find_code l head ps (block_code first a) (block_code (first + length (block_pictures a)) b)
+      find_code l head ps (block_code first a) (block_code (first + length (block_prints a)) b)
   statement_code first (Create l class t) = give_code l t (i.Create class l ∷ [])
   statement_code first (CreateEvery l classes) = creates_code l classes
   statement_code first (Destroy l class e) = expression_code l e ++ i.Destroy class l ∷ []
@@ -305,12 +340,12 @@ abbrev mutual
   statement_code first (Schedule l class e given when) = schedule_code l class e given when
   statement_code first (Cancel l class e) = expression_code l e ++ i.Cancel class l ∷ []
   statement_code first (Reset l restarts) = restarts_code l restarts
-  statement_code first (Print l items pictures) = values_code l items ++ i.Print first (length items) ∷ []
+  statement_code first (Print l items pictures) = shown_code l items ++ i.Print first (values_taken items) ∷ []
   statement_code first (Skip l e) = expression_code l e ++ i.Skip l ∷ []
 
   pub block_code : ℕ → Block → List Instruction
   block_code first Done = []
-  block_code first (Then s rest) = statement_code first s ++ block_code (first + length (statement_pictures s)) rest
+  block_code first (Then s rest) = statement_code first s ++ block_code (first + length (statement_prints s)) rest
 
 -- ## Programs: MAIN, the routines, and the events' routines
 
@@ -318,13 +353,13 @@ abbrev mutual
 abbrev pub section_code : ℕ → Block → List Instruction
 section_code first body = block_code first body ++ i.Leave ∷ []
 
-abbrev pub sections_pictures : List Block → List (List (List ℕ))
-sections_pictures [] = []
-sections_pictures (b ∷ bs) = block_pictures b ++ sections_pictures bs
+abbrev pub sections_prints : List Block → List Lines
+sections_prints [] = []
+sections_prints (b ∷ bs) = block_prints b ++ sections_prints bs
 
 abbrev pub sections_code : ℕ → List Block → List Instruction
 sections_code first [] = []
-sections_code first (b ∷ bs) = section_code first b ++ sections_code (first + length (block_pictures b)) bs
+sections_code first (b ∷ bs) = section_code first b ++ sections_code (first + length (block_prints b)) bs
 
 abbrev pub routine_entry : (place : ℕ) → Routine → Entry
 routine_entry place r = record { place = place; given = r.given; yielding = length r.yielding; others = r.yielding ++ r.others }
@@ -337,12 +372,12 @@ event_entry place e = record { place = place; given = e.given; yielding = 0; oth
 abbrev pub routine_entries : (place first : ℕ) → List Routine → List Entry
 routine_entries place first [] = []
 routine_entries place first (r ∷ rs) =
-    routine_entry place r ∷ routine_entries (place + length (section_code first r.body)) (first + length (block_pictures r.body)) rs
+    routine_entry place r ∷ routine_entries (place + length (section_code first r.body)) (first + length (block_prints r.body)) rs
 
 abbrev pub event_entries : (place first : ℕ) → List Event → List Entry
 event_entries place first [] = []
 event_entries place first (e ∷ es) =
-    event_entry place e ∷ event_entries (place + length (section_code first e.body)) (first + length (block_pictures e.body)) es
+    event_entry place e ∷ event_entries (place + length (section_code first e.body)) (first + length (block_prints e.body)) es
 
 abbrev pub routine_body : Routine → Block
 routine_body r = r.body
@@ -358,10 +393,10 @@ event_bodies es = map event_body es
 
 -- how many PRINTs stand in MAIN, and in MAIN and the routines
 abbrev pub prints_of_main : Program → ℕ
-prints_of_main p = length (block_pictures p.main)
+prints_of_main p = length (block_prints p.main)
 
 abbrev pub prints_before_events : Program → ℕ
-prints_before_events p = prints_of_main p + length (sections_pictures (routine_bodies p.routines))
+prints_before_events p = prints_of_main p + length (sections_prints (routine_bodies p.routines))
 
 abbrev pub main_code : Program → List Instruction
 main_code p = section_code 0 p.main
@@ -376,7 +411,7 @@ events_code p = sections_code (prints_before_events p) (event_bodies p.events)
 abbrev pub code_of : Program → Code
 code_of p = record {
   instructions = main_code p ++ (routines_code p ++ events_code p);
-  pictures = block_pictures p.main ++ (sections_pictures (routine_bodies p.routines) ++ sections_pictures (event_bodies p.events));
+  prints = block_prints p.main ++ (sections_prints (routine_bodies p.routines) ++ sections_prints (event_bodies p.events));
   routines = routine_entries (length (main_code p)) (prints_of_main p) p.routines;
   events = event_entries (length (main_code p) + length (routines_code p)) (prints_before_events p) p.events;
   layout = p.layout;

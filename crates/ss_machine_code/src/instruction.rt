@@ -130,6 +130,12 @@ pub enum Instruction {
         system: bool,
         line: Line,
     },
+    /// Looks at the mean of a statistic, of the entity on top of the stack, if an entity has it. The entity stays there.
+    LookMean {
+        statistic: usize,
+        system: bool,
+        line: Line,
+    },
     /// The value on top of the stack goes to a destination.
     Assign {
         to: Destination,
@@ -152,10 +158,11 @@ pub enum Instruction {
         mode: Mode,
         line: Line,
     },
-    /// Lines are filled with so many values off the stack, and written.
+    /// Lines are filled with items, and written. The items are made of so many values off the stack, and of means that
+    /// were looked at.
     Print {
         lines: usize,
-        items: usize,
+        values: usize,
     },
     /// So many empty lines are written as the value on top of the stack says.
     Skip {

@@ -3,5 +3,6 @@
 
 pub mod entry;
 pub mod instruction;
+pub mod item;
 pub mod laws;
 pub mod limit;

@@ -1,5 +1,5 @@
 -- What the worked examples are built with.
-use Rattle.std.specs.Prelude.{ℕ, zero, suc, true, List, [], ◌∷◌, ◌++◌, ℤ, None}
+use Rattle.std.specs.Prelude.{ℕ, zero, suc, true, List, [], ◌∷◌, ◌++◌, map, ℤ, None}
 use Rattle.ss_bytes.specs.declared.line.Line.{Line}
 use Rattle.ss_base.specs.declared.fault.FaultKind.{FaultKind}
 use Rattle.ss_base.specs.declared.value.Value.TheVariants.{Whole}
@@ -13,7 +13,7 @@ use Rattle.ss_base.specs.declared.layout.Discipline.{Discipline}
 use Rattle.ss_base.specs.declared.layout.Discipline.TheVariants.{Fifo, Ranked}
 use Rattle.ss_program.specs.declared.expression.Variable.TheVariants.{Global, Local}
 use Rattle.ss_program.specs.declared.statement.Counted.{Counted}
-use Rattle.ss_program.specs.Program.{Expression, Constant, Fetch, Test, Condition, Place, ToVariable, Statement, Print, Block, Done, Then, Program}
+use Rattle.ss_program.specs.Program.{Expression, Constant, Fetch, AValue, Test, Condition, Place, ToVariable, Statement, Print, Block, Done, Then, Program}
 use Rattle.ss_meaning.specs.Meaning.{Ending, Ended, Fault, Paused, Run}
 
 abbrev pub line : ℕ → Line
@@ -40,7 +40,7 @@ only t = (t ∷ []) ∷ []
 
 -- a line with items
 abbrev pub print_line : ℕ → List Expression → List ℕ → Statement
-print_line l es picture = Print (line l) es (picture ∷ [])
+print_line l es picture = Print (line l) (map AValue es) (picture ∷ [])
 
 abbrev pub integers : ℕ → List Mode
 integers zero = []

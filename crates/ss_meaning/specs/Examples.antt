@@ -5,20 +5,20 @@ use Rattle.ss_base.specs.declared.value.Value.TheVariants.{Text}
 use Rattle.ss_base.specs.declared.layout.Mode.TheVariants.{Integer, Alpha}
 use Rattle.ss_base.specs.Arithmetic.{in_64_bits, plus_of, minus_of, times_of, quotient_of, remainder_of}
 use Rattle.ss_picture.specs.Numerals.{numeral}
-use Rattle.ss_picture.specs.Pictures.{widths, filled}
+use Rattle.ss_picture.specs.Pictures.{picture_fields, filled}
 use Rattle.ss_program.specs.declared.expression.Variable.TheVariants.{Local}
 use Rattle.ss_program.specs.declared.expression.Sign.TheVariants.{Plus, Minus}
 use Rattle.ss_program.specs.declared.expression.Operator.TheVariants.{Add, Subtract, Multiply, Quotient, Remainder}
 use Rattle.ss_program.specs.declared.condition.Relation.TheVariants.{Equal}
 use Rattle.ss_program.specs.declared.head.GuardKind.TheVariants.{While}
-use Rattle.ss_program.specs.Program.{Expression, Signed, Absolute, Calculate, Constant, Numbers, Compare, DataEnded, Statement, Let, Change, Call, Return, Stop, Read, If, For, Loop, Print, Skip, Routine, Program, Done}
+use Rattle.ss_program.specs.Program.{Expression, Signed, Absolute, Calculate, Constant, Numbers, Compare, DataEnded, Statement, Let, Change, Call, Return, Stop, Read, If, For, Loop, Print, Skip, AValue, Routine, Program, Done}
 use Rattle.ss_meaning.specs.Building.{line, num, local, to_local, block, only, print_line, integers, plain, ends, pauses, faults}
 use Rattle.ss_meaning.specs.Meaning.{meaning, WentWrong}
 
 -- PRINT 1 LINE WITH 6*7 THUS takes no tick
 pub an_answer : meaning (plain 0 (print_line 2 (Calculate Multiply (num (pos 6)) (num (pos 7)) ∷ []) (codes "ANSWER ***") ∷ [])) [] 1000 ≡
     ends (codes "ANSWER  42" ∷ []) 1000
-unfolding filled widths numeral times_of in_64_bits
+unfolding filled picture_fields numeral times_of in_64_bits
 an_answer = refl
 
 -- FOR I = 1 TO 3, PRINT 1 LINE WITH I THUS: a tick for each item
@@ -29,23 +29,23 @@ pub pauses_at_once : meaning counting [] 0 ≡ pauses []
 pauses_at_once = refl
 
 pub pauses_after_one : meaning counting [] 1 ≡ pauses (codes "1" ∷ [])
-unfolding filled widths numeral
+unfolding filled picture_fields numeral
 pauses_after_one = refl
 
 pub pauses_after_two : meaning counting [] 2 ≡ pauses (codes "1" ∷ codes "2" ∷ [])
-unfolding filled widths numeral
+unfolding filled picture_fields numeral
 pauses_after_two = refl
 
 -- the test that ends the loop costs no tick
 pub ends_after_three : meaning counting [] 3 ≡ ends (codes "1" ∷ codes "2" ∷ codes "3" ∷ []) 0
-unfolding filled widths numeral
+unfolding filled picture_fields numeral
 ends_after_three = refl
 
 -- X = 9223372036854775807, which is printed; ADD 1 TO X in line 6 is the fault OVERFLOW of that line, behind what was printed
 pub a_fault_at_its_line : meaning (plain 1 (Let (line 3) (to_local 0) (num (pos 9223372036854775807)) ∷
     print_line 4 (local 0 ∷ []) (codes "*******************") ∷ Change (line 6) Plus (to_local 0) (num (pos 1)) ∷ [])) [] 9 ≡
     faults (codes "9223372036854775807" ∷ []) Overflow 6 9
-unfolding filled widths numeral plus_of in_64_bits
+unfolding filled picture_fields numeral plus_of in_64_bits
 a_fault_at_its_line = refl
 
 -- programs of one line, the second
@@ -78,12 +78,12 @@ a_distance_too_large = refl
 
 -- DIV.F cuts towards zero, and MOD.F has the sign of its first argument
 pub division : meaning (alone (print_line 2 (Calculate Quotient (num (negsuc 6)) (num (pos 2)) ∷ Calculate Remainder (num (negsuc 6)) (num (pos 2)) ∷ []) (codes "** **"))) [] 9 ≡ ends (codes "-3 -1" ∷ []) 9
-unfolding filled widths numeral quotient_of remainder_of in_64_bits
+unfolding filled picture_fields numeral quotient_of remainder_of in_64_bits
 division = refl
 
 -- MOD.F of the least number and -1 is 0
 pub the_least_number_divided : meaning (alone (print_line 2 (Calculate Remainder (num (negsuc 9223372036854775807)) (num (negsuc 0)) ∷ []) (codes "*"))) [] 9 ≡ ends (codes "0" ∷ []) 9
-unfolding filled widths numeral remainder_of in_64_bits
+unfolding filled picture_fields numeral remainder_of in_64_bits
 the_least_number_divided = refl
 
 -- WHILE 1 = 1 LET X = X + 1, with 5 ticks
@@ -95,7 +95,7 @@ a_loop_without_end = refl
 -- FOR I = 9223372036854775806 TO 9223372036854775807 BY 3 has one item, and no overflow; the items don't change with I
 pub an_item_near_the_end : meaning (plain 1 (For (line 2) (Numbers (Local 0) (num (pos 9223372036854775806)) (num (pos 9223372036854775807)) (Some (num (pos 3)))) []
     (block (Let (line 2) (to_local 0) (num (pos 1)) ∷ [])) ∷ print_line 3 (local 0 ∷ []) (codes "*") ∷ [])) [] 5 ≡ ends (codes "1" ∷ []) 4
-unfolding filled widths numeral
+unfolding filled picture_fields numeral
 an_item_near_the_end = refl
 
 -- ## Input: READ X in line 3, and READ Y in line 4
@@ -116,10 +116,10 @@ data_are_ended = refl
 -- READ W, a text, and two lines with it: it stands left in its field, and what doesn't fit gives asterisks
 abbrev texts : Program
 texts = record (plain 0 (Read (line 3) (record { place = to_local 0; mode = Alpha } ∷ []) ∷
-    Print (line 4) (local 0 ∷ local 0 ∷ []) (codes "[*****]" ∷ codes "[**]" ∷ []) ∷ [])) { locals = Alpha ∷ [] }
+    Print (line 4) (AValue (local 0) ∷ AValue (local 0) ∷ []) (codes "[*****]" ∷ codes "[**]" ∷ []) ∷ [])) { locals = Alpha ∷ [] }
 
 pub a_text_in_its_field : meaning texts (codes "BOX") 9 ≡ ends (codes "[BOX  ]" ∷ codes "[**]" ∷ []) 9
-unfolding filled widths
+unfolding filled picture_fields
 a_text_in_its_field = refl
 
 pub a_text_too_long : meaning texts (codes "ABCDEFGHI") 9 ≡ faults [] BadData 3 9
@@ -143,11 +143,11 @@ halving = record (plain 2 (Call (line 8) 0 (num (pos 7) ∷ []) (to_local 0 ∷ 
 
 -- each call takes a tick; STOP in a routine ends the run
 pub calls_and_a_stop : meaning halving [] 2 ≡ ends (codes "3 1" ∷ []) 0
-unfolding filled widths numeral quotient_of remainder_of in_64_bits
+unfolding filled picture_fields numeral quotient_of remainder_of in_64_bits
 calls_and_a_stop = refl
 
 pub pauses_before_a_call : meaning halving [] 1 ≡ pauses (codes "3 1" ∷ [])
-unfolding filled widths numeral quotient_of remainder_of in_64_bits
+unfolding filled picture_fields numeral quotient_of remainder_of in_64_bits
 pauses_before_a_call = refl
 
 -- ## What is not well typed has no meaning: a text where a number is needed, a variable that isn't there

@@ -4,14 +4,16 @@ use Rattle.ss_base.specs.declared.value.Value.{Value}
 use Rattle.ss_input.specs.Words.{is_ended}
 use Rattle.ss_program.specs.declared.head.GuardKind.{GuardKind}
 use Rattle.ss_program.specs.declared.head.GuardKind.TheVariants.{While, Until}
-use Rattle.ss_program.specs.Program.{Expression, Constant, Fetch, Attribute, OfSystemSet, OfSet, OfMember, Clock, TimeOf, Figure, FigureOf, Signed, Absolute, Calculate, SetOwner, TheSystem, Entity, Test, Compare, DataEnded, Empty, Member, Condition, Guard, Place, ToVariable, ToAttribute, ToCount, Position, ByDiscipline, AsFirst, AsLast, BeforeMember, AfterMember, When, At, In, Now}
+use Rattle.ss_program.specs.Program.{Expression, Constant, Fetch, Attribute, OfSystemSet, OfSet, OfMember, Clock, TimeOf, Figure, FigureOf, Signed, Absolute, Calculate, SetOwner, TheSystem, Entity, Test, Compare, DataEnded, Empty, Member, Condition, Guard, Place, ToVariable, ToAttribute, ToCount, Position, ByDiscipline, AsFirst, AsLast, BeforeMember, AfterMember, When, At, In, Now, Item, AValue, AMean, AMeanOf}
+use Rattle.ss_picture.specs.declared.items.Item.{Item as Shown}
+use Rattle.ss_picture.specs.declared.items.Item.TheVariants.{Is, Mean}
 use Rattle.ss_meaning.specs.Values.{Trouble, if_ok, turned, due, sure, calculated, signed, absolute, related}
 use Rattle.ss_meaning.specs.Store.{Store, fetched}
 use Rattle.ss_meaning.specs.Entities.{entity, attribute, time_of}
 use Rattle.ss_meaning.specs.Places.{Spot, InVariable, InAttribute, InCount}
 use Rattle.ss_meaning.specs.Sets.{member, known_owner, of_set, of_member, is_empty, is_in, Filing, ByRule, Foremost, Hindmost, Ahead, Behind}
 use Rattle.ss_meaning.specs.Events.{clock, time_at, AtTime, Later, AtOnce}
-use Rattle.ss_meaning.specs.Statistics.{figure}
+use Rattle.ss_meaning.specs.Statistics.{figure, mean}
 
 -- ## Expressions
 
@@ -35,6 +37,23 @@ value (Calculate op a b) s = if_ok (value a s) (λ x. if_ok (value b s) (λ y. c
 abbrev pub values : List Expression → Store → Result (List Value) Trouble
 values [] s = Ok []
 values (e ∷ es) s = if_ok (value e s) (λ v. turned (λ vs. v ∷ vs) (values es s))
+
+-- ## Items of PRINT
+
+-- a sum and a number as an item
+abbrev pub mean_shown : Result (ℤ × ℤ) Trouble → Result Shown Trouble
+mean_shown r = turned (λ m. Mean m.0 m.1) r
+
+-- what an item shows
+abbrev pub item : Item → Store → Result Shown Trouble
+item (AValue e) s = turned Is (value e s)
+item (AMean j) s = mean_shown (mean j None s)
+item (AMeanOf j e) s = if_ok (value e s) (λ x. mean_shown (mean j (Some x) s))
+
+-- several items, from left to right
+abbrev pub items : List Item → Store → Result (List Shown) Trouble
+items [] s = Ok []
+items (i ∷ is) s = if_ok (item i s) (λ x. turned (λ xs. x ∷ xs) (items is s))
 
 abbrev pub value_if_any : Option Expression → Store → Result (Option Value) Trouble
 value_if_any None s = Ok None

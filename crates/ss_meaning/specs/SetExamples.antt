@@ -5,7 +5,7 @@ use Rattle.ss_base.specs.declared.layout.Mode.TheVariants.{Integer}
 use Rattle.ss_base.specs.declared.layout.Discipline.TheVariants.{Lifo}
 use Rattle.ss_base.specs.Arithmetic.{in_64_bits, plus_of, quotient_of}
 use Rattle.ss_picture.specs.Numerals.{numeral}
-use Rattle.ss_picture.specs.Pictures.{widths, filled}
+use Rattle.ss_picture.specs.Pictures.{picture_fields, filled}
 use Rattle.ss_program.specs.declared.expression.Variable.TheVariants.{Global, Local}
 use Rattle.ss_program.specs.declared.expression.Sign.TheVariants.{Plus}
 use Rattle.ss_program.specs.declared.expression.Operator.TheVariants.{Add, Quotient}
@@ -37,7 +37,7 @@ pub a_ranked_set_with_a_tie : meaning (workshop 1
     (block (create_job 17 ∷ Read (line 18) (record { place = ToAttribute job 0 (global job); mode = Integer } ∷ []) ∷ file_job 19 ∷ [])) ∷
     For (line 21) (Members (Global job) pool TheSystem AtEnd false) [] (block (print_line 22 (global job ∷ rank ∷ []) (codes "* *") ∷ [])) ∷ []))
     (codes "2 1 2 3") 9 ≡ ends (codes "4 3" ∷ codes "1 2" ∷ codes "3 2" ∷ codes "2 1" ∷ []) 1
-unfolding filled widths numeral
+unfolding filled picture_fields numeral
 a_ranked_set_with_a_tie = refl
 
 -- A1, B1 and C1 come into a LIFO pool, and B1 goes out
@@ -48,13 +48,13 @@ pub a_lifo_set : meaning (workshop_by Lifo 3
     print_line 23 (OfSystemSet MemberCount pool ∷ OfSystemSet FirstMember pool ∷ OfSystemSet LastMember pool ∷ OfMember Successor pool (local 2) ∷
     OfMember Predecessor pool (local 0) ∷ OfMember Successor pool (local 0) ∷ OfMember Predecessor pool (local 2) ∷ []) (codes "* * * * * * *") ∷ []))
     [] 9 ≡ ends (codes "2 3 1 1 3 0 0" ∷ []) 9
-unfolding filled widths numeral
+unfolding filled picture_fields numeral
 a_lifo_set = refl
 
 -- what was printed stays before the fault of an empty set
 pub an_empty_set : meaning (workshop 0 (print_line 16 [] (codes "BEFORE") ∷ RemoveEnd (line 18) ends_of_sets.First pool (to_global job) TheSystem ∷ [])) [] 9 ≡
     faults (codes "BEFORE" ∷ []) EmptySet 18 9
-unfolding filled widths
+unfolding filled picture_fields
 an_empty_set = refl
 
 -- ## Permanent entities: two machines are made, and a job is filed in the queue of the first; then comes line 20
@@ -90,7 +90,7 @@ count_written_after_its_value = refl
 -- FOR EACH MACHINE goes over their indices
 pub each_machine : meaning (then_at_20 (For (line 20) (Each (Global machine) machine) [] (block (print_line 20 (global machine ∷ []) (codes "*") ∷ [])))) [] 9 ≡
     ends (codes "1" ∷ codes "2" ∷ []) 7
-unfolding filled widths numeral
+unfolding filled picture_fields numeral
 each_machine = refl
 
 -- ## References: J1 is created and destroyed, J2 is created; then comes line 19
@@ -166,7 +166,7 @@ removing e = workshop 1 (jobs_filed 3 (num (pos 0)) ∷
 
 -- the next member is fixed before a turn, so each may go in its own turn
 pub each_member_removed : meaning (removing (global job)) [] 9 ≡ ends (codes "0" ∷ []) 3
-unfolding filled widths numeral
+unfolding filled picture_fields numeral
 each_member_removed = refl
 
 -- and where the next one goes, it is gone as its turn comes, before its tick
@@ -187,10 +187,10 @@ finding r = workshop 1 (jobs_filed 4 (local 0) ∷
     (block (print_line 18 (global job ∷ []) (codes "FOUND *") ∷ [])) (block (print_line 20 (global job ∷ []) (codes "NONE *") ∷ [])) ∷ [])
 
 pub a_case_is_found : meaning (finding 1) [] 9 ≡ ends (codes "FOUND 2" ∷ []) 2
-unfolding filled widths numeral
+unfolding filled picture_fields numeral
 a_case_is_found = refl
 
 -- where a phrase ends the loop there is none, though the variable holds the candidate
 pub no_case_is_found : meaning (finding 2) [] 9 ≡ ends (codes "NONE 2" ∷ []) 2
-unfolding filled widths numeral
+unfolding filled picture_fields numeral
 no_case_is_found = refl

@@ -7,7 +7,7 @@ use Rattle.ss_input.specs.Words.{Given, value_given}
 use Rattle.ss_program.specs.declared.expression.Sign.{Sign}
 use Rattle.ss_program.specs.declared.statement.End.{End}
 use Rattle.ss_program.specs.declared.statement.Counted.{Counted}
-use Rattle.ss_program.specs.Program.{Expression, SetOwner, Place, Target, Position, When, Restart, Statement, Let, Change, Call, Return, Stop, Read, Simulate, If, Loop, For, Find, Create, CreateEvery, Destroy, File, RemoveEnd, Remove, ScheduleNew, Schedule, Cancel, Reset, Print, Skip, Block, Done, Then}
+use Rattle.ss_program.specs.Program.{Expression, Item, SetOwner, Place, Target, Position, When, Restart, Statement, Let, Change, Call, Return, Stop, Read, Simulate, If, Loop, For, Find, Create, CreateEvery, Destroy, File, RemoveEnd, Remove, ScheduleNew, Schedule, Cancel, Reset, Print, Skip, Block, Done, Then}
 use Rattle.ss_meaning.specs.Values.{Trouble, if_ok, turned, due, sure, calculated, operator_of, printed, empty_lines}
 use Rattle.ss_meaning.specs.Store.{Store}
 use Rattle.ss_meaning.specs.Entities.{made_one, made_all, without}
@@ -15,7 +15,7 @@ use Rattle.ss_meaning.specs.Places.{held}
 use Rattle.ss_meaning.specs.Sets.{filed_in, removed_from, removed_at}
 use Rattle.ss_meaning.specs.Events.{made_notice, filed_notice, rescheduled, unscheduled, is_awaited}
 use Rattle.ss_meaning.specs.Statistics.{reset}
-use Rattle.ss_meaning.specs.Expressions.{value, values, value_if_any, entity_value, member_value, owner_value, spot, filing, time_value, holds}
+use Rattle.ss_meaning.specs.Expressions.{value, values, items, value_if_any, entity_value, member_value, owner_value, spot, filing, time_value, holds}
 use Rattle.ss_meaning.specs.Parts.{Returned, Stopped, Wrong, WentOn, Left, Part, and_then, then_nothing, choose, look, change, get, write, send, Next, Again, Over, loop}
 use Rattle.ss_meaning.specs.Loops.{GoesOn, IsFound, phrases, over, guarded}
 
@@ -52,9 +52,9 @@ read_each l [] w = WentOn tt w
 read_each l (t ∷ ts) w = and_then (give_to l t.place (get l (read_word t.mode)) w) (λ _. read_each l ts)
 
 -- the items, and then the lines with them
-abbrev pub print : Line → List Expression → List (List ℕ) → Part (Unit {0})
-print l items pictures w =
-    and_then (look l (λ s. if_ok (values items s) (λ vs. sure (printed pictures vs))) w) send
+abbrev pub print : Line → List Item → List (List ℕ) → Part (Unit {0})
+print l shown pictures w =
+    and_then (look l (λ s. if_ok (items shown s) (λ xs. sure (printed pictures xs))) w) send
 
 -- ## Entities and sets
 

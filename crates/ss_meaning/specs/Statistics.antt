@@ -9,7 +9,7 @@ use Rattle.ss_program.specs.declared.sections.Subject.TheVariants.{OfVariable, O
 use Rattle.ss_program.specs.declared.sections.Statistic.{Statistic}
 use Rattle.ss_meaning.specs.Values.{Trouble, Misfit, if_ok, turned, sure, number_of}
 use Rattle.ss_meaning.specs.Store.{Store, with_histories, fetched}
-use Rattle.ss_meaning.specs.Histories.{figure_kept, renewed}
+use Rattle.ss_meaning.specs.Histories.{figure_kept, mean_kept, renewed}
 use Rattle.ss_meaning.specs.Entities.{entity, attribute}
 use Rattle.ss_meaning.specs.Sets.{known_owner, of_set}
 
@@ -34,6 +34,10 @@ present (OfCount set) o s = of_set MemberCount set o s
 -- what a statistic says
 abbrev pub figure : Fold → (statistic : ℕ) → Option Value → Store → Result Value Trouble
 figure fold j x s = if_ok (subject_of j s) (λ t. if_ok (bearer t x s) (λ n. figure_kept fold j n s))
+
+-- the sum and the number of which a statistic is the mean
+abbrev pub mean : (statistic : ℕ) → Option Value → Store → Result (ℤ × ℤ) Trouble
+mean j x s = if_ok (subject_of j s) (λ t. if_ok (bearer t x s) (λ n. mean_kept j n s))
 
 -- the store once the history of a statistic starts afresh, with the present value
 abbrev pub reset : (statistic : ℕ) → Option Value → Store → Result Store Trouble

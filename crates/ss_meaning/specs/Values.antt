@@ -1,6 +1,7 @@
 -- Values, and what is made of them: another value, a fault, or nothing where they do not fit.
-use Rattle.std.specs.Prelude.{ℕ, ◌+◌, ◌==◌, Bool, true, false, List, [], ◌∷◌, ◌++◌, ℤ, pos, negsuc, int_lt, nat_lt, replicate, take, drop, Option, Some, None, Result, Ok, Err, length, if◌then◌else◌}
+use Rattle.std.specs.Prelude.{ℕ, ◌+◌, ◌==◌, Bool, true, false, List, [], ◌∷◌, ◌++◌, ℤ, pos, negsuc, int_lt, nat_le, nat_lt, ◌&&◌, replicate, take, drop, Option, Some, None, Result, Ok, Err, length, if◌then◌else◌}
 use Rattle.std.specs.Int.{int_max, int_min}
+use Rattle.std.specs.List.{flat_map}
 use Rattle.std.specs.declared.cmp.Ordering.{Ordering}
 use Rattle.std.specs.declared.cmp.Ordering.TheVariants.{Less as IsLess, Equal as IsEqual, Greater as IsGreater}
 use Rattle.ss_base.specs.declared.fault.FaultKind.{FaultKind}
@@ -11,7 +12,10 @@ use Rattle.ss_base.specs.declared.layout.Mode.{Mode}
 use Rattle.ss_base.specs.declared.layout.Mode.TheVariants.{Integer, Alpha}
 use Rattle.ss_base.specs.Arithmetic.{plus_of, minus_of, times_of, quotient_of, remainder_of}
 use Rattle.ss_base.specs.Order.{value_cmp}
-use Rattle.ss_picture.specs.Pictures.{filled, field_count}
+use Rattle.ss_picture.specs.declared.field.Field.{Field}
+use Rattle.ss_picture.specs.declared.items.Item.{Item}
+use Rattle.ss_picture.specs.declared.items.Item.TheVariants.{Is, Mean}
+use Rattle.ss_picture.specs.Pictures.{filled, field_count, picture_fields}
 use Rattle.ss_program.specs.declared.expression.Sign.{Sign}
 use Rattle.ss_program.specs.declared.expression.Sign.TheVariants.{Plus, Minus}
 use Rattle.ss_program.specs.declared.expression.Operator.{Operator}
@@ -143,20 +147,26 @@ related relation (Text s) (Text t) = Some (allows relation (value_cmp (Text s) (
 abbrev pub line_end : ℕ
 line_end = 10
 
--- how many fields there are in pictures
-abbrev pub fields_in : List (List ℕ) → ℕ
-fields_in [] = 0
-fields_in (picture ∷ pictures) = field_count picture + fields_in pictures
+-- a field takes an item: a value where it has no decimals, a mean where it has at most 9
+abbrev pub takes : Field → Item → Bool
+takes field (Is v) = field.decimals == 0
+takes field (Mean sum number) = nat_le field.decimals 9
 
--- the lines of pictures with values in their fields from the left, each with its line end
-abbrev pub lines_with : List (List ℕ) → List Value → List ℕ
-lines_with [] values = []
-lines_with (picture ∷ pictures) values =
-    filled picture (take (field_count picture) values) ++ line_end ∷ lines_with pictures (drop (field_count picture) values)
+-- as many fields as items, each of which takes its own
+abbrev pub take_all : List Field → List Item → Bool
+take_all [] [] = true
+take_all (field ∷ fields) (item ∷ items) = takes field item && take_all fields items
+take_all _ _ = false
 
--- the same where there are as many values as fields
-abbrev pub printed : List (List ℕ) → List Value → Option (List ℕ)
-printed pictures values = if length values == fields_in pictures then Some (lines_with pictures values) else None
+-- the lines of pictures with items in their fields from the left, each with its line end
+abbrev pub lines_with : List (List ℕ) → List Item → List ℕ
+lines_with [] items = []
+lines_with (picture ∷ pictures) items =
+    filled picture (take (field_count picture) items) ++ line_end ∷ lines_with pictures (drop (field_count picture) items)
+
+-- the same where the fields take the items
+abbrev pub printed : List (List ℕ) → List Item → Option (List ℕ)
+printed pictures items = if take_all (flat_map picture_fields pictures) items then Some (lines_with pictures items) else None
 
 -- so many empty lines; below 0 or above 1,000 is the fault BAD COUNT
 abbrev pub empty_lines : Value → Result (List ℕ) Trouble

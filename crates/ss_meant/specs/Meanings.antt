@@ -37,6 +37,16 @@ use Rattle.ss_contexts.specs.Answers.{◌>>=◌, where_holds}
 use Rattle.ss_contexts.specs.Contexts.{Context}
 use Rattle.ss_meant.specs.Words.{class_kind, fold_of, mode_given, mode_said}
 
+-- a statistic of one thing: a value, by what is asked of it, or the mean
+abbrev pub figure_alone : Option Fold → ℕ → Meaning
+figure_alone (Some fold) history = meanings.Figure fold history
+figure_alone None history = meanings.Mean history
+
+-- the same of each entity of a class, by the variable that has the entity where none is named
+abbrev pub figure_of_each : Option Fold → ℕ → Variable → Meaning
+figure_of_each (Some fold) history implied = meanings.FigureOf fold history implied
+figure_of_each None history implied = meanings.MeanOf history implied
+
 -- N. of a class, if the variable of this number is that
 abbrev pub count_kind : ℕ → ℕ → VariableKind → Option ℕ
 count_kind class number (CountOf counted) = where_holds (counted == class) number
@@ -147,19 +157,19 @@ module _ (t : Table) (locals : Moded) where
     asked what n set
 
   -- a statistic of N. of the set of an owner
-  abbrev pub figure_owned : Fold → ℕ → Owner → Option Meaning
-  figure_owned fold history owners.System = Some (meanings.Figure fold history)
+  abbrev pub figure_owned : Option Fold → ℕ → Owner → Option Meaning
+  figure_owned fold history owners.System = Some (figure_alone fold history)
   figure_owned fold history (owners.Class class) = do
     implied ← class_variable class
-    Some (meanings.FigureOf fold history implied)
+    Some (figure_of_each fold history implied)
 
   -- a statistic by what it is kept of
-  abbrev pub figure : Fold → ℕ → Subject → Option Meaning
-  figure fold history (subjects.Variable n) = Some (meanings.Figure fold history)
+  abbrev pub figure : Option Fold → ℕ → Subject → Option Meaning
+  figure fold history (subjects.Variable n) = Some (figure_alone fold history)
   figure fold history (subjects.Attribute n) = do
     known ← slice_get (values_of t.attributes) n
     implied ← class_variable known.class
-    Some (meanings.FigureOf fold history implied)
+    Some (figure_of_each fold history implied)
   figure fold history (subjects.MemberCount n) = do
     set ← slice_get t.sets n
     owner ← set.owner

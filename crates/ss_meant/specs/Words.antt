@@ -32,11 +32,13 @@ class_kind class_words.Permanent = Permanent
 class_kind class_words.Temporary = Temporary
 class_kind class_words.EventNotice = Notice
 
-abbrev pub fold_of : StatisticKind → Fold
-fold_of folds_said.Number = folds.Number
-fold_of folds_said.Sum = folds.Sum
-fold_of folds_said.Maximum = folds.Maximum
-fold_of folds_said.Minimum = folds.Minimum
+-- what is asked of a statistic that is a value; a MEAN is none
+abbrev pub fold_of : StatisticKind → Option Fold
+fold_of folds_said.Number = Some folds.Number
+fold_of folds_said.Sum = Some folds.Sum
+fold_of folds_said.Maximum = Some folds.Maximum
+fold_of folds_said.Minimum = Some folds.Minimum
+fold_of folds_said.Mean = None
 
 -- whether a value counts once or by its time
 abbrev pub weighting_of : WeightingWord → Weighting

@@ -1,7 +1,8 @@
-//! Statistics as values.
+//! Statistics as values and as means.
 
+ghost use Rattle.std.specs.Prelude.{◌≡◌};
 ghost use Rattle.ss_contexts.specs.Answers.{Gives};
-ghost use Rattle.ss_meant.specs.Meanings.{figure, figure_owned, statistic, statistic_of};
+ghost use Rattle.ss_meant.specs.Meanings.{figure, figure_alone, figure_of_each, figure_owned, statistic, statistic_of};
 
 use crate::variables::class_variable;
 use crate::words::fold_of;
@@ -9,34 +10,49 @@ use ss_base::Owner;
 use ss_bytes::Name;
 use ss_contexts::{Meaning, ResolveError};
 use ss_names::{Names, Subject};
-use ss_program::expression::Fold;
+use ss_program::expression::{Fold, Variable};
 use ss_scopes::Locals;
 use ss_tree::expression::Designator;
+
+// A statistic of one thing: a value, or where nothing is asked of it the mean.
+fn figure_alone(fold: Option<Fold>, statistic: usize) -> Meaning
+    ensures { result ≡ figure_alone fold statistic }
+{
+    match fold {
+        Some(fold) => Meaning::Figure { fold, statistic },
+        None => Meaning::Mean { statistic },
+    }
+}
+
+// The same of each entity of a class.
+fn figure_of_each(fold: Option<Fold>, statistic: usize, implied: Variable) -> Meaning
+    ensures { result ≡ figure_of_each fold statistic implied }
+{
+    match fold {
+        Some(fold) => Meaning::FigureOf {
+            fold,
+            statistic,
+            implied,
+        },
+        None => Meaning::MeanOf { statistic, implied },
+    }
+}
 
 // A statistic of N. of the set of an owner.
 fn figure_owned(
     names: &Names,
     locals: &Locals,
-    fold: Fold,
+    fold: Option<Fold>,
     history: usize,
     owner: Owner,
 ) -> Result<Meaning, ResolveError>
     ensures { Gives (λ x. x) result (figure_owned names.now locals.now fold history owner) }
 {
     match owner {
-        Owner::System => {
-            Ok(Meaning::Figure {
-                fold,
-                statistic: history,
-            })
-        }
+        Owner::System => Ok(figure_alone(fold, history)),
         Owner::Class(class) => {
             let implied = class_variable(names, locals, class)?;
-            Ok(Meaning::FigureOf {
-                fold,
-                statistic: history,
-                implied,
-            })
+            Ok(figure_of_each(fold, history, implied))
         }
     }
 }
@@ -45,29 +61,20 @@ fn figure_owned(
 fn figure(
     names: &Names,
     locals: &Locals,
-    fold: Fold,
+    fold: Option<Fold>,
     history: usize,
     subject: Subject,
 ) -> Result<Meaning, ResolveError>
     ensures { Gives (λ x. x) result (figure names.now locals.now fold history subject) }
 {
     match subject {
-        Subject::Variable(_) => {
-            Ok(Meaning::Figure {
-                fold,
-                statistic: history,
-            })
-        }
+        Subject::Variable(_) => Ok(figure_alone(fold, history)),
         Subject::Attribute(number) => {
             let Some(known) = names.attribute(number) else {
                 return Err(ResolveError::Unresolved);
             };
             let implied = class_variable(names, locals, known.class)?;
-            Ok(Meaning::FigureOf {
-                fold,
-                statistic: history,
-                implied,
-            })
+            Ok(figure_of_each(fold, history, implied))
         }
         Subject::MemberCount(number) => {
             let Some(set) = names.set(number) else {

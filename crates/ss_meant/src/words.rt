@@ -42,15 +42,16 @@ pub(crate) fn class_kind(kind: ClassWord) -> ClassKind
     }
 }
 
-// What is asked of a statistic.
-pub(crate) fn fold_of(kind: StatisticKind) -> Fold
+// What is asked of a statistic that is a value; None of a MEAN.
+pub(crate) fn fold_of(kind: StatisticKind) -> Option<Fold>
     ensures { result ≡ fold_of kind }
 {
     match kind {
-        StatisticKind::Number => Fold::Number,
-        StatisticKind::Sum => Fold::Sum,
-        StatisticKind::Maximum => Fold::Maximum,
-        StatisticKind::Minimum => Fold::Minimum,
+        StatisticKind::Number => Some(Fold::Number),
+        StatisticKind::Sum => Some(Fold::Sum),
+        StatisticKind::Maximum => Some(Fold::Maximum),
+        StatisticKind::Minimum => Some(Fold::Minimum),
+        StatisticKind::Mean => None,
     }
 }
 

@@ -78,6 +78,7 @@ rank_reads_word words.Number mode e = refl
 rank_reads_word words.Sum mode e = refl
 rank_reads_word words.Maximum mode e = refl
 rank_reads_word words.Minimum mode e = refl
+rank_reads_word words.Mean mode e = refl
 rank_reads_word _ mode e = absurd cc
 
 mode_no_article : (w : Word) (mode : Mode) → mode_of w ≡ Some mode → has_word alike.Article w ≡ false

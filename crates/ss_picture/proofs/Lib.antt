@@ -1,6 +1,10 @@
 pub mod Decimal
+pub mod Stars
 pub mod Pieces
 pub mod Maximal
 pub mod Scan
+pub mod Rounding
+pub mod Nearest
+pub mod Digits
 pub mod Sent
 pub mod Idle

@@ -1,111 +1,155 @@
 -- Laws of the pieces of a picture.
-use Rattle.std.proofs.Common.{◌≡◌, ◌≢◌, ℕ, zero, suc, ◌+◌, ◌-◌, ◌<◌, ◌≤◌, eqb, cond, List, [], ◌∷◌, ◌++◌, length, get_or, take, drop, replicate, refl, sym, ap, ◌∙◌, arith, length-append, leb}
-use Rattle.std.proofs.lemmas.Bool.Decides.{nat_tests}
-use Rattle.std.proofs.lemmas.List.{append_assoc, take_at, drop_at, length-replicate, get_or_default, length-take-le, length-drop}
-use Rattle.std.proofs.lemmas.Bool.{cond_both, eqb-true, leb-true}
+use Rattle.std.proofs.Common.{◌≡◌, ◌≢◌, ℕ, zero, suc, ◌+◌, ◌-◌, ◌<◌, ◌≤◌, eqb, cond, List, [], ◌∷◌, ◌++◌, length, get_or, take, drop, refl, sym, ap, ◌∙◌, subst, arith, length-append, leb}
+use Rattle.std.proofs.lemmas.List.{append_assoc, take_at, drop_at, length-replicate, get_or_default}
+use Rattle.std.specs.Bool.{⊤}
+use Rattle.std.proofs.lemmas.Bool.{cond_both, leb-true, ne_eqb}
 use borrow.Rule.Slice.PartMut.{put_mid}
-use Rattle.ss_base.specs.declared.value.Value.{Value}
 use Rattle.ss_base.specs.declared.value.Value.TheVariants.{Whole, Text}
-use Rattle.ss_picture.specs.Numerals.{whole_text}
-use Rattle.ss_picture.specs.Pictures.{Piece, Literal, Field, asterisk_before, byte_before, pieces_of, widths_among, widths, at_right, at_left, shown, joined, filled}
+use Rattle.ss_picture.specs.declared.field.Field.{Field}
+use Rattle.ss_picture.specs.declared.items.Item.{Item}
+use Rattle.ss_picture.specs.declared.items.Item.TheVariants.{Is, Mean}
+use Rattle.ss_picture.specs.Numerals.{whole_text, mean_text}
+use Rattle.ss_picture.specs.Pictures.{Piece, Literal, Slot, stars, field_at, decimals_at, characters, byte_before, pieces_behind, pieces_of, fields_among, picture_fields, at_right, at_left, shown, joined, filled}
+use Rattle.ss_picture.specs.Suited.{Suits, EachSuits}
 use Rattle.ss_picture.specs.Fields.{starts_among, starts}
+use Rattle.ss_picture.proofs.Stars.{chosen_some, field_some, length-characters_of, characters_at}
+
+-- ---- the first piece
+
+-- the pieces behind a field are those of what follows it
+pub pieces_behind-drop : (behind : ℕ) (bytes : List ℕ) → pieces_behind behind bytes ≡ pieces_of (drop behind bytes)
+pieces_behind-drop zero [] = refl
+pieces_behind-drop zero (byte ∷ bytes) = refl
+pieces_behind-drop (suc behind) [] = refl
+pieces_behind-drop (suc behind) (byte ∷ bytes) = pieces_behind-drop behind bytes
+
+-- one byte less to drop
+pub drop_less : {X : Type 0} → (n : ℕ) (x : X) (xs : List X) → 0 < n → drop (n - 1) xs ≡ drop n (x ∷ xs)
+drop_less zero x xs some = absurd (omega arith)
+drop_less (suc n) x xs some = let less : suc n - 1 ≡ n = omega arith in ap (λ (k : ℕ). drop k xs) less
 
 -- a byte that is no asterisk is put before the pieces of what follows it
 pub pieces_of_other : (byte : ℕ) (bytes : List ℕ) → byte ≢ 42 → pieces_of (byte ∷ bytes) ≡ byte_before byte (pieces_of bytes)
-pieces_of_other byte bytes other = grind (arith, nat_tests)
+pieces_of_other byte bytes other =
+    ap (λ test. cond test (Slot (field_at (byte ∷ bytes)) ∷ pieces_behind ((field_at (byte ∷ bytes)).width - 1) bytes) (byte_before byte (pieces_behind 0 bytes))) (ne_eqb byte 42 other)
 
--- an asterisk does not join what another byte begins
-asterisk_before_other : (byte : ℕ) (pieces : List Piece)
-    → asterisk_before (byte_before byte pieces) ≡ Field 1 ∷ byte_before byte pieces
-asterisk_before_other byte [] = refl
-asterisk_before_other byte (Literal bytes ∷ rest) = refl
-asterisk_before_other byte (Field width ∷ rest) = refl
-
--- a run of asterisks before another byte is a field
-pub pieces_of_run : (run byte : ℕ) (bytes : List ℕ) → byte ≢ 42
-    → pieces_of (replicate (suc run) 42 ++ byte ∷ bytes) ≡ Field (suc run) ∷ byte_before byte (pieces_of bytes)
-pieces_of_run zero byte bytes other =
-    ap asterisk_before (pieces_of_other byte bytes other) ∙ asterisk_before_other byte (pieces_of bytes)
-pieces_of_run (suc run) byte bytes other = ap asterisk_before (pieces_of_run run byte bytes other)
-
--- a run of asterisks at the end is a field
-pub pieces_of_last_run : (run : ℕ) → pieces_of (replicate (suc run) 42 ++ []) ≡ Field (suc run) ∷ []
-pieces_of_last_run zero = refl
-pieces_of_last_run (suc run) = ap asterisk_before (pieces_of_last_run run)
+-- an asterisk begins a field
+pub pieces_of_field : (bytes : List ℕ) → 0 < stars bytes → pieces_of bytes ≡ Slot (field_at bytes) ∷ pieces_of (drop (field_at bytes).width bytes)
+pieces_of_field [] some = absurd (omega arith)
+pieces_of_field (byte ∷ bytes) some =
+    let field : Field = field_at (byte ∷ bytes) in
+    let same = chosen_some (eqb byte 42) (suc (stars bytes)) some in
+    ap (λ test. cond test (Slot field ∷ pieces_behind (field.width - 1) bytes) (byte_before byte (pieces_behind 0 bytes))) same
+    ∙ ap (λ (rest : List Piece). Slot field ∷ rest) (pieces_behind-drop (field.width - 1) bytes)
+    ∙ ap (λ (rest : List ℕ). Slot field ∷ pieces_of rest) (drop_less field.width byte bytes (field_some (byte ∷ bytes) some))
 
 -- another byte in front adds no field
-pub widths-byte_before : (byte : ℕ) (pieces : List Piece) → widths_among (byte_before byte pieces) ≡ widths_among pieces
-widths-byte_before byte [] = refl
-widths-byte_before byte (Literal bytes ∷ rest) = refl
-widths-byte_before byte (Field width ∷ rest) = refl
+pub fields-byte_before : (byte : ℕ) (pieces : List Piece) → fields_among (byte_before byte pieces) ≡ fields_among pieces
+fields-byte_before byte [] = refl
+fields-byte_before byte (Literal bytes ∷ rest) = refl
+fields-byte_before byte (Slot field ∷ rest) = refl
 
 -- another byte in front moves the fields by one
 pub starts-byte_before : (place byte : ℕ) (pieces : List Piece)
     → starts_among place (byte_before byte pieces) ≡ starts_among (place + 1) pieces
 starts-byte_before place byte [] = refl
 starts-byte_before place byte (Literal bytes ∷ rest) = ap (λ at. starts_among at rest) (omega arith)
-starts-byte_before place byte (Field width ∷ rest) = refl
+starts-byte_before place byte (Slot field ∷ rest) = refl
 
 -- each field has one start
-pub length-starts_among : (place : ℕ) (pieces : List Piece) → length (starts_among place pieces) ≡ length (widths_among pieces)
+pub length-starts_among : (place : ℕ) (pieces : List Piece) → length (starts_among place pieces) ≡ length (fields_among pieces)
 length-starts_among place [] = refl
 length-starts_among place (Literal bytes ∷ rest) = length-starts_among (place + length bytes) rest
-length-starts_among place (Field width ∷ rest) = ap suc (length-starts_among (place + width) rest)
+length-starts_among place (Slot field ∷ rest) = ap suc (length-starts_among (place + field.width) rest)
 
-joined-asterisk_before : (pieces : List Piece) → joined (asterisk_before pieces) [] ≡ 42 ∷ joined pieces []
-joined-asterisk_before [] = refl
-joined-asterisk_before (Literal bytes ∷ rest) = refl
-joined-asterisk_before (Field width ∷ rest) = refl
+-- ---- the pieces are the picture
 
 joined-byte_before : (byte : ℕ) (pieces : List Piece) → joined (byte_before byte pieces) [] ≡ byte ∷ joined pieces []
 joined-byte_before byte [] = refl
 joined-byte_before byte (Literal bytes ∷ rest) = refl
-joined-byte_before byte (Field width ∷ rest) = refl
+joined-byte_before byte (Slot field ∷ rest) = refl
 
--- a byte before pieces stands before their bytes
-joined-front : (byte : ℕ) (pieces : List Piece)
-    → joined (cond (eqb byte 42) (asterisk_before pieces) (byte_before byte pieces)) [] ≡ byte ∷ joined pieces []
-joined-front byte pieces =
-    cond_both (eqb byte 42) (asterisk_before pieces) (byte_before byte pieces) (λ front. joined front [] ≡ byte ∷ joined pieces [])
-    (λ same. joined-asterisk_before pieces ∙ ap (λ first. first ∷ joined pieces []) (sym (eqb-true byte 42 same)))
-    (λ other. joined-byte_before byte pieces)
+drop_none : (n : ℕ) → drop {A = ℕ} n [] ≡ []
+drop_none zero = refl
+drop_none (suc n) = refl
 
--- the pieces of a picture without values are the picture
+pub joined-pieces_behind : (behind : ℕ) (bytes : List ℕ) → joined (pieces_behind behind bytes) [] ≡ drop behind bytes
+joined-pieces_behind behind [] = sym (drop_none behind)
+joined-pieces_behind zero (byte ∷ bytes) =
+    let field : Field = field_at (byte ∷ bytes) in
+    cond_both (eqb byte 42) (Slot field ∷ pieces_behind (field.width - 1) bytes) (byte_before byte (pieces_behind 0 bytes)) (λ front. joined front [] ≡ byte ∷ bytes)
+    (λ same.
+    let some : 0 < stars (byte ∷ bytes) = subst (λ test. 0 < cond test (suc (stars bytes)) 0) (sym same) (omega arith) in
+    ap (λ rest. characters field ++ rest) (joined-pieces_behind (field.width - 1) bytes ∙ drop_less field.width byte bytes (field_some (byte ∷ bytes) some))
+    ∙ characters_at (byte ∷ bytes))
+    (λ other. joined-byte_before byte (pieces_behind 0 bytes) ∙ ap (λ rest. byte ∷ rest) (joined-pieces_behind 0 bytes))
+joined-pieces_behind (suc behind) (byte ∷ bytes) = joined-pieces_behind behind bytes
+
+-- the pieces of a picture without items are the picture
 pub joined-pieces_of : (picture : List ℕ) → joined (pieces_of picture) [] ≡ picture
-joined-pieces_of [] = refl
-joined-pieces_of (byte ∷ bytes) = joined-front byte (pieces_of bytes) ∙ ap (λ rest. byte ∷ rest) (joined-pieces_of bytes)
+joined-pieces_of picture = joined-pieces_behind 0 picture
 
--- what a field shows is as wide as the field
-length-at_right : (width : ℕ) (text : List ℕ) → length (at_right width text) ≡ width
-length-at_right width text =
-    cond_both (leb (length text) width) _ _ (λ bytes. length bytes ≡ width)
-    (λ fits. let within : length text ≤ width = leb-true _ _ fits in simp (length-append, length-replicate) (omega arith))
-    (λ _. length-replicate width 42)
+-- ---- what a field shows is as wide as the field
 
-length-at_left : (width : ℕ) (text : List ℕ) → length (at_left width text) ≡ width
-length-at_left width text =
-    cond_both (leb (length text) width) _ _ (λ bytes. length bytes ≡ width)
-    (λ fits. let within : length text ≤ width = leb-true _ _ fits in simp (length-append, length-replicate) (omega arith))
-    (λ _. length-replicate width 42)
+-- each field among these pieces is as wide as its characters are long
+abbrev pub AreWide : List Piece → Type 0
+AreWide [] = ⊤
+AreWide (Literal bytes ∷ rest) = AreWide rest
+AreWide (Slot field ∷ rest) = (length (characters field) ≡ field.width) × AreWide rest
 
-pub length-shown : (width : ℕ) (value : Value) → length (shown width value) ≡ width
-length-shown width (Whole number) = length-at_right width (whole_text number)
-length-shown width (Text bytes) = length-at_left width bytes
+wide-byte_before : (byte : ℕ) (pieces : List Piece) → AreWide pieces → AreWide (byte_before byte pieces)
+wide-byte_before byte [] wide = tt
+wide-byte_before byte (Literal bytes ∷ rest) wide = wide
+wide-byte_before byte (Slot field ∷ rest) wide = wide
+
+pub wide-pieces_behind : (behind : ℕ) (bytes : List ℕ) → AreWide (pieces_behind behind bytes)
+wide-pieces_behind behind [] = tt
+wide-pieces_behind zero (byte ∷ bytes) =
+    let field : Field = field_at (byte ∷ bytes) in
+    cond_both (eqb byte 42) (Slot field ∷ pieces_behind (field.width - 1) bytes) (byte_before byte (pieces_behind 0 bytes)) AreWide
+    (λ same. (length-characters_of (stars (byte ∷ bytes)) (decimals_at (drop (stars (byte ∷ bytes)) (byte ∷ bytes))), wide-pieces_behind (field.width - 1) bytes))
+    (λ other. wide-byte_before byte (pieces_behind 0 bytes) (wide-pieces_behind 0 bytes))
+wide-pieces_behind (suc behind) (byte ∷ bytes) = wide-pieces_behind behind bytes
+
+length-at_right : (own text : List ℕ) → length (at_right own text) ≡ length own
+length-at_right own text =
+    cond_both (leb (length text) (length own)) _ _ (λ bytes. length bytes ≡ length own)
+    (λ fits. let within : length text ≤ length own = leb-true _ _ fits in simp (length-append, length-replicate) (omega arith))
+    (λ _. refl)
+
+length-at_left : (own text : List ℕ) → length (at_left own text) ≡ length own
+length-at_left own text =
+    cond_both (leb (length text) (length own)) _ _ (λ bytes. length bytes ≡ length own)
+    (λ fits. let within : length text ≤ length own = leb-true _ _ fits in simp (length-append, length-replicate) (omega arith))
+    (λ _. refl)
+
+pub length-shown : (own : List ℕ) (decimals : ℕ) (item : Item) → length (shown own decimals item) ≡ length own
+length-shown own decimals (Is (Whole number)) = length-at_right own (whole_text number)
+length-shown own decimals (Is (Text bytes)) = length-at_left own bytes
+length-shown own decimals (Mean sum number) = length-at_right own (mean_text decimals sum number)
+
+-- ---- the place of a field
 
 -- each field lies within the line
-pub fields_within : (place : ℕ) (pieces : List Piece) (k : ℕ) → k < length (widths_among pieces)
-    → get_or (starts_among place pieces) k 0 + get_or (widths_among pieces) k 0 ≤ place + length (joined pieces [])
-fields_within place [] k inside = omega arith
-fields_within place (Literal bytes ∷ rest) k inside =
-    let within = fields_within (place + length bytes) rest k inside in
+pub fields_within : (place : ℕ) (pieces : List Piece) (k : ℕ) (d : Field) → AreWide pieces → k < length (fields_among pieces)
+    → get_or (starts_among place pieces) k 0 + (get_or (fields_among pieces) k d).width ≤ place + length (joined pieces [])
+fields_within place [] k d wide inside = absurd (omega arith)
+fields_within place (Literal bytes ∷ rest) k d wide inside =
+    let within = fields_within (place + length bytes) rest k d wide inside in
     omega (arith, length-append bytes (joined rest []))
-fields_within place (Field width ∷ rest) zero inside =
-    omega (arith, length-append (replicate width 42) (joined rest []), length-replicate {A = ℕ} width 42)
-fields_within place (Field width ∷ rest) (suc k) inside =
-    let within = fields_within (place + width) rest k (omega arith) in
-    omega (arith, length-append (replicate width 42) (joined rest []), length-replicate {A = ℕ} width 42)
+fields_within place (Slot field ∷ rest) zero d wide inside =
+    omega (arith, wide.0, length-append (characters field) (joined rest []))
+fields_within place (Slot field ∷ rest) (suc k) d wide inside =
+    let within = fields_within (place + field.width) rest k d wide.1 (omega arith) in
+    omega (arith, wide.0, length-append (characters field) (joined rest []))
 
--- a part between what stands before it and after it is written over
+-- a part between what stands before it and after it
+part_between : (before part after : List ℕ) (place width : ℕ) → length before ≡ place → length part ≡ width
+    → take width (drop place (before ++ (part ++ after))) ≡ part
+part_between before part after place width at wide =
+    ap (take width) (drop_at before (part ++ after) place at) ∙ take_at part after width wide
+
+-- .. is written over
 put_between : (before part after new : List ℕ) (place width : ℕ) → length before ≡ place → length part ≡ width
     → put_mid place width (before ++ (part ++ after)) new ≡ before ++ (new ++ after)
 put_between before part after new place width at wide =
@@ -114,76 +158,133 @@ put_between before part after new place width at wide =
     let back : drop width (part ++ after) ≡ after = drop_at part after width wide in
     rw (front, rest, back)
 
--- with one value more, the next field is written over
-pub joined_with_one_more : (before : List ℕ) (place : ℕ) (pieces : List Piece) (values : List Value) (k : ℕ) (value : Value)
-    → length before ≡ place → k < length (widths_among pieces) → k < length values → value ≡ get_or values k value
-    → put_mid (get_or (starts_among place pieces) k 0) (get_or (widths_among pieces) k 0)
-    (before ++ joined pieces (take k values)) (shown (get_or (widths_among pieces) k 0) value)
-    ≡ before ++ joined pieces (take (suc k) values)
-joined_with_one_more before place [] values k value at inside given is = absurd (omega arith)
-joined_with_one_more before place (Literal bytes ∷ rest) values k value at inside given is =
+-- with some items given, the next field has its own characters still
+pub next_has_its_own : (before : List ℕ) (place : ℕ) (pieces : List Piece) (items : List Item) (k : ℕ) (d : Field)
+    → AreWide pieces → length before ≡ place → k < length (fields_among pieces) → k < length items
+    → take (get_or (fields_among pieces) k d).width (drop (get_or (starts_among place pieces) k 0) (before ++ joined pieces (take k items)))
+    ≡ characters (get_or (fields_among pieces) k d)
+next_has_its_own before place [] items k d wide at inside given = absurd (omega arith)
+next_has_its_own before place (Literal bytes ∷ rest) items k d wide at inside given =
     let further : length (before ++ bytes) ≡ place + length bytes = length-append before bytes ∙ ap (λ n. n + length bytes) at in
-    let step = joined_with_one_more (before ++ bytes) (place + length bytes) rest values k value further inside given is in
+    ap (λ line. take (get_or (fields_among rest) k d).width (drop (get_or (starts_among (place + length bytes) rest) k 0) line)) (sym (append_assoc before bytes (joined rest (take k items))))
+    ∙ next_has_its_own (before ++ bytes) (place + length bytes) rest items k d wide further inside given
+next_has_its_own before place (Slot field ∷ rest) [] k d wide at inside given = absurd (omega arith)
+next_has_its_own before place (Slot field ∷ rest) (first ∷ items) zero d wide at inside given =
+    part_between before (characters field) (joined rest []) place field.width at wide.0
+next_has_its_own before place (Slot field ∷ rest) (first ∷ items) (suc k) d wide at inside given =
+    let own : List ℕ = shown (characters field) field.decimals first in
+    let further : length (before ++ own) ≡ place + field.width =
+    length-append before own ∙ (ap (λ n. n + length own) at ∙ ap (λ n. place + n) (length-shown (characters field) field.decimals first ∙ wide.0))
+    in
+    ap (λ line. take (get_or (fields_among rest) k d).width (drop (get_or (starts_among (place + field.width) rest) k 0) line)) (sym (append_assoc before own (joined rest (take k items))))
+    ∙ next_has_its_own (before ++ own) (place + field.width) rest items k d wide.1 further (omega arith) (omega arith)
+
+-- what the next field shows of an item
+abbrev pub shown_in : Field → Item → List ℕ
+shown_in field item = shown (characters field) field.decimals item
+
+-- with one item more, the next field is written over
+pub joined_with_one_more : (before : List ℕ) (place : ℕ) (pieces : List Piece) (items : List Item) (k : ℕ) (item : Item) (d : Field)
+    → AreWide pieces → length before ≡ place → k < length (fields_among pieces) → k < length items → item ≡ get_or items k item
+    → put_mid (get_or (starts_among place pieces) k 0) (get_or (fields_among pieces) k d).width
+    (before ++ joined pieces (take k items)) (shown_in (get_or (fields_among pieces) k d) item)
+    ≡ before ++ joined pieces (take (suc k) items)
+joined_with_one_more before place [] items k item d wide at inside given is = absurd (omega arith)
+joined_with_one_more before place (Literal bytes ∷ rest) items k item d wide at inside given is =
+    let further : length (before ++ bytes) ≡ place + length bytes = length-append before bytes ∙ ap (λ n. n + length bytes) at in
+    let step = joined_with_one_more (before ++ bytes) (place + length bytes) rest items k item d wide further inside given is in
     let start : ℕ = get_or (starts_among (place + length bytes) rest) k 0 in
-    let width : ℕ = get_or (widths_among rest) k 0 in
-    ap (λ line. put_mid start width line (shown width value)) (sym (append_assoc before bytes (joined rest (take k values))))
-    ∙ step ∙ append_assoc before bytes (joined rest (take (suc k) values))
-joined_with_one_more before place (Field width ∷ rest) [] k value at inside given is = absurd (omega arith)
-joined_with_one_more before place (Field width ∷ rest) (first ∷ values) zero value at inside given is =
-    put_between before (replicate width 42) (joined rest []) (shown width value) place width at (length-replicate width 42)
-    ∙ ap (λ v. before ++ (shown width v ++ joined rest [])) is
-joined_with_one_more before place (Field width ∷ rest) (first ∷ values) (suc k) value at inside given is =
-    let further : length (before ++ shown width first) ≡ place + width =
-    length-append before (shown width first) ∙ (ap (λ n. n + length (shown width first)) at ∙ ap (λ n. place + n) (length-shown width first)) in
-    let step = joined_with_one_more (before ++ shown width first) (place + width) rest values k value further (omega arith) (omega arith) is in
-    let start : ℕ = get_or (starts_among (place + width) rest) k 0 in
-    let next : ℕ = get_or (widths_among rest) k 0 in
-    ap (λ line. put_mid start next line (shown next value)) (sym (append_assoc before (shown width first) (joined rest (take k values))))
-    ∙ step ∙ append_assoc before (shown width first) (joined rest (take (suc k) values))
+    let field : Field = get_or (fields_among rest) k d in
+    ap (λ line. put_mid start field.width line (shown_in field item)) (sym (append_assoc before bytes (joined rest (take k items))))
+    ∙ step ∙ append_assoc before bytes (joined rest (take (suc k) items))
+joined_with_one_more before place (Slot field ∷ rest) [] k item d wide at inside given is = absurd (omega arith)
+joined_with_one_more before place (Slot field ∷ rest) (first ∷ items) zero item d wide at inside given is =
+    put_between before (characters field) (joined rest []) (shown_in field item) place field.width at wide.0
+    ∙ ap (λ i. before ++ (shown_in field i ++ joined rest [])) is
+joined_with_one_more before place (Slot field ∷ rest) (first ∷ items) (suc k) item d wide at inside given is =
+    let own : List ℕ = shown_in field first in
+    let further : length (before ++ own) ≡ place + field.width =
+    length-append before own ∙ (ap (λ n. n + length own) at ∙ ap (λ n. place + n) (length-shown (characters field) field.decimals first ∙ wide.0))
+    in
+    let step = joined_with_one_more (before ++ own) (place + field.width) rest items k item d wide.1 further (omega arith) (omega arith) is in
+    let start : ℕ = get_or (starts_among (place + field.width) rest) k 0 in
+    let next : Field = get_or (fields_among rest) k d in
+    ap (λ line. put_mid start next.width line (shown_in next item)) (sym (append_assoc before own (joined rest (take k items))))
+    ∙ step ∙ append_assoc before own (joined rest (take (suc k) items))
 
--- the same laws of a whole picture
-pub filled-no_values : (picture : List ℕ) → filled picture [] ≡ picture
+-- ---- the same laws of a whole picture
+
+pub filled-no_items : (picture : List ℕ) → filled picture [] ≡ picture
 unfolding filled
-filled-no_values picture = joined-pieces_of picture
+filled-no_items picture = joined-pieces_of picture
 
-pub length-starts : (picture : List ℕ) → length (starts picture) ≡ length (widths picture)
-unfolding starts widths
+pub length-starts : (picture : List ℕ) → length (starts picture) ≡ length (picture_fields picture)
+unfolding starts picture_fields
 length-starts picture = length-starts_among 0 (pieces_of picture)
 
-pub field_within : (picture : List ℕ) (k : ℕ) → k < length (widths picture)
-    → get_or (starts picture) k 0 + get_or (widths picture) k 0 ≤ length picture
-unfolding starts widths
-field_within picture k inside =
+pub field_within : (picture : List ℕ) (k : ℕ) (d : Field) → k < length (picture_fields picture)
+    → get_or (starts picture) k 0 + (get_or (picture_fields picture) k d).width ≤ length picture
+unfolding starts picture_fields
+field_within picture k d inside =
     let same = ap length (joined-pieces_of picture) in
-    let within = fields_within 0 (pieces_of picture) k inside in
+    let within = fields_within 0 (pieces_of picture) k d (wide-pieces_behind 0 picture) inside in
     omega arith
 
-pub filled_with_one_more : (picture : List ℕ) (values : List Value) (k : ℕ) (value : Value)
-    → k < length (widths picture) → k < length values → value ≡ get_or values k value
-    → put_mid (get_or (starts picture) k 0) (get_or (widths picture) k 0)
-    (filled picture (take k values)) (shown (get_or (widths picture) k 0) value)
-    ≡ filled picture (take (suc k) values)
-unfolding filled starts widths
-filled_with_one_more picture values k value inside given is =
-    joined_with_one_more [] 0 (pieces_of picture) values k value refl inside given is
+pub own_in_filled : (picture : List ℕ) (items : List Item) (k : ℕ) (d : Field) → k < length (picture_fields picture) → k < length items
+    → take (get_or (picture_fields picture) k d).width (drop (get_or (starts picture) k 0) (filled picture (take k items)))
+    ≡ characters (get_or (picture_fields picture) k d)
+unfolding filled starts picture_fields
+own_in_filled picture items k d inside given =
+    next_has_its_own [] 0 (pieces_of picture) items k d (wide-pieces_behind 0 picture) refl inside given
+
+pub filled_with_one_more : (picture : List ℕ) (items : List Item) (k : ℕ) (item : Item) (d : Field)
+    → k < length (picture_fields picture) → k < length items → item ≡ get_or items k item
+    → put_mid (get_or (starts picture) k 0) (get_or (picture_fields picture) k d).width
+    (filled picture (take k items)) (shown_in (get_or (picture_fields picture) k d) item)
+    ≡ filled picture (take (suc k) items)
+unfolding filled starts picture_fields
+filled_with_one_more picture items k item d inside given is =
+    joined_with_one_more [] 0 (pieces_of picture) items k item d (wide-pieces_behind 0 picture) refl inside given is
 
 -- what is read at the place of a field
-pub read_known : (items known : List ℕ) (k read : ℕ) → items ≡ known → k < length known → read ≡ get_or items k read → read ≡ get_or known k 0
-read_known items known k read is inside reads =
-    reads ∙ ap (λ list. get_or list k read) is ∙ get_or_default known k read 0 inside
+pub read_known : {X : Type 0} → (items known : List X) (k : ℕ) (read d : X) → items ≡ known → k < length known → read ≡ get_or items k read → read ≡ get_or known k d
+read_known items known k read d is inside reads =
+    reads ∙ ap (λ list. get_or list k read) is ∙ get_or_default known k read d inside
 
--- the next value written over its field
-pub fill_next : (picture line new : List ℕ) (values : List Value) (k start width : ℕ) (value : Value)
-    → k < length (widths picture) → k < length values → line ≡ filled picture (take k values) → length line ≡ length picture
-    → value ≡ get_or values k value → start ≡ get_or (starts picture) k 0 → width ≡ get_or (widths picture) k 0
-    → new ≡ shown (length (take (start + width - start) (drop start line))) value
-    → put_mid start (start + width - start) line new ≡ filled picture (take (k + 1) values)
-fill_next picture line new values k start width value inside given before long is start_is width_is new_is =
-    let step = filled_with_one_more picture values k value inside given is in
-    let within = field_within picture k inside in
+-- the next item written over its field
+pub fill_next : (picture line new : List ℕ) (items : List Item) (k start : ℕ) (field : Field) (item : Item)
+    → k < length (picture_fields picture) → k < length items → line ≡ filled picture (take k items)
+    → item ≡ get_or items k item → start ≡ get_or (starts picture) k 0 → field ≡ get_or (picture_fields picture) k field
+    → new ≡ shown (take (start + field.width - start) (drop start line)) field.decimals item
+    → put_mid start (start + field.width - start) line new ≡ filled picture (take (k + 1) items)
+fill_next picture line new items k start field item inside given before is start_is field_is new_is =
+    let step = filled_with_one_more picture items k item field inside given is in
+    let own = own_in_filled picture items k field inside given in
     let next : suc k ≡ k + 1 = omega arith in
-    let span_is : start + width - start ≡ width = omega arith in
-    let wide : length (take width (drop start line)) ≡ width =
-    length-take-le width (drop start line) (omega (arith, length-drop start line))
+    let span_is : start + field.width - start ≡ field.width = omega arith in
+    let same_own : take field.width (drop start line) ≡ characters field =
+    rw (before, start_is) (subst (λ (f : Field). take f.width (drop (get_or (starts picture) k 0) (filled picture (take k items))) ≡ characters f) (sym field_is) own)
     in
-    rw (new_is, span_is, wide, before, start_is, width_is, ← next) step
+    let same_step : put_mid (get_or (starts picture) k 0) field.width (filled picture (take k items)) (shown_in field item) ≡ filled picture (take (suc k) items) =
+    subst (λ (f : Field). put_mid (get_or (starts picture) k 0) f.width (filled picture (take k items)) (shown_in f item) ≡ filled picture (take (suc k) items)) (sym field_is) step
+    in
+    rw (new_is, span_is, same_own, before, start_is, ← next) same_step
+
+-- ---- what a field takes
+
+-- each field that has an item takes it
+pub suits_at : (fields : List Field) (items : List Item) (k : ℕ) (field : Field) (item : Item) → EachSuits fields items → k < length fields → k < length items
+    → Suits (get_or fields k field).decimals (get_or items k item)
+suits_at fields [] k field item each inside given = absurd (omega arith)
+suits_at [] (first ∷ items) k field item each inside given = absurd (omega arith)
+suits_at (shape ∷ fields) (first ∷ items) zero field item each inside given = each.0
+suits_at (shape ∷ fields) (first ∷ items) (suc k) field item each inside given =
+    suits_at fields items k field item each.1 (omega arith) (omega arith)
+
+pub suits_next : (picture : List ℕ) (items : List Item) (k : ℕ) (field : Field) (item : Item) → EachSuits (picture_fields picture) items
+    → k < length (picture_fields picture) → k < length items → field ≡ get_or (picture_fields picture) k field → item ≡ get_or items k item
+    → Suits field.decimals item
+suits_next picture items k field item each inside given field_is item_is =
+    subst (λ (f : Field). Suits f.decimals item) (sym field_is)
+    (subst (λ (i : Item). Suits (get_or (picture_fields picture) k field).decimals i) (sym item_is)
+    (suits_at (picture_fields picture) items k field item each inside given))

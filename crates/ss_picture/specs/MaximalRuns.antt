@@ -1,26 +1,39 @@
--- That a picture is cut into its maximal runs of asterisks and what stands between them, and can be cut in no other way.
-use Rattle.std.specs.Prelude.{◌≡◌, ◌≢◌, ℕ, zero, suc, List, [], ◌∷◌, ⊤}
+-- That a picture is cut into its fields, each as long as it can be from the left, and what stands between them, and can be
+-- cut in no other way.
+use Rattle.std.specs.Prelude.{◌≡◌, ◌≢◌, ℕ, zero, suc, ◌<◌, List, [], ◌∷◌, ⊤}
 use Rattle.std.specs.List.{AllByRecursion}
-use Rattle.ss_picture.specs.Pictures.{asterisk, Piece, Literal, Field, pieces_of, joined}
+use Rattle.ss_picture.specs.Numerals.{period}
+use Rattle.ss_picture.specs.Pictures.{asterisk, Piece, Literal, Slot, pieces_of, joined}
 
 -- none of these bytes is an asterisk
 abbrev pub HasNoAsterisk : List ℕ → Type 0
 HasNoAsterisk bytes = AllByRecursion (λ byte. byte ≢ asterisk) bytes
 
--- a piece that is a run: it isn't empty, and bytes that are no field have no asterisk
+-- a width has room for an asterisk, and a period and so many asterisks behind it where they are any
+abbrev pub HasRoom : ℕ → ℕ → Type 0
+HasRoom width zero = 0 < width
+HasRoom width (suc more) = suc (suc more) < width
+
+-- a piece that is a run: it isn't empty, bytes that are no field have no asterisk, and a field has one before its period
 abbrev pub IsRun : Piece → Type 0
 IsRun (Literal []) = ⊥
 IsRun (Literal (byte ∷ bytes)) = HasNoAsterisk (byte ∷ bytes)
-IsRun (Field zero) = ⊥
-IsRun (Field (suc _)) = ⊤
+IsRun (Slot field) = HasRoom field.width field.decimals
 
--- a run is maximal before these pieces: they don't begin with one of its kind
+-- these bytes are a period alone, and a field stands directly behind it
+abbrev pub IsPoint : List ℕ → List Piece → Type 0
+IsPoint bytes [] = ⊥
+IsPoint bytes (Literal _ ∷ _) = ⊥
+IsPoint bytes (Slot _ ∷ _) = bytes ≡ period ∷ []
+
+-- a run is maximal before these pieces: they don't begin with one of its kind, and where it is a field without decimals,
+-- none can be had from them
 abbrev pub EndsBefore : Piece → List Piece → Type 0
 EndsBefore _ [] = ⊤
 EndsBefore (Literal _) (Literal _ ∷ _) = ⊥
-EndsBefore (Literal _) (Field _ ∷ _) = ⊤
-EndsBefore (Field _) (Literal _ ∷ _) = ⊤
-EndsBefore (Field _) (Field _ ∷ _) = ⊥
+EndsBefore (Literal _) (Slot _ ∷ _) = ⊤
+EndsBefore (Slot field) (Literal bytes ∷ rest) = field.decimals ≡ 0 → IsPoint bytes rest → ⊥
+EndsBefore (Slot _) (Slot _ ∷ _) = ⊥
 
 -- pieces that are maximal runs
 abbrev pub AreMaximalRuns : List Piece → Type 0

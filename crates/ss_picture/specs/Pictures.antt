@@ -1,8 +1,10 @@
--- What a picture is, and the line that it makes with values in its fields.
-use Rattle.std.specs.Prelude.{ℕ, suc, ◌-◌, ◌==◌, nat_le, if◌then◌else◌, List, [], ◌∷◌, ◌++◌, length, replicate}
-use Rattle.ss_base.specs.declared.value.Value.{Value}
+-- What a picture is, and the line that it makes with items in its fields.
+use Rattle.std.specs.Prelude.{ℕ, zero, suc, ◌+◌, ◌-◌, ◌==◌, nat_le, if◌then◌else◌, List, [], ◌∷◌, ◌++◌, length, drop, replicate}
 use Rattle.ss_base.specs.declared.value.Value.TheVariants.{Whole, Text}
-use Rattle.ss_picture.specs.Numerals.{whole_text}
+use Rattle.ss_picture.specs.declared.field.Field.{Field}
+use Rattle.ss_picture.specs.declared.items.Item.{Item}
+use Rattle.ss_picture.specs.declared.items.Item.TheVariants.{Is, Mean}
+use Rattle.ss_picture.specs.Numerals.{period, whole_text, mean_text}
 
 -- the byte that fields are made of
 abbrev pub asterisk : ℕ
@@ -12,71 +14,109 @@ asterisk = 42
 abbrev pub blank : ℕ
 blank = 32
 
--- a piece of a picture: bytes that are printed as they stand, or a field of so many asterisks
+-- ---- fields
+
+-- how many asterisks these bytes begin with
+abbrev pub stars : List ℕ → ℕ
+stars [] = 0
+stars (byte ∷ bytes) = if byte == asterisk then suc (stars bytes) else 0
+
+-- how many asterisks stand behind a period that these bytes begin with
+abbrev pub decimals_at : List ℕ → ℕ
+decimals_at [] = 0
+decimals_at (byte ∷ bytes) = if byte == period then stars bytes else 0
+
+-- the field of so many asterisks, and of so many behind a period: its width counts the period, where it has one
+abbrev pub field_of : ℕ → ℕ → Field
+field_of whole zero = record { width = whole; decimals = 0 }
+field_of whole (suc more) = record { width = whole + suc (suc more); decimals = suc more }
+
+-- the field that these bytes begin with: a maximal run of asterisks, and where a period and then an asterisk follow it
+-- directly, the period and the run behind it too
+abbrev pub field_at : List ℕ → Field
+field_at bytes = field_of (stars bytes) (decimals_at (drop (stars bytes) bytes))
+
+-- the characters of a field of a width and so many decimals
+abbrev pub characters_of : ℕ → ℕ → List ℕ
+characters_of width zero = replicate width asterisk
+characters_of width (suc more) = replicate (width - suc (suc more)) asterisk ++ period ∷ replicate (suc more) asterisk
+
+-- the characters that a field is made of: asterisks, and a period before its decimals
+abbrev pub characters : Field → List ℕ
+characters field = characters_of field.width field.decimals
+
+-- ---- pieces
+
+-- a piece of a picture: bytes that are printed as they stand, or a field
 pub data Piece : Type 0 where
   Literal : List ℕ → Piece
-  Field : ℕ → Piece
+  Slot : Field → Piece
 
--- an asterisk before these pieces: it joins the field that they begin with, or is a field by itself
-abbrev pub asterisk_before : List Piece → List Piece
-asterisk_before [] = Field 1 ∷ []
-asterisk_before (Literal bytes ∷ rest) = Field 1 ∷ Literal bytes ∷ rest
-asterisk_before (Field width ∷ rest) = Field (suc width) ∷ rest
-
--- another byte before these pieces: it joins the bytes that they begin with, or is a piece by itself
+-- a byte of no field before these pieces: it joins the bytes that they begin with, or is a piece by itself
 abbrev pub byte_before : ℕ → List Piece → List Piece
 byte_before byte [] = Literal (byte ∷ []) ∷ []
 byte_before byte (Literal bytes ∷ rest) = Literal (byte ∷ bytes) ∷ rest
-byte_before byte (Field width ∷ rest) = Literal (byte ∷ []) ∷ Field width ∷ rest
+byte_before byte (Slot field ∷ rest) = Literal (byte ∷ []) ∷ Slot field ∷ rest
 
--- a picture cut into its maximal runs of asterisks and what stands between them
+-- the pieces of bytes of which so many still belong to the field before them: an asterisk behind these begins a field
+abbrev pub pieces_behind : ℕ → List ℕ → List Piece
+pieces_behind _ [] = []
+pieces_behind zero (byte ∷ bytes) =
+    if byte == asterisk
+    then Slot (field_at (byte ∷ bytes)) ∷ pieces_behind ((field_at (byte ∷ bytes)).width - 1) bytes
+    else byte_before byte (pieces_behind 0 bytes)
+pieces_behind (suc more) (byte ∷ bytes) = pieces_behind more bytes
+
+-- a picture cut, from the left, into its fields and what stands between them
 abbrev pub pieces_of : List ℕ → List Piece
-pieces_of [] = []
-pieces_of (byte ∷ bytes) =
-    if byte == asterisk then asterisk_before (pieces_of bytes) else byte_before byte (pieces_of bytes)
+pieces_of picture = pieces_behind 0 picture
 
--- the widths of the fields among these pieces, from the left
-abbrev pub widths_among : List Piece → List ℕ
-widths_among [] = []
-widths_among (Literal bytes ∷ rest) = widths_among rest
-widths_among (Field width ∷ rest) = width ∷ widths_among rest
+-- the fields among these pieces, from the left
+abbrev pub fields_among : List Piece → List Field
+fields_among [] = []
+fields_among (Literal bytes ∷ rest) = fields_among rest
+fields_among (Slot field ∷ rest) = field ∷ fields_among rest
 
--- the widths of a picture's fields, from the left
-unfoldable pub widths : List ℕ → List ℕ
-widths picture = widths_among (pieces_of picture)
+-- a picture's fields, from the left
+unfoldable pub picture_fields : List ℕ → List Field
+picture_fields picture = fields_among (pieces_of picture)
 
 -- how many fields a picture has
 abbrev pub field_count : List ℕ → ℕ
-field_count picture = length (widths picture)
+field_count picture = length (picture_fields picture)
+
+-- ---- lines
 
 -- as many blanks as a text lacks to a width
 abbrev pub blanks_beside : ℕ → List ℕ → List ℕ
 blanks_beside width text = replicate (width - length text) blank
 
--- what is placed in a field for a text, or the field's asterisks where the text is longer than the field
-abbrev pub if_it_fits : ℕ → List ℕ → List ℕ → List ℕ
-if_it_fits width text placed = if nat_le (length text) width then placed else replicate width asterisk
+-- what is placed for a text in a field of these characters; where the text is longer than the field, the characters stay
+abbrev pub if_it_fits : List ℕ → List ℕ → List ℕ → List ℕ
+if_it_fits own text placed = if nat_le (length text) (length own) then placed else own
 
--- a text at the right end of a field
-abbrev pub at_right : ℕ → List ℕ → List ℕ
-at_right width text = if_it_fits width text (blanks_beside width text ++ text)
+-- a text at the right end of a field of these characters
+abbrev pub at_right : List ℕ → List ℕ → List ℕ
+at_right own text = if_it_fits own text (blanks_beside (length own) text ++ text)
 
--- a text at the left end of a field
-abbrev pub at_left : ℕ → List ℕ → List ℕ
-at_left width text = if_it_fits width text (text ++ blanks_beside width text)
+-- a text at the left end of a field of these characters
+abbrev pub at_left : List ℕ → List ℕ → List ℕ
+at_left own text = if_it_fits own text (text ++ blanks_beside (length own) text)
 
--- what a field of a width shows of a value: a whole number to the right, a text to the left
-abbrev pub shown : ℕ → Value → List ℕ
-shown width (Whole number) = at_right width (whole_text number)
-shown width (Text bytes) = at_left width bytes
+-- what a field of these characters and so many decimals shows of an item: a whole number and a mean to the right, a mean
+-- with its decimals, a text to the left
+abbrev pub shown : List ℕ → ℕ → Item → List ℕ
+shown own decimals (Is (Whole number)) = at_right own (whole_text number)
+shown own decimals (Is (Text bytes)) = at_left own bytes
+shown own decimals (Mean sum number) = at_right own (mean_text decimals sum number)
 
--- these pieces one after another, a value in each field; a field without a value stays as it is
-abbrev pub joined : List Piece → List Value → List ℕ
-joined [] values = []
-joined (Literal bytes ∷ rest) values = bytes ++ joined rest values
-joined (Field width ∷ rest) [] = replicate width asterisk ++ joined rest []
-joined (Field width ∷ rest) (value ∷ values) = shown width value ++ joined rest values
+-- these pieces one after another, an item in each field; a field without an item stays as it is
+abbrev pub joined : List Piece → List Item → List ℕ
+joined [] items = []
+joined (Literal bytes ∷ rest) items = bytes ++ joined rest items
+joined (Slot field ∷ rest) [] = characters field ++ joined rest []
+joined (Slot field ∷ rest) (item ∷ items) = shown (characters field) field.decimals item ++ joined rest items
 
--- the line of a picture with these values in its fields, without a line end
-unfoldable pub filled : List ℕ → List Value → List ℕ
-filled picture values = joined (pieces_of picture) values
+-- the line of a picture with these items in its fields, without a line end
+unfoldable pub filled : List ℕ → List Item → List ℕ
+filled picture items = joined (pieces_of picture) items

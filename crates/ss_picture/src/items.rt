@@ -1,13 +1,39 @@
-ghost use Rattle.std.specs.Prelude.{◌≡◌, length, nat_le, replicate};
-ghost use Rattle.ss_picture.specs.Pictures.{asterisk, at_right as right, at_left as left, shown};
+ghost use Rattle.std.specs.Prelude.{◌≡◌, ℕ, length, nat_le};
+ghost use Rattle.ss_picture.specs.Pictures.{at_right as right, at_left as left, shown};
+ghost use Rattle.ss_picture.specs.Suited.{Suits};
+ghost use Rattle.ss_picture.specs.declared.items.Item.TheVariants.{Is};
 
+use crate::means::fill_mean;
 use itoa::Buffer;
 use ss_base::Value;
 
+/// What a field of a line shows.
+#[derive(Clone, Copy, PartialEq, Debug)]
+pub enum Item {
+    /// A value, in a field without decimals: a number at the right, a text at the left.
+    Is(Value),
+    /// A mean, as a sum and the number by which it is divided.
+    ///
+    /// It is rounded to the decimals of its field, to none in a field without any; a half goes away
+    /// from zero. Where the number is 0 the mean is zero.
+    Mean(i128, i64),
+}
+
+// Writes an item to its field, which has so many decimals.
+pub(crate) fn fill_field(field: &mut [u8], decimals: usize, item: &Item)
+    requires { Suits decimals item.now }
+    ensures { field.new ≡ shown field.old decimals item.now }
+{
+    match item {
+        Item::Is(value) => fill_value(field, value),
+        Item::Mean(sum, number) => fill_mean(field, decimals, *sum, *number),
+    }
+}
+
 // Writes a value to its field: a whole number to the right end, a text to the left.
 #[tactic(auto, using(crate::proofs::Decimal::whole_text_is_signed_decimal))]
-pub(crate) fn fill_field(field: &mut [u8], value: &Value)
-    ensures { field.new ≡ shown (length field.old) value.now }
+fn fill_value(field: &mut [u8], value: &Value)
+    ensures { (decimals : ℕ) → field.new ≡ shown field.old decimals (Is value.now) }
 {
     match value {
         Value::Whole(number) => at_right(field, Buffer::new().format(*number).as_bytes()),
@@ -15,24 +41,24 @@ pub(crate) fn fill_field(field: &mut [u8], value: &Value)
     }
 }
 
-// Writes a text to the right end of a field.
+// Writes a text to the right end of a field. Where it doesn't fit, the field stays as it is.
 fn at_right(field: &mut [u8], text: &[u8])
-    ensures { field.new ≡ right (length field.old) text.now }
+    ensures { field.new ≡ right field.old text.now }
 {
     if !has_room(field, text) {
-        return keep_asterisks(field);
+        return;
     }
     let blanks = field.len() - text.len();
     field[..blanks].fill(b' ');
     field[blanks..].copy_from_slice(text);
 }
 
-// Writes a text to the left end of a field.
+// Writes a text to the left end of a field. Where it doesn't fit, the field stays as it is.
 fn at_left(field: &mut [u8], text: &[u8])
-    ensures { field.new ≡ left (length field.old) text.now }
+    ensures { field.new ≡ left field.old text.now }
 {
     if !has_room(field, text) {
-        return keep_asterisks(field);
+        return;
     }
     let end = text.len();
     field[..end].copy_from_slice(text);
@@ -44,11 +70,4 @@ fn has_room(field: &[u8], text: &[u8]) -> bool
     ensures { result ≡ nat_le (length text.now) (length field.now) }
 {
     text.len() <= field.len()
-}
-
-// What a field holds whose value doesn't fit.
-fn keep_asterisks(field: &mut [u8])
-    ensures { field.new ≡ replicate (length field.old) asterisk }
-{
-    field.fill(b'*');
 }

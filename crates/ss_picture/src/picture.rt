@@ -1,13 +1,15 @@
 ghost use Rattle.std.specs.Prelude.{◌≡◌, ◌<◌, ◌≤◌, ◌+◌, ◌++◌, length, vec_len, vec_capacity, IfOk, OnOk, OnErr};
-ghost use Rattle.ss_picture.specs.Pictures.{field_count, filled, widths};
+ghost use Rattle.ss_picture.specs.Pictures.{field_count, filled, picture_fields};
+ghost use Rattle.ss_picture.specs.Suited.{EachSuits};
 
+use crate::field::Field;
 use crate::fields::Fields;
-use ss_base::Value;
+use crate::items::Item;
 use std::alloc::{AllocError, Global};
 use std::marker::Model;
 
-/// A line to be printed, with a field for each value: a field is a run of asterisks, as long as it
-/// can be.
+/// A line to be printed, with a field for each item: a field is a run of asterisks, as long as it can
+/// be, and where a period and then an asterisk follow it directly, these belong to it as its decimals.
 ///
 /// A contract sees a picture as its bytes.
 #[derive(Drop)]
@@ -18,14 +20,14 @@ pub struct Picture {
 
 impl Model for Picture {
     ghost use Rattle.std.specs.Prelude.{◌≡◌, ℕ, List};
-    ghost use Rattle.ss_picture.specs.Pictures.{widths};
+    ghost use Rattle.ss_picture.specs.Pictures.{picture_fields};
     ghost use Rattle.ss_picture.specs.Fields.{starts};
 
     ghost Value = { List ℕ };
 
     ghost view = { λ p. p.bytes.items };
 
-    ghost invariant = { λ p. (p.fields.starts.items ≡ starts p.bytes.items) × (p.fields.widths.items ≡ widths p.bytes.items) };
+    ghost invariant = { λ p. (p.fields.starts.items ≡ starts p.bytes.items) × (p.fields.shapes.items ≡ picture_fields p.bytes.items) };
 }
 
 impl Picture {
@@ -41,41 +43,47 @@ impl Picture {
         })
     }
 
-    /// The widths of the fields in bytes, from the left.
-    pub fn fields(&self) -> &[usize]
-        ensures { result.now ≡ widths self.now }
+    /// The fields, from the left.
+    pub fn fields(&self) -> &[Field]
+        ensures { result.now ≡ picture_fields self.now }
     {
-        self.fields.widths.as_slice()
+        self.fields.shapes.as_slice()
     }
 
-    /// The line with these values in its fields, from the left, without a line end. A whole number
-    /// stands at the right end of its field, a text at the left; where a value is longer than its
-    /// field, the asterisks stay.
+    /// The line with these items in its fields, from the left, without a line end. A whole number
+    /// and a mean stand at the right end of their field, a text at the left; where an item is longer
+    /// than its field, the field's own characters stay.
+    ///
+    /// A value goes into a field without decimals. A mean goes into any field of at most 9 decimals,
+    /// with as many as the field has; its number is at least 0, and its quotient, where the number
+    /// isn't 0, lies from -2^63 to 2^63.
     ///
     /// The error comes where memory was refused.
-    pub fn fill(&self, alloc: Global, values: &[Value]) -> Result<Vec<u8>, AllocError>
-        requires { length values.now ≡ field_count self.now }
-        ensures { IfOk result (λ line. line.items ≡ filled self.now values.now) }
+    pub fn fill(&self, alloc: Global, items: &[Item]) -> Result<Vec<u8>, AllocError>
+        requires a_field_each { length items.now ≡ field_count self.now }
+        requires suited { EachSuits (picture_fields self.now) items.now }
+        ensures { IfOk result (λ line. line.items ≡ filled self.now items.now) }
     {
         let mut line = Vec::new(alloc);
-        self.fill_into(&mut line, values)?;
+        self.fill_into(&mut line, items)?;
         Ok(line)
     }
 
-    /// Adds to `line` the line with these values in its fields, from the left, as `fill` makes it.
-    /// There may be fewer values than fields: a field without a value keeps its asterisks.
+    /// Adds to `line` the line with these items in its fields, from the left, as `fill` makes it.
+    /// There may be fewer items than fields: a field without an item keeps its own characters.
     ///
     /// The error comes where memory was refused, and `line` is then as it was; it never comes where
     /// `line` had room for as many bytes as the picture has.
-    pub fn fill_into(&self, line: &mut Vec<u8>, values: &[Value]) -> Result<(), AllocError>
-        requires { length values.now ≤ field_count self.now }
-        ensures ok { OnOk result (line.new.items ≡ line.old.items ++ filled self.now values.now) }
+    pub fn fill_into(&self, line: &mut Vec<u8>, items: &[Item]) -> Result<(), AllocError>
+        requires a_field_each { length items.now ≤ field_count self.now }
+        requires suited { EachSuits (picture_fields self.now) items.now }
+        ensures ok { OnOk result (line.new.items ≡ line.old.items ++ filled self.now items.now) }
         ensures err { OnErr result (line.new.items ≡ line.old.items) }
         ensures full { OnErr result (vec_capacity line.old < vec_len line.old + length self.now) }
     {
         let start = line.len();
         line.extend_from_slice(self.bytes.as_slice())?;
-        self.fields.fill(&mut line[start..], values);
+        self.fields.fill(&mut line[start..], items);
         Ok(())
     }
 }

@@ -1,8 +1,9 @@
-//! The code of expressions, conditions, targets, and what is done to sets.
+//! The code of expressions, conditions, targets, items of PRINT, and what is done to sets.
 #![tactic(auto)]
 
 mod backward;
 pub mod conditions;
 pub mod emit;
+pub mod items;
 pub mod places;
 pub mod sets;

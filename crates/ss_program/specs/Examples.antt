@@ -10,11 +10,11 @@ use Rattle.ss_base.specs.declared.layout.ClassKind.TheVariants.{Permanent, Tempo
 use Rattle.ss_base.specs.declared.layout.Owner.TheVariants.{System, Class as OfClass}
 use Rattle.ss_base.specs.declared.layout.Layout.{Layout}
 use Rattle.ss_base.specs.declared.layout.Discipline.TheVariants.{Fifo, Ranked}
-use Rattle.ss_picture.specs.Pictures.{widths}
+use Rattle.ss_picture.specs.Pictures.{picture_fields}
 use Rattle.ss_program.specs.declared.expression.Variable.TheVariants.{Global, Local}
 use Rattle.ss_program.specs.declared.expression.Operator.TheVariants.{Add, Multiply}
 use Rattle.ss_program.specs.declared.expression.Sign.TheVariants.{Plus}
-use Rattle.ss_program.specs.Program.{Expression, Constant, Fetch, Calculate, TheSystem, Entity, AtEnd, Numbers, Members, ToVariable, ToAttribute, ToCount, ByDiscipline, At, Let, Change, Read, Simulate, For, Create, CreateEvery, File, ScheduleNew, Print, Block, Done, Then, Program}
+use Rattle.ss_program.specs.Program.{Expression, Constant, Fetch, Calculate, TheSystem, Entity, AtEnd, Numbers, Members, AValue, ToVariable, ToAttribute, ToCount, ByDiscipline, At, Let, Change, Read, Simulate, For, Create, CreateEvery, File, ScheduleNew, Print, Block, Done, Then, Program}
 use Rattle.ss_program.specs.WellTyped.{WellTyped, Scope, HaveModes, kind_of}
 use Rattle.ss_program.specs.Nodes.{nodes}
 
@@ -40,7 +40,7 @@ numbers l e = record {
   main =
       Then (Let l (ToVariable (Local 0)) e)
       (Then (For l (Numbers (Local 1) (number 1) (Fetch (Local 0)) None) [] (Then (Change l Plus (ToVariable (Local 2)) (Fetch (Local 1))) Done))
-      (Then (Print l (Fetch (Local 2) ∷ []) (codes "SUM ***" ∷ []))
+      (Then (Print l (AValue (Fetch (Local 2)) ∷ []) (codes "SUM ***" ∷ []))
       Done));
 }
 
@@ -48,7 +48,7 @@ abbrev pub seven : Expression
 seven = Calculate Add (number 1) (Calculate Multiply (number 2) (number 3))
 
 pub numbers_fit : (l : Line) → WellTyped (numbers l seven)
-unfolding widths
+unfolding picture_fields
 numbers_fit l = record {
   sets = refl;
   disciplines = tt;
@@ -57,7 +57,7 @@ numbers_fit l = record {
   routines = tt;
   events = tt;
   served = λ class none. cc;
-  main = ((Integer, (refl, tt), (refl, refl, (refl, refl, refl))), ((((refl, tt), refl, refl, tt), tt, (((refl, tt), refl), tt)), ((((Integer, refl), tt), refl), tt)));
+  main = ((Integer, (refl, tt), (refl, refl, (refl, refl, refl))), ((((refl, tt), refl, refl, tt), tt, (((refl, tt), refl), tt)), ((((Integer, refl), refl), tt), tt)));
 }
 
 -- X is a whole number, and takes no text
@@ -138,21 +138,21 @@ bells l given body = record {
 
 -- PRINT 1 LINE WITH T, BELL THUS
 abbrev pub ring : Line → Block
-ring l = Then (Print l (Fetch (Local 0) ∷ Fetch (Global 0) ∷ []) (codes "RING ** **" ∷ [])) Done
+ring l = Then (Print l (AValue (Fetch (Local 0)) ∷ AValue (Fetch (Global 0)) ∷ []) (codes "RING ** **" ∷ [])) Done
 
 bell_has_an_event : (l : Line) (class : ℕ) → kind_of (bells l (number 8) (ring l)) class ≡ Some Notice → Contains (map (λ e. e.class) (bells l (number 8) (ring l)).events) class
 bell_has_an_event l zero e = (0, omega arith, refl)
 bell_has_an_event l (suc n) e = absurd (none-some Notice e)
 
 pub bells_fit : (l : Line) → WellTyped (bells l (number 8) (ring l))
-unfolding widths
+unfolding picture_fields
 bells_fit l = record {
   sets = refl;
   disciplines = tt;
   counts = tt;
   statistics = tt;
   routines = tt;
-  events = (record { modes = Integer ∷ []; fields = refl; notice = refl; ties = tt; given = refl; saved = tt; body = ((((Integer, refl), ((Integer, refl), tt)), refl), tt) }, tt);
+  events = (record { modes = Integer ∷ []; fields = refl; notice = refl; ties = tt; given = refl; saved = tt; body = ((((Integer, refl), refl), (((Integer, refl), refl), tt)), tt) }, tt);
   served = bell_has_an_event l;
   main = (((refl, (Integer ∷ [], refl, (refl, tt))), (refl, tt), refl), (refl, tt));
 }

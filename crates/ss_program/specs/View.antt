@@ -14,6 +14,8 @@ use Rattle.ss_program.specs.declared.head.Start.{Start as StartValue}
 use Rattle.ss_program.specs.declared.head.Start.TheVariants as starts
 use Rattle.ss_program.specs.declared.head.Head.{Head as HeadValue}
 use Rattle.ss_program.specs.declared.head.Head.TheVariants as heads
+use Rattle.ss_program.specs.declared.statement.Item.{Item as ItemValue}
+use Rattle.ss_program.specs.declared.statement.Item.TheVariants as items
 use Rattle.ss_program.specs.declared.statement.Place.{Place as PlaceValue}
 use Rattle.ss_program.specs.declared.statement.Place.TheVariants as places
 use Rattle.ss_program.specs.declared.statement.Target.{Target as TargetValue}
@@ -27,7 +29,7 @@ use Rattle.ss_program.specs.declared.statement.Statement.{Row_of-Statement, end_
 use Rattle.ss_program.specs.declared.sections.Routine.{Routine as RoutineValue}
 use Rattle.ss_program.specs.declared.sections.Event.{Event as EventValue}
 use Rattle.ss_program.specs.declared.sections.Program.{Program as ProgramValue}
-use Rattle.ss_program.specs.Program.{Expression, Constant, Fetch, Attribute, OfSystemSet, OfSet, OfMember, Clock, TimeOf, Figure, FigureOf, Signed, Absolute, Calculate, SetOwner, TheSystem, Entity, Test, Compare, DataEnded, Empty, Member, Condition, Start, AtEnd, From, After, Head, Numbers, Members, Each, Phrase, Guard, Place, ToVariable, ToAttribute, ToCount, Target, Position, ByDiscipline, AsFirst, AsLast, BeforeMember, AfterMember, When, At, In, Now, Restart, Statement, Let, Change, Call, Return, Stop, Read, Simulate, If, Loop, For, Find, Create, CreateEvery, Destroy, File, RemoveEnd, Remove, ScheduleNew, Schedule, Cancel, Reset, Print, Skip, Block, Done, Then, Routine, Event, Program}
+use Rattle.ss_program.specs.Program.{Expression, Constant, Fetch, Attribute, OfSystemSet, OfSet, OfMember, Clock, TimeOf, Figure, FigureOf, Signed, Absolute, Calculate, SetOwner, TheSystem, Entity, Test, Compare, DataEnded, Empty, Member, Condition, Start, AtEnd, From, After, Head, Numbers, Members, Each, Phrase, Guard, Place, ToVariable, ToAttribute, ToCount, Target, Position, ByDiscipline, AsFirst, AsLast, BeforeMember, AfterMember, When, At, In, Now, Restart, Item, AValue, AMean, AMeanOf, Statement, Let, Change, Call, Return, Stop, Read, Simulate, If, Loop, For, Find, Create, CreateEvery, Destroy, File, RemoveEnd, Remove, ScheduleNew, Schedule, Cancel, Reset, Print, Skip, Block, Done, Then, Routine, Event, Program}
 
 unfoldable mutual
   pub view_expression : expressions.Expression → Expression
@@ -110,6 +112,11 @@ view_when whens.Now = Now
 abbrev pub view_restart : RestartValue → Restart
 view_restart r = record { statistic = r.statistic; of = view_option view_expression r.of }
 
+abbrev pub view_item : ItemValue → Item
+view_item (items.Value e) = AValue (view_expression e)
+view_item (items.Mean k) = AMean k
+view_item (items.MeanOf k e) = AMeanOf k (view_expression e)
+
 unfoldable mutual
   pub view_statement : statements.Statement → Statement
   view_statement (statements.Let l x e) = Let l (view_place x) (view_expression e)
@@ -133,7 +140,7 @@ unfoldable mutual
   view_statement (statements.Schedule l class e given when) = Schedule l class (view_expression e) (map view_expression given.items) (view_when when)
   view_statement (statements.Cancel l class e) = Cancel l class (view_expression e)
   view_statement (statements.Reset l restarts) = Reset l (map view_restart restarts.items)
-  view_statement (statements.Print l items pictures) = Print l (map view_expression items.items) (map (λ p. p.items) pictures.items)
+  view_statement (statements.Print l shown pictures) = Print l (map view_item shown.items) (map (λ p. p.items) pictures.items)
   view_statement (statements.Skip l e) = Skip l (view_expression e)
 
   pub view_block : {n : _} → Row_of-Statement n → Block

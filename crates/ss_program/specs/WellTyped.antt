@@ -1,6 +1,6 @@
 -- When a program is well typed: each number in it is that of something, and modes, kinds and counts agree.
-use Rattle.std.specs.Prelude.{◌≡◌, ◌≢◌, ℕ, Bool, true, false, List, ◌++◌, length, map, take, sum, Option, Some, None, slice_get, Contains, IfSome}
-use Rattle.std.specs.List.{AllZip, AllByRecursion as Every}
+use Rattle.std.specs.Prelude.{◌≡◌, ◌≢◌, ℕ, ◌≤◌, Bool, true, false, List, ◌++◌, length, map, take, Option, Some, None, slice_get, Contains, IfSome}
+use Rattle.std.specs.List.{AllZip, AllByRecursion as Every, flat_map}
 use Rattle.std.specs.Option.{option_map, option_and_then}
 use Rattle.ss_base.specs.declared.layout.Mode.{Mode}
 use Rattle.ss_base.specs.declared.layout.Mode.TheVariants.{Integer}
@@ -13,14 +13,15 @@ use Rattle.ss_base.specs.declared.layout.RankKey.{RankKey}
 use Rattle.ss_base.specs.declared.layout.Discipline.{Discipline}
 use Rattle.ss_base.specs.declared.layout.Discipline.TheVariants.{Fifo, Lifo, Ranked}
 use Rattle.ss_base.specs.Layout.{mode_of, is_sound}
-use Rattle.ss_picture.specs.Pictures.{field_count}
+use Rattle.ss_picture.specs.declared.field.Field.{Field}
+use Rattle.ss_picture.specs.Pictures.{picture_fields}
 use Rattle.ss_program.specs.declared.expression.Variable.{Variable}
 use Rattle.ss_program.specs.declared.expression.Variable.TheVariants.{Global, Local}
 use Rattle.ss_program.specs.declared.statement.Counted.{Counted}
 use Rattle.ss_program.specs.declared.sections.Subject.{Subject}
 use Rattle.ss_program.specs.declared.sections.Subject.TheVariants.{OfVariable, OfAttribute, OfCount}
 use Rattle.ss_program.specs.declared.sections.Statistic.{Statistic}
-use Rattle.ss_program.specs.Program.{Expression, Constant, Fetch, Attribute, OfSystemSet, OfSet, OfMember, Clock, TimeOf, Figure, FigureOf, Signed, Absolute, Calculate, SetOwner, TheSystem, Entity, Test, Compare, DataEnded, Empty, Member, Condition, Start, AtEnd, From, After, Head, Numbers, Members, Each, Phrase, Place, ToVariable, ToAttribute, ToCount, Position, ByDiscipline, AsFirst, AsLast, BeforeMember, AfterMember, When, At, In, Now, Statement, Let, Change, Call, Return, Stop, Read, Simulate, If, Loop, For, Find, Create, CreateEvery, Destroy, File, RemoveEnd, Remove, ScheduleNew, Schedule, Cancel, Reset, Print, Skip, Block, Done, Then, Routine, Event, Program}
+use Rattle.ss_program.specs.Program.{Expression, Constant, Fetch, Attribute, OfSystemSet, OfSet, OfMember, Clock, TimeOf, Figure, FigureOf, Signed, Absolute, Calculate, SetOwner, TheSystem, Entity, Test, Compare, DataEnded, Empty, Member, Condition, Start, AtEnd, From, After, Head, Numbers, Members, Each, Phrase, Place, ToVariable, ToAttribute, ToCount, Position, ByDiscipline, AsFirst, AsLast, BeforeMember, AfterMember, When, At, In, Now, Item, AValue, AMean, AMeanOf, Statement, Let, Change, Call, Return, Stop, Read, Simulate, If, Loop, For, Find, Create, CreateEvery, Destroy, File, RemoveEnd, Remove, ScheduleNew, Schedule, Cancel, Reset, Print, Skip, Block, Done, Then, Routine, Event, Program}
 
 -- ---- what numbers stand for
 
@@ -170,9 +171,15 @@ abbrev pub GoodRestart : Scope → (statistic : ℕ) → Option Expression → T
 GoodRestart s k None = HasSubject s.program IsAlone k
 GoodRestart s k (Some e) = HasSubject s.program IsOfEntities k × HasMode s e Integer
 
--- each item has a mode, and the pictures have as many fields as there are items
-abbrev pub GoodPrint : Scope → List Expression → List (List ℕ) → Type 0
-GoodPrint s items pictures = Every (λ e. (m : Mode) × HasMode s e m) items × (sum (map field_count pictures) ≡ length items)
+-- a field takes the item: a value where it has no decimals, a mean where it has at most 9
+abbrev pub TakesItem : Scope → Field → Item → Type 0
+TakesItem s field (AValue e) = ((m : Mode) × HasMode s e m) × (field.decimals ≡ 0)
+TakesItem s field (AMean k) = HasSubject s.program IsAlone k × (field.decimals ≤ 9)
+TakesItem s field (AMeanOf k e) = HasSubject s.program IsOfEntities k × HasMode s e Integer × (field.decimals ≤ 9)
+
+-- the fields of the pictures take the items, and are as many
+abbrev pub GoodPrint : Scope → List Item → List (List ℕ) → Type 0
+GoodPrint s items pictures = AllZip (TakesItem s) (flat_map picture_fields pictures) items
 
 abbrev mutual
   pub Good : Scope → Statement → Type 0

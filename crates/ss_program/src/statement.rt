@@ -76,6 +76,24 @@ pub struct Restart {
     pub of: Option<Expression>,
 }
 
+/// What PRINT shows in a field.
+#[derive(Drop)]
+pub enum Item {
+    /// A value.
+    Value {
+        value: Expression,
+    },
+    /// The mean of a statistic of a global variable, or of N. of THE SYSTEM's set.
+    Mean {
+        statistic: usize,
+    },
+    /// The mean of a statistic of an attribute of an entity, or of N. of the set of an owner.
+    MeanOf {
+        statistic: usize,
+        entity: Expression,
+    },
+}
+
 /// A statement. The line of its first word stands in those that may fault.
 #[derive(Drop)]
 pub enum Statement {
@@ -208,7 +226,7 @@ pub enum Statement {
     /// PRINT: the items in the fields of the lines.
     Print {
         line: Line,
-        items: Vec<Expression>,
+        items: Vec<Item>,
         pictures: Vec<Vec<u8>>,
     },
     /// SKIP: so many empty lines.

@@ -37,6 +37,7 @@ pub mod Puts
 pub mod ReadBack
 pub mod ReadWords
 pub mod Relinked
+pub mod Rising
 pub mod Same
 pub mod Sharing
 pub mod Spared

@@ -4,15 +4,14 @@ use Rattle.std.specs.Prelude.{nat_le, nat_eq}
 use Rattle.std.specs.Ordering.{nat_cmp, is_eq}
 use Rattle.std.specs.Cmp.{nat_cmp_is}
 use Rattle.std.specs.declared.cmp.Ordering.TheVariants.{Less, Equal, Greater}
-use Rattle.std.specs.BTreeMap.{is_at, insert_entry}
-use Rattle.std.specs.Map.{keys_of, values_of, set_value, remove_entry}
+use Rattle.std.specs.BTreeMap.{is_at}
+use Rattle.std.specs.Map.{lookup, values_of, set_value, remove_entry}
 use Rattle.std.specs.List.{sum_by}
-use Rattle.std.specs.List.Sorted.{IsStrictlySortedBy}
 use Rattle.std.specs.Option.{unwrap_or, option_map}
-use Rattle.std.proofs.lemmas.Map.Entries.{sum_by-set_value, sum_by-remove_entry, sum_by-insert_entry}
-use Rattle.std.proofs.lemmas.Cmp.{nat_cmp_total}
+use Rattle.std.proofs.lemmas.Map.Entries.{sum_by-set_value, sum_by-remove_entry}
 use Rattle.std.proofs.Math.Dec.{ltb}
-use Rattle.std.proofs.lemmas.List.Sums.{sum_by-cons}
+use Rattle.std.proofs.lemmas.List.{map-append}
+use Rattle.std.proofs.lemmas.List.Sums.{sum_by-cons, sum_by_push}
 use Rattle.std.proofs.lemmas.Bool.{le-leb, leb-true, ltb-true, ltb-false}
 use Rattle.ss_records.specs.declared.store.Address.{Address}
 use Rattle.ss_records.specs.Places.{living}
@@ -126,10 +125,10 @@ slot_is p k h = let y = get_there p k h in y.1 ∙ ap Some (sym (ap in_page y.1)
 
 -- ## Where a number stands
 
-is_at_same : (q : ℕ) → is_at (nat_cmp q) q ≡ true
+pub is_at_same : (q : ℕ) → is_at (nat_cmp q) q ≡ true
 is_at_same q = ap is_eq (sym (nat_cmp_is q q Equal refl))
 
-is_at_other : (q j : ℕ) → (q ≡ j → ⊥) → is_at (nat_cmp q) j ≡ false
+pub is_at_other : (q j : ℕ) → (q ≡ j → ⊥) → is_at (nat_cmp q) j ≡ false
 is_at_other q j n = by_less (ltb q j) refl where
   by_less : (b : Bool) → ltb q j ≡ b → is_at (nat_cmp q) j ≡ false
   by_less true e = ap is_eq (sym (nat_cmp_is q j Less (ltb-true q j e)))
@@ -154,6 +153,27 @@ by_part {P} start i here earlier = by_less (ltb i start) refl where
   by_less : (b : Bool) → ltb i start ≡ b → P
   by_less true e = earlier (ltb-true i start e)
   by_less false e = here (ltb-false i start e)
+
+-- ## A page behind the others
+
+last_passes : (test : ℕ → Bool) (es : Pages) (q : ℕ) (cur : Page) → lookup test es ≡ None → test q ≡ true → lookup test (es ++ (q, cur) ∷ []) ≡ Some cur
+last_passes test [] q cur h t = ap (λ b. cond b (Some cur) None) t
+last_passes test (e ∷ es) q cur h t = by_test (test e.0) h (λ z. last_passes test es q cur z t) where
+  by_test : (b : Bool) → cond b (Some e.1) (lookup test es) ≡ None → (lookup test es ≡ None → lookup test (es ++ (q, cur) ∷ []) ≡ Some cur) → cond b (Some e.1) (lookup test (es ++ (q, cur) ∷ [])) ≡ Some cur
+  by_test true z later = cc
+  by_test false z later = later z
+
+last_fails : (test : ℕ → Bool) (es : Pages) (q : ℕ) (cur : Page) → test q ≡ false → lookup test (es ++ (q, cur) ∷ []) ≡ lookup test es
+last_fails test [] q cur t = ap (λ b. cond b (Some cur) None) t
+last_fails test (e ∷ es) q cur t = ap (cond (test e.0) (Some e.1)) (last_fails test es q cur t)
+
+page_turned : (ps : Pages) (q : ℕ) (cur : Page) → page_of ps q ≡ None → (r : ℕ) → page_of (ps ++ (q, cur) ∷ []) r ≡ cond (is_at (nat_cmp q) r) (Some cur) (page_of ps r)
+page_turned ps q cur none r = by_same q r
+    (λ _ e. last_passes (is_at (nat_cmp r)) ps q cur (ap (page_of ps) (sym e) ∙ none) (ap (is_at (nat_cmp r)) e ∙ is_at_same r) ∙ sym (ap (λ b. cond b (Some cur) (page_of ps r)) (ap (is_at (nat_cmp q)) (sym e) ∙ is_at_same q)))
+    (λ _ n. last_fails (is_at (nat_cmp r)) ps q cur (is_at_other r q (λ e. n (sym e))) ∙ sym (ap (λ b. cond b (Some cur) (page_of ps r)) (is_at_other q r n)))
+
+sum_turned : (ps : Pages) (q : ℕ) (cur : Page) → sum_by living (values_of (ps ++ (q, cur) ∷ [])) ≡ sum_by living (values_of ps) + living cur
+sum_turned ps q cur = ap (sum_by living) (map-append (λ (e : ℕ × Page). e.1) ps ((q, cur) ∷ [])) ∙ sum_by_push living (values_of ps) cur
 
 module _ (ps : Pages) (cur : Page) (start issued : ℕ) (P : Paged ps cur start issued) where
   abbrev f : ℕ → Option Address
@@ -234,16 +254,22 @@ module _ (ps : Pages) (cur : Page) (start issued : ℕ) (P : Paged ps cur start 
         total = P.total ∙ ap living (sym places_again);
       }
 
-    -- it goes to the map, and a new one serves the next
-    module _ (es : Pages) (has : (q : ℕ) → page_of es q ≡ cond (is_at (nat_cmp here) q) (Some cur) (page_of ps q)) (sum : sum_by living (values_of es) ≡ sum_by living (values_of ps) + living cur) (some : 1 ≤ living cur) where
+    pub below_here : (q : ℕ) (p : Page) → page_of ps q ≡ Some p → q < here
+    below_here q p e = let k = (P.pages q p e).2 in omega (arith, k, start_is)
+
+    -- it goes behind the others, and a new one serves the next
+    module _ (some : 1 ≤ living cur) where
+      abbrev es : Pages
+      es = ps ++ (here, cur) ∷ []
+
       abbrev new : Page
       new = replicate 256 None
 
       has_here : page_of es here ≡ Some cur
-      has_here = has here ∙ ap (λ b. cond b (Some cur) (page_of ps here)) (is_at_same here)
+      has_here = page_turned ps here cur no_page_here here ∙ ap (λ b. cond b (Some cur) (page_of ps here)) (is_at_same here)
 
       has_other : (q : ℕ) → (here ≡ q → ⊥) → page_of es q ≡ page_of ps q
-      has_other q n = has q ∙ ap (λ b. cond b (Some cur) (page_of ps q)) (is_at_other here q n)
+      has_other q n = page_turned ps here cur no_page_here q ∙ ap (λ b. cond b (Some cur) (page_of ps q)) (is_at_other here q n)
 
       pub places_turned : upto (entry es new (start + 256)) issued ≡ upto f issued
       places_turned = upto_same f (entry es new (start + 256)) issued (λ i h. at_earlier es new (start + 256) i (omega (arith, h, full)) ∙ by_part start i
@@ -260,7 +286,7 @@ module _ (ps : Pages) (cur : Page) (start issued : ℕ) (P : Paged ps cur start 
         low = omega (arith, full);
         high = omega (arith, full);
         rest = λ k h. none_living new k (living_none 256);
-        total = omega (arith, sum, P.total, ap living places_turned, living_none 256);
+        total = omega (arith, sum_turned ps here cur, P.total, ap living places_turned, living_none 256);
       } where
         the_same : {v w : Page} → Some v ≡ Some w → v ≡ w
         the_same e = cc
@@ -324,7 +350,7 @@ module _ (ps : Pages) (cur : Page) (start issued : ℕ) (P : Paged ps cur start 
         by_case (Some pg) e = let k = P.pages q pg e in
             (pg, e, k.0, slot_is pg (i % 256) (omega (arith, rem i, k.0)) ∙ ap Some (sym (at_earlier ps cur start i a ∙ ap (λ o. slot o (i % 256)) e) ∙ is_there))
 
-      -- the map with another page, or none, in its place
+      -- the pages with another, or none, in its place
       module _ (pg : Page) (was : page_of ps q ≡ Some pg) (es : Pages) (w : Option Page) (has : (r : ℕ) → page_of es r ≡ cond (is_at (nat_cmp q) r) w (page_of ps r)) (slots : (k : ℕ) → slot w k ≡ slot (Some (slice_set pg (i % 256) None)) k)
           (good : (v : Page) → w ≡ Some v → (length v ≡ 256) × (1 ≤ living v)) (sum : sum_by living (values_of es) + 1 ≡ sum_by living (values_of ps)) where
         size : length pg ≡ 256
@@ -458,10 +484,6 @@ module _ (ps : Pages) (cur : Page) (start issued : ℕ) (P : Paged ps cur start 
 
       pub paged_given : Paged es cur start issued
       paged_given = paged_dropped ps cur start issued P i p g a found.0 found.1 es None drops (λ k. sym (none_living left k zero_left)) of_none sum_less
-
--- the current page goes to the map
-pub sum_turned : (ps es : Pages) (q : ℕ) (cur : Page) → page_of ps q ≡ None → es ≡ insert_entry nat_cmp ps q cur → IsStrictlySortedBy nat_cmp (keys_of ps) → sum_by living (values_of es) ≡ sum_by living (values_of ps) + living cur
-sum_turned ps es q cur none is sorted = omega (arith, ap (λ (e : Pages). sum_by living (values_of e)) is, sum_by-insert_entry living nat_cmp_total ps q cur sorted, ap (λ o. unwrap_or (option_map living o) 0) none)
 
 pub full_is : (ps : Pages) (cur : Page) (start issued : ℕ) → Paged ps cur start issued → nat_eq (issued - start) 256 ≡ nat_eq (length (upto (entry ps cur start) issued)) (start + 256)
 full_is ps cur start issued P = by_same (issued - start) 256

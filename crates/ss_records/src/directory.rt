@@ -1,25 +1,20 @@
 // Where the block of each creation number lies, in pages.
-ghost use Rattle.std.specs.Prelude.{◌≡◌, ℕ, ◌+◌, ◌^◌, ◌<◌, ◌≤◌, ◌++◌, [], ◌∷◌, length, List, cond, nat_eq, Option, Some, None, slice_get, slice_set, MatchResult, ⊤};
-ghost use Rattle.std.specs.Ordering.{nat_cmp};
-ghost use Rattle.std.specs.BTreeMap.{is_at};
-ghost use Rattle.std.specs.Map.{set_value};
-ghost use Rattle.ss_records.specs.Pages.{page_of};
+ghost use Rattle.std.specs.Prelude.{◌≡◌, ◌+◌, ◌^◌, ◌<◌, ◌≤◌, ◌++◌, [], ◌∷◌, length, nat_eq, Some, None, slice_get, slice_set, MatchResult, ⊤};
 ghost use Rattle.ss_records.specs.declared.store.Address.{Address};
 ghost use Rattle.ss_records.specs.Places.{living};
 
 use crate::page::{PAGE, Page};
+use crate::pages::PageMap;
 use crate::store::Address;
 use std::alloc::{AllocError, Global};
-use std::collections::BTreeMap;
 use std::marker::Model;
-use std::mem;
 
 /// A contract sees the place of each number, none where it is destroyed. The page of the next number is held
 /// always, an earlier one as long as one of its numbers is living.
 #[derive(Drop)]
 pub(crate) struct Directory {
     alloc: Global,
-    earlier: BTreeMap<usize, Page>,
+    earlier: PageMap,
     current: Page,
     start: usize,
     issued: usize,
@@ -31,9 +26,9 @@ impl Model for Directory {
 
     ghost Value = { Listed };
 
-    ghost view = { λ d. record { places = upto (entry d.earlier.entries d.current d.start) d.issued; pages = length d.earlier.entries + 1; start = d.start } };
+    ghost view = { λ d. record { places = upto (entry d.earlier d.current d.start) d.issued; pages = length d.earlier + 1; start = d.start } };
 
-    ghost invariant = { λ d. Paged d.earlier.entries d.current d.start d.issued };
+    ghost invariant = { λ d. Paged d.earlier d.current d.start d.issued };
 }
 
 impl Directory {
@@ -44,7 +39,7 @@ impl Directory {
         let current = Page::new(alloc)?;
         Ok(Directory {
             alloc,
-            earlier: BTreeMap::new(alloc),
+            earlier: PageMap::new(alloc),
             current,
             start: 0,
             issued: 0,
@@ -75,7 +70,7 @@ impl Directory {
         if i >= self.start {
             return self.current.get(i - self.start);
         }
-        match self.earlier.get(&(i / PAGE)) {
+        match self.earlier.get(i / PAGE) {
             Some(page) => page.get(i % PAGE),
             None => None,
         }
@@ -123,18 +118,10 @@ impl Directory {
             return Ok(());
         }
         let page = Page::new(self.alloc)?;
-        let full = mem::replace(&mut self.current, page);
-        match self.earlier.insert(self.start / PAGE, full) {
-            Ok(_) => {
-                self.start += PAGE;
-                Ok(())
-            }
-            Err(failed) => {
-                let (_, full) = failed.value;
-                self.current = full;
-                Err(AllocError)
-            }
-        }
+        self.earlier
+            .push(self.start / PAGE, &mut self.current, page)?;
+        self.start += PAGE;
+        Ok(())
     }
 
     /// Lets go of the entry i.
@@ -166,23 +153,8 @@ impl Directory {
         ensures { self.new.places ≡ slice_set self.old.places i None }
     {
         let number = i / PAGE;
-        if clear_in(&mut self.earlier, number, i % PAGE) {
-            self.earlier.remove(&number);
+        if self.earlier.clear(number, i % PAGE) {
+            self.earlier.remove(number);
         }
-    }
-}
-
-// Lets go of the entry k of a page, and says whether the page is empty then.
-fn clear_in(pages: &mut BTreeMap<usize, Page>, number: usize, k: usize) -> bool
-    requires there { (page : List (Option Address)) × (p : Address) × (page_of pages.old.entries number ≡ Some page) × (slice_get page k ≡ Some (Some p)) }
-    ensures cleared { (page : List (Option Address)) → page_of pages.old.entries number ≡ Some page → (pages.new.entries ≡ set_value (is_at (nat_cmp number)) pages.old.entries (slice_set page k None)) × ((q : ℕ) → page_of pages.new.entries q ≡ cond (is_at (nat_cmp number) q) (Some (slice_set page k None)) (page_of pages.old.entries q)) }
-    ensures empty { (page : List (Option Address)) → page_of pages.old.entries number ≡ Some page → result ≡ nat_eq (living (slice_set page k None)) 0 }
-{
-    match pages.get_mut(&number) {
-        Some(page) => {
-            page.clear(k);
-            page.is_empty()
-        }
-        None => false,
     }
 }

@@ -8,6 +8,7 @@ pub(crate) mod laying;
 pub(crate) mod links;
 pub(crate) mod notes;
 pub(crate) mod page;
+pub(crate) mod pages;
 pub(crate) mod placing;
 pub(crate) mod plan;
 pub(crate) mod records;

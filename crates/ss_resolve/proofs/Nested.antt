@@ -4,13 +4,14 @@ use Rattle.std.proofs.lemmas.List.{take_more, map-append}
 use Rattle.std.specs.Global.{Vec}
 use Rattle.ss_bytes.specs.declared.line.Line.{Line}
 use Rattle.ss_tree.specs.declared.condition.Condition.{Condition as ConditionParsed}
+use Rattle.ss_tree.specs.declared.expression.Expression.{Expression as ExpressionParsed}
 use Rattle.ss_tree.specs.declared.head.Head.{Head as HeadParsed}
 use Rattle.ss_tree.specs.declared.statement.FindOutcome.{FindOutcome}
 use Rattle.ss_tree.specs.declared.statement.Statement.{Statement as Parsed}
 use Rattle.ss_tree.specs.declared.statement.Statement.TheVariants as parsed
-use Rattle.ss_tree.specs.Tree.{StatementTree, statement_row, if_statement, loop_statement, find_if_statement, HeadTree, guarded, GuardTree}
+use Rattle.ss_tree.specs.Tree.{StatementTree, statement_row, if_statement, loop_statement, find_if_statement, print_statement, HeadTree, guarded, GuardTree}
 use Rattle.ss_tree.specs.Nodes.{statement_nodes, statements_nodes}
-use Rattle.ss_tree.specs.View.{view_condition, view_head, view_statement}
+use Rattle.ss_tree.specs.View.{view_condition, view_expression, view_head, view_statement}
 use Rattle.ss_tree.specs.Views.{view_if_made, view_loop_made, view_find_if_made}
 use Rattle.ss_program.specs.declared.condition.Condition.{Condition as ConditionMade}
 use Rattle.ss_program.specs.declared.head.Guard.{Guard}
@@ -109,6 +110,12 @@ find_if_around c t line x o a b p q is h =
     let e = ap view_statement is ∙ view_find_if_made line x o a b in
     let f = both_found (statements c (statement_row (map view_statement a.items))) (statements c (statement_row (map view_statement b.items))) (λ x1 x2. find_by o line c (view_head x) x1 x2) p q (subst (λ z. inner c z ≡ Some (p, q)) e h) in
     sym (ap (statement c) e ∙ f)
+
+-- a PRINT, by what stands in its vectors
+pub print_is : (t : Parsed) (line : Line) (v : Vec ExpressionParsed) (ps : Vec (List ℕ)) (es : List ExpressionParsed) (qs : List (List ℕ)) →
+    t ≡ parsed.Print line v ps → es ≡ v.items → qs ≡ ps.items → print_statement line (map view_expression es) qs ≡ view_statement t
+unfolding view_statement
+print_is t line v ps es qs is e f = rw (is, e, f) refl
 
 pub if_made : (line : Line) (c : Context) (x : ConditionParsed) (y : ConditionMade) (xs ys : Vec Made) →
     condition c (view_condition x) ≡ Some (condition_seen y) → if_over line c (view_condition x) (view_body xs.items) (view_body ys.items) ≡ Some (view_made (made.If line y xs ys))

@@ -12,7 +12,7 @@ use Rattle.ss_tree.specs.declared.expression.Designator.TheVariants.{Name, TimeV
 use Rattle.ss_tree.specs.declared.expression.Function.TheVariants.{Div}
 use Rattle.ss_tree.specs.declared.expression.Sign.TheVariants as signs
 use Rattle.ss_tree.specs.declared.statement.FindOutcome.TheVariants as outcomes
-use Rattle.ss_tree.specs.Tree.{ExpressionTree, number, named, call, sum, product, no_expression, and_expression, no_term, and_term, NamedTree, over_class, by_discipline, at_time, StatementTree, call_statement, read_statement, stop_statement, find_if_statement, create_statement, create_every, file_statement, schedule_new, reset_statement, no_statement, and_statement}
+use Rattle.ss_tree.specs.Tree.{ExpressionTree, number, named, call, parenthesised, sum, product, no_expression, and_expression, no_term, and_term, NamedTree, over_class, by_discipline, at_time, StatementTree, call_statement, read_statement, stop_statement, find_if_statement, create_statement, create_every, file_statement, schedule_new, reset_statement, print_statement, no_statement, and_statement}
 use Rattle.ss_sayings.specs.Sayings.{NameBytes}
 use Rattle.ss_program.specs.declared.expression.Fold.TheVariants.{Sum}
 use Rattle.ss_program.specs.declared.expression.MemberQuery.TheVariants.{Successor}
@@ -20,7 +20,7 @@ use Rattle.ss_program.specs.declared.expression.Operator.TheVariants.{Add, Subtr
 use Rattle.ss_program.specs.declared.expression.SetQuery.TheVariants.{MemberCount}
 use Rattle.ss_program.specs.declared.expression.Variable.{Variable}
 use Rattle.ss_program.specs.declared.expression.Variable.TheVariants.{Global, Local}
-use Rattle.ss_program.specs.Program.{Expression, Constant, Fetch, Attribute, OfSystemSet, OfSet, OfMember, TimeOf, Figure, Calculate, TheSystem, Entity, ToVariable, ToAttribute, ToCount, ByDiscipline, At, Each, Call, Stop, Read, Find, Create, CreateEvery, File, ScheduleNew, Reset, Done, Then}
+use Rattle.ss_program.specs.Program.{Expression, Constant, Fetch, Attribute, OfSystemSet, OfSet, OfMember, TimeOf, Figure, Calculate, AValue, AMean, AMeanOf, TheSystem, Entity, ToVariable, ToAttribute, ToCount, ByDiscipline, At, Each, Call, Stop, Read, Find, Create, CreateEvery, File, ScheduleNew, Reset, Print, Done, Then}
 use Rattle.ss_contexts.specs.declared.meaning.ClassMeant.{ClassMeant}
 use Rattle.ss_contexts.specs.declared.meaning.Meaning.{Meaning}
 use Rattle.ss_contexts.specs.declared.meaning.Meaning.TheVariants as meanings
@@ -28,7 +28,7 @@ use Rattle.ss_contexts.specs.declared.meaning.SetMeant.{SetMeant}
 use Rattle.ss_contexts.specs.declared.meaning.SetMeant.TheVariants.{OfSystem, OfEntity}
 use Rattle.ss_contexts.specs.Answers.{each}
 use Rattle.ss_contexts.specs.Contexts.{Context}
-use Rattle.ss_contexts.specs.Expressions.{expression, subscript, two, factors, terms, target}
+use Rattle.ss_contexts.specs.Expressions.{expression, item, subscript, two, factors, terms, target}
 use Rattle.ss_contexts.specs.Heads.{head}
 use Rattle.ss_contexts.specs.Statements.{statement, statements}
 
@@ -43,7 +43,8 @@ use Rattle.ss_contexts.specs.Statements.{statement, statements}
 -- EVENT NOTICES
 -- EVERY BELL HAS A TONE
 -- THE SYSTEM OWNS A POOL
--- ACCUMULATE LOAD AS THE SUM OF N.POOL
+-- ACCUMULATE LOAD AS THE SUM, LEVEL AS THE MEAN OF N.POOL
+-- TALLY GRADE AS THE MEAN OF RANK
 -- END
 -- ROUTINE SHOW GIVEN JOB
 -- END
@@ -59,7 +60,7 @@ meaning_where job (Name name) = told (
     (codes "JOB", meanings.Variable job (Some Integer)) ∷ (codes "RANK", meanings.Attribute 1 0 (Some Integer) job) ∷
     (codes "N.QUEUE", meanings.OfSet MemberCount 0 (Global 0)) ∷ (codes "N.POOL", meanings.OfSystemSet MemberCount 1) ∷
     (codes "S.POOL", meanings.OfMember Successor 1 job) ∷ (codes "BELL", meanings.Variable (Global 3) (Some Integer)) ∷
-    (codes "LOAD", meanings.Figure Sum 0) ∷ []) name
+    (codes "LOAD", meanings.Figure Sum 0) ∷ (codes "LEVEL", meanings.Mean 0) ∷ (codes "GRADE", meanings.MeanOf 1 job) ∷ []) name
 meaning_where job TimeV = Some meanings.Clock
 meaning_where job TimeA = Some meanings.NoticeTime
 
@@ -77,7 +78,7 @@ class_where job name = told (
     (codes "BELL", class_with 2 Notice 1 (Global 3) None) ∷ []) name
 
 abbrev statistic_meant : Designator → Option ℕ
-statistic_meant (Name name) = told ((codes "N.POOL", 0) ∷ []) name
+statistic_meant (Name name) = told ((codes "N.POOL", 0) ∷ (codes "RANK", 1) ∷ []) name
 statistic_meant TimeV = None
 statistic_meant TimeA = None
 
@@ -156,6 +157,11 @@ pub figure : expression in_main (plain_name (codes "LOAD")) ≡ Some (Figure Sum
 unfolding expression subscript
 figure = refl
 
+-- LEVEL is a mean, and no value
+pub mean_as_value : expression in_main (plain_name (codes "LEVEL")) ≡ None
+unfolding expression subscript
+mean_as_value = refl
+
 -- TIME.A takes a subscript
 pub time_alone : expression in_main (named TimeA no_expression) ≡ None
 unfolding expression subscript
@@ -182,6 +188,41 @@ pub one_argument : expression in_main (call Div (and_expression (number (pos 7))
 unfolding expression two
 one_argument = refl
 
+-- ---- items of PRINT
+
+-- LEVEL, in parentheses and without, is a mean
+pub mean_alone : item in_main (plain_name (codes "LEVEL")) ≡ Some (AMean 0)
+unfolding expression subscript
+mean_alone = refl
+
+pub mean_in_parentheses : item in_main (parenthesised (parenthesised (plain_name (codes "LEVEL")))) ≡ Some (AMean 0)
+unfolding expression subscript
+mean_in_parentheses = refl
+
+-- .. and takes no subscript
+pub mean_subscript : item in_main (with_subscript (Name (codes "LEVEL")) (number (pos 1))) ≡ None
+unfolding expression subscript
+mean_subscript = refl
+
+-- GRADE is that of the JOB in the variable JOB, GRADE(5) that of another
+pub mean_implied : item in_main (plain_name (codes "GRADE")) ≡ Some (AMeanOf 1 (Fetch (Global 2)))
+unfolding expression subscript
+mean_implied = refl
+
+pub mean_of : item in_main (with_subscript (Name (codes "GRADE")) (number (pos 5))) ≡ Some (AMeanOf 1 (whole 5))
+unfolding expression subscript
+mean_of = refl
+
+-- LEVEL + 1 is nothing
+pub mean_in_a_sum : item in_main (sum (plain_name (codes "LEVEL")) (and_term signs.Plus (number (pos 1)) no_term)) ≡ None
+unfolding expression subscript terms
+mean_in_a_sum = refl
+
+-- LOAD is a value
+pub value_alone : item in_main (parenthesised (plain_name (codes "LOAD"))) ≡ Some (AValue (Figure Sum 0))
+unfolding expression subscript
+value_alone = refl
+
 -- ---- targets
 
 -- N. of a class may be assigned, N. of a set not
@@ -192,6 +233,10 @@ count_as_target = refl
 pub members_as_target : target in_main (named_plainly (codes "N.POOL")) ≡ None
 unfolding subscript
 members_as_target = refl
+
+pub mean_as_target : target in_main (named_plainly (codes "LEVEL")) ≡ None
+unfolding subscript
+mean_as_target = refl
 
 -- ---- statements
 
@@ -254,6 +299,13 @@ pub read_rank :
     Some (Read (line 12) (record { place = ToAttribute 1 0 (Fetch (Global 2)); mode = Integer } ∷ []))
 unfolding statement subscript each
 read_rank = refl
+
+-- PRINT 1 LINE WITH LEVEL, RANK THUS, and a picture
+pub print_mean :
+    statement in_main (print_statement (line 12) (plain_name (codes "LEVEL") ∷ plain_name (codes "RANK") ∷ []) (codes "*.* *" ∷ [])) ≡
+    Some (Print (line 12) (AMean 0 ∷ AValue (Attribute 1 0 (Fetch (Global 2))) ∷ []) (codes "*.* *" ∷ []))
+unfolding statement expression subscript each
+print_mean = refl
 
 -- RESET THE TOTALS OF N.POOL, and of N.QUEUE, which has no statistic
 pub reset_load : statement in_main (reset_statement (line 12) (named_plainly (codes "N.POOL") ∷ [])) ≡ Some (Reset (line 12) (record { statistic = 0; of = None } ∷ []))

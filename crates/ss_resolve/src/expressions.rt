@@ -11,6 +11,7 @@ ghost use Rattle.ss_contexts.specs.Answers.{Gives};
 ghost use Rattle.ss_contexts.specs.Expressions.{entity_of, expression, factors, one, plain, subscript, terms, time_of, two, value_of};
 ghost use Rattle.ss_resolve.specs.Results.{operation};
 
+use crate::results::unresolved;
 use crate::words::{operator_of, sign_of};
 use ss_base::Value;
 use ss_contexts::{Meaning, ResolveError, Scope};
@@ -55,9 +56,9 @@ fn time_of(alloc: Global, subscript: Option<Resolved>) -> Result<Resolved, Resol
     }
 }
 
-// The value of what is named, with the subscript if there is one.
+// The value of what is named, with the subscript if there is one; a mean is no value.
 #[tactic(auto, unfolding(ss_program::specs::View::view_expression), using(crate::proofs::Seen::plain_seen))]
-fn value_of(
+pub(crate) fn value_of(
     alloc: Global,
     meaning: Meaning,
     subscript: Option<Resolved>,
@@ -117,6 +118,7 @@ fn value_of(
         }
         Meaning::Clock => plain(subscript, Resolved::Clock),
         Meaning::NoticeTime => time_of(alloc, subscript),
+        Meaning::Mean { .. } | Meaning::MeanOf { .. } => Err(unresolved(subscript)),
     }
 }
 

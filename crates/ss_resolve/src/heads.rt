@@ -114,6 +114,8 @@ fn if_variable(meaning: Meaning) -> Result<Variable, ResolveError>
         | Meaning::OfMember { .. }
         | Meaning::Figure { .. }
         | Meaning::FigureOf { .. }
+        | Meaning::Mean { .. }
+        | Meaning::MeanOf { .. }
         | Meaning::Clock
         | Meaning::NoticeTime => Err(ResolveError::Unresolved),
     }

@@ -39,6 +39,8 @@ fn place_of(meaning: Meaning, subscript: Option<Resolved>) -> Result<Place, Reso
         | Meaning::OfMember { .. }
         | Meaning::Figure { .. }
         | Meaning::FigureOf { .. }
+        | Meaning::Mean { .. }
+        | Meaning::MeanOf { .. }
         | Meaning::Clock
         | Meaning::NoticeTime => Err(ResolveError::Unresolved),
     }
@@ -86,6 +88,8 @@ fn mode_of(meaning: Meaning) -> Result<Mode, ResolveError>
         | Meaning::OfMember { .. }
         | Meaning::Figure { .. }
         | Meaning::FigureOf { .. }
+        | Meaning::Mean { .. }
+        | Meaning::MeanOf { .. }
         | Meaning::Clock
         | Meaning::NoticeTime => None,
     };
@@ -197,6 +201,8 @@ fn told_of(meaning: Meaning, subscript: Option<Resolved>) -> Result<Option<Resol
         | Meaning::OfMember { .. }
         | Meaning::Figure { .. }
         | Meaning::FigureOf { .. }
+        | Meaning::Mean { .. }
+        | Meaning::MeanOf { .. }
         | Meaning::Clock
         | Meaning::NoticeTime => Err(ResolveError::Unresolved),
     }

@@ -1,5 +1,7 @@
 //! Steps that may fail, one after the other.
 
+ghost use Rattle.std.specs.Prelude.{◌≡◌};
+ghost use Rattle.ss_contexts.specs.declared.error.ResolveError.TheVariants.{Unresolved};
 ghost use Rattle.ss_contexts.specs.Answers.{Gives, where_holds};
 ghost use Rattle.ss_resolve.specs.Results.{Beside};
 
@@ -27,4 +29,11 @@ pub(crate) fn where_holds<T: Drop>(holds: bool, value: T) -> Result<T, ResolveEr
     } else {
         Err(ResolveError::Unresolved)
     }
+}
+
+/// That there is no resolved form, though something was made on the way, which goes.
+pub(crate) fn unresolved<T: Drop>(_made: T) -> ResolveError
+    ensures { result ≡ Unresolved }
+{
+    ResolveError::Unresolved
 }

@@ -8,6 +8,7 @@ ghost use Rattle.ss_contexts.specs.Answers.{Gives};
 ghost use Rattle.ss_contexts.specs.Statements.{call_of, statement};
 
 use crate::expressions::resolve_expression;
+use crate::items::resolve_items;
 use crate::lists::resolve_all;
 use crate::places::{resolve_readers, resolve_target, resolve_targets};
 use crate::results::beside;
@@ -157,7 +158,7 @@ pub(crate) fn resolve_print<S: Scope>(
 ) -> Result<Resolved, ResolveError>
     ensures { Gives view_resolved result (statement (S.context scope.now) (print_statement line (map view_expression items.now) pictures.now)) }
 {
-    let items = resolve_all(alloc, scope, items)?;
+    let items = resolve_items(alloc, scope, items)?;
     let pictures = picture_lines(alloc, pictures)?;
     Ok(Resolved::Print {
         line,

@@ -11,7 +11,7 @@ use crate::events::{await_event, file_notice, make_notice, next_event, reschedul
 use crate::leaving::leave;
 use crate::looping::{begin, begin_class, forget, next};
 use crate::members::{begin_at, begin_set, next_member, take_member};
-use crate::statistics::{figure, reset};
+use crate::statistics::{figure, look_mean, reset};
 use ss_code::code::Code;
 use ss_machine_code::instruction::Instruction;
 use ss_working::working::{Outcome, Working};
@@ -70,6 +70,11 @@ pub fn perform(
         Instruction::LookEntity { class, line } => Ok(working.look_entity(class, line)),
         Instruction::LookMember { set, line } => Ok(working.look_member(set, line)),
         Instruction::LookOwner { set, system, line } => Ok(working.look_owner(set, system, line)),
+        Instruction::LookMean {
+            statistic,
+            system,
+            line,
+        } => Ok(look_mean(working, statistic, system, line)),
         Instruction::Assign { to, line } => Ok(working.assign(to, line)),
         Instruction::Change { sign, to, line } => Ok(working.change(sign, to, line)),
         Instruction::Give { to, line } => Ok(working.give(to, line)),

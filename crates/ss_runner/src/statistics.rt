@@ -33,6 +33,19 @@ pub fn figure(
     working.answer(answer, line)
 }
 
+/// Looks at the mean that a statistic is, of the entity that has its subject, the reference to which stays on top, unless
+/// the system has it.
+pub fn look_mean(working: &mut Working, statistic: usize, system: bool, line: Line) -> Outcome
+    requires { working.old.place + 1 < 2 ^ 64 }
+    ensures { (code : CodeSeen) (input : List ℕ) → Told result (act code (Instruction.LookMean statistic system line) (core_of working.old input)) (core_of working.new input) }
+{
+    let Some(whose) = working.operands.owner(system) else {
+        return Outcome::Missing;
+    };
+    let answer = working.scene.mean(statistic, whose);
+    working.pass_by(answer, line)
+}
+
 /// The history of a statistic starts afresh with the present value, that of the entity that the value on top refers
 /// to, unless the system has its subject.
 pub fn reset(working: &mut Working, statistic: usize, system: bool, line: Line) -> Outcome

@@ -31,7 +31,9 @@ pub enum Known {
     Membership(Holder),
     /// N. of a permanent class.
     EntityCount,
-    /// A statistic, which what has its subject has.
+    /// A statistic that is a value, which what has its subject has.
     Statistic(Holder),
+    /// A MEAN, which is no value; what has its subject has it.
+    Mean(Holder),
     Routine,
 }

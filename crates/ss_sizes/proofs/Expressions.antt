@@ -1,18 +1,19 @@
--- Expressions, targets and sets.
+-- Expressions, items of PRINT, targets and sets.
 use Rattle.std.proofs.Common.{ℕ, ◌+◌, ◌≤◌, Option, Some, None, arith}
+use Rattle.std.specs.Prelude.{option_map}
 use Rattle.ss_tree.specs.declared.expression.Function.TheVariants.{Div, Mod, Abs, Min, Max}
 use Rattle.ss_tree.specs.Nodes as tree
 use Rattle.ss_tree.specs.Tree.{ExpressionTree, number, text, named, call, parenthesised, product, signed, sum, ExpressionRow, no_expression, and_expression, TermRow, no_term, and_term, NamedTree}
 use Rattle.ss_program.specs.declared.expression.Operator.TheVariants.{Multiply}
 use Rattle.ss_program.specs.declared.expression.Variable.{Variable}
-use Rattle.ss_program.specs.Nodes.{option_nodes, unless_plain, expression_nodes, subscript_nodes, set_nodes, place_nodes}
-use Rattle.ss_program.specs.Program.{Expression, Fetch, Calculate, SetOwner}
+use Rattle.ss_program.specs.Nodes.{option_nodes, unless_plain, expression_nodes, subscript_nodes, item_nodes, set_nodes, place_nodes}
+use Rattle.ss_program.specs.Program.{Expression, Fetch, Calculate, AValue, SetOwner}
 use Rattle.ss_contexts.specs.declared.meaning.Meaning.{Meaning}
 use Rattle.ss_contexts.specs.declared.meaning.Meaning.TheVariants as meanings
 use Rattle.ss_contexts.specs.declared.meaning.SetMeant.{SetMeant}
 use Rattle.ss_contexts.specs.declared.meaning.SetMeant.TheVariants.{OfSystem, OfEntity}
 use Rattle.ss_contexts.specs.Contexts.{Context}
-use Rattle.ss_contexts.specs.Expressions.{entity_of, value_of, place_of, owned_by, operator_of, expression, subscript, one, two, factors, terms, target, set_named}
+use Rattle.ss_contexts.specs.Expressions.{entity_of, value_of, item_of, place_of, owned_by, operator_of, expression, subscript, one, two, factors, terms, item, target, set_named}
 use Rattle.ss_sizes.proofs.Within.{Within, up, after, behind, plain_small}
 
 plain_less : (e : Expression) (n : ℕ) → unless_plain e n ≤ n
@@ -36,6 +37,18 @@ value_small (meanings.FigureOf fold statistic implied) e n h = omega (arith, ent
 value_small meanings.Clock e n h = plain_small expression_nodes (1 + n) e _ (omega arith)
 value_small meanings.NoticeTime None n h = tt
 value_small meanings.NoticeTime (Some e) n h = omega (arith, h)
+value_small (meanings.Mean statistic) e n h = tt
+value_small (meanings.MeanOf statistic implied) e n h = tt
+
+-- a value as an item
+shown_small : (n : ℕ) (r : Option Expression) → Within expression_nodes n r → Within item_nodes n (option_map AValue r)
+shown_small n None h = tt
+shown_small n (Some e) h = h
+
+named_item_small : (m : Meaning) (e : Option Expression) (n : ℕ) → option_nodes expression_nodes e ≤ n → Within item_nodes (1 + n) (item_of m e)
+named_item_small (meanings.Mean statistic) e n h = plain_small item_nodes (1 + n) e _ (omega arith)
+named_item_small (meanings.MeanOf statistic implied) e n h = omega (arith, entity_small implied e n h)
+named_item_small m e n h = shown_small (1 + n) (value_of m e) (value_small m e n h)
 
 place_small : (m : Meaning) (e : Option Expression) (n : ℕ) → option_nodes expression_nodes e ≤ n → Within place_nodes (1 + n) (place_of m e)
 place_small (meanings.Variable x mode) e n h = plain_small place_nodes (1 + n) e _ (omega arith)
@@ -114,6 +127,13 @@ module _ (c : Context) where
         after expression_nodes expression_nodes (tree.expression_nodes e) (expression_nodes left + (1 + tree.expression_nodes e + tree.term_nodes es)) (expression c e) _ (small e) (λ x lt.
         up expression_nodes (expression_nodes (Calculate (operator_of sign) left x) + tree.term_nodes es) (expression_nodes left + (1 + tree.expression_nodes e + tree.term_nodes es)) (terms c (Calculate (operator_of sign) left x) es)
         (terms_small (Calculate (operator_of sign) left x) es) (omega (arith, lt)))
+
+  pub item_small : (e : ExpressionTree) → Within item_nodes (tree.expression_nodes e) (item c e)
+  item_small (parenthesised e) = item_small e
+  item_small (named d es) =
+      after (option_nodes expression_nodes) item_nodes (tree.row_nodes es) (1 + tree.row_nodes es) (subscript c es) _ (subscript_small es) (λ x lt.
+      behind item_nodes (1 + tree.row_nodes es) (c.meaning d) _ (λ m. named_item_small m x (tree.row_nodes es) lt))
+  item_small e = shown_small (tree.expression_nodes e) (expression c e) (small e)
 
   pub target_small : (n : NamedTree) → Within place_nodes (tree.named_nodes n) (target c n)
   target_small n =

@@ -6,17 +6,17 @@ use Rattle.ss_tree.specs.declared.statement.FindOutcome.{FindOutcome}
 use Rattle.ss_tree.specs.declared.statement.FindOutcome.TheVariants as outcomes
 use Rattle.ss_tree.specs.Nodes as tree
 use Rattle.ss_tree.specs.Tree.{HeadTree, over_range, over_members, over_class, guarded, StatementTree, let_statement, add_statement, subtract_statement, call_statement, return_statement, stop_statement, read_statement, start_simulation, if_statement, loop_statement, find_statement, find_if_statement, create_statement, create_every, destroy_statement, file_statement, remove_end, remove_statement, schedule_new, schedule_statement, cancel_statement, reset_statement, print_statement, skip_statement, StatementRow, no_statement, and_statement}
-use Rattle.ss_program.specs.Nodes.{total, expression_nodes, condition_nodes, guard_nodes, phrase_nodes, place_nodes, target_nodes, head_nodes, position_nodes, when_nodes, restart_nodes, statement_nodes, block_nodes}
+use Rattle.ss_program.specs.Nodes.{total, expression_nodes, item_nodes, condition_nodes, guard_nodes, phrase_nodes, place_nodes, target_nodes, head_nodes, position_nodes, when_nodes, restart_nodes, statement_nodes, block_nodes}
 use Rattle.ss_program.specs.Program.{Block, Done}
 use Rattle.ss_contexts.specs.Answers.{each}
 use Rattle.ss_contexts.specs.Contexts.{Context, single_class, notice_class, counted}
 use Rattle.ss_contexts.specs.Conditions.{condition}
-use Rattle.ss_contexts.specs.Expressions.{expression, target, set_named}
+use Rattle.ss_contexts.specs.Expressions.{expression, item, target, set_named}
 use Rattle.ss_contexts.specs.Heads.{guard, head, phrase, phrases_of}
 use Rattle.ss_contexts.specs.Statements.{entity_called, find, find_by, for_over, loop, new_place, position, reader, restart, statement, statements, when}
 use Rattle.ss_sizes.specs.Laws.{BodiesStaySmall}
 use Rattle.ss_sizes.proofs.Within.{Within, within_of, up, after, behind, where_small, each_small, each_as_many}
-use Rattle.ss_sizes.proofs.Expressions.{small, target_small, set_small}
+use Rattle.ss_sizes.proofs.Expressions.{small, item_small, target_small, set_small}
 use Rattle.ss_sizes.proofs.Parts.{owner_nodes, own_nodes, own_and_phrases, condition_small, phrase_small, guard_small, head_small, reader_small, new_small, called_small, restart_small, position_small, when_small}
 
 module _ (c : Context) where
@@ -137,7 +137,7 @@ module _ (c : Context) where
     statement_small (reset_statement line targets) =
         after (total restart_nodes) statement_nodes (sum_by tree.named_nodes targets) (1 + sum_by tree.named_nodes targets) (each (restart c) targets) _ (each_small tree.named_nodes restart_nodes (restart c) (restart_small c) targets) (λ xs lt. omega (arith, lt))
     statement_small (print_statement line items pictures) =
-        after (total expression_nodes) statement_nodes (sum_by tree.expression_nodes items) (1 + sum_by tree.expression_nodes items + length pictures) (each (expression c) items) _ (each_small tree.expression_nodes expression_nodes (expression c) (small c) items) (λ xs lt. omega (arith, lt))
+        after (total item_nodes) statement_nodes (sum_by tree.expression_nodes items) (1 + sum_by tree.expression_nodes items + length pictures) (each (item c) items) _ (each_small tree.expression_nodes item_nodes (item c) (item_small c) items) (λ xs lt. omega (arith, lt))
     statement_small (skip_statement line e) = after expression_nodes statement_nodes (tree.expression_nodes e) (1 + tree.expression_nodes e) (expression c e) _ (small c e) (λ x lt. omega (arith, lt))
 
     pub row_small : (ts : StatementRow) → Within block_nodes (tree.statements_nodes ts) (statements c ts)

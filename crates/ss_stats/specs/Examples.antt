@@ -1,9 +1,9 @@
 -- Worked examples of histories and their statistics.
-use Rattle.std.specs.Prelude.{◌≡◌, ◌^◌, ◌-◌, [], ◌∷◌, pos, negsuc, Ok, Err}
+use Rattle.std.specs.Prelude.{◌≡◌, ◌^◌, ◌-◌, [], ◌∷◌, ℤ, pos, negsuc, Ok, Err}
 use Rattle.std.proofs.Common.{refl}
 use Rattle.ss_base.specs.declared.fault.FaultKind.TheVariants.{Overflow}
 use Rattle.ss_base.specs.Arithmetic.{in_64_bits}
-use Rattle.ss_stats.specs.History.{History, Tally, Accumulate, number_of, sum_of, maximum_of, minimum_of, with_value, restarted}
+use Rattle.ss_stats.specs.History.{History, Tally, Accumulate, number_of, sum_of, mean_of, maximum_of, minimum_of, with_value, restarted}
 
 -- a variable that is given 4, -2 and 7
 abbrev pub three_values : History
@@ -16,6 +16,13 @@ pub three_values-sum : sum_of three_values (pos 0) ≡ Ok (pos 9)
 unfolding in_64_bits
 three_values-sum = refl
 
+-- the sum and the number, which are 9 and 3
+abbrev pub nine_of_three : ℤ × ℤ
+nine_of_three = (pos 9, pos 3)
+
+pub three_values-mean : mean_of three_values (pos 0) ≡ nine_of_three
+three_values-mean = refl
+
 pub three_values-maximum : maximum_of three_values ≡ pos 7
 three_values-maximum = refl
 
@@ -25,6 +32,12 @@ three_values-minimum = refl
 -- a reset leaves none of them
 pub none-number : number_of (restarted three_values (pos 0) (pos 7)) (pos 0) ≡ pos 0
 none-number = refl
+
+abbrev pub nothing_of_none : ℤ × ℤ
+nothing_of_none = (pos 0, pos 0)
+
+pub none-mean : mean_of (restarted three_values (pos 0) (pos 7)) (pos 0) ≡ nothing_of_none
+none-mean = refl
 
 pub none-maximum : maximum_of (restarted three_values (pos 0) (pos 7)) ≡ pos 0
 none-maximum = refl
@@ -41,6 +54,12 @@ two_changes-number = refl
 pub two_changes-sum : sum_of two_changes (pos 10) ≡ Ok (pos 30)
 unfolding in_64_bits
 two_changes-sum = refl
+
+abbrev pub thirty_of_ten : ℤ × ℤ
+thirty_of_ten = (pos 30, pos 10)
+
+pub two_changes-mean : mean_of two_changes (pos 10) ≡ thirty_of_ten
+two_changes-mean = refl
 
 pub two_changes-maximum : maximum_of two_changes ≡ pos 4
 two_changes-maximum = refl
@@ -67,6 +86,13 @@ too_large = Tally (pos (2 ^ 63 - 1) ∷ pos 1 ∷ [])
 pub too_large-sum : sum_of too_large (pos 0) ≡ Err Overflow
 unfolding in_64_bits
 too_large-sum = refl
+
+-- the mean has it all the same
+abbrev pub two_to_63_of_two : ℤ × ℤ
+two_to_63_of_two = (pos 9223372036854775808, pos 2)
+
+pub too_large-mean : mean_of too_large (pos 0) ≡ two_to_63_of_two
+too_large-mean = refl
 
 -- with -5 behind them it fits again
 pub large_again-sum : sum_of (with_value too_large (pos 0) (negsuc 4)) (pos 0) ≡ Ok (pos 9223372036854775803)

@@ -28,7 +28,7 @@ abbrev pub last_moment : History → ℤ
 last_moment (Tally values) = pos 0
 last_moment (Accumulate start changes) = (last_of start changes).moment
 
--- ---- the four statistics
+-- ---- the statistics
 
 -- NUMBER: how many values were noted, or the time since the start
 abbrev pub number_of : History → ℤ → ℤ
@@ -45,6 +45,10 @@ weighed_sum standing (next ∷ later) now =
 abbrev pub exact_sum_of : History → ℤ → ℤ
 exact_sum_of (Tally values) now = fold ◌+ℤ◌ (pos 0) values
 exact_sum_of (Accumulate start changes) now = weighed_sum start changes now
+
+-- MEAN: the exact sum, and the NUMBER by which it is divided where it is printed
+abbrev pub mean_of : History → ℤ → ℤ × ℤ
+mean_of history now = (exact_sum_of history now, number_of history now)
 
 -- SUM: the exact sum, or an overflow
 abbrev pub sum_of : History → ℤ → Result ℤ FaultKind

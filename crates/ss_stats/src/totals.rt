@@ -1,5 +1,5 @@
 ghost use Rattle.std.specs.Prelude.{◌≡◌, ◌↔◌, ◌^◌, ℤ, pos, neg_ℤ, ◌*ℤ◌, ◌≤ℤ◌, [], OnOk, OnErr, IsTrue};
-ghost use Rattle.ss_stats.specs.History.{History, Tally, Accumulate, number_of, sum_of, exact_sum_of, maximum_of, minimum_of, note_outcome, with_value, restarted};
+ghost use Rattle.ss_stats.specs.History.{History, Tally, Accumulate, number_of, sum_of, exact_sum_of, mean_of, maximum_of, minimum_of, note_outcome, with_value, restarted};
 ghost use Rattle.ss_stats.specs.Summary.{StandsFor, times_until};
 ghost use Rattle.ss_stats.specs.declared.totals.Weighing.TheVariants.{Once};
 
@@ -142,10 +142,7 @@ impl Totals {
         requires { self.now.last_moment ≤ℤ now }
         ensures { (h : History) → StandsFor self.now h → result ≡ number_of h now }
     {
-        match self.weighing {
-            Weighing::Once { number } => number,
-            Weighing::ByTime { start, .. } => now - start,
-        }
+        self.times(now)
     }
 
     /// SUM: the sum of the values noted, or of each value times the time for which it stood until now.
@@ -158,6 +155,20 @@ impl Totals {
         ensures { (h : History) → StandsFor self.now h → result ≡ sum_of h now }
     {
         i64::try_from(self.exact_sum(now)).map_err(|_| FaultKind::Overflow)
+    }
+
+    /// MEAN, before it is divided: the sum until now, however large it is, and NUMBER.
+    ///
+    /// No fault comes, not even where SUM would be an overflow. The number is at least 0, and where it is 0
+    /// the sum is 0 too; their quotient lies from -2^63 to 2^63.
+    pub fn mean(&self, now: i64) -> (i128, i64)
+        requires { self.now.last_moment ≤ℤ now }
+        ensures value { (h : History) → StandsFor self.now h → result ≡ mean_of h now }
+        ensures count { pos 0 ≤ℤ result.1 }
+        ensures low { neg_ℤ (pos (2 ^ 63) *ℤ result.1) ≤ℤ result.0 }
+        ensures high { result.0 ≤ℤ (pos (2 ^ 63) *ℤ result.1) }
+    {
+        (self.exact_sum(now), self.times(now))
     }
 
     /// MAXIMUM: the greatest of the values, the starting value of an accumulation among them, and 0 of
@@ -186,6 +197,19 @@ impl Totals {
         match self.weighing {
             Weighing::Once { .. } => self.sum,
             Weighing::ByTime { since, value, .. } => self.sum + weighed(value, now - since),
+        }
+    }
+
+    /// How often a value went into the sum until now: once for each that was noted, or once for each unit of time.
+    fn times(&self, now: i64) -> i64
+        requires { self.now.last_moment ≤ℤ now }
+        ensures value { (h : History) → StandsFor self.now h → result ≡ number_of h now }
+        ensures times { result ≡ times_until self.now.weighing now }
+        ensures count { pos 0 ≤ℤ result }
+    {
+        match self.weighing {
+            Weighing::Once { number } => number,
+            Weighing::ByTime { start, .. } => now - start,
         }
     }
 

@@ -1,5 +1,7 @@
 mod Found
 mod Known
+mod Fields
+mod Items
 mod Inputs
 mod Unread
 mod Stepping

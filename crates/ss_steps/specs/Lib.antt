@@ -1,3 +1,4 @@
+pub mod Shown
 pub mod Sent
 pub mod Runs
 pub mod Unread

@@ -6,5 +6,6 @@ pub mod laws;
 pub mod one_step;
 mod printing;
 mod reading;
+pub mod showing;
 pub mod step;
 pub mod stop;

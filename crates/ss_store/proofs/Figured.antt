@@ -1,5 +1,5 @@
 -- What a statistic says, step by step.
-use Rattle.std.proofs.Common.{◌≡◌, ℕ, Option, Some, None, Ok, Err, refl, ap, ◌∙◌, sym, subst}
+use Rattle.std.proofs.Common.{◌≡◌, ℕ, ℤ, Option, Some, None, Ok, Err, refl, ap, ◌∙◌, sym, subst}
 use Rattle.std.specs.Prelude.{slice_get, Result as OkOr}
 use Rattle.std.specs.Option.{option_map}
 use Rattle.ss_base.specs.declared.value.Value.{Value}
@@ -9,8 +9,8 @@ use Rattle.ss_program.specs.declared.sections.Subject.TheVariants.{OfVariable, O
 use Rattle.ss_program.specs.declared.sections.Statistic.{Statistic}
 use Rattle.ss_meaning.specs.Values.{if_ok, turned, sure, number_of}
 use Rattle.ss_meaning.specs.Store.{Store}
-use Rattle.ss_meaning.specs.Histories.{figure_kept}
-use Rattle.ss_meaning.specs.Statistics.{subject_of, bearer, present, figure, reset}
+use Rattle.ss_meaning.specs.Histories.{figure_kept, mean_kept}
+use Rattle.ss_meaning.specs.Statistics.{subject_of, bearer, present, figure, mean, reset}
 use Rattle.ss_population.specs.declared.known.Known.{Known}
 use Rattle.ss_population.specs.declared.trouble.Trouble.{Trouble}
 use Rattle.ss_population.specs.Told.{told}
@@ -30,6 +30,12 @@ figured_of fold j whose e f t k r is found same kept s =
     ap (λ q. if_ok q (λ t. if_ok (bearer t whose (with_seen s e)) (λ n. figure_kept fold j n (with_seen s e)))) (subject_there e j t s is)
     ∙ ap (λ q. if_ok q (λ n. figure_kept fold j n (with_seen s e))) (found s)
     ∙ subst (λ (e : Seen). figure_kept fold j k.number (with_seen s e) ≡ told r) same (kept s)
+
+pub mean_found : (j : ℕ) (whose : Option Value) (e f : Seen) (t : Subject) (k : Known) (r : OkOr (ℤ × ℤ) Trouble) → Some t ≡ subject_in e.statistics j → ((s : Store) → bearer t whose (with_seen s e) ≡ Ok k.number) → f ≡ e → Looks (mean_kept j k.number) f r → Looks (mean j whose) e r
+mean_found j whose e f t k r is found same kept s =
+    ap (λ q. if_ok q (λ t. if_ok (bearer t whose (with_seen s e)) (λ n. mean_kept j n (with_seen s e)))) (subject_there e j t s is)
+    ∙ ap (λ q. if_ok q (λ n. mean_kept j n (with_seen s e))) (found s)
+    ∙ subst (λ (e : Seen). mean_kept j k.number (with_seen s e) ≡ told r) same (kept s)
 
 -- ## RESET
 

@@ -1,14 +1,17 @@
 //! Statistics: what histories note, what they say, and RESET.
 
-ghost use Rattle.std.specs.Prelude.{◌≡◌, [], false, pos};
-ghost use Rattle.ss_meaning.specs.Histories.{noted, figure_kept};
-ghost use Rattle.ss_meaning.specs.Statistics.{bearer, figure, reset};
+ghost use Rattle.std.specs.Prelude.{◌≡◌, [], true, false, pos, Ok, IfOk};
+ghost use Rattle.ss_base.specs.declared.value.Value.{Value as ValueSeen};
+ghost use Rattle.ss_meaning.specs.Store.{Store as StoreSeen};
+ghost use Rattle.ss_meaning.specs.Histories.{noted, figure_kept, mean_kept};
+ghost use Rattle.ss_meaning.specs.Statistics.{bearer, figure, mean, reset};
+ghost use Rattle.ss_picture.specs.Suited.{IsMean};
 ghost use Rattle.ss_histories.specs.Records.{figured};
 ghost use Rattle.ss_population.specs.Told.{told, numbered};
 ghost use Rattle.ss_program.specs.declared.sections.Subject.TheVariants.{OfVariable, OfAttribute};
 ghost use Rattle.ss_timeline.specs.Figures.{subject_in, variable_in, variable_of, held_by, present_with, renewed_known, reset_of};
 ghost use Rattle.ss_store.specs.Filed.{IsCountable, CountsWatched, recounted_now};
-ghost use Rattle.ss_store.specs.Seen.{Looks, Changes, ChangesWhere, or_unnoted};
+ghost use Rattle.ss_store.specs.Seen.{Looks, Changes, ChangesWhere, or_unnoted, with_seen};
 
 use crate::scene::Scene;
 use ss_base::{FaultKind, Value};
@@ -25,6 +28,14 @@ impl Scene {
         ensures { result ≡ false → self.now.statistics ≡ [] }
     {
         self.timeline.has_statistics()
+    }
+
+    /// Whether no statistic is about a global variable: then no value of it is noted.
+    #[inline(always)]
+    pub fn ignores_variable(&self, number: usize) -> bool
+        ensures { result ≡ true → (v : ValueSeen) (s : StoreSeen) → noted (OfVariable number) (pos 0) v (with_seen s self.now) ≡ Ok (with_seen s self.now) }
+    {
+        self.timeline.ignores_variable(number)
     }
 
     // Notes a value of a subject in its histories of an entity, by its number.
@@ -145,6 +156,34 @@ impl Scene {
             Some(subject) => match self.bearer(subject, &whose) {
                 Err(trouble) => Err(trouble),
                 Ok(known) => self.figure_kept(fold, statistic, known),
+            },
+        }
+    }
+
+    // The mean of the history of an entity in a statistic, by its number.
+    fn mean_kept(&self, statistic: usize, known: Known) -> Result<(i128, i64), Trouble>
+        ensures value { Looks (mean_kept statistic known.number) self.now result }
+        ensures is_mean { IfOk result (λ mean. IsMean mean.0 mean.1) }
+    {
+        match self.timeline.mean(statistic, known.number) {
+            None => Err(Trouble::Misfit),
+            Some(mean) => Ok(mean),
+        }
+    }
+
+    /// The exact sum and the number of which a statistic is the mean, of its subject, of an entity if one has that. The
+    /// number is at least 0, and their quotient, where it isn't 0, lies from -2^63 to 2^63, so that they can be printed.
+    /// Faults: 1 to 5.
+    pub fn mean(&mut self, statistic: usize, whose: Option<Value>) -> Result<(i128, i64), Trouble>
+        ensures value { Looks (mean statistic whose) self.old result }
+        ensures is_mean { IfOk result (λ mean. IsMean mean.0 mean.1) }
+        ensures same { self.new ≡ self.old }
+    {
+        match self.subject(statistic) {
+            None => Err(Trouble::Misfit),
+            Some(subject) => match self.bearer(subject, &whose) {
+                Err(trouble) => Err(trouble),
+                Ok(known) => self.mean_kept(statistic, known),
             },
         }
     }

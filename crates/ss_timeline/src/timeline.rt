@@ -1,15 +1,17 @@
 //! TIME.V, the notices that are pending, and the histories.
 
-ghost use Rattle.std.specs.Prelude.{◌≡◌, ◌≤ℤ◌, [], map, pos, false, Ok, Err, MatchResult, IfOk, OnOk};
+ghost use Rattle.std.specs.Prelude.{◌≡◌, ◌≤ℤ◌, [], map, ℤ, pos, true, false, Ok, Err, MatchResult, IfOk, IfSome, OnOk};
+ghost use Rattle.ss_base.specs.declared.value.Value.{Value as ValueSeen};
 ghost use Rattle.std.specs.List.{list_any};
 ghost use Rattle.std.specs.Ordering.{int_eq};
 ghost use Rattle.ss_base.specs.declared.layout.Owner.TheVariants.{System, Class};
 ghost use Rattle.ss_events.specs.PendingList.{none_pending, is_pending, cancelled, next};
 ghost use Rattle.ss_histories.specs.Places.{is_about};
-ghost use Rattle.ss_histories.specs.Records.{HasRooms, is_up_to, renewed_where, figured, columns_of};
-ghost use Rattle.ss_meaning.specs.Histories.{no_histories, starting, ending, history_of, folded, renewed};
-ghost use Rattle.ss_meaning.specs.Values.{if_ok};
-ghost use Rattle.ss_program.specs.declared.sections.Subject.TheVariants.{OfAttribute};
+ghost use Rattle.ss_histories.specs.Records.{HasRooms, is_up_to, renewed_where, figured, mean_in, columns_of};
+ghost use Rattle.ss_meaning.specs.Histories.{no_histories, starting, ending, all_noting, history_of, folded, renewed};
+ghost use Rattle.ss_meaning.specs.Values.{if_ok, sure};
+ghost use Rattle.ss_picture.specs.Suited.{IsMean};
+ghost use Rattle.ss_program.specs.declared.sections.Subject.TheVariants.{OfVariable, OfAttribute};
 ghost use Rattle.ss_timeline.specs.Figures.{subject_in};
 ghost use Rattle.ss_timeline.specs.Times.{IsAt, Schedules, Noted, columns, passed_by};
 
@@ -131,6 +133,14 @@ impl Timeline {
         self.histories.watches(subject)
     }
 
+    /// Whether no statistic is about a global variable: then noting a value of it changes nothing.
+    #[inline(always)]
+    pub fn ignores_variable(&self, number: usize) -> bool
+        ensures { result ≡ true → (x now : ℤ) (v : ValueSeen) → all_noting (OfVariable number) x now v self.now.histories.statistics (columns self.now) ≡ Ok (columns self.now) }
+    {
+        self.histories.ignores_variable(number)
+    }
+
     /// What a statistic is about.
     pub fn subject(&self, statistic: usize) -> Option<Subject>
         ensures { result ≡ subject_in self.now.histories.statistics statistic }
@@ -223,6 +233,14 @@ impl Timeline {
         ensures { if_ok (history_of statistic entity (columns self.now)) (folded fold self.now.time) ≡ figured result }
     {
         self.histories.figure(fold, statistic, entity, self.time)
+    }
+
+    /// The mean of the history of an entity in a statistic, if it has one: its exact sum and its number.
+    pub fn mean(&self, statistic: usize, entity: i64) -> Option<(i128, i64)>
+        ensures value { mean_in statistic entity self.now.time (columns self.now) ≡ sure result }
+        ensures is_mean { IfSome result (λ mean. IsMean mean.0 mean.1) }
+    {
+        self.histories.mean(statistic, entity, self.time)
     }
 
     /// Starts the history of an entity in a statistic afresh, with the present value, if it has one: whether it has.

@@ -53,6 +53,7 @@ pub enum StatisticKind {
     Sum,
     Maximum,
     Minimum,
+    Mean,
 }
 
 /// A statistic and its name.

@@ -1,6 +1,7 @@
 -- Expressions, places and conditions of a well-typed program have their values.
-use Rattle.std.proofs.Common.{◌≡◌, ℕ, Bool, true, false, List, [], ◌∷◌, Option, Some, None, ℤ, pos, refl, sym, subst}
-use Rattle.std.specs.Prelude.{Result, int_lt}
+use Rattle.std.proofs.Common.{◌≡◌, ℕ, ◌≤◌, Bool, true, false, List, [], ◌∷◌, Option, Some, None, ℤ, pos, refl, sym, subst}
+use Rattle.std.proofs.lemmas.Bool.{eq-eqb, le-leb}
+use Rattle.std.specs.Prelude.{Result, int_lt, ◌&&◌}
 use Rattle.std.specs.List.{AllByRecursion as Every, AllZip}
 use Rattle.std.specs.Option.{IfSome}
 use Rattle.ss_base.specs.declared.layout.Mode.{Mode}
@@ -10,23 +11,26 @@ use Rattle.ss_base.specs.declared.value.Value.{Value}
 use Rattle.ss_base.specs.declared.value.Value.TheVariants.{Whole, Text}
 use Rattle.ss_base.specs.Layout.{mode_of}
 use Rattle.ss_input.specs.Words.{is_ended}
+use Rattle.ss_picture.specs.declared.field.Field.{Field}
+use Rattle.ss_picture.specs.declared.items.Item.{Item as Shown}
+use Rattle.ss_picture.specs.declared.items.Item.TheVariants.{Is, Mean}
 use Rattle.ss_program.specs.declared.expression.Sign.{Sign}
 use Rattle.ss_program.specs.declared.expression.Operator.{Operator}
 use Rattle.ss_program.specs.declared.condition.Relation.{Relation}
-use Rattle.ss_program.specs.Program.{Expression, Constant, Fetch, Attribute, OfSystemSet, OfSet, OfMember, Clock, TimeOf, Figure, FigureOf, Signed, Absolute, Calculate, SetOwner, TheSystem, Entity, Test, Compare, DataEnded, Empty, Member, Condition, Guard, Place, ToVariable, ToAttribute, ToCount, Position, ByDiscipline, AsFirst, AsLast, BeforeMember, AfterMember, When, At, In, Now, Program}
-use Rattle.ss_program.specs.WellTyped.{Scope, WellTyped, HasMode, HaveModes, IsSet, OwnerFits, GoodTest, GoodCondition, TakesMode, GoodPosition, GoodWhen, HasSubject, IsAlone, IsOfEntities}
-use Rattle.ss_meaning.specs.Values.{Trouble, if_ok, turned, due, sure, made, calculated, operator_of, signed, distance, absolute, related}
+use Rattle.ss_program.specs.Program.{Expression, Constant, Fetch, Attribute, OfSystemSet, OfSet, OfMember, Clock, TimeOf, Figure, FigureOf, Signed, Absolute, Calculate, SetOwner, TheSystem, Entity, Test, Compare, DataEnded, Empty, Member, Condition, Guard, Place, ToVariable, ToAttribute, ToCount, Position, ByDiscipline, AsFirst, AsLast, BeforeMember, AfterMember, When, At, In, Now, Item, AValue, AMean, AMeanOf, Program}
+use Rattle.ss_program.specs.WellTyped.{Scope, WellTyped, HasMode, HaveModes, IsSet, OwnerFits, GoodTest, GoodCondition, TakesMode, GoodPosition, GoodWhen, HasSubject, IsAlone, IsOfEntities, TakesItem}
+use Rattle.ss_meaning.specs.Values.{Trouble, if_ok, turned, due, sure, made, calculated, operator_of, signed, distance, absolute, related, takes, take_all}
 use Rattle.ss_meaning.specs.Store.{Store, fetched}
 use Rattle.ss_meaning.specs.Entities.{entity, attribute, time_of}
 use Rattle.ss_meaning.specs.Places.{InAttribute}
 use Rattle.ss_meaning.specs.Sets.{member, known_owner, of_set, of_member, is_empty, is_in, Ahead, Behind}
 use Rattle.ss_meaning.specs.Events.{AtTime, Later, AtOnce, time_at}
-use Rattle.ss_meaning.specs.Statistics.{figure}
-use Rattle.ss_meaning.specs.Expressions.{value, values, value_if_any, looked_at, entity_value, member_value, owner_value, owner_looked_at, spot, filing, time_value, unless, passed, both, either, all_hold, holds, passes, all_pass}
+use Rattle.ss_meaning.specs.Statistics.{figure, mean}
+use Rattle.ss_meaning.specs.Expressions.{value, values, mean_shown, item, items, value_if_any, looked_at, entity_value, member_value, owner_value, owner_looked_at, spot, filing, time_value, unless, passed, both, either, all_hold, holds, passes, all_pass}
 use Rattle.ss_typed.specs.Fitting.{Hold, Fits}
 use Rattle.ss_typed.proofs.Fine.{Fine, There, Any, fine_then, fine_turned, any_due, sure_fine}
 use Rattle.ss_typed.proofs.Entities.{HasField as FieldThere, field_said, entity_fine, attribute_fine, time_of_fine, fetched_there, SpotTakes}
-use Rattle.ss_typed.proofs.Sets.{OwnerOk, set_of, member_fine, known_owner_fine, of_set_fine, of_member_fine, is_empty_fine, is_in_fine, FilingOk, AskedStatistic, figure_fine}
+use Rattle.ss_typed.proofs.Sets.{OwnerOk, set_of, member_fine, known_owner_fine, of_set_fine, of_member_fine, is_empty_fine, is_in_fine, FilingOk, AskedStatistic, figure_fine, mean_fine}
 use Rattle.ss_typed.proofs.Events.{time_at_fine}
 
 abbrev pub HasMode_is : Mode → Value → Type 0
@@ -52,6 +56,18 @@ related_there r m (Text s) (Whole y) p q = absurd cc
 
 as_integer : (m : Mode) (r : Result Value Trouble) → m ≡ Integer → Fine (HasMode_is Integer) r → Fine (HasMode_is m) r
 as_integer m r q h = subst (λ n. Fine (HasMode_is n) r) (sym q) h
+
+-- what fields take
+abbrev pub TakenBy : Field → Shown → Type 0
+TakenBy field x = takes field x ≡ true
+
+abbrev pub AllTaken : List Field → List Shown → Type 0
+AllTaken fields xs = take_all fields xs ≡ true
+
+both_true : (a b : Bool) → a ≡ true → b ≡ true → (a && b) ≡ true
+both_true true true p q = refl
+both_true true false p q = absurd cc
+both_true false b p q = absurd cc
 
 module _ (p : Program) (typed : WellTyped p) (ms : List Mode) (b : Bool) where
   abbrev here : Scope
@@ -101,6 +117,26 @@ module _ (p : Program) (typed : WellTyped p) (ms : List Mode) (b : Bool) where
   values_fine (e ∷ es) (n ∷ ns) h s f =
       fine_then (λ vs. Hold vs (n ∷ ns)) (value e s) (λ v. turned (λ vs. v ∷ vs) (values es s)) (value_fine e n h.0 s f) (λ v g.
       fine_turned (λ vs. Hold vs (n ∷ ns)) (λ vs. v ∷ vs) (values es s) (values_fine es ns h.1 s f) (λ vs k. let all : Hold (v ∷ vs) (n ∷ ns) = cc in all))
+
+  -- ## Items of PRINT
+
+  mean_shown_fine : (field : Field) (k : ℕ) (o : Option Value) → field.decimals ≤ 9 → (s : Store) → AskedStatistic p typed ms k o → Fits p ms s → Fine (TakenBy field) (mean_shown (mean k o s))
+  mean_shown_fine field k o h s a f =
+      fine_turned (TakenBy field) (λ m. Mean m.0 m.1) (mean k o s) (mean_fine p typed ms k o s a f) (λ m u. le-leb field.decimals 9 h)
+
+  item_fine : (field : Field) (x : Item) → TakesItem here field x → (s : Store) → Fits p ms s → Fine (TakenBy field) (item x s)
+  item_fine field (AValue e) h s f = fine_turned (TakenBy field) Is (value e s) (value_fine e h.0.0 h.0.1 s f) (λ v g. eq-eqb field.decimals 0 h.1)
+  item_fine field (AMean k) h s f = mean_shown_fine field k None h.1 s (asked_alone k h.0) f
+  item_fine field (AMeanOf k e) h s f =
+      fine_then (TakenBy field) (value e s) (λ x. mean_shown (mean k (Some x) s)) (value_fine e Integer h.1 s f) (λ x g. mean_shown_fine field k (Some x) h.2 s (asked_of k x h.0 g) f)
+
+  pub items_fine : (fields : List Field) (xs : List Item) → AllZip (TakesItem here) fields xs → (s : Store) → Fits p ms s → Fine (AllTaken fields) (items xs s)
+  items_fine [] [] h s f = refl
+  items_fine [] (x ∷ xs) h s f = absurd h
+  items_fine (field ∷ fields) [] h s f = absurd h
+  items_fine (field ∷ fields) (x ∷ xs) h s f =
+      fine_then (AllTaken (field ∷ fields)) (item x s) (λ y. turned (λ ys. y ∷ ys) (items xs s)) (item_fine field x h.0 s f) (λ y g.
+      fine_turned (AllTaken (field ∷ fields)) (λ ys. y ∷ ys) (items xs s) (items_fine fields xs h.1 s f) (λ ys k. both_true (takes field y) (take_all fields ys) g k))
 
   -- an expression that may be left out
   abbrev pub OptionOk : Option Value → Type 0

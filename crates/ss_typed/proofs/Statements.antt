@@ -1,9 +1,7 @@
 -- Loops and statements of a well-typed program don't go wrong, and keep stores that fit.
 use Rattle.std.proofs.Common.{◌≡◌, ℕ, zero, suc, ◌+◌, Bool, true, false, List, [], ◌∷◌, length, Option, Some, None, Ok, Err, ℤ, pos, refl, sym, ap, ◌∙◌}
-use Rattle.std.proofs.lemmas.List.Sums.{sum_by-cons}
 use Rattle.std.specs.Prelude.{Result, slice_get, map, sum, take, ◌==◌, int_lt, Contains, if◌then◌else◌}
-use Rattle.std.proofs.lemmas.Bool.{eq-eqb}
-use Rattle.std.specs.List.{AllByRecursion as Every, AllZip}
+use Rattle.std.specs.List.{AllByRecursion as Every, AllZip, flat_map}
 use Rattle.std.specs.Option.{IfSome}
 use Rattle.ss_bytes.specs.declared.line.Line.{Line}
 use Rattle.ss_base.specs.declared.fault.FaultKind.TheVariants.{LoopStep, BadCount}
@@ -13,7 +11,8 @@ use Rattle.ss_base.specs.declared.layout.Mode.TheVariants.{Integer, Alpha}
 use Rattle.ss_base.specs.declared.value.Value.{Value}
 use Rattle.ss_base.specs.declared.value.Value.TheVariants.{Whole, Text}
 use Rattle.ss_base.specs.Layout.{mode_of}
-use Rattle.ss_picture.specs.Pictures.{field_count}
+use Rattle.ss_picture.specs.declared.items.Item.{Item as Shown}
+use Rattle.ss_picture.specs.Pictures.{picture_fields}
 use Rattle.ss_input.specs.Words.{Given, value_given, next_word, read_word as word_read, word_value, if_read, as_whole, as_text, number_read}
 use Rattle.ss_base.specs.Values.{text_of}
 use Rattle.ss_program.specs.declared.expression.Sign.{Sign}
@@ -22,16 +21,16 @@ use Rattle.ss_program.specs.declared.head.PhraseKind.{PhraseKind}
 use Rattle.ss_program.specs.declared.head.PhraseKind.TheVariants as kinds
 use Rattle.ss_program.specs.declared.statement.End.{End}
 use Rattle.ss_program.specs.declared.statement.Counted.{Counted}
-use Rattle.ss_program.specs.Program.{Expression, SetOwner, Head, Numbers, Members, Each, Start, AtEnd, From, After, Phrase, Guard, Place, ToVariable, Target, Position, When, Restart, Statement, Let, Change, Call, Return, Stop, Read, Simulate, If, Loop, For, Find, Create, CreateEvery, Destroy, File, RemoveEnd, Remove, ScheduleNew, Schedule, Cancel, Reset, Print, Skip, Block, Done, Then, Routine, Program}
+use Rattle.ss_program.specs.Program.{Expression, SetOwner, Head, Numbers, Members, Each, Start, AtEnd, From, After, Phrase, Guard, Place, ToVariable, Target, Position, When, Restart, Item, Statement, Let, Change, Call, Return, Stop, Read, Simulate, If, Loop, For, Find, Create, CreateEvery, Destroy, File, RemoveEnd, Remove, ScheduleNew, Schedule, Cancel, Reset, Print, Skip, Block, Done, Then, Routine, Program}
 use Rattle.ss_program.specs.WellTyped.{Scope, WellTyped, HasMode, OwnerFits, GoodCondition, TakesMode, GoodStart, GoodHead, GoodPhrase, GoodPosition, GoodWhen, GoodGiven, GoodRestart, GoodPrint, Good, GoodBlock, kind_of as kind_said}
-use Rattle.ss_meaning.specs.Values.{if_ok, turned, due, sure, unless_fault, number_of, calculated, operator_of, fields_in, lines_with, printed, empty_lines}
+use Rattle.ss_meaning.specs.Values.{if_ok, turned, due, sure, unless_fault, number_of, calculated, operator_of, take_all, lines_with, printed, empty_lines}
 use Rattle.ss_meaning.specs.Store.{Store}
 use Rattle.ss_meaning.specs.Entities.{class_at, is_permanent, made_count, made_one, made_all, without}
 use Rattle.ss_meaning.specs.Places.{InVariable, held}
 use Rattle.ss_meaning.specs.Sets.{is_none, begun, begun_at, coming, goes_on, filed_in, removed_from, removed_at}
 use Rattle.ss_meaning.specs.Events.{made_notice, filed_notice, rescheduled, unscheduled, is_awaited}
 use Rattle.ss_meaning.specs.Statistics.{reset}
-use Rattle.ss_meaning.specs.Expressions.{value, values, value_if_any, entity_value, member_value, owner_value, owner_looked_at, spot, filing, time_value, holds, all_pass}
+use Rattle.ss_meaning.specs.Expressions.{value, values, items as items_meant, value_if_any, entity_value, member_value, owner_value, owner_looked_at, spot, filing, time_value, holds, all_pass}
 use Rattle.ss_meaning.specs.Parts.{World, Returned, Stopped, Faulted, OutOfTicks, Wrong, Outcome, WentOn, Left, Part, and_then, choose, look, get, tick_from, Again, Over, go_on, loop}
 use Rattle.ss_meaning.specs.Loops.{Turn, GoesOn, EndsLoop, IsFound, phrase, phrases, visit, items, after_turn, over_items, step_number, range_of, range, indices, Outset, from_member, outset, next_member, member_turn, over, guarded}
 use Rattle.ss_meaning.specs.Statements.{give_to, give_each, change_by, with_input, read_word, read_each, print, create_every, file, remove, remove_end, schedule_new, schedule, next_due, event_turn, simulate, restart_each, Calls, effect, effects}
@@ -41,7 +40,7 @@ use Rattle.ss_typed.proofs.Kept.{number_fine}
 use Rattle.ss_typed.proofs.Entities.{SpotTakes, permanent_here, made_one_fine, made_all_fine, without_fine, held_fine}
 use Rattle.ss_typed.proofs.Sets.{OwnerOk, FilingOk, begun_fine, begun_at_fine, coming_fine, goes_on_fine, filed_in_fine, removed_from_fine, removed_at_fine, set_of, AskedStatistic, reset_fine}
 use Rattle.ss_typed.proofs.Events.{FieldsAre, fields_are, made_notice_fine, filed_notice_fine, rescheduled_fine, unscheduled_fine}
-use Rattle.ss_typed.proofs.Expressions.{HasMode_is, calculated_fine, value_fine, values_fine, entity_value_fine, member_value_fine, owner_value_fine, owner_looked_at_fine, set_of_owner, spot_fine, filing_fine, time_value_fine, holds_fine, all_pass_fine, asked_alone, asked_of}
+use Rattle.ss_typed.proofs.Expressions.{HasMode_is, AllTaken, calculated_fine, value_fine, values_fine, items_fine, entity_value_fine, member_value_fine, owner_value_fine, owner_looked_at_fine, set_of_owner, spot_fine, filing_fine, time_value_fine, holds_fine, all_pass_fine, asked_alone, asked_of}
 use Rattle.ss_typed.proofs.Parts.{Kept, Safe, safe_then, safe_went, safe_look, safe_change, safe_get, safe_write, safe_send, safe_tick, safe_choose, safe_loop}
 
 -- what a call and an event do
@@ -58,15 +57,10 @@ range_of_fine x y z Q p q r =
     fine_then Any (step_number z) (λ c. unless_fault (int_lt c (pos 1)) LoopStep (Ok (record { first = a; limit = b; step = c }))) r (λ c t.
     unless_fine Any (int_lt c (pos 1)) LoopStep (Ok (record { first = a; limit = b; step = c })) (λ e. tt))))
 
-fields_sum : (pictures : List (List ℕ)) → fields_in pictures ≡ sum (map field_count pictures)
-fields_sum [] = refl
-fields_sum (picture ∷ pictures) =
-    ap (λ n. field_count picture + n) (fields_sum pictures) ∙ sym (sum_by-cons (λ x. x) (field_count picture) (map field_count pictures))
-
-printed_there : (pictures : List (List ℕ)) (vs : List Value) → length vs ≡ sum (map field_count pictures) → There Any (printed pictures vs)
-printed_there pictures vs q = by (length vs == fields_in pictures) (eq-eqb (length vs) (fields_in pictures) (q ∙ sym (fields_sum pictures)))
+printed_there : (pictures : List (List ℕ)) (xs : List Shown) → AllTaken (flat_map picture_fields pictures) xs → There Any (printed pictures xs)
+printed_there pictures xs q = by (take_all (flat_map picture_fields pictures) xs) q
   where
-    by : (b : Bool) → b ≡ true → There Any (if b then Some (lines_with pictures vs) else None)
+    by : (b : Bool) → b ≡ true → There Any (if b then Some (lines_with pictures xs) else None)
     by true h = tt
     by false h = absurd cc
 
@@ -229,16 +223,10 @@ module _ (p : Program) (typed : WellTyped p) (ms : List Mode) (b : Bool) where
       fine_turned (λ r. HasMode_is t.mode r.0 × Fits p ms r.1) (with_input s) (due (value_given t.mode s.scene.input)) (word_fine t.mode s) (λ r q. (q, input_fits s r.rest f))))) (λ u v.
       reads_safe l ts g.1)
 
-  items_fine : (es : List Expression) → Every (λ e. (m : Mode) × HasMode here e m) es → (s : Store) → Fits p ms s → Fine (λ vs. length vs ≡ length es) (values es s)
-  items_fine [] h s f = refl
-  items_fine (e ∷ es) h s f =
-      fine_then (λ vs. length vs ≡ length (e ∷ es)) (value e s) (λ v. turned (λ vs. v ∷ vs) (values es s)) (value_fine p typed ms b e h.0.0 h.0.1 s f) (λ v g.
-      fine_turned (λ vs. length vs ≡ length (e ∷ es)) (λ vs. v ∷ vs) (values es s) (items_fine es h.1 s f) (λ vs q. ap suc q))
-
-  print_safe : (l : Line) (es : List Expression) (pictures : List (List ℕ)) → GoodPrint here es pictures → Safe p ms Any (print l es pictures)
-  print_safe l es pictures g =
-      safe_then {P = Any} (safe_look l (λ s. if_ok (values es s) (λ vs. sure (printed pictures vs))) (λ s f.
-      fine_then Any (values es s) (λ vs. sure (printed pictures vs)) (items_fine es g.0 s f) (λ vs q. sure_fine Any (printed pictures vs) (printed_there pictures vs (q ∙ sym g.1))))) (λ bytes u.
+  print_safe : (l : Line) (xs : List Item) (pictures : List (List ℕ)) → GoodPrint here xs pictures → Safe p ms Any (print l xs pictures)
+  print_safe l xs pictures g =
+      safe_then {P = Any} (safe_look l (λ s. if_ok (items_meant xs s) (λ ys. sure (printed pictures ys))) (λ s f.
+      fine_then Any (items_meant xs s) (λ ys. sure (printed pictures ys)) (items_fine p typed ms b (flat_map picture_fields pictures) xs g s f) (λ ys q. sure_fine Any (printed pictures ys) (printed_there pictures ys q)))) (λ bytes u.
       safe_send bytes)
 
   every_safe : (l : Line) (cs : List Counted) → Every (Contains p.counts) cs → Safe p ms Any (create_every l cs)
@@ -359,7 +347,7 @@ module _ (p : Program) (typed : WellTyped p) (ms : List Mode) (b : Bool) where
       statement_safe (Cancel l c e) g =
           safe_then {P = HasMode_is Integer} (safe_look l (value e) (value_fine p typed ms b e Integer g.1)) (λ x m. safe_change l (unscheduled c x) (λ s f. unscheduled_fine p typed ms c x s g.0 m f))
       statement_safe (Reset l rs) g = restarts_safe l rs g
-      statement_safe (Print l es pictures) g = print_safe l es pictures g
+      statement_safe (Print l xs pictures) g = print_safe l xs pictures g
       statement_safe (Skip l e) g =
           safe_then {P = Any} (safe_look l (λ s. if_ok (value e s) empty_lines) (λ s f. fine_then Any (value e s) empty_lines (value_fine p typed ms b e Integer g s f) (λ v m. empty_fine v m))) (λ bytes u. safe_send bytes)
 

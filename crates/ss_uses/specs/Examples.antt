@@ -6,12 +6,13 @@ use Rattle.ss_base.specs.declared.layout.Mode.{Mode as ValueMode}
 use Rattle.ss_base.specs.declared.layout.Mode.TheVariants as values
 use Rattle.ss_tree.specs.declared.expression.Designator.TheVariants as designators
 use Rattle.ss_tree.specs.declared.expression.Function.TheVariants.{Abs}
+use Rattle.ss_tree.specs.declared.expression.Sign.TheVariants.{Plus}
 use Rattle.ss_tree.specs.declared.preamble.ClassKind.TheVariants.{Permanent, Temporary, EventNotice}
 use Rattle.ss_tree.specs.declared.preamble.Mode.TheVariants as said
 use Rattle.ss_tree.specs.declared.preamble.StatisticKind.TheVariants.{Sum}
 use Rattle.ss_tree.specs.declared.preamble.Weighting.TheVariants.{Tally}
-use Rattle.ss_tree.specs.Tree.{ExpressionTree, number, text, named, call, no_expression, and_expression, NamedTree, by_discipline, now, StatementTree, let_statement, call_statement, start_simulation, create_statement, file_statement, schedule_new, reset_statement, print_statement, event_notices, every, statistics, SectionKindTree, main, routine, event, SectionTree}
-use Rattle.ss_picture.specs.Pictures.{widths}
+use Rattle.ss_tree.specs.Tree.{ExpressionTree, number, text, named, call, parenthesised, sum, no_expression, and_expression, no_term, and_term, NamedTree, by_discipline, now, StatementTree, let_statement, call_statement, start_simulation, create_statement, file_statement, schedule_new, reset_statement, print_statement, event_notices, every, statistics, SectionKindTree, main, routine, event, SectionTree}
+use Rattle.ss_picture.specs.Pictures.{picture_fields}
 use Rattle.ss_walk.specs.Mentions.{NameBytes}
 use Rattle.ss_scopes.specs.declared.known.Holder.TheVariants.{Program, Entity}
 use Rattle.ss_scopes.specs.declared.known.Known.{Known}
@@ -25,7 +26,7 @@ use Rattle.ss_uses.specs.Refusal.{refusal}
 
 -- A program with the permanent class MACHINE, which owns QUEUE; the temporary class JOB, which has RANK, an INTEGER, and
 -- may belong to QUEUE and to POOL of THE SYSTEM; notices BELL, which have TONE; an ALPHA variable W, a variable X, of
--- which S1 is the sum; a routine R that is given nothing and a routine T that is given a text
+-- which S1 is the sum and M1 the mean; M2, the mean of RANK; a routine R that is given nothing and a routine T that is given a text
 abbrev known : List (NameBytes × Known)
 known =
     (codes "MACHINE", meanings.Class Permanent) ∷ (codes "N.MACHINE", meanings.EntityCount) ∷ (codes "QUEUE", meanings.Set (Entity (codes "MACHINE"))) ∷
@@ -33,6 +34,7 @@ known =
     (codes "POOL", meanings.Set Program) ∷ (codes "F.POOL", meanings.Membership Program) ∷ (codes "N.POOL", meanings.MemberCount Program) ∷
     (codes "BELL", meanings.Class EventNotice) ∷ (codes "TONE", meanings.Attribute (codes "BELL") values.Integer) ∷
     (codes "W", meanings.Variable values.Alpha) ∷ (codes "X", meanings.Variable values.Integer) ∷ (codes "S1", meanings.Statistic Program) ∷
+    (codes "M1", meanings.Mean Program) ∷ (codes "M2", meanings.Mean (Entity (codes "JOB"))) ∷
     (codes "R", meanings.Routine) ∷ (codes "T", meanings.Routine) ∷ []
 
 abbrev modes_in : List (NameBytes × List ValueMode) → NameBytes → Option (List ValueMode)
@@ -64,6 +66,10 @@ in_main body = refusal whole (record { preamble = []; sections = a_section 15 ma
 
 abbrev name : NameBytes → ExpressionTree
 name n = named (designators.Name n) no_expression
+
+-- a name with one subscript
+abbrev name_at : NameBytes → ExpressionTree → ExpressionTree
+name_at n e = named (designators.Name n) (and_expression e no_expression)
 
 abbrev at : NameBytes → NamedTree
 at n = record { designator = designators.Name n; subscripts = no_expression }
@@ -170,19 +176,84 @@ a_text_to_a_text = refl
 pub a_number_given : in_main (call_statement (line 16) (codes "T") (one ∷ []) [] ∷ []) ≡ broken rules.Mode 16
 a_number_given = refl
 
+-- LET Y = M1; LET X = M2(JOB); LET X = S1 is right
+pub a_mean_as_value : in_main (let_statement (line 16) (at (codes "Y")) (name (codes "M1")) ∷ []) ≡ broken rules.Mode 16
+a_mean_as_value = refl
+
+pub a_mean_of_an_entity : in_main (let_statement (line 16) (at (codes "X")) (name_at (codes "M2") (name (codes "JOB"))) ∷ []) ≡ broken rules.Mode 16
+a_mean_of_an_entity = refl
+
+pub a_sum_as_value : in_main (let_statement (line 16) (at (codes "X")) (name (codes "S1")) ∷ []) ≡ None
+a_sum_as_value = refl
+
+-- LET X = "A" (in line 16) LET X = M1 (in line 17), and the other way round: the first place decides the line
+pub a_text_before_a_mean : in_main (let_statement (line 16) (at (codes "X")) (text (codes "A")) ∷ let_statement (line 17) (at (codes "X")) (name (codes "M1")) ∷ []) ≡ broken rules.Mode 16
+a_text_before_a_mean = refl
+
+pub a_mean_before_a_text : in_main (let_statement (line 16) (at (codes "X")) (name (codes "M1")) ∷ let_statement (line 17) (at (codes "X")) (text (codes "A")) ∷ []) ≡ broken rules.Mode 16
+a_mean_before_a_text = refl
+
+-- PRINT 1 LINE WITH M1 + 1 THUS **, and WITH M2(M1)
+pub a_mean_in_a_sum : in_main (print_statement (line 16) (sum (name (codes "M1")) (and_term Plus one no_term) ∷ []) (codes "**" ∷ []) ∷ []) ≡ broken rules.Mode 16
+unfolding picture_fields
+a_mean_in_a_sum = refl
+
+pub a_mean_as_subscript : in_main (print_statement (line 16) (name_at (codes "M2") (name (codes "M1")) ∷ []) (codes "**" ∷ []) ∷ []) ≡ broken rules.Mode 16
+unfolding picture_fields
+a_mean_as_subscript = refl
+
+-- PRINT 1 LINE WITH ((M1)), M2(JOB) THUS ** *.** is right
+pub means_as_items : in_main (print_statement (line 16) (parenthesised (parenthesised (name (codes "M1"))) ∷ name_at (codes "M2") (name (codes "JOB")) ∷ []) (codes "** *.**" ∷ []) ∷ []) ≡ None
+unfolding picture_fields
+means_as_items = refl
+
+-- LET M1 = 1 breaks 76, M1(1) 75, RESET TOTALS OF M1 79
+pub a_mean_as_target : in_main (let_statement (line 16) (at (codes "M1")) one ∷ []) ≡ broken rules.NotAssignable 16
+a_mean_as_target = refl
+
+pub a_mean_with_subscript : in_main (print_statement (line 16) (name_at (codes "M1") one ∷ []) (codes "*" ∷ []) ∷ []) ≡ broken rules.Subscript 16
+unfolding picture_fields
+a_mean_with_subscript = refl
+
+pub reset_of_a_mean : in_main (reset_statement (line 16) (at (codes "M1") ∷ []) ∷ []) ≡ broken rules.Unknown 16
+reset_of_a_mean = refl
+
 -- ROUTINE R GIVEN JOB DEFINE JOB AS AN ALPHA VARIABLE LET RANK = 1: JOB is implied, and a text
 pub a_hidden_class : refusal whole (record { preamble = []; sections = a_section 15 main [] ∷ record { line = line 17; kind = routine (codes "R") (codes "JOB" ∷ []) []; definitions = record { line = line 18; names = codes "JOB" ∷ []; mode = said.Alpha } ∷ []; body = let_statement (line 19) (at (codes "RANK")) one ∷ [] } ∷ [] }) ≡ broken rules.Mode 19
 a_hidden_class = refl
 
 -- ---- 77, and several rules at once
 
--- PRINT 1 LINE WITH 1, 1 THUS * (in line 16); and behind it (in line 18) LET POOL = 1
+-- PRINT 1 LINE WITH 1, 1 THUS *
 pub one_field : in_main (print_statement (line 16) (one ∷ one ∷ []) (codes "*" ∷ []) ∷ []) ≡ broken rules.Fields 16
-unfolding widths
+unfolding picture_fields
 one_field = refl
 
+-- PRINT 1 LINE WITH 1, 2 THUS *.*; WITH X THUS *.*; WITH (1) THUS *.*
+pub one_field_with_decimals : in_main (print_statement (line 16) (one ∷ number (pos 2) ∷ []) (codes "*.*" ∷ []) ∷ []) ≡ broken rules.Fields 16
+unfolding picture_fields
+one_field_with_decimals = refl
+
+pub a_variable_with_decimals : in_main (print_statement (line 16) (name (codes "X") ∷ []) (codes "*.*" ∷ []) ∷ []) ≡ broken rules.Fields 16
+unfolding picture_fields
+a_variable_with_decimals = refl
+
+pub a_number_with_decimals : in_main (print_statement (line 16) (parenthesised one ∷ []) (codes "*.*" ∷ []) ∷ []) ≡ broken rules.Fields 16
+unfolding picture_fields
+a_number_with_decimals = refl
+
+-- PRINT 1 LINE WITH M1 THUS *. and nine asterisks is right, and ten are too many
+pub nine_decimals : in_main (print_statement (line 16) (name (codes "M1") ∷ []) (codes "*.*********" ∷ []) ∷ []) ≡ None
+unfolding picture_fields
+nine_decimals = refl
+
+pub ten_decimals : in_main (print_statement (line 16) (name (codes "M1") ∷ []) (codes "*.**********" ∷ []) ∷ []) ≡ broken rules.Fields 16
+unfolding picture_fields
+ten_decimals = refl
+
+-- the same in line 16, and in line 18 LET POOL = 1, which breaks 79
 pub a_later_place : in_main (print_statement (line 16) (one ∷ one ∷ []) (codes "*" ∷ []) ∷ let_statement (line 18) (at (codes "POOL")) one ∷ []) ≡ broken rules.Unknown 18
-unfolding widths
+unfolding picture_fields
 a_later_place = refl
 
 -- two places of one rule

@@ -1,12 +1,12 @@
--- Rule 73: values of two modes, or a text where a number has to be.
-use Rattle.std.specs.Prelude.{Bool, true, false, List, [], Option, Some, None}
+-- Rule 73: values of two modes, or a text where a number has to be, or a MEAN where a value has to be.
+use Rattle.std.specs.Prelude.{Bool, true, false, ◌||◌, List, [], Option, Some, None}
 use Rattle.ss_bytes.specs.declared.line.Line.{Line}
 use Rattle.ss_base.specs.declared.layout.Mode.{Mode}
 use Rattle.ss_base.specs.declared.layout.Mode.TheVariants as modes
 use Rattle.ss_tree.specs.Tree.{PreambleTree, statistics}
 use Rattle.ss_walk.specs.Mentions.{NameBytes}
 use Rattle.ss_demands.specs.declared.demand.Aspect.{Aspect}
-use Rattle.ss_demands.specs.declared.demand.Aspect.TheVariants.{Integer, Alpha, Named, Implied, Given, Yielded, Attribute}
+use Rattle.ss_demands.specs.declared.demand.Aspect.TheVariants.{Integer, Alpha, Named, Implied, Given, Yielded, Attribute, Value}
 use Rattle.ss_demands.specs.declared.demand.Demand.{Demand}
 use Rattle.ss_scopes.specs.declared.known.Holder.{Holder}
 use Rattle.ss_scopes.specs.declared.known.Holder.TheVariants.{Program, Entity}
@@ -16,6 +16,7 @@ use Rattle.ss_scopes.specs.Locals.{Moded}
 use Rattle.ss_scopes.specs.Whole.{Whole, mode_at}
 use Rattle.ss_scopes.specs.Meanings.{meaning_in}
 use Rattle.ss_uses.specs.Lines.{line_if}
+use Rattle.ss_uses.specs.Unknown.{if_known}
 
 -- the mode of what a name means; a set and a routine have none
 abbrev pub mode_of : Known → Option Mode
@@ -28,6 +29,7 @@ mode_of (meanings.MemberCount holder) = Some modes.Integer
 mode_of (meanings.Membership holder) = Some modes.Integer
 mode_of meanings.EntityCount = Some modes.Integer
 mode_of (meanings.Statistic holder) = Some modes.Integer
+mode_of (meanings.Mean holder) = Some modes.Integer
 mode_of meanings.Routine = None
 
 abbrev pub known_mode : Option Known → Option Mode
@@ -49,6 +51,7 @@ class_implied (meanings.Set holder) = held_by holder
 class_implied (meanings.MemberCount holder) = held_by holder
 class_implied (meanings.Membership holder) = held_by holder
 class_implied (meanings.Statistic holder) = held_by holder
+class_implied (meanings.Mean holder) = held_by holder
 class_implied _ = None
 
 abbrev pub known_class : Option Known → Option NameBytes
@@ -81,9 +84,30 @@ abbrev pub differ : Option Mode → Option Mode → Bool
 differ (Some a) (Some b) = are_two a b
 differ _ _ = false
 
--- a demand that breaks the rule
+-- a demand that joins two modes
 abbrev pub mixes : Whole → Moded → Demand → Bool
 mixes w locals d = differ (aspect_mode w locals d.found) (aspect_mode w locals d.wanted)
+
+-- a MEAN isn't a whole number but what two whole numbers make, and is rounded where it is printed
+abbrev pub is_mean : Known → Bool
+is_mean (meanings.Mean holder) = true
+is_mean _ = false
+
+-- whether what a name means in a section is a MEAN
+abbrev pub names_mean : Whole → Moded → NameBytes → Bool
+names_mean w locals name = if_known is_mean (meaning_in w.meanings locals name)
+
+abbrev pub is_mean_as_value : Whole → Moded → Aspect → Bool
+is_mean_as_value w locals (Value name) = names_mean w locals name
+is_mean_as_value w locals _ = false
+
+-- a demand of a value where a MEAN is
+abbrev pub misplaces : Whole → Moded → Demand → Bool
+misplaces w locals d = is_mean_as_value w locals d.found
+
+-- a demand that breaks the rule
+abbrev pub breaks_modes : Whole → Moded → Demand → Bool
+breaks_modes w locals d = mixes w locals d || misplaces w locals d
 
 -- the line of a TALLY or an ACCUMULATE of texts
 abbrev pub tells_of_text : Whole → PreambleTree → List Line

@@ -17,7 +17,7 @@ use Rattle.ss_uses.specs.Unknown.{is_unknown, tells_of_unknown}
 use Rattle.ss_uses.specs.Subscripts.{has_wrong_subscripts}
 use Rattle.ss_uses.specs.Targets.{is_not_assignable}
 use Rattle.ss_uses.specs.Arguments.{miscounts}
-use Rattle.ss_uses.specs.Modes.{mixes, tells_of_text}
+use Rattle.ss_uses.specs.Modes.{breaks_modes, tells_of_text}
 use Rattle.ss_uses.specs.Fields.{misfits}
 
 -- the lines in which a statement of the preamble breaks a rule, where these names lack an EVENT section
@@ -38,8 +38,8 @@ mention_breaks _ w u m = false
 -- whether a demand of a section breaks a rule
 abbrev pub demand_breaks : Rule → Whole → Uses → Demand → Bool
 demand_breaks Arguments w u d = miscounts w d
-demand_breaks Mode w u d = mixes w u.locals d
-demand_breaks Fields w u d = misfits d
+demand_breaks Mode w u d = breaks_modes w u.locals d
+demand_breaks Fields w u d = misfits w u.locals d
 demand_breaks _ w u d = false
 
 -- the lines in which a section breaks a rule

@@ -6,7 +6,7 @@ use Rattle.ss_walk.specs.declared.mention.Mention.{Mention}
 use Rattle.ss_scopes.specs.declared.known.Holder.{Holder}
 use Rattle.ss_scopes.specs.declared.known.Holder.TheVariants.{Program, Entity}
 use Rattle.ss_scopes.specs.declared.known.Known.{Known}
-use Rattle.ss_scopes.specs.declared.known.Known.TheVariants.{Local, Variable, Class, Attribute, Set, MemberCount, Membership, EntityCount, Statistic, Routine}
+use Rattle.ss_scopes.specs.declared.known.Known.TheVariants.{Local, Variable, Class, Attribute, Set, MemberCount, Membership, EntityCount, Statistic, Mean, Routine}
 use Rattle.ss_scopes.specs.Locals.{Moded}
 use Rattle.ss_scopes.specs.Whole.{Whole}
 use Rattle.ss_scopes.specs.Meanings.{meaning_in}
@@ -27,6 +27,7 @@ is_single (MemberCount holder) = is_of_program holder
 is_single (Membership holder) = is_of_program holder
 is_single EntityCount = true
 is_single (Statistic holder) = is_of_program holder
+is_single (Mean holder) = is_of_program holder
 is_single Routine = false
 
 -- whether so many subscripts are wrong: TIME.A takes one always, TIME.V none

@@ -3,14 +3,17 @@
 ghost use Rattle.std.specs.Prelude.{◌≡◌};
 ghost use Rattle.ss_uses.specs.Fields.{misfits};
 
+use crate::modes::names_mean;
 use ss_demands::{Aspect, Demand};
+use ss_scopes::{Globals, Locals};
 
-// Whether a demand is of a PRINT whose pictures have another number of fields than it has items.
-pub(crate) fn misfits(demand: &Demand) -> bool
-    ensures { result ≡ misfits demand.now }
+// Whether a demand is of a PRINT with other fields than its items need.
+pub(crate) fn misfits<G: Globals>(globals: &G, locals: &Locals, demand: &Demand) -> bool
+    ensures { result ≡ misfits (G.whole globals.now) locals.now demand.now }
 {
     match &demand.found {
         Aspect::Fits(fits) => !*fits,
+        Aspect::Mean(name) => !names_mean(globals, locals, *name),
         _ => false,
     }
 }

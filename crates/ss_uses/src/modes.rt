@@ -1,8 +1,8 @@
-//! Values of two modes, and texts where numbers have to be.
+//! Values of two modes, texts where numbers have to be, and MEANs where values have to be.
 
 ghost use Rattle.std.specs.Prelude.{◌≡◌};
 ghost use Rattle.ss_scopes.specs.Meanings.{meaning_in};
-ghost use Rattle.ss_uses.specs.Modes.{are_two, aspect_mode, class_implied, class_mode, differ, held_by, known_class, known_mode, mixes, mode_in, mode_of};
+ghost use Rattle.ss_uses.specs.Modes.{are_two, aspect_mode, breaks_modes, class_implied, class_mode, differ, held_by, is_mean, known_class, known_mode, misplaces, mixes, mode_in, mode_of, names_mean};
 
 use ss_base::Mode;
 use ss_bytes::Name;
@@ -21,7 +21,8 @@ fn mode_of(meaning: &Known) -> Option<Mode>
         | Known::MemberCount(_)
         | Known::Membership(_)
         | Known::EntityCount
-        | Known::Statistic(_) => Some(Mode::Integer),
+        | Known::Statistic(_)
+        | Known::Mean(_) => Some(Mode::Integer),
         Known::Set(_) | Known::Routine => None,
     }
 }
@@ -65,7 +66,8 @@ fn class_implied(meaning: &Known) -> Option<Name>
         Known::Set(holder)
         | Known::MemberCount(holder)
         | Known::Membership(holder)
-        | Known::Statistic(holder) => held_by(holder),
+        | Known::Statistic(holder)
+        | Known::Mean(holder) => held_by(holder),
         Known::Local(_)
         | Known::Variable(_)
         | Known::Class(_)
@@ -111,7 +113,9 @@ fn aspect_mode<G: Globals>(globals: &G, locals: &Locals, aspect: &Aspect) -> Opt
         | Aspect::GivenCount(_)
         | Aspect::YieldedCount(_)
         | Aspect::AttributeCount(_)
-        | Aspect::Fits(_) => None,
+        | Aspect::Fits(_)
+        | Aspect::Value(_)
+        | Aspect::Mean(_) => None,
     }
 }
 
@@ -136,11 +140,45 @@ pub(crate) fn differ(a: Option<Mode>, b: Option<Mode>) -> bool
 }
 
 // Whether a demand joins two modes.
-pub(crate) fn mixes<G: Globals>(globals: &G, locals: &Locals, demand: &Demand) -> bool
+fn mixes<G: Globals>(globals: &G, locals: &Locals, demand: &Demand) -> bool
     ensures { result ≡ mixes (G.whole globals.now) locals.now demand.now }
 {
     differ(
         aspect_mode(globals, locals, &demand.found),
         aspect_mode(globals, locals, &demand.wanted),
     )
+}
+
+// Whether it is a MEAN.
+fn is_mean(meaning: &Known) -> bool
+    ensures { result ≡ is_mean meaning.now }
+{
+    matches!(meaning, Known::Mean(_))
+}
+
+// Whether what a name means in a section is a MEAN.
+pub(crate) fn names_mean<G: Globals>(globals: &G, locals: &Locals, name: Name) -> bool
+    ensures { result ≡ names_mean (G.whole globals.now) locals.now name }
+{
+    match meaning_in(globals, locals, name) {
+        Some(meaning) => is_mean(&meaning),
+        None => false,
+    }
+}
+
+// Whether a demand of a value is of a MEAN.
+fn misplaces<G: Globals>(globals: &G, locals: &Locals, demand: &Demand) -> bool
+    ensures { result ≡ misplaces (G.whole globals.now) locals.now demand.now }
+{
+    match &demand.found {
+        Aspect::Value(name) => names_mean(globals, locals, *name),
+        _ => false,
+    }
+}
+
+// Whether a demand joins two modes, or is of a value where a MEAN is.
+pub(crate) fn breaks_modes<G: Globals>(globals: &G, locals: &Locals, demand: &Demand) -> bool
+    ensures { result ≡ breaks_modes (G.whole globals.now) locals.now demand.now }
+{
+    mixes(globals, locals, demand) || misplaces(globals, locals, demand)
 }

@@ -9,7 +9,8 @@ pub enum Rule {
     NoMain,
     /// 72: a class of notices has no EVENT section.
     NoEventRoutine,
-    /// 73: a text stands where a number has to be, or two modes are joined.
+    /// 73: a text stands where a number has to be, or a MEAN where a value has to be, or two modes are
+    /// joined.
     Mode,
     /// 74: other counts of arguments than are taken.
     Arguments,
@@ -17,7 +18,8 @@ pub enum Rule {
     Subscript,
     /// 76: a target to which nothing can be assigned.
     NotAssignable,
-    /// 77: the pictures of a PRINT have another number of fields than it has items.
+    /// 77: the pictures of a PRINT have another number of fields than it has items, or a field with
+    /// decimals has more than 9 or an item that isn't a MEAN.
     Fields,
     /// 78: START SIMULATION outside MAIN.
     StartPlace,

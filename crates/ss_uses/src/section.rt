@@ -10,7 +10,7 @@ use crate::arguments::miscounts;
 use crate::events::is_misplaced;
 use crate::fields::misfits;
 use crate::lines::line_if;
-use crate::modes::mixes;
+use crate::modes::breaks_modes;
 use crate::rule::Rule;
 use crate::subscripts::has_wrong_subscripts;
 use crate::targets::is_not_assignable;
@@ -57,8 +57,8 @@ fn demand_breaks<G: Globals>(globals: &G, rule: Rule, uses: &SectionUses, demand
 {
     match rule {
         Rule::Arguments => miscounts(globals, demand),
-        Rule::Mode => mixes(globals, &uses.locals, demand),
-        Rule::Fields => misfits(demand),
+        Rule::Mode => breaks_modes(globals, &uses.locals, demand),
+        Rule::Fields => misfits(globals, &uses.locals, demand),
         _ => false,
     }
 }

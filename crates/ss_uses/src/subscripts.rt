@@ -26,7 +26,8 @@ fn is_single(meaning: &Known) -> bool
         Known::Set(holder)
         | Known::MemberCount(holder)
         | Known::Membership(holder)
-        | Known::Statistic(holder) => is_of_program(holder),
+        | Known::Statistic(holder)
+        | Known::Mean(holder) => is_of_program(holder),
     }
 }
 

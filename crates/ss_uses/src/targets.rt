@@ -20,6 +20,7 @@ fn takes_values(meaning: &Known) -> bool
         | Known::MemberCount(_)
         | Known::Membership(_)
         | Known::Statistic(_)
+        | Known::Mean(_)
         | Known::Routine => false,
     }
 }

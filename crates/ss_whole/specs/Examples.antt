@@ -9,7 +9,7 @@ use Rattle.ss_tree.specs.declared.expression.Sign.TheVariants as signs
 use Rattle.ss_tree.specs.declared.preamble.ClassKind.TheVariants.{Permanent, Temporary, EventNotice}
 use Rattle.ss_tree.specs.declared.preamble.Mode.TheVariants.{Integer}
 use Rattle.ss_tree.specs.declared.preamble.StatisticKind.TheVariants as folds_said
-use Rattle.ss_tree.specs.declared.preamble.Weighting.TheVariants.{Accumulate}
+use Rattle.ss_tree.specs.declared.preamble.Weighting.TheVariants.{Tally, Accumulate}
 use Rattle.ss_tree.specs.Tree.{ExpressionTree, number, named, call, sum, product, no_expression, and_expression, no_term, and_term, NamedTree, over_class, by_discipline, at_time, loop_statement, create_statement, create_every, file_statement, schedule_new, reset_statement, no_statement, has, owns, belongs_to, permanent_entities, temporary_entities, event_notices, every, normally, system_owns, statistics, ProgramTree}
 use Rattle.ss_sayings.specs.Sayings.{NameBytes}
 use Rattle.ss_names.specs.Table.{table}
@@ -18,9 +18,9 @@ use Rattle.ss_program.specs.declared.expression.MemberQuery.TheVariants.{Success
 use Rattle.ss_program.specs.declared.expression.Operator.TheVariants.{Add, Subtract, Multiply}
 use Rattle.ss_program.specs.declared.expression.SetQuery.TheVariants.{MemberCount}
 use Rattle.ss_program.specs.declared.expression.Variable.TheVariants.{Global, Local}
-use Rattle.ss_program.specs.Program.{Expression, Constant, Fetch, Attribute, OfSystemSet, OfSet, OfMember, TimeOf, Figure, Calculate, TheSystem, Entity, ToVariable, ToCount, ByDiscipline, At, Each, For, Create, CreateEvery, File, ScheduleNew, Reset, Done}
+use Rattle.ss_program.specs.Program.{Expression, Constant, Fetch, Attribute, OfSystemSet, OfSet, OfMember, TimeOf, Figure, Calculate, AMean, AMeanOf, TheSystem, Entity, ToVariable, ToCount, ByDiscipline, At, Each, For, Create, CreateEvery, File, ScheduleNew, Reset, Done}
 use Rattle.ss_contexts.specs.Contexts.{Context}
-use Rattle.ss_contexts.specs.Expressions.{expression, subscript, two, factors, terms, target}
+use Rattle.ss_contexts.specs.Expressions.{expression, item, subscript, two, factors, terms, target}
 use Rattle.ss_contexts.specs.Heads.{head}
 use Rattle.ss_contexts.specs.Answers.{each}
 use Rattle.ss_meant.specs.Meanings.{context_in}
@@ -38,7 +38,8 @@ line n = record { 0 = n }
 -- EVENT NOTICES
 -- EVERY BELL HAS A TONE
 -- THE SYSTEM OWNS A POOL
--- ACCUMULATE LOAD AS THE SUM OF N.POOL
+-- ACCUMULATE LOAD AS THE SUM, LEVEL AS THE MEAN OF N.POOL
+-- TALLY GRADE AS THE MEAN OF RANK
 -- END
 abbrev shop : ProgramTree
 shop = record {
@@ -51,7 +52,8 @@ shop = record {
       ∷ event_notices (line 7) []
       ∷ every (line 8) EventNotice (codes "BELL") (has (codes "TONE" ∷ []) ∷ [])
       ∷ system_owns (line 9) (codes "POOL" ∷ [])
-      ∷ statistics (line 10) Accumulate (record { name = codes "LOAD"; kind = folds_said.Sum } ∷ []) (codes "N.POOL")
+      ∷ statistics (line 10) Accumulate (record { name = codes "LOAD"; kind = folds_said.Sum } ∷ record { name = codes "LEVEL"; kind = folds_said.Mean } ∷ []) (codes "N.POOL")
+      ∷ statistics (line 11) Tally (record { name = codes "GRADE"; kind = folds_said.Mean } ∷ []) (codes "RANK")
       ∷ [];
   sections = [];
 }
@@ -114,6 +116,24 @@ member_implied = refl
 pub statistic : expression in_main (plain_name (codes "LOAD")) ≡ Some (Figure folds.Sum 0)
 unfolding context_in expression subscript
 statistic = refl
+
+-- LEVEL is a mean, of the history that LOAD has, and no value
+pub mean : item in_main (plain_name (codes "LEVEL")) ≡ Some (AMean 0)
+unfolding context_in expression subscript
+mean = refl
+
+pub mean_as_value : expression in_main (plain_name (codes "LEVEL")) ≡ None
+unfolding context_in expression subscript
+mean_as_value = refl
+
+-- GRADE is that of the JOB in the variable JOB, or in the parameter that hides it
+pub mean_implied : item in_main (plain_name (codes "GRADE")) ≡ Some (AMeanOf 1 (Fetch (Global 2)))
+unfolding context_in expression subscript
+mean_implied = refl
+
+pub mean_hidden : item in_routine (plain_name (codes "GRADE")) ≡ Some (AMeanOf 1 (Fetch (Local 0)))
+unfolding context_in expression subscript
+mean_hidden = refl
 
 -- TIME.A takes a subscript
 pub time_alone : expression in_main (named TimeA no_expression) ≡ None

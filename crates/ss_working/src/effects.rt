@@ -39,9 +39,9 @@ impl Working {
 
     /// Goes on to the next instruction where a look came to no fault.
     #[inline(always)]
-    pub fn pass_by(&mut self, answer: Result<i64, Trouble>, line: Line) -> Outcome
+    pub fn pass_by<A: Copy>(&mut self, answer: Result<A, Trouble>, line: Line) -> Outcome
         requires { self.old.place + 1 < 2 ^ 64 }
-        ensures { Follows self.old self.new result line answer (λ n here c. onward here c c.store) }
+        ensures { Follows self.old self.new result line answer (λ a here c. onward here c c.store) }
     {
         match answer {
             Err(Trouble::Fault(kind)) => Outcome::Faults(kind, line),

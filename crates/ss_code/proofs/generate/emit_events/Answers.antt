@@ -1,8 +1,8 @@
 use Rattle.std.proofs.Common.{rules, ◌+◌, get_or, drop, ◌≡◌, ◌∷◌, ◌++◌, [], length, map, ap, sym, ◌∙◌}
 use Rattle.std.proofs.lemmas.List.{drop_more}
 use Rattle.ss_program.specs.View.{view_body, view_event}
-use Rattle.ss_machine_code.specs.Translation.{event_bodies, event_entry, section_code, block_pictures}
-use Rattle.ss_code.proofs.Steps.{section_on, pictures_on, event_on}
+use Rattle.ss_machine_code.specs.Translation.{event_bodies, event_entry, section_code, block_prints}
+use Rattle.ss_code.proofs.Steps.{section_on, prints_on, event_on}
 use Rattle.ss_code.proofs.generate.emit_events.Goals as goal
 
 pub loop-event-preserved : goal.loop-event-preserved
@@ -14,12 +14,12 @@ loop-event-preserved c =
     let left : drop l.event-index c.args.events.now ≡ item ∷ drop (l.event-index + 1) c.args.events.now = drop_more c.args.events.now l.event-index item c.loop-event-test.true ∙ ap (λ e. e ∷ drop (l.event-index + 1) c.args.events.now) is in
     let seen = ap (λ es. map view_event es) left in
     let body = ap view_body c.deref.ensures.value in
-    let code = c.in_ok-emit_section.ensures.code ∙ ap (λ b. l.code.items ++ section_code (length l.pictures.items) b) body in
-    let pictures = c.in_ok-emit_section.ensures.pictures ∙ ap (λ b. l.pictures.items ++ block_pictures b) body in
+    let code = c.in_ok-emit_section.ensures.code ∙ ap (λ b. l.code.items ++ section_code (length l.prints.items) b) body in
+    let prints = c.in_ok-emit_section.ensures.prints ∙ ap (λ b. l.prints.items ++ block_prints b) body in
     let place : c.len.result ≡ length l.code.items = search rules in
     let entries = c.in_ok-push.ensures.items ∙ ap (λ e. l.entries.items ++ e ∷ []) (c.in_ok-entry.ensures ∙ ap (λ n. event_entry n (view_event item)) place) in
     record {
-      code = section_on l.code.items _ l.pictures.items _ _ _ _ _ j.code (ap event_bodies seen) code pictures;
-      pictures = pictures_on l.pictures.items _ _ _ _ _ j.pictures (ap event_bodies seen) pictures;
-      entries = event_on l.code.items _ l.pictures.items _ l.entries.items _ _ _ _ _ j.entries seen entries code pictures;
+      code = section_on l.code.items _ l.prints.items _ _ _ _ _ j.code (ap event_bodies seen) code prints;
+      prints = prints_on l.prints.items _ _ _ _ _ j.prints (ap event_bodies seen) prints;
+      entries = event_on l.code.items _ l.prints.items _ l.entries.items _ _ _ _ _ j.entries seen entries code prints;
     }

@@ -10,35 +10,35 @@ use Rattle.ss_code.proofs.generate.made.Goals as goal
 pub returns-then-len-limit-clause-too_long : goal.returns-then-len-limit-clause-too_long
 returns-then-len-limit-clause-too_long c = λ q.
     let p = view_program c.args.program.now in
-    let e : c.emit_events.new.code.items ≡ (code_of p).instructions = instructions_whole p _ _ _ _ _ _ _ _ _ _ (ap view_body c.deref.ensures.value) (ap (λ rs. map view_routine rs) c.deref-2.ensures.value) (ap (λ es. map view_event es) c.deref-3.ensures.value) c.new-instructions.ensures.items c.new-pictures.ensures.items c.in_ok-emit_section.ensures.code c.in_ok-emit_section.ensures.pictures c.in_ok-emit_routines.ensures.code c.in_ok-emit_routines.ensures.pictures c.in_ok-emit_events.ensures.code in
+    let e : c.emit_events.new.code.items ≡ (code_of p).instructions = instructions_whole p _ _ _ _ _ _ _ _ _ _ (ap view_body c.deref.ensures.value) (ap (λ rs. map view_routine rs) c.deref-2.ensures.value) (ap (λ es. map view_event es) c.deref-3.ensures.value) c.new-instructions.ensures.items c.new-prints.ensures.items c.in_ok-emit_section.ensures.code c.in_ok-emit_section.ensures.prints c.in_ok-emit_routines.ensures.code c.in_ok-emit_routines.ensures.prints c.in_ok-emit_events.ensures.code in
     omega (arith, ap length e, c.if-len-limit.true, c.instruction_limit-limit.ensures)
 
 pub returns-then-len-limit-clause-small : goal.returns-then-len-limit-clause-small
 returns-then-len-limit-clause-small c = λ small q.
     let p = view_program c.args.program.now in
-    let e : c.emit_events.new.code.items ≡ (code_of p).instructions = instructions_whole p _ _ _ _ _ _ _ _ _ _ (ap view_body c.deref.ensures.value) (ap (λ rs. map view_routine rs) c.deref-2.ensures.value) (ap (λ es. map view_event es) c.deref-3.ensures.value) c.new-instructions.ensures.items c.new-pictures.ensures.items c.in_ok-emit_section.ensures.code c.in_ok-emit_section.ensures.pictures c.in_ok-emit_routines.ensures.code c.in_ok-emit_routines.ensures.pictures c.in_ok-emit_events.ensures.code in
+    let e : c.emit_events.new.code.items ≡ (code_of p).instructions = instructions_whole p _ _ _ _ _ _ _ _ _ _ (ap view_body c.deref.ensures.value) (ap (λ rs. map view_routine rs) c.deref-2.ensures.value) (ap (λ es. map view_event es) c.deref-3.ensures.value) c.new-instructions.ensures.items c.new-prints.ensures.items c.in_ok-emit_section.ensures.code c.in_ok-emit_section.ensures.prints c.in_ok-emit_routines.ensures.code c.in_ok-emit_routines.ensures.prints c.in_ok-emit_events.ensures.code in
     omega (arith, ap length e, code_size p, small, c.if-len-limit.true, c.instruction_limit-limit.ensures)
 
 pub new-requires : goal.new-requires
 new-requires c =
     let p = view_program c.args.program.now in
-    ∥∥₁_map c.requires.typed (λ t. (p, t, code_whole p _ _ _ _ _ _ _ _ _ _ _ _ _ _ _ _ _ _ (ap view_body c.deref.ensures.value) (ap (λ rs. map view_routine rs) c.deref-2.ensures.value) (ap (λ es. map view_event es) c.deref-3.ensures.value) c.new-instructions.ensures.items c.new-pictures.ensures.items c.new-routines.ensures.items c.new-events.ensures.items c.in_ok-emit_section.ensures.code c.in_ok-emit_section.ensures.pictures c.in_ok-emit_routines.ensures.code c.in_ok-emit_routines.ensures.pictures c.in_ok-emit_routines.ensures.entries c.in_ok-emit_events.ensures.code c.in_ok-emit_events.ensures.pictures c.in_ok-emit_events.ensures.entries c.in_ok-said.ensures (c.in_ok-globals.ensures.items ∙ c.deref-4.ensures.value) (c.in_ok-locals.ensures.items ∙ c.deref-5.ensures.value)))
+    ∥∥₁_map c.requires.typed (λ t. (p, t, code_whole p _ _ _ _ _ _ _ _ _ _ _ _ _ _ _ _ _ _ (ap view_body c.deref.ensures.value) (ap (λ rs. map view_routine rs) c.deref-2.ensures.value) (ap (λ es. map view_event es) c.deref-3.ensures.value) c.new-instructions.ensures.items c.new-prints.ensures.items c.new-routines.ensures.items c.new-events.ensures.items c.in_ok-emit_section.ensures.code c.in_ok-emit_section.ensures.prints c.in_ok-emit_routines.ensures.code c.in_ok-emit_routines.ensures.prints c.in_ok-emit_routines.ensures.entries c.in_ok-emit_events.ensures.code c.in_ok-emit_events.ensures.prints c.in_ok-emit_events.ensures.entries c.in_ok-said.ensures (c.in_ok-globals.ensures.items ∙ c.deref-4.ensures.value) (c.in_ok-locals.ensures.items ∙ c.deref-5.ensures.value)))
 
 pub returns-clause-code : goal.returns-clause-code
 returns-clause-code c =
     let p = view_program c.args.program.now in
-    c.new.ensures ∙ code_whole p _ _ _ _ _ _ _ _ _ _ _ _ _ _ _ _ _ _ (ap view_body c.deref.ensures.value) (ap (λ rs. map view_routine rs) c.deref-2.ensures.value) (ap (λ es. map view_event es) c.deref-3.ensures.value) c.new-instructions.ensures.items c.new-pictures.ensures.items c.new-routines.ensures.items c.new-events.ensures.items c.in_ok-emit_section.ensures.code c.in_ok-emit_section.ensures.pictures c.in_ok-emit_routines.ensures.code c.in_ok-emit_routines.ensures.pictures c.in_ok-emit_routines.ensures.entries c.in_ok-emit_events.ensures.code c.in_ok-emit_events.ensures.pictures c.in_ok-emit_events.ensures.entries c.in_ok-said.ensures (c.in_ok-globals.ensures.items ∙ c.deref-4.ensures.value) (c.in_ok-locals.ensures.items ∙ c.deref-5.ensures.value)
+    c.new.ensures ∙ code_whole p _ _ _ _ _ _ _ _ _ _ _ _ _ _ _ _ _ _ (ap view_body c.deref.ensures.value) (ap (λ rs. map view_routine rs) c.deref-2.ensures.value) (ap (λ es. map view_event es) c.deref-3.ensures.value) c.new-instructions.ensures.items c.new-prints.ensures.items c.new-routines.ensures.items c.new-events.ensures.items c.in_ok-emit_section.ensures.code c.in_ok-emit_section.ensures.prints c.in_ok-emit_routines.ensures.code c.in_ok-emit_routines.ensures.prints c.in_ok-emit_routines.ensures.entries c.in_ok-emit_events.ensures.code c.in_ok-emit_events.ensures.prints c.in_ok-emit_events.ensures.entries c.in_ok-said.ensures (c.in_ok-globals.ensures.items ∙ c.deref-4.ensures.value) (c.in_ok-locals.ensures.items ∙ c.deref-5.ensures.value)
 
 pub returns-clause-behaves : goal.returns-clause-behaves
 returns-clause-behaves c =
     let p = view_program c.args.program.now in
-    let e : c.new.result ≡ code_of p = c.new.ensures ∙ code_whole p _ _ _ _ _ _ _ _ _ _ _ _ _ _ _ _ _ _ (ap view_body c.deref.ensures.value) (ap (λ rs. map view_routine rs) c.deref-2.ensures.value) (ap (λ es. map view_event es) c.deref-3.ensures.value) c.new-instructions.ensures.items c.new-pictures.ensures.items c.new-routines.ensures.items c.new-events.ensures.items c.in_ok-emit_section.ensures.code c.in_ok-emit_section.ensures.pictures c.in_ok-emit_routines.ensures.code c.in_ok-emit_routines.ensures.pictures c.in_ok-emit_routines.ensures.entries c.in_ok-emit_events.ensures.code c.in_ok-emit_events.ensures.pictures c.in_ok-emit_events.ensures.entries c.in_ok-said.ensures (c.in_ok-globals.ensures.items ∙ c.deref-4.ensures.value) (c.in_ok-locals.ensures.items ∙ c.deref-5.ensures.value) in
+    let e : c.new.result ≡ code_of p = c.new.ensures ∙ code_whole p _ _ _ _ _ _ _ _ _ _ _ _ _ _ _ _ _ _ (ap view_body c.deref.ensures.value) (ap (λ rs. map view_routine rs) c.deref-2.ensures.value) (ap (λ es. map view_event es) c.deref-3.ensures.value) c.new-instructions.ensures.items c.new-prints.ensures.items c.new-routines.ensures.items c.new-events.ensures.items c.in_ok-emit_section.ensures.code c.in_ok-emit_section.ensures.prints c.in_ok-emit_routines.ensures.code c.in_ok-emit_routines.ensures.prints c.in_ok-emit_routines.ensures.entries c.in_ok-emit_events.ensures.code c.in_ok-emit_events.ensures.prints c.in_ok-emit_events.ensures.entries c.in_ok-said.ensures (c.in_ok-globals.ensures.items ∙ c.deref-4.ensures.value) (c.in_ok-locals.ensures.items ∙ c.deref-5.ensures.value) in
     subst (λ k. Behaves p k) (sym e) (c.laws.ensures.code_behaves p)
 
 pub returns-clause-lands : goal.returns-clause-lands
 returns-clause-lands c =
     let p = view_program c.args.program.now in
-    let e : c.new.result ≡ code_of p = c.new.ensures ∙ code_whole p _ _ _ _ _ _ _ _ _ _ _ _ _ _ _ _ _ _ (ap view_body c.deref.ensures.value) (ap (λ rs. map view_routine rs) c.deref-2.ensures.value) (ap (λ es. map view_event es) c.deref-3.ensures.value) c.new-instructions.ensures.items c.new-pictures.ensures.items c.new-routines.ensures.items c.new-events.ensures.items c.in_ok-emit_section.ensures.code c.in_ok-emit_section.ensures.pictures c.in_ok-emit_routines.ensures.code c.in_ok-emit_routines.ensures.pictures c.in_ok-emit_routines.ensures.entries c.in_ok-emit_events.ensures.code c.in_ok-emit_events.ensures.pictures c.in_ok-emit_events.ensures.entries c.in_ok-said.ensures (c.in_ok-globals.ensures.items ∙ c.deref-4.ensures.value) (c.in_ok-locals.ensures.items ∙ c.deref-5.ensures.value) in
+    let e : c.new.result ≡ code_of p = c.new.ensures ∙ code_whole p _ _ _ _ _ _ _ _ _ _ _ _ _ _ _ _ _ _ (ap view_body c.deref.ensures.value) (ap (λ rs. map view_routine rs) c.deref-2.ensures.value) (ap (λ es. map view_event es) c.deref-3.ensures.value) c.new-instructions.ensures.items c.new-prints.ensures.items c.new-routines.ensures.items c.new-events.ensures.items c.in_ok-emit_section.ensures.code c.in_ok-emit_section.ensures.prints c.in_ok-emit_routines.ensures.code c.in_ok-emit_routines.ensures.prints c.in_ok-emit_routines.ensures.entries c.in_ok-emit_events.ensures.code c.in_ok-emit_events.ensures.prints c.in_ok-emit_events.ensures.entries c.in_ok-said.ensures (c.in_ok-globals.ensures.items ∙ c.deref-4.ensures.value) (c.in_ok-locals.ensures.items ∙ c.deref-5.ensures.value) in
     subst (λ k. Lands k) (sym e) (c.laws.ensures.jumps_land p)
 
 pub returns-in_err-emit_section-clause-code : goal.returns-in_err-emit_section-clause-code

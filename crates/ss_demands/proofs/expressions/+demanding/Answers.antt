@@ -1,13 +1,15 @@
 use Rattle.std.proofs.Common.{rules, ◌≡◌, ◌++◌, ◌∷◌, [], length, append_assoc}
 use Rattle.ss_tree.specs.View.{view_expression, view_term}
-use Rattle.ss_demands.specs.Demands.{a_number, implied, in_expression, in_number, in_term, mode_of}
+use Rattle.ss_demands.specs.Demands.{a_number, implied, in_expression, in_number, in_term, mode_of, valued}
 use Rattle.ss_demands.proofs.Noting.{in_named_made, in_call_made, in_product_made, in_sum_made, both_noted, next_noted}
 use Rattle.ss_demands.proofs.expressions.+demanding.Goals as goal
 
 pub note_expression-returns-in_ok-note_implied-in-Named : goal.note_expression-returns-in_ok-note_implied-in-Named
 note_expression-returns-in_ok-note_implied-in-Named t c =
     let counted : c.len.result ≡ length c.in-Named.named.subscripts.items = search rules in
-    rw (c.in-Named.is, in_named_made c.args.line c.in-Named.named, ← counted, ← c.deref.ensures.value, ← append_assoc c.args.into.now.items (implied c.args.line c.in-Named.named.designator c.len.result) _, ← c.in_ok-note_implied-in-Named.ensures) c.note_numbers.ensures
+    let own = valued c.args.line c.in-Named.named.designator in
+    let entity = implied c.args.line c.in-Named.named.designator c.len.result in
+    rw (c.in-Named.is, in_named_made c.args.line c.in-Named.named, ← counted, ← c.deref.ensures.value, ← append_assoc c.args.into.now.items (own ++ entity) _, ← append_assoc c.args.into.now.items own entity, ← c.in_ok-note_valued-in-Named.ensures, ← c.in_ok-note_implied-in-Named.ensures) c.note_numbers.ensures
 
 pub note_expression-returns-in_ok-note-in-Call : goal.note_expression-returns-in_ok-note-in-Call
 note_expression-returns-in_ok-note-in-Call t c =

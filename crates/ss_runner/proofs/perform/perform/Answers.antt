@@ -87,6 +87,10 @@ pub returns-in-LookOwner : goal.returns-in-LookOwner
 returns-in-LookOwner c = λ own input.
     subst (λ i. Told c.look_owner.result (act c.args.code.now i (core_of c.args.working.now input)) (core_of c.look_owner.new.self input)) (sym c.in-LookOwner.is) (c.look_owner.ensures c.args.code.now input)
 
+pub returns-in-LookMean : goal.returns-in-LookMean
+returns-in-LookMean c = λ own input.
+    subst (λ i. Told c.look_mean.result (act c.args.code.now i (core_of c.args.working.now input)) (core_of c.look_mean.new.working input)) (sym c.in-LookMean.is) (c.look_mean.ensures c.args.code.now input)
+
 pub returns-in-Assign : goal.returns-in-Assign
 returns-in-Assign c = λ own input.
     subst (λ i. Told c.assign.result (act c.args.code.now i (core_of c.args.working.now input)) (core_of c.assign.new.self input)) (sym c.in-Assign.is) (c.assign.ensures c.args.code.now input)

@@ -6,5 +6,5 @@ use Rattle.ss_steps.proofs.printing.print_line.Goals as goal
 
 pub returns-in-Err-clause-err : goal.returns-in-Err-clause-err
 returns-in-Err-clause-err g c =
-    let line : c.deref.result.now ≡ filled c.args.picture.now c.args.values.now ++ line_end ∷ [] = search rules in
-    first_of g.W.FaultyWrite.contents c.args.sink.now c.write.new.self c.deref.result.now (filled c.args.picture.now c.args.values.now ++ line_end ∷ []) line c.in-Err.ensures.err
+    let line : c.deref.result.now ≡ filled c.args.picture.now c.args.items.now ++ line_end ∷ [] = search rules in
+    first_of g.W.FaultyWrite.contents c.args.sink.now c.write.new.self c.deref.result.now (filled c.args.picture.now c.args.items.now ++ line_end ∷ []) line c.in-Err.ensures.err

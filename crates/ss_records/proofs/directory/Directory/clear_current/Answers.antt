@@ -6,14 +6,14 @@ use Rattle.ss_records.proofs.directory.Directory.clear_current.Goals as goal
 pub clear-requires : goal.clear-requires
 clear-requires c =
     let v = ap (λ (w : Listed). slice_get w.places c.args.i) c.self.view_is in let a = subst (λ (w : Listed). w.start ≤ c.args.i) (sym c.self.view_is) c.requires.current in
-    (c.requires.there.0, in_cur c.self.inside.earlier.entries c.self.inside.current c.self.inside.start c.self.inside.issued c.self.invariant c.args.i c.requires.there.0 (v ∙ c.requires.there.1) a)
+    (c.requires.there.0, in_cur c.self.inside.earlier c.self.inside.current c.self.inside.start c.self.inside.issued c.self.invariant c.args.i c.requires.there.0 (v ∙ c.requires.there.1) a)
 
 pub invariant_of-self : goal.invariant_of-self
 invariant_of-self c =
     let v = ap (λ (w : Listed). slice_get w.places c.args.i) c.self.view_is in let a = subst (λ (w : Listed). w.start ≤ c.args.i) (sym c.self.view_is) c.requires.current in
-    rw c.clear.ensures (paged_cleared c.self.inside.earlier.entries c.self.inside.current c.self.inside.start c.self.inside.issued c.self.invariant c.args.i c.requires.there.0 (v ∙ c.requires.there.1) a)
+    rw c.clear.ensures (paged_cleared c.self.inside.earlier c.self.inside.current c.self.inside.start c.self.inside.issued c.self.invariant c.args.i c.requires.there.0 (v ∙ c.requires.there.1) a)
 
 pub returns : goal.returns
 returns c =
     let v = ap (λ (w : Listed). slice_get w.places c.args.i) c.self.view_is in let a = subst (λ (w : Listed). w.start ≤ c.args.i) (sym c.self.view_is) c.requires.current in
-    rw c.clear.ensures (places_cleared c.self.inside.earlier.entries c.self.inside.current c.self.inside.start c.self.inside.issued c.self.invariant c.args.i c.requires.there.0 (v ∙ c.requires.there.1) a ∙ ap (λ (w : Listed). slice_set w.places c.args.i None) c.self.view_is)
+    rw c.clear.ensures (places_cleared c.self.inside.earlier c.self.inside.current c.self.inside.start c.self.inside.issued c.self.invariant c.args.i c.requires.there.0 (v ∙ c.requires.there.1) a ∙ ap (λ (w : Listed). slice_set w.places c.args.i None) c.self.view_is)

@@ -4,4 +4,4 @@ use Rattle.ss_records.proofs.Paging.{upto_length}
 use Rattle.ss_records.proofs.directory.Directory.len.Goals as goal
 
 pub returns : goal.returns
-returns c = sym (upto_length (entry c.self.inside.earlier.entries c.self.inside.current c.self.inside.start) c.self.inside.issued) ∙ ap (λ (w : Listed). length w.places) c.self.view_is
+returns c = sym (upto_length (entry c.self.inside.earlier c.self.inside.current c.self.inside.start) c.self.inside.issued) ∙ ap (λ (w : Listed). length w.places) c.self.view_is

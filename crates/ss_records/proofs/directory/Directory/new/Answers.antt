@@ -2,4 +2,4 @@ use Rattle.ss_records.proofs.Paging.{paged_first}
 use Rattle.ss_records.proofs.directory.Directory.new.Goals as goal
 
 pub invariant_of-result : goal.invariant_of-result
-invariant_of-result c = rw (c.new-2.ensures.empty, c.in_ok-current.ensures) paged_first
+invariant_of-result c = rw (c.new-2.ensures, c.in_ok-current.ensures) paged_first

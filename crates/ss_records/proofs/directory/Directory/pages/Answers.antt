@@ -1,12 +1,10 @@
 use Rattle.std.proofs.Common.{◌+◌, ◌≤◌, subst, arith}
 use Rattle.ss_records.specs.Places.{living}
 use Rattle.ss_records.specs.Pages.{Listed}
-use Rattle.std.proofs.lemmas.Map.Entries.{btree_map_get_place}
-use Rattle.std.proofs.lemmas.Cmp.{nat_cmp_total}
 use Rattle.ss_records.proofs.Paging.{pages_few}
 use Rattle.ss_records.proofs.directory.Directory.pages.Goals as goal
 
 pub returns-clause-bound : goal.returns-clause-bound
 returns-clause-bound c =
-    let k = pages_few c.self.inside.earlier.entries c.self.inside.current c.self.inside.start c.self.inside.issued c.self.invariant (λ i q p g. btree_map_get_place nat_cmp_total c.self.inside.earlier i q p c.len.ensures.ordered g) in
-    subst (λ (w : Listed). c.len.result + 1 ≤ living w.places + 1) c.self.view_is (omega (arith, k, c.len.ensures.len))
+    let k = pages_few c.self.inside.earlier c.self.inside.current c.self.inside.start c.self.inside.issued c.self.invariant c.len.ensures.found in
+    subst (λ (w : Listed). c.len.result + 1 ≤ living w.places + 1) c.self.view_is (omega (arith, k, c.len.ensures.value))
