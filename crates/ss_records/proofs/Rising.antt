@@ -1,6 +1,6 @@
 -- Pages in rising order of their numbers: what stands at a place, where a search ends, and what a new page, a write and a
 -- removal leave.
-use Rattle.std.proofs.Common.{◌≡◌, ℕ, zero, suc, ◌<◌, ◌≤◌, Bool, true, false, cond, [], ◌∷◌, ◌++◌, length, get_or, slice_get, slice_set, Some, None, Result, Ok, Err, MatchResult, IsSome, refl, sym, ap, subst, ◌∙◌, arith}
+use Rattle.std.proofs.Common.{◌≡◌, ℕ, zero, suc, ◌<◌, ◌≤◌, Bool, true, false, cond, [], ◌∷◌, ◌++◌, length, get_or, slice_get, slice_set, Option, Some, None, Result, Ok, Err, MatchResult, IsSome, OnSome, refl, sym, ap, subst, ◌∙◌, arith}
 use Rattle.std.specs.Ordering.{nat_cmp, eq_by_cmp, ordering_index}
 use Rattle.std.specs.Cmp.{nat_cmp_is}
 use Rattle.std.specs.declared.cmp.Ordering.TheVariants.{Less, Equal, Greater}
@@ -135,6 +135,10 @@ module _ (ps : Pages) (r : Rises ps) (k q : ℕ) (p : Page) (g : slice_get ps k 
   updates_written n = ap (λ (es : Pages). page_of es n) written ∙ lookup-set_value (eq_by_cmp_equiv nat_cmp_total) (is_at (nat_cmp q)) (one_number q) n w ps there
 
 -- ## A removal
+
+pub on_some : {A P : Type 0} (o : Option A) → IsSome o → OnSome o P → P
+on_some None s h = cc
+on_some (Some a) s h = h
 
 remove_is : (ps : Pages) (k q : ℕ) (p : Page) → Rises ps → slice_get ps k ≡ Some (q, p) → remove ps k ≡ remove_entry (is_at (nat_cmp q)) ps
 unfolding IsStrictlySortedBy

@@ -9,6 +9,7 @@ ghost use Rattle.ss_records.specs.Places.{living};
 
 use crate::page::Page;
 use std::alloc::{AllocError, Global};
+use std::collections::VecDeque;
 use std::marker::Model;
 use std::mem;
 
@@ -16,7 +17,7 @@ use std::mem;
 /// the first and the last, so where one stands is guessed from these two before it is searched.
 #[derive(Drop)]
 pub(crate) struct PageMap {
-    entries: Vec<(usize, Page)>,
+    entries: VecDeque<(usize, Page)>,
 }
 
 impl Model for PageMap {
@@ -38,7 +39,7 @@ impl PageMap {
         ensures { result ≡ [] }
     {
         PageMap {
-            entries: Vec::new(alloc),
+            entries: VecDeque::new(alloc),
         }
     }
 
@@ -81,7 +82,7 @@ impl PageMap {
     // Where a number stands if none is missing from it on. It is a guess.
     #[inline(always)]
     fn from_last(&self, number: usize) -> usize {
-        match self.entries.last() {
+        match self.entries.back() {
             Some(last) => number
                 .wrapping_sub(last.0)
                 .wrapping_add(self.entries.len() - 1),
@@ -92,7 +93,7 @@ impl PageMap {
     // Where a number stands if none is missing up to it. It is a guess.
     #[inline(always)]
     fn from_first(&self, number: usize) -> usize {
-        match self.entries.first() {
+        match self.entries.front() {
             Some(first) => number.wrapping_sub(first.0),
             None => 0,
         }
@@ -133,7 +134,7 @@ impl PageMap {
     {
         self.entries.reserve(1)?;
         let full = mem::replace(page, next);
-        self.entries.push_reserved((number, full));
+        self.entries.push_back_reserved((number, full));
         Ok(())
     }
 
@@ -166,7 +167,7 @@ impl PageMap {
 }
 
 // Gives back half of the room where less than a quarter is needed.
-fn shrink(entries: &mut Vec<(usize, Page)>)
+fn shrink(entries: &mut VecDeque<(usize, Page)>)
     ensures { entries.new.items ≡ entries.old.items }
 {
     let room = entries.capacity();

@@ -6,5 +6,5 @@ use Rattle.ss_records.proofs.pages.PageMap.push.Goals as goal
 pub invariant_of-self-2 : goal.invariant_of-self-2
 invariant_of-self-2 c =
     let above = subst (λ (ps : Pages). (q : ℕ) (p : Page) → page_of ps q ≡ Some p → q < c.args.number) (sym c.self.view_is) c.requires.above in
-    let after = c.push_reserved.ensures.items ∙ ap (λ (ps : Pages). ps ++ (c.args.number, c.replace-full.result) ∷ []) c.reserve.ensures.items in
+    let after = c.push_back_reserved.ensures.items ∙ ap (λ (ps : Pages). ps ++ (c.args.number, c.replace-full.result) ∷ []) c.reserve.ensures.items in
     subst Rises (sym after) (rises_pushed c.self.inside.entries.items c.args.number c.replace-full.result c.self.invariant above)
