@@ -1,5 +1,5 @@
 // The pages of a directory by their numbers.
-ghost use Rattle.std.specs.Prelude.{◌≡◌, ℕ, ◌^◌, ◌<◌, ◌++◌, [], ◌∷◌, List, length, cond, true, nat_eq, Option, Some, None, slice_get, slice_set, MatchOption, MatchResult, option_copied};
+ghost use Rattle.std.specs.Prelude.{◌≡◌, ℕ, ◌^◌, ◌<◌, ◌++◌, [], ◌∷◌, List, length, cond, true, nat_eq, Option, Some, None, IfSome, slice_get, slice_set, MatchOption, MatchResult, option_copied};
 ghost use Rattle.std.specs.Ordering.{nat_cmp};
 ghost use Rattle.std.specs.BTreeMap.{is_at};
 ghost use Rattle.std.specs.Map.{set_value, remove_entry};
@@ -13,11 +13,12 @@ use std::collections::VecDeque;
 use std::marker::Model;
 use std::mem;
 
-/// Pages, each with a number, in rising order. A contract sees the list of both. Mostly few numbers are missing between
-/// the first and the last, so where one stands is guessed from these two before it is searched.
+/// Pages, each with a number, in rising order. A contract sees the list of both. Where no number is missing from one on,
+/// it stands at the sum of it and `shift`, modulo 2^64: that place is tried first.
 #[derive(Drop)]
 pub(crate) struct PageMap {
     entries: VecDeque<(usize, Page)>,
+    shift: usize,
 }
 
 impl Model for PageMap {
@@ -40,6 +41,7 @@ impl PageMap {
     {
         PageMap {
             entries: VecDeque::new(alloc),
+            shift: 0,
         }
     }
 
@@ -57,6 +59,32 @@ impl PageMap {
     pub(crate) fn get(&self, number: usize) -> Option<&Page>
         ensures { option_copied result ≡ page_of self.now number }
     {
+        match self.page_at(number.wrapping_add(self.shift), number) {
+            Some(page) => Some(page),
+            None => self.sought(number),
+        }
+    }
+
+    // The page at a place, if it is that of a number.
+    #[inline(always)]
+    fn page_at(&self, k: usize, number: usize) -> Option<&Page>
+        ensures { IfSome result (λ page. page_of self.now number ≡ Some page.now) }
+    {
+        match self.entries.get(k) {
+            Some(entry) => if entry.0 == number {
+                Some(&entry.1)
+            } else {
+                None
+            },
+            None => None,
+        }
+    }
+
+    // The page of a number, wherever it stands.
+    #[inline(never)]
+    fn sought(&self, number: usize) -> Option<&Page>
+        ensures { option_copied result ≡ page_of self.now number }
+    {
         match self.place(number) {
             Some(k) => Some(&self.entries[k].1),
             None => None,
@@ -64,11 +92,10 @@ impl PageMap {
     }
 
     // Where the page of a number stands.
-    #[inline(always)]
     fn place(&self, number: usize) -> Option<usize>
         ensures { MatchOption result (page_of self.now number ≡ None) (λ k. (page : List (Option Address)) × (slice_get self.now k ≡ Some (number, page))) }
     {
-        let k = self.from_last(number);
+        let k = number.wrapping_add(self.shift);
         if self.has(k, number) {
             return Some(k);
         }
@@ -79,19 +106,7 @@ impl PageMap {
         self.searched(number)
     }
 
-    // Where a number stands if none is missing from it on. It is a guess.
-    #[inline(always)]
-    fn from_last(&self, number: usize) -> usize {
-        match self.entries.back() {
-            Some(last) => number
-                .wrapping_sub(last.0)
-                .wrapping_add(self.entries.len() - 1),
-            None => 0,
-        }
-    }
-
     // Where a number stands if none is missing up to it. It is a guess.
-    #[inline(always)]
     fn from_first(&self, number: usize) -> usize {
         match self.entries.front() {
             Some(first) => number.wrapping_sub(first.0),
@@ -100,7 +115,6 @@ impl PageMap {
     }
 
     // Whether the page at a place is that of a number.
-    #[inline(always)]
     fn has(&self, k: usize, number: usize) -> bool
         ensures { result ≡ true → (page : List (Option Address)) × (slice_get self.now k ≡ Some (number, page)) }
     {
@@ -111,7 +125,6 @@ impl PageMap {
     }
 
     // Where the page of a number stands, among any numbers.
-    #[inline(never)]
     fn searched(&self, number: usize) -> Option<usize>
         ensures { MatchOption result (page_of self.now number ≡ None) (λ k. (page : List (Option Address)) × (slice_get self.now k ≡ Some (number, page))) }
     {
@@ -135,6 +148,7 @@ impl PageMap {
         self.entries.reserve(1)?;
         let full = mem::replace(page, next);
         self.entries.push_back_reserved((number, full));
+        self.shift = shift(&self.entries);
         Ok(())
     }
 
@@ -162,7 +176,16 @@ impl PageMap {
         if let Some(at) = self.place(number) {
             self.entries.remove(at);
             shrink(&mut self.entries);
+            self.shift = shift(&self.entries);
         }
+    }
+}
+
+// The place of the last page less its number.
+fn shift(entries: &VecDeque<(usize, Page)>) -> usize {
+    match entries.back() {
+        Some(last) => (entries.len() - 1).wrapping_sub(last.0),
+        None => 0,
     }
 }
 

@@ -1,7 +1,7 @@
 use Rattle.std.proofs.Common.{slice_get, Some, sym, ap, ◌∙◌}
 use Rattle.ss_records.specs.Pages.{Pages, page_of}
 use Rattle.ss_records.proofs.Rising.{held_at, read_is}
-use Rattle.ss_records.proofs.pages.PageMap.get.Goals as goal
+use Rattle.ss_records.proofs.pages.PageMap.sought.Goals as goal
 
 pub returns-in-Some : goal.returns-in-Some
 returns-in-Some c =
