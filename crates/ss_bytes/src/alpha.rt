@@ -19,7 +19,7 @@ pub const TEXT_LIMIT: usize = 16;
 #[derive(Clone, Copy)]
 pub struct Alpha {
     room: [u8; TEXT_LIMIT],
-    // Lays the bytes where words of eight bytes lie, so that a value, of 24 bytes, is copied as three of them.
+    // Lays the bytes where those of a number begin, so that a value, which has 24 bytes, is copied in three words.
     aligned: [u64; 0],
 }
 
