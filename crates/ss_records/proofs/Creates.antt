@@ -37,13 +37,17 @@ pub length-blanks : (n : ℕ) → length (blanks n) ≡ n
 length-blanks zero = refl
 length-blanks (suc n) = ap suc (length-blanks n)
 
-first_of : (m : Mode) → value_of m 0 ≡ first_value m
+first_of : (m : Mode) → value_of m 0 0 ≡ first_value m
 first_of Integer = refl
 first_of Alpha = refl
 
-values_first : (ms : List Mode) (ws : List Word) (k : ℕ) → ((j : ℕ) → k ≤ j → j < k + length ms → word_of ws j ≡ number 0) → values_from ms ws k ≡ map first_value ms
+values_first : (ms : List Mode) (ws : List Word) (k : ℕ) → ((j : ℕ) → k ≤ j → j < k + 2 * length ms → word_of ws j ≡ number 0) → values_from ms ws k ≡ map first_value ms
 values_first [] ws k h = refl
-values_first (m ∷ ms) ws k h = λ i. (ap (λ w. value_of m (plain w)) (h k (omega arith) (omega arith)) ∙ first_of m) i ∷ values_first ms ws (k + 1) (λ j a b. h j (omega (arith, a)) (omega (arith, b))) i
+values_first (m ∷ ms) ws k h =
+    let a : word_of ws k ≡ number 0 = h k (omega arith) (omega arith) in
+    let b : word_of ws (k + 1) ≡ number 0 = h (k + 1) (omega arith) (omega arith) in
+    let here : value_of m (plain (word_of ws k)) (plain (word_of ws (k + 1))) ≡ first_value m = (λ i. value_of m (plain (a i)) (plain (b i))) ∙ first_of m in
+    λ i. here i ∷ values_first ms ws (k + 2) (λ j x y. h j (omega (arith, x)) (omega (arith, y))) i
 
 time_first : (b : Bool) (ws : List Word) (n : ℕ) → 2 ≤ n → ((k : ℕ) → 2 ≤ k → k < n + cond b 1 0 → word_of ws k ≡ number 0) → cond b (cast_signed w64 (plain (word_of ws n))) (pos 0) ≡ pos 0
 time_first true ws n low h = ap (λ w. cast_signed w64 (plain w)) (h n low (omega arith))

@@ -45,5 +45,6 @@ pub mod Splice
 pub mod Still
 pub mod Tied
 pub mod UnlinkWrites
+pub mod ValueWords
 pub mod Values
 pub mod WordKinds

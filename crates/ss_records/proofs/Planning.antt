@@ -55,14 +55,18 @@ small_law l h =
 
 -- ---- how far words reach
 
-pub links_reach : (l : Layout) → Small l → (c : ℕ) → links_start l c ≤ 1048579
+pub links_reach : (l : Layout) → Small l → (c : ℕ) → links_start l c ≤ 2097155
 links_reach l h c = omega (arith, h.fields c, one (is_notice (kind_of l c)))
 
-pub owned_reach : (l : Layout) → Small l → (o : Owner) → owned_start l o ≤ 4194307
+pub owned_reach : (l : Layout) → Small l → (o : Owner) → owned_start l o ≤ 5242883
 owned_reach l h System = omega arith
 owned_reach l h (Class c) = omega (arith, links_reach l h c, few_sets (joins c) l.sets, h.sets)
 
-pub member_reach : (l : Layout) → Small l → (s : ℕ) (t : SetLayout) → member_base l s t ≤ 4194307
+-- how many links a class has
+pub links_few : (l : Layout) → Small l → (c a b : ℕ) → a ≡ links_start l c → b ≡ owned_start l (Class c) → b ≤ a + 3145728
+links_few l h c a b x y = omega (arith, x, y, few_sets (joins c) l.sets, h.sets)
+
+pub member_reach : (l : Layout) → Small l → (s : ℕ) (t : SetLayout) → member_base l s t ≤ 5242883
 member_reach l h s t = omega (arith, links_reach l h t.member, few_before (joins t.member) l.sets s, h.sets)
 
 pub owner_reach : (l : Layout) → Small l → (s : ℕ) (t : SetLayout) → owner_base l s t ≤ 8388614

@@ -1,5 +1,5 @@
--- A text comes out of its word as it went in.
-use Rattle.std.proofs.Common.{◌≡◌, ℕ, zero, suc, ◌-◌, ◌≤◌, ◌<◌, true, List, [], ◌∷◌, ◌++◌, length, get_or, drop, refl, sym, subst, T, ◌∙◌, ap, arith, lit<, length-append}
+-- A text comes out of its words as it went in.
+use Rattle.std.proofs.Common.{◌≡◌, ℕ, zero, suc, ◌+◌, ◌-◌, ◌≤◌, ◌<◌, true, List, [], ◌∷◌, ◌++◌, length, get_or, take, drop, refl, sym, subst, T, ◌∙◌, ap, arith, lit<, length-append, length-drop, length-take-le, take-append-drop, get_or-drop}
 use Rattle.std.specs.Prelude.{Some, nat_le, replicate}
 use Rattle.std.specs.List.{list_all}
 use Rattle.std.specs.Int.{from_be_bytes, to_be_bytes}
@@ -38,17 +38,33 @@ bytes_small (b ∷ bs) k (suc i) h = bytes_small bs k i (and_parts (is_text_byte
 text_again : (t : List ℕ) → IsText t → text_of t ≡ Some t
 text_again t h = let small : nat_le (length t) text_limit ≡ true = le-leb (length t) text_limit h.short in rw (h.trimmed, h.printable, small) refl
 
-read_back : (t : List ℕ) (w : ℕ) → IsText t → length (padded t) ≡ 8 → w ≡ from_be_bytes w64 (padded t) → value_of Alpha w ≡ Text t
-read_back t w h l e =
-    let is : to_be_bytes w64 w ≡ padded t = be_bytes_8 (padded t) w l (λ i. bytes_small t (text_limit - length t) i h.printable) e in
+small_before : (n : ℕ) (xs : List ℕ) → ((i : ℕ) → get_or xs i 0 < 256) → (i : ℕ) → get_or (take n xs) i 0 < 256
+small_before zero xs h i = lit< tt
+small_before (suc n) [] h i = lit< tt
+small_before (suc n) (x ∷ xs) h zero = h zero
+small_before (suc n) (x ∷ xs) h (suc i) = small_before n xs (λ j. h (suc j)) i
+
+small_behind : (n : ℕ) (xs : List ℕ) → ((i : ℕ) → get_or xs i 0 < 256) → (i : ℕ) → get_or (drop n xs) i 0 < 256
+small_behind n xs h i = subst (λ b. b < 256) (sym (get_or-drop n xs i 0)) (h (n + i))
+
+-- sixteen bytes come out of the words of their halves
+halves_again : (bs : List ℕ) (a b : ℕ) → length bs ≡ 16 → ((i : ℕ) → get_or bs i 0 < 256) → a ≡ from_be_bytes w64 (take 8 bs) → b ≡ from_be_bytes w64 (drop 8 bs) → to_be_bytes w64 a ++ to_be_bytes w64 b ≡ bs
+halves_again bs a b l small e f =
+    let front : to_be_bytes w64 a ≡ take 8 bs = be_bytes_8 (take 8 bs) a (length-take-le 8 bs (omega (arith, l))) (small_before 8 bs small) e in
+    let back : to_be_bytes w64 b ≡ drop 8 bs = be_bytes_8 (drop 8 bs) b (omega (arith, l, length-drop 8 bs)) (small_behind 8 bs small) f in
+    (λ i. front i ++ back i) ∙ take-append-drop 8 bs
+
+read_back : (t : List ℕ) (a b : ℕ) → IsText t → length (padded t) ≡ 16 → a ≡ from_be_bytes w64 (take 8 (padded t)) → b ≡ from_be_bytes w64 (drop 8 (padded t)) → value_of Alpha a b ≡ Text t
+read_back t a b h l e f =
+    let is : to_be_bytes w64 a ++ to_be_bytes w64 b ≡ padded t = halves_again (padded t) a b l (λ i. bytes_small t (text_limit - length t) i h.printable) e f in
     ap (λ bs. Text (unwrap_or (text_of (before_zero bs)) [])) is ∙ ap (λ bs. Text (unwrap_or (text_of bs) [])) (before_zero-padded t (text_limit - length t) h.printable) ∙ ap (λ o. Text (unwrap_or o [])) (text_again t h)
 
-pad_length : (t : List ℕ) → length t ≤ text_limit → length (padded t) ≡ 8
+pad_length : (t : List ℕ) → length t ≤ text_limit → length (padded t) ≡ 16
 pad_length t h = omega (arith, h, length-append t (replicate (text_limit - length t) 0), length-replicate {A = ℕ} (text_limit - length t) 0)
 
--- the word of a text that was copied into zeros
-pub text_read : (t bytes copied : List ℕ) (w : ℕ) → IsText t → bytes ≡ t → copied ≡ bytes
-    → w ≡ from_be_bytes w64 (copied ++ drop (length bytes) (replicate text_limit 0)) → value_of Alpha w ≡ Text t
-text_read t bytes copied w h is same e =
+-- the words of a text that was copied into zeros
+pub text_read : (t bytes copied : List ℕ) (a b : ℕ) → IsText t → bytes ≡ t → copied ≡ bytes
+    → a ≡ from_be_bytes w64 (take 8 (copied ++ drop (length bytes) (replicate text_limit 0))) → b ≡ from_be_bytes w64 (drop 8 (copied ++ drop (length bytes) (replicate text_limit 0))) → value_of Alpha a b ≡ Text t
+text_read t bytes copied a b h is same e f =
     let room : copied ++ drop (length bytes) (replicate text_limit 0) ≡ padded t = rw (same, is, drop-replicate {X = ℕ} (length t) text_limit 0) refl in
-    read_back t w h (pad_length t h.short) (e ∙ ap (from_be_bytes w64) room)
+    read_back t a b h (pad_length t h.short) (e ∙ ap (λ r. from_be_bytes w64 (take 8 r)) room) (f ∙ ap (λ r. from_be_bytes w64 (drop 8 r)) room)

@@ -32,14 +32,14 @@ module _ (r q : Records) (h : held q ≡ held r) where
   pub free_still : (s x : ℕ) → is_filed r.notes.lists s x ≡ false → is_filed q.notes.lists s x ≡ false
   free_still s x free = subst (λ (z : Records). is_filed z.notes.lists s x ≡ false) (sym h) free
 
--- an attribute stands within a block
-pub field_room : (l : Layout) (c f : ℕ) (m : Mode) → Small l → slice_get (modes_of l c) f ≡ Some m → Fits w64 (2 + f)
-field_room l c f m h g = omega (arith, h.fields c, slice_get_within (modes_of l c) f m g)
+-- there are few attributes
+pub few_fields : (l : Layout) (c f : ℕ) (m : Mode) → Small l → slice_get (modes_of l c) f ≡ Some m → f < 1048576
+few_fields l c f m h g = omega (arith, h.fields c, slice_get_within (modes_of l c) f m g)
 
-pub base_room : (n : ℕ) → n ≤ 4194307 → Fits w64 (n + 1)
+pub base_room : (n : ℕ) → n ≤ 5242883 → Fits w64 (n + 1)
 base_room n h = omega (arith, h)
 
-pub base_room2 : (n : ℕ) → n ≤ 4194307 → Fits w64 (n + 2)
+pub base_room2 : (n : ℕ) → n ≤ 5242883 → Fits w64 (n + 2)
 base_room2 n h = omega (arith, h)
 
 pub owner_room : (n : ℕ) → n ≤ 8388614 → Fits w64 (n + 1)

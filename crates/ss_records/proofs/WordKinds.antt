@@ -1,7 +1,8 @@
--- A word that is a link or a count is there, and stays one.
-use Rattle.std.proofs.Common.{◌≡◌, ℕ, zero, suc, ◌<◌, List, [], ◌∷◌, length, sym, subst, ap, ◌∙◌, arith}
+-- A word that is a number, a link or a count is there, and stays one.
+use Rattle.std.proofs.Common.{◌≡◌, ℕ, zero, suc, ◌+◌, ◌<◌, List, [], ◌∷◌, length, sym, subst, ap, ◌∙◌, arith}
 use denote.RawPtr.{Ptr}
-use Rattle.ss_records.specs.Cells.{Word, blank, number, counter, link, Cells, IsLink, IsCounter, MayBeLink, MayBeCounter, words_at, word_of, word_at, put_word}
+use Rattle.ss_records.specs.Cells.{Word, blank, number, counter, link, Cells, IsNumber, IsLink, IsCounter, MayBeNumber, MayBeLink, MayBeCounter, words_at, word_of, word_at, put_word}
+use Rattle.ss_records.proofs.Numbers.{number_inside}
 use Rattle.ss_records.proofs.Same.{by_same}
 use Rattle.ss_records.proofs.Puts.{by_ptr, put_other, word_here, words_written}
 
@@ -15,6 +16,12 @@ counter_room [] k h = absurd h
 counter_room (w ∷ ws) zero h = omega arith
 counter_room (w ∷ ws) (suc k) h = omega (arith, counter_room ws k h)
 
+pub number_may : (w : Word) → IsNumber w → MayBeNumber w
+number_may blank h = absurd h
+number_may (number n) h = tt
+number_may (counter n) h = absurd h
+number_may (link q) h = absurd h
+
 link_may : (w : Word) → IsLink w → MayBeLink w
 link_may blank h = absurd h
 link_may (number n) h = absurd h
@@ -26,6 +33,13 @@ counter_may blank h = absurd h
 counter_may (number n) h = absurd h
 counter_may (counter n) h = tt
 counter_may (link q) h = absurd h
+
+pub may_number : (cs : Cells) (p : Ptr) (k : ℕ) → IsNumber (word_at cs p k) → (k < length (words_at cs p)) × MayBeNumber (word_at cs p k)
+may_number cs p k h = (number_inside (words_at cs p) k h, number_may (word_at cs p k) h)
+
+-- also once the word before it was written
+pub may_next : (cs : Cells) (p : Ptr) (k : ℕ) (w : Word) → IsNumber (word_at cs p (k + 1)) → (k + 1 < length (words_at (put_word cs p k w) p)) × MayBeNumber (word_at (put_word cs p k w) p (k + 1))
+may_next cs p k w h = may_number (put_word cs p k w) p (k + 1) (subst IsNumber (sym (put_other cs p k w p (k + 1) (λ _ e. absurd (omega (arith, e))))) h)
 
 pub may_link : (cs : Cells) (p : Ptr) (k : ℕ) → IsLink (word_at cs p k) → (k < length (words_at cs p)) × MayBeLink (word_at cs p k)
 may_link cs p k h = (link_room (words_at cs p) k h, link_may (word_at cs p k) h)

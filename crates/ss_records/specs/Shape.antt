@@ -1,5 +1,5 @@
--- Where the words of a block stand: class, number, values, the time of a notice, then three words for
--- each set that the class may join, then three for each set that it owns.
+-- Where the words of a block stand: class, number, two for each value, the time of a notice, then three words
+-- for each set that the class may join, then three for each set that it owns.
 use Rattle.std.specs.Prelude.{ℕ, zero, suc, ◌+◌, ◌*◌, Bool, true, false, ◌==◌, cond, List, [], ◌∷◌, length}
 use Rattle.ss_base.specs.declared.layout.Owner.{Owner}
 use Rattle.ss_base.specs.declared.layout.Owner.TheVariants.{System, Class}
@@ -9,7 +9,7 @@ use Rattle.ss_states.specs.State.{kind_of, modes_of, is_notice}
 
 -- where the values end
 abbrev pub values_end : Layout → ℕ → ℕ
-values_end l c = 2 + length (modes_of l c)
+values_end l c = 2 + 2 * length (modes_of l c)
 
 -- where the links begin
 abbrev pub links_start : Layout → ℕ → ℕ

@@ -1,6 +1,7 @@
 //! Records of a simulation as raw blocks, with links between them.
 #![tactic(auto)]
 
+pub(crate) mod attributes;
 pub(crate) mod directory;
 pub(crate) mod filing;
 mod heap;

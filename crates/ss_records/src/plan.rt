@@ -109,7 +109,7 @@ impl Plan {
     pub(crate) fn values_end(&self, class: usize) -> usize
         requires { class < length self.now.classes }
         ensures at { result ≡ values_end self.now class }
-        ensures bound { result ≤ 1048578 }
+        ensures bound { result ≤ 2097154 }
     {
         shape::values_end(&self.layout, class)
     }
@@ -118,7 +118,7 @@ impl Plan {
     pub(crate) fn links_start(&self, class: usize) -> usize
         requires { class < length self.now.classes }
         ensures at { result ≡ links_start self.now class }
-        ensures bound { result ≤ 1048579 }
+        ensures bound { result ≤ 2097155 }
     {
         self.classes[class].links
     }
@@ -127,7 +127,7 @@ impl Plan {
     pub(crate) fn owned_start(&self, owner: Owner) -> usize
         requires { (c : ℕ) → owner ≡ Owner.Class c → c < length self.now.classes }
         ensures at { result ≡ owned_start self.now owner }
-        ensures bound { result ≤ 4194307 }
+        ensures bound { result ≤ 5242883 }
     {
         match owner {
             Owner::System => VALUES,
@@ -160,7 +160,7 @@ impl Plan {
     pub(crate) fn member_base(&self, s: usize) -> usize
         requires { s < length self.now.sets }
         ensures at { (t : SetLayout) → slice_get self.now.sets s ≡ Some t → result ≡ member_base self.now s t }
-        ensures bound { result ≤ 4194307 }
+        ensures bound { result ≤ 5242883 }
     {
         self.sets[s].member
     }

@@ -13,9 +13,9 @@ use crate::directory::Directory;
 use crate::notes::Notes;
 use crate::plan::Plan;
 use crate::row::{self, Row};
-use crate::shape::{CLASS, VALUES};
+use crate::shape::{CLASS, value_start};
 use crate::store::{Address, Blocks};
-use crate::{laying, placing, ties, words};
+use crate::{laying, placing, ties};
 use ss_base::{ClassKind, FaultKind, Layout, Owner, Refused, Value};
 use std::alloc::{AllocError, Global};
 
@@ -221,7 +221,8 @@ impl Records {
         match self.find(class, r) {
             Ok(place) => {
                 let mode = self.layout.mode(class, field);
-                Ok(words::value_in(mode, self.blocks.number(place, VALUES + field)))
+                let k = value_start(field);
+                Ok(self.blocks.value(place, k, mode))
             }
             Err(fault) => Err(fault),
         }
@@ -245,8 +246,8 @@ impl Records {
     {
         match self.find(class, r) {
             Ok(place) => {
-                let word = words::word_of(value);
-                self.blocks.set_number(place, VALUES + field, word);
+                let k = value_start(field);
+                self.blocks.set_value(place, k, value);
                 Ok(())
             }
             Err(fault) => Err(fault),

@@ -6,8 +6,7 @@ ghost use Rattle.ss_records.specs.Parts.{IsKept, state, Owns, Joins};
 
 use crate::links::Entry;
 use crate::records::Records;
-use crate::shape::{NUMBER, VALUES};
-use crate::words;
+use crate::shape::{NUMBER, value_start};
 use ss_base::{FaultKind, Owner, Value};
 
 /// What is read of a member of a set at once.
@@ -175,11 +174,12 @@ impl Records {
             Ok(place) => {
                 let number = self.blocks.number(place, NUMBER);
                 let mode = self.layout.mode(class, field);
-                let word = self.blocks.number(place, VALUES + field);
+                let k = value_start(field);
+                let value = self.blocks.value(place, k, mode);
                 let base = self.layout.member_base(s);
                 let next = self.blocks.follow(place, base);
                 Ok(Member {
-                    value: words::value_in(mode, word),
+                    value,
                     next: other_than(next.number, number) as i64,
                 })
             }

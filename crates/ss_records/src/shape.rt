@@ -14,6 +14,16 @@ pub(crate) const NUMBER: usize = 1;
 
 pub(crate) const VALUES: usize = 2;
 
+/// Where the two words of an attribute stand: here and next to it.
+#[inline(always)]
+pub(crate) fn value_start(field: usize) -> usize
+    requires few { field < 1048576 }
+    ensures at { result ≡ 2 + 2 * field }
+    ensures bound { result ≤ 2097152 }
+{
+    VALUES + 2 * field
+}
+
 /// What a heap relies on of every layout.
 pub(crate) fn law(layout: &Layout)
     ensures { Small layout.now }
@@ -45,10 +55,10 @@ pub(crate) fn values_end(layout: &Layout, class: usize) -> usize
     requires small { Small layout.now }
     requires class { class < length layout.now.classes }
     ensures at { result ≡ values_end layout.now class }
-    ensures bound { result ≤ 1048578 }
+    ensures bound { result ≤ 2097154 }
 {
     let class = &layout.classes[class];
-    VALUES + class.fields.len()
+    VALUES + 2 * class.fields.len()
 }
 
 /// Where the links of a class begin.
@@ -56,7 +66,7 @@ pub(crate) fn links_start(layout: &Layout, class: usize) -> usize
     requires small { Small layout.now }
     requires class { class < length layout.now.classes }
     ensures at { result ≡ links_start layout.now class }
-    ensures bound { result ≤ 1048579 }
+    ensures bound { result ≤ 2097155 }
 {
     let end = values_end(layout, class);
     match kind(layout, class) {
@@ -70,7 +80,7 @@ pub(crate) fn owned_start(layout: &Layout, owner: Owner) -> usize
     requires small { Small layout.now }
     requires class { (c : ℕ) → owner ≡ Owner.Class c → c < length layout.now.classes }
     ensures at { result ≡ owned_start layout.now owner }
-    ensures bound { result ≤ 4194307 }
+    ensures bound { result ≤ 5242883 }
 {
     match owner {
         Owner::System => VALUES,
@@ -120,7 +130,7 @@ pub(crate) fn member_base(layout: &Layout, s: usize) -> usize
     requires small { Small layout.now }
     requires set { s < length layout.now.sets }
     ensures at { (t : SetLayout) → slice_get layout.now.sets s ≡ Some t → result ≡ member_base layout.now s t }
-    ensures bound { result ≤ 4194307 }
+    ensures bound { result ≤ 5242883 }
 {
     let class = member_class(layout, s);
     links_start(layout, class) + 3 * joining(&layout.sets[..s], class)

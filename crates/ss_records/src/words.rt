@@ -1,45 +1,75 @@
-// A value as the word of a block: a whole number as its 64 bits, a text as its bytes with zeros behind.
-ghost use Rattle.std.specs.Prelude.{◌≡◌, ◌≤◌, ◌<◌, length, take};
+// What the two words of a value say: a whole number is the 64 bits of the first, a text is its bytes with zeros behind.
+ghost use Rattle.std.specs.Prelude.{◌≡◌, ◌≤◌, ◌++◌, length, take};
+ghost use Rattle.std.specs.Int.{w64, cast_signed, from_be_bytes, to_be_bytes};
 ghost use Rattle.ss_base.specs.Room.{before_zero};
 ghost use Rattle.ss_records.specs.Reading.{value_of};
-ghost use Rattle.ss_base.specs.Layout.{mode_of};
 
 use ss_base::{Alpha, Mode, TEXT_LIMIT, Value};
 
-/// The word of a value.
-pub(crate) fn word_of(value: Value) -> u64
-    ensures { value_of (mode_of value) result ≡ value }
-{
-    match value {
-        Value::Whole(number) => number.cast_unsigned(),
-        Value::Text(text) => text_word(text),
-    }
+/// The words of a text: its first eight bytes, and the eight behind them.
+#[derive(Clone, Copy)]
+pub(crate) struct TextWords {
+    pub(crate) first: u64,
+    pub(crate) second: u64,
 }
 
-// The bytes of a text, with zeros behind.
-fn text_word(text: Alpha) -> u64
-    ensures { value_of Mode.Alpha result ≡ Value.Text text }
+/// The first word of a whole number. The second may be any.
+#[inline(always)]
+pub(crate) fn whole_word(number: i64) -> u64
+    ensures { cast_signed w64 result ≡ number }
+{
+    number.cast_unsigned()
+}
+
+/// The whole number of a first word.
+#[inline(always)]
+pub(crate) fn whole_in(word: u64) -> Value
+    ensures { result ≡ Value.Whole (cast_signed w64 word) }
+{
+    Value::Whole(word.cast_signed())
+}
+
+/// The words of a text.
+pub(crate) fn text_words(text: Alpha) -> TextWords
+    ensures { value_of Mode.Alpha result.first result.second ≡ Value.Text text }
 {
     let bytes = text.bytes();
     let mut room = [0u8; TEXT_LIMIT];
     room[..bytes.len()].copy_from_slice(bytes);
-    u64::from_be_bytes(room)
+    let first = word_of(&room[..8]);
+    let second = word_of(&room[8..]);
+    TextWords { first, second }
 }
 
-/// The value of a word.
-pub(crate) fn value_in(mode: Mode, word: u64) -> Value
-    ensures { result ≡ value_of mode word }
+// The word of eight bytes.
+fn word_of(bytes: &[u8]) -> u64
+    requires { length bytes.now ≡ 8 }
+    ensures { result ≡ from_be_bytes w64 bytes.now }
 {
-    match mode {
-        Mode::Integer => Value::Whole(word.cast_signed()),
-        Mode::Alpha => {
-            let bytes = word.to_be_bytes();
-            match Alpha::of(used(&bytes)) {
-                Some(text) => Value::Text(text),
-                None => Value::Text(Alpha::empty()),
-            }
-        }
+    let mut word = [0u8; 8];
+    word.copy_from_slice(bytes);
+    u64::from_be_bytes(word)
+}
+
+/// The text of two words.
+pub(crate) fn text_in(first: u64, second: u64) -> Value
+    ensures { result ≡ value_of Mode.Alpha first second }
+{
+    let bytes = bytes_of(first, second);
+    match Alpha::of(used(&bytes)) {
+        Some(text) => Value::Text(text),
+        None => Value::Text(Alpha::empty()),
     }
+}
+
+// The bytes of two words.
+fn bytes_of(first: u64, second: u64) -> [u8; TEXT_LIMIT]
+    ensures { result ≡ to_be_bytes w64 first ++ to_be_bytes w64 second }
+{
+    let mut bytes = [0u8; TEXT_LIMIT];
+    bytes[..8].copy_from_slice(&first.to_be_bytes());
+    bytes[8..].copy_from_slice(&second.to_be_bytes());
+    bytes
 }
 
 // The bytes before the first zero.

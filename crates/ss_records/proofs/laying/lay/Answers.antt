@@ -3,6 +3,7 @@ use Rattle.ss_base.specs.declared.layout.Owner.TheVariants.{Class}
 use Rattle.ss_records.specs.Shape.{links_start, owned_start}
 use Rattle.ss_records.specs.Laid.{Filled, zeros, links_to, owned_from}
 use Rattle.ss_records.proofs.Fills.{blank_above, laid_from}
+use Rattle.ss_records.proofs.Planning.{links_few}
 use Rattle.ss_records.proofs.laying.lay.Goals as goal
 
 pub fill_numbers-requires-clause-room : goal.fill_numbers-requires-clause-room
@@ -33,3 +34,8 @@ returns-clause-laid c =
     let f4 = subst (λ n. Filled d e p n (n + 3 * c.owned_count-count.result) (owned_from c.args.end.at n)) c.owned_start-owned.ensures.at c.fill_owned.ensures.filled in
     let g4 = subst (λ n. Filled d e p (owned_start l (Class c.args.class)) (owned_start l (Class c.args.class) + 3 * n) (owned_from c.args.end.at (owned_start l (Class c.args.class)))) c.owned_count-count.ensures.value f4 in
     laid_from l c.args.blocks.now.cells a b d e c.args.end.at p c.args.class c.args.number c.lay_head.ensures.filled f2 g3 g4
+
+pub returns-clause-few : goal.returns-clause-few
+returns-clause-few c =
+    let few = links_few c.args.layout.now c.requires.small c.args.class c.links_start-links.result c.owned_start-owned.result c.links_start-links.ensures.at c.owned_start-owned.ensures.at in
+    omega (arith, few, c.lay_head.ensures.touches.0, c.fill_numbers.ensures.touches.0, c.fill_links.ensures.touches.0, c.fill_owned.ensures.touches.0, c.owned_count-count.ensures.bound)

@@ -24,4 +24,4 @@ returns-clause-bound c =
     let e : c.self.inside.layout ≡ c.args.self.now = c.self.view_is in
     let y = get_there c.self.inside.layout.sets c.args.s (subst (λ (l : Layout). c.args.s < length l.sets) (sym e) c.requires) in
     let are = bases_are c.self.inside.layout c.self.inside.classes.items c.self.inside.sets.items c.self.inside.system_sets c.self.invariant c.args.s y.0 c.index.result.now y.1 c.index.ensures in
-    subst (λ m. m ≤ 4194307) (sym (ap (λ (b : Bases). b.member) are)) (member_reach c.self.inside.layout c.self.invariant.small c.args.s y.0)
+    subst (λ m. m ≤ 5242883) (sym (ap (λ (b : Bases). b.member) are)) (member_reach c.self.inside.layout c.self.invariant.small c.args.s y.0)

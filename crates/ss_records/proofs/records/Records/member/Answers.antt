@@ -4,10 +4,10 @@ use Rattle.ss_base.specs.declared.layout.SetLayout.{SetLayout}
 use Rattle.ss_states.specs.State.{and_then, modes_of, value_in}
 use Rattle.ss_states.specs.Sets.{member_in, companions, follower}
 use Rattle.ss_records.specs.Parts.{state, places, held}
-use Rattle.ss_records.proofs.Assigns.{value_number, is_value}
+use Rattle.ss_records.proofs.Assigns.{first_number, second_number, is_value}
 use Rattle.ss_records.proofs.Looks.{next_leads, next_fits, next_is}
 use Rattle.ss_records.proofs.Owning.{has_number, joins_found, not_joiner, kind_is}
-use Rattle.ss_records.proofs.Still.{kept_still, room_first, one_touch, no_touch, field_room}
+use Rattle.ss_records.proofs.Still.{kept_still, room_first, one_touch, no_touch, few_fields}
 use Rattle.ss_records.proofs.records.Records.member.Goals as goal
 
 pub number-number-requires : goal.number-number-requires
@@ -19,10 +19,21 @@ mode-mode-requires-clause-field c =
     let k = kind_is r.layout c.args.s (λ (t : SetLayout). t.member) c.member_class-class.result c.requires.set c.member_class-class.ensures.is in
     subst (λ b. c.args.field < length (modes_of r.layout b)) (ap member_in k.1 ∙ k.2) c.requires.field
 
-pub number-word-requires : goal.number-word-requires
-number-word-requires c =
+pub value_start-k-requires : goal.value_start-k-requires
+value_start-k-requires c = let r = c.args.self.now in few_fields r.layout c.member_class-class.result c.args.field _ c.requires.kept.small c.mode-mode.ensures
+
+pub value-value-requires-clause-first : goal.value-value-requires-clause-first
+value-value-requires-clause-first c =
     let r = c.args.self.now in let f = c.in-Ok.ensures.found in
-    value_number r.layout r.blocks.cells r.system.at (places r) r.notes.lists c.requires.kept f.index c.in-Ok.place f.entry c.member_class-class.result f.class _ f.is f.entity c.args.field c.mode-mode.result c.mode-mode.ensures
+    first_number r.layout r.blocks.cells r.system.at (places r) r.notes.lists c.requires.kept f.index c.in-Ok.place f.entry c.member_class-class.result f.class _ f.is f.entity c.args.field c.value_start-k.result c.value_start-k.ensures.at c.mode-mode.result c.mode-mode.ensures
+
+pub value-value-requires-clause-second : goal.value-value-requires-clause-second
+value-value-requires-clause-second c =
+    let r = c.args.self.now in let f = c.in-Ok.ensures.found in
+    second_number r.layout r.blocks.cells r.system.at (places r) r.notes.lists c.requires.kept f.index c.in-Ok.place f.entry c.member_class-class.result f.class _ f.is f.entity c.args.field c.value_start-k.result c.value_start-k.ensures.at c.mode-mode.result c.mode-mode.ensures
+
+pub value-value-requires-clause-room : goal.value-value-requires-clause-room
+value-value-requires-clause-room c = omega (arith, c.value_start-k.ensures.bound)
 
 pub follow-next-requires-clause-leads : goal.follow-next-requires-clause-leads
 follow-next-requires-clause-leads c =
@@ -45,9 +56,9 @@ returns-in-Ok-clause-found c =
     let k = kind_is r.layout c.args.s (λ (t : SetLayout). t.member) c.member_class-class.result c.requires.set c.member_class-class.ensures.is in
     let e = ap member_in k.1 ∙ k.2 in
     let j = joins_found r c.requires.kept c.member_class-class.result c.args.x c.in-Ok.place f c.number-number.result c.number-number.ensures c.args.s e in
-    let v = is_value r.layout r.blocks.cells r.system.at (places r) r.notes.lists c.requires.kept f.index c.in-Ok.place f.entry c.member_class-class.result f.class c.args.x f.is f.entity c.args.field c.mode-mode.result c.mode-mode.ensures c.number-word.result c.number-word.ensures in
+    let v = is_value r.layout r.blocks.cells r.system.at (places r) r.notes.lists c.requires.kept f.index c.in-Ok.place f.entry c.member_class-class.result f.class c.args.x f.is f.entity c.args.field c.value_start-k.result c.value_start-k.ensures.at c.mode-mode.result c.mode-mode.ensures in
     let n = next_is r c.requires.kept c.args.s c.requires.set (record { place = c.in-Ok.place; number = c.number-number.result }) j.0 c.member_base-base.result c.member_base-base.ensures.at c.follow-next.result c.follow-next.ensures.word c.follow-next.ensures.there c.args.x c.other_than.result j.1 c.other_than.ensures.same c.other_than.ensures.other in
-    (ap (λ b. value_in (state r) b c.args.field c.args.x) e ∙ v ∙ ap Ok (sym c.value_in.ensures), sym n)
+    (ap (λ b. value_in (state r) b c.args.field c.args.x) e ∙ v ∙ ap Ok (sym c.value-value.ensures), sym n)
 
 pub returns-in-Err-clause-found : goal.returns-in-Err-clause-found
 returns-in-Err-clause-found c =
@@ -66,9 +77,6 @@ find-requires-clause-class c = c.member_class-class.ensures.class
 
 pub mode-mode-requires-clause-class : goal.mode-mode-requires-clause-class
 mode-mode-requires-clause-class c = c.member_class-class.ensures.class
-
-pub overflow_add-field : goal.overflow_add-field
-overflow_add-field c = let r = c.args.self.now in field_room r.layout c.member_class-class.result c.args.field _ c.requires.kept.small c.mode-mode.ensures
 
 pub member_base-base-requires : goal.member_base-base-requires
 member_base-base-requires c = c.requires.set

@@ -1,0 +1,20 @@
+use Rattle.std.proofs.Common.{sym, subst}
+use Rattle.ss_base.specs.declared.value.Value.{Value}
+use Rattle.ss_records.specs.Reading.{PutsValue}
+use Rattle.ss_records.proofs.WordKinds.{may_number}
+use Rattle.ss_records.proofs.ValueWords.{whole_put}
+use Rattle.ss_records.proofs.store.Blocks.set_value.Goals as goal
+
+pub set_number-requires : goal.set_number-requires
+set_number-requires c = may_number c.args.self.now.cells c.args.place.at c.args.k c.requires.first
+
+pub returns-in-Whole-clause-written : goal.returns-in-Whole-clause-written
+returns-in-Whole-clause-written c =
+    let cs = c.args.self.now.cells in let ds = c.set_number.new.self.cells in
+    let w = whole_put cs ds c.args.place.at c.args.k c.whole_word.result c.in-Whole.number c.whole_word.ensures c.requires.second c.set_number.ensures.cells in
+    subst (λ (v : Value). PutsValue cs ds c.args.place.at c.args.k v) (sym c.in-Whole.is) w
+
+pub returns-in-Text-clause-written : goal.returns-in-Text-clause-written
+returns-in-Text-clause-written c =
+    let cs = c.args.self.now.cells in let ds = c.set_text.new.self.cells in
+    subst (λ (v : Value). PutsValue cs ds c.args.place.at c.args.k v) (sym c.in-Text.is) c.set_text.ensures.written

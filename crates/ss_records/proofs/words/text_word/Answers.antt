@@ -1,5 +1,0 @@
-use Rattle.ss_records.proofs.ReadBack.{text_read}
-use Rattle.ss_records.proofs.words.text_word.Goals as goal
-
-pub returns : goal.returns
-returns c = text_read c.args.text _ _ _ c.bytes-bytes.ensures.text c.bytes-bytes.ensures.value c.copy_from_slice.ensures.after c.from_be_bytes.ensures
