@@ -130,6 +130,7 @@ impl Histories {
     }
 
     /// Whether a statistic is kept of a subject.
+    #[inline(always)]
     pub fn watches(&self, subject: Subject) -> bool
         ensures { result ≡ list_any (is_about subject) self.now.statistics }
     {
