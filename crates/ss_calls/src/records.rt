@@ -674,11 +674,7 @@ static NEXT_TITLES: [TextRow; 5] = [
     (BUOY, 3, 1, b""),
 ];
 
-static NEXT_NUMBERS: [NumberRow; 3] = [
-    (SHIP, 1, 1, 7),
-    (SHIP, 2, 1, i64::MAX),
-    (BUOY, 3, 0, -1),
-];
+static NEXT_NUMBERS: [NumberRow; 3] = [(SHIP, 1, 1, 7), (SHIP, 2, 1, i64::MAX), (BUOY, 3, 0, -1)];
 
 // Whether two ships are in the dock, in the order of their numbers, and a buoy has this time.
 fn are_in_dock(heap: &mut Heap, time: i64) -> bool {

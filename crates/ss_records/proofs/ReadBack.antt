@@ -1,6 +1,6 @@
 -- A text comes out of its words as it went in.
-use Rattle.std.proofs.Common.{◌≡◌, ℕ, zero, suc, ◌+◌, ◌-◌, ◌≤◌, ◌<◌, true, List, [], ◌∷◌, ◌++◌, length, get_or, take, drop, refl, sym, subst, T, ◌∙◌, ap, arith, lit<, length-append, length-drop, length-take-le, take-append-drop, get_or-drop}
-use Rattle.std.specs.Prelude.{Some, nat_le, replicate}
+use Rattle.std.proofs.Common.{◌≡◌, ℕ, zero, suc, ◌+◌, ◌-◌, ◌≤◌, ◌<◌, true, List, [], ◌∷◌, ◌++◌, length, get_or, take, drop, refl, sym, subst, T, ◌∙◌, ap, arith, lit<, length-append, length-drop, length-take-le, take-append-drop, take_all, get_or-drop}
+use Rattle.std.specs.Prelude.{Option, Some, nat_le, replicate}
 use Rattle.std.specs.List.{list_all}
 use Rattle.std.specs.Int.{from_be_bytes, to_be_bytes}
 use Rattle.std.specs.Option.{unwrap_or}
@@ -64,7 +64,14 @@ pad_length t h = omega (arith, h, length-append t (replicate (text_limit - lengt
 
 -- the words of a text that was copied into zeros
 pub text_read : (t bytes copied : List ℕ) (a b : ℕ) → IsText t → bytes ≡ t → copied ≡ bytes
-    → a ≡ from_be_bytes w64 (take 8 (copied ++ drop (length bytes) (replicate text_limit 0))) → b ≡ from_be_bytes w64 (drop 8 (copied ++ drop (length bytes) (replicate text_limit 0))) → value_of Alpha a b ≡ Text t
+    → a ≡ from_be_bytes w64 (take 8 (copied ++ drop (length bytes) (replicate text_limit 0))) → b ≡ from_be_bytes w64 (take 8 (drop 8 (copied ++ drop (length bytes) (replicate text_limit 0)))) → value_of Alpha a b ≡ Text t
 text_read t bytes copied a b h is same e f =
     let room : copied ++ drop (length bytes) (replicate text_limit 0) ≡ padded t = rw (same, is, drop-replicate {X = ℕ} (length t) text_limit 0) refl in
-    read_back t a b h (pad_length t h.short) (e ∙ ap (λ r. from_be_bytes w64 (take 8 r)) room) (f ∙ ap (λ r. from_be_bytes w64 (drop 8 r)) room)
+    let all = pad_length t h.short in
+    let rest : take 8 (drop 8 (padded t)) ≡ drop 8 (padded t) = take_all 8 (drop 8 (padded t)) (omega (arith, all, length-drop 8 (padded t))) in
+    read_back t a b h all (e ∙ ap (λ r. from_be_bytes w64 (take 8 r)) room) (f ∙ ap (λ r. from_be_bytes w64 (take 8 (drop 8 r))) room ∙ ap (from_be_bytes w64) rest)
+
+-- the text that is found in the bytes of two words
+pub text_found : (a b : ℕ) (bytes used : List ℕ) (found : Option (List ℕ)) → bytes ≡ to_be_bytes w64 a ++ to_be_bytes w64 b → used ≡ before_zero bytes → found ≡ text_of used → value_of Alpha a b ≡ Text (unwrap_or found [])
+text_found a b bytes used found e f g =
+    ap (λ bs. Text (unwrap_or (text_of (before_zero bs)) [])) (sym e) ∙ ap (λ bs. Text (unwrap_or (text_of bs) [])) (sym f) ∙ ap (λ o. Text (unwrap_or o [])) (sym g)

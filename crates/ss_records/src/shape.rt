@@ -17,7 +17,7 @@ pub(crate) const VALUES: usize = 2;
 /// Where the two words of an attribute stand: here and next to it.
 #[inline(always)]
 pub(crate) fn value_start(field: usize) -> usize
-    requires few { field < 1048576 }
+    requires { field < 1048576 }
     ensures at { result ≡ 2 + 2 * field }
     ensures bound { result ≤ 2097152 }
 {

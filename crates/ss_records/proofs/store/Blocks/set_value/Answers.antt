@@ -1,4 +1,4 @@
-use Rattle.std.proofs.Common.{sym, subst}
+use Rattle.std.proofs.Common.{◌≡◌, sym, subst, ◌∙◌, rules, w64, to_z, of_z}
 use Rattle.ss_base.specs.declared.value.Value.{Value}
 use Rattle.ss_records.specs.Reading.{PutsValue}
 use Rattle.ss_records.proofs.WordKinds.{may_number}
@@ -11,7 +11,8 @@ set_number-requires c = may_number c.args.self.now.cells c.args.place.at c.args.
 pub returns-in-Whole-clause-written : goal.returns-in-Whole-clause-written
 returns-in-Whole-clause-written c =
     let cs = c.args.self.now.cells in let ds = c.set_number.new.self.cells in
-    let w = whole_put cs ds c.args.place.at c.args.k c.whole_word.result c.in-Whole.number c.whole_word.ensures c.requires.second c.set_number.ensures.cells in
+    let same : to_z w64 (of_z w64 c.in-Whole.number) ≡ c.in-Whole.number = search rules in
+    let w = whole_put cs ds c.args.place.at c.args.k c.whole_word.result c.in-Whole.number (c.whole_word.ensures ∙ same) c.requires.second c.set_number.ensures.cells in
     subst (λ (v : Value). PutsValue cs ds c.args.place.at c.args.k v) (sym c.in-Whole.is) w
 
 pub returns-in-Text-clause-written : goal.returns-in-Text-clause-written
