@@ -1,20 +1,27 @@
 -- Notices in slots, and slots in places: what each call keeps.
-use Rattle.std.proofs.Common.{◌≡◌, ℕ, zero, suc, ◌+◌, ◌-◌, ◌<◌, ◌≤◌, ℤ, pos, Bool, true, false, cond, ltb, List, [], ◌∷◌, ◌++◌, map, length, get_or, set, take, swap, position, slice_get, IfSome, Option, Some, None, refl, sym, ap, subst, ◌∙◌, ⊎_elim, arith}
+use Rattle.std.proofs.Common.{◌≡◌, ℕ, zero, suc, ◌+◌, ◌-◌, ◌<◌, ℤ, pos, Bool, true, false, cond, ltb, Vec, List, [], ◌∷◌, ◌++◌, map, length, get_or, set, take, swap, position, slice_get, IfSome, Option, Some, None, refl, sym, ap, subst, ◌∙◌, ⊎_elim, arith}
 use Rattle.std.specs.Ordering.{int_eq}
 use Rattle.std.specs.List.{list_any, swap_remove, IsDistinct}
+use Rattle.std.specs.Vec.{with_items}
 use Rattle.std.specs.Cmp.{int_eq_equiv}
 use Rattle.std.proofs.lemmas.Bool.{cases_Bool, cases_eq, cases_lt, or_parts, or_from, lt-ltb, le-ltb}
 use Rattle.std.proofs.lemmas.Bool.Decides.{nat_tests}
 use Rattle.std.proofs.lemmas.Option.{slice_get-get_or}
-use Rattle.std.proofs.lemmas.List.{length-set, length-map, length-take-le, get_or-set_same, get_or-set_other, get_or-take, get_or_append_left, get_or-map, get_or_default, get_or_push, length_push, map_push, same_lists, take-set}
+use Rattle.std.proofs.lemmas.List.{length-set, length-map, length-take-le, with_items_is, get_or-set_same, get_or-set_other, get_or-take, get_or_append_left, get_or-map, get_or_push, length_push, map_push, same_lists, take-set}
 use Rattle.std.proofs.lemmas.List.Edits.{length-swap, swap_is}
 use Rattle.std.proofs.lemmas.List.Sums.{position_or_len_is}
 use Rattle.std.proofs.lemmas.List.Quantifiers.{position-Some}
-use Rattle.std.proofs.lemmas.Map.Keys.{apart_from_distinct, any_passes_from_place}
+use Rattle.std.proofs.lemmas.Map.Keys.{apart_from_distinct}
 use Rattle.indexmap.proofs.ReorderLemmas.{exchange, exchange-within, exchange-twice, get_or-swap, map-swap}
 use Rattle.ss_events.specs.Slots.{by_place, LeadsBack, IsPaired, IsPlaced, exchanged}
 
--- ---- where a test passes, by index
+-- ---- what a call left
+
+-- a vector whose items a call wrote as a slice
+pub written : {X Z : Type 0} (v : Vec X Z) (ws xs : List X) → ws ≡ xs → length xs ≡ v.len → (with_items v ws).items ≡ xs
+written v ws xs is long = with_items_is v ws (ap length is ∙ long) ∙ is
+
+-- where a test passes, by index
 
 module _ {X : Type 0} (p : X → Bool) where
   pub each_fails : (xs : List X) (d : X) → list_any p xs ≡ false → (k : ℕ) → k < length xs → p (get_or xs k d) ≡ false
@@ -49,7 +56,7 @@ exchange-other a b m na nb = grind (arith, nat_tests)
 
 -- ---- two lists that lead back to each other
 
-turned : (xs ys : List ℕ) → IsPaired xs ys → IsPaired ys xs
+pub turned : (xs ys : List ℕ) → IsPaired xs ys → IsPaired ys xs
 turned xs ys h = record { long = sym h.long; there = h.back; back = h.there }
 
 -- where one leads, the other leads back from there
@@ -60,7 +67,7 @@ leads_back xs ys h k s within e = ap (λ t. get_or ys t 0) (sym e) ∙ (h.there 
 pub leads_within : (xs ys : List ℕ) → IsPaired xs ys → (k : ℕ) → k < length xs → get_or xs k 0 < length ys
 leads_within xs ys h k within = omega (arith, (h.there k within).0, h.long)
 
-length-exchanged : (xs ys : List ℕ) (a b : ℕ) → length (exchanged xs ys a b) ≡ length ys
+pub length-exchanged : (xs ys : List ℕ) (a b : ℕ) → length (exchanged xs ys a b) ≡ length ys
 length-exchanged xs ys a b = length-set (set ys (get_or xs b 0) a) (get_or xs a 0) b ∙ length-set ys (get_or xs b 0) a
 
 module _ (xs ys : List ℕ) (h : IsPaired xs ys) (a b : ℕ) (a_in : a < length xs) (b_in : b < length xs) where
@@ -89,21 +96,23 @@ module _ (xs ys : List ℕ) (h : IsPaired xs ys) (a b : ℕ) (a_in : a < length 
       let k_old : k < length xs = omega (arith, k_in, length-swap xs a b) in
       let from = exchange-within a b (length xs) k a_in b_in k_old in
       let slot = get_or-swap xs a b 0 a_in b_in k in
-      let old = h.there (exchange a b k) from in
-      (subst (λ s. s < length (swap xs a b)) (sym slot) (subst (λ n. get_or xs (exchange a b k) 0 < n) (sym (length-swap xs a b)) old.0),
-      ap (λ s. get_or (exchanged xs ys a b) s 0) slot
-      ∙ exchanged-at (get_or xs (exchange a b k) 0) (leads_within xs ys h (exchange a b k) from)
-      ∙ ap (exchange a b) old.1 ∙ exchange-twice a b k)
+      let old = h.there (exchange a b k) from in (
+        subst (λ s. s < length (swap xs a b)) (sym slot) (subst (λ n. get_or xs (exchange a b k) 0 < n) (sym (length-swap xs a b)) old.0),
+        ap (λ s. get_or (exchanged xs ys a b) s 0) slot
+            ∙ exchanged-at (get_or xs (exchange a b k) 0) (leads_within xs ys h (exchange a b k) from)
+            ∙ ap (exchange a b) old.1 ∙ exchange-twice a b k,
+      )
 
   exchanged-back : LeadsBack (exchanged xs ys a b) (swap xs a b)
   exchanged-back s s_in =
       let s_old : s < length ys = omega (arith, s_in, length-exchanged xs ys a b) in
       let old = h.back s s_old in
       let place = exchanged-at s s_old in
-      let within : exchange a b (get_or ys s 0) < length ys = exchange-within a b (length ys) (get_or ys s 0) (omega (arith, a_in, h.long)) (omega (arith, b_in, h.long)) old.0 in
-      (subst (λ k. k < length (exchanged xs ys a b)) (sym place) (subst (λ n. exchange a b (get_or ys s 0) < n) (sym (length-exchanged xs ys a b)) within),
-      ap (λ k. get_or (swap xs a b) k 0) place ∙ get_or-swap xs a b 0 a_in b_in (exchange a b (get_or ys s 0))
-      ∙ ap (λ k. get_or xs k 0) (exchange-twice a b (get_or ys s 0)) ∙ old.1)
+      let within : exchange a b (get_or ys s 0) < length ys = exchange-within a b (length ys) (get_or ys s 0) (omega (arith, a_in, h.long)) (omega (arith, b_in, h.long)) old.0 in (
+        subst (λ k. k < length (exchanged xs ys a b)) (sym place) (subst (λ n. exchange a b (get_or ys s 0) < n) (sym (length-exchanged xs ys a b)) within),
+        ap (λ k. get_or (swap xs a b) k 0) place ∙ get_or-swap xs a b 0 a_in b_in (exchange a b (get_or ys s 0))
+            ∙ ap (λ k. get_or xs k 0) (exchange-twice a b (get_or ys s 0)) ∙ old.1,
+      )
 
   pub exchange_pairs : IsPaired (swap xs a b) (exchanged xs ys a b)
   exchange_pairs = record { long = length-exchanged xs ys a b ∙ h.long ∙ sym (length-swap xs a b); there = exchanged-there; back = exchanged-back }
@@ -139,9 +148,10 @@ module _ (xs ys : List ℕ) (h : IsPaired xs ys) (n : ℕ) (long : length xs ≡
       let cut : length (take n xs) ≡ n = length-take-le n xs (omega (arith, long)) in
       let k_old : k < n = omega (arith, k_in, cut) in
       let slot = get_or-take n xs k 0 k_old in
-      let below = before_last k k_old in
-      (subst (λ s. s < length (take n xs)) (sym slot) (omega (arith, below, cut)),
-      ap (λ s. get_or (take n ys) s 0) slot ∙ get_or-take n ys (get_or xs k 0) 0 below ∙ (h.there k (omega (arith, k_old, long))).1)
+      let below = before_last k k_old in (
+        subst (λ s. s < length (take n xs)) (sym slot) (omega (arith, below, cut)),
+        ap (λ s. get_or (take n ys) s 0) slot ∙ get_or-take n ys (get_or xs k 0) 0 below ∙ (h.there k (omega (arith, k_old, long))).1,
+      )
 
   -- the notices by place, without that in the last place
   slots_shorter : (ks : List ℤ) → by_place (take n ks) (take n xs) ≡ take n (by_place ks xs)
@@ -176,14 +186,16 @@ longer xs ys h n long k k_in =
     ⊎_elim
     (λ below.
     let within : k < length xs = omega (arith, below, long) in
-    let slot = get_or_append_left xs (n ∷ []) 0 k within in
-    (subst (λ s. s < length (xs ++ n ∷ [])) (sym slot) (omega (arith, (h.there k within).0, more)),
-    ap (λ s. get_or (ys ++ n ∷ []) s 0) slot ∙ get_or_append_left ys (n ∷ []) 0 (get_or xs k 0) (leads_within xs ys h k within) ∙ (h.there k within).1))
+    let slot = get_or_append_left xs (n ∷ []) 0 k within in (
+      subst (λ s. s < length (xs ++ n ∷ [])) (sym slot) (omega (arith, (h.there k within).0, more)),
+      ap (λ s. get_or (ys ++ n ∷ []) s 0) slot ∙ get_or_append_left ys (n ∷ []) 0 (get_or xs k 0) (leads_within xs ys h k within) ∙ (h.there k within).1,
+    ))
     (λ past.
     let is : k ≡ n = omega (arith, past, k_in, more, long) in
-    let slot : get_or (xs ++ n ∷ []) k 0 ≡ n = ap (λ t. get_or (xs ++ n ∷ []) t 0) is ∙ get_or_push xs n 0 n long in
-    (subst (λ s. s < length (xs ++ n ∷ [])) (sym slot) (omega (arith, more, long)),
-    ap (λ s. get_or (ys ++ n ∷ []) s 0) slot ∙ get_or_push ys n 0 n long_too ∙ sym is))
+    let slot : get_or (xs ++ n ∷ []) k 0 ≡ n = ap (λ t. get_or (xs ++ n ∷ []) t 0) is ∙ get_or_push xs n 0 n long in (
+      subst (λ s. s < length (xs ++ n ∷ [])) (sym slot) (omega (arith, more, long)),
+      ap (λ s. get_or (ys ++ n ∷ []) s 0) slot ∙ get_or_push ys n 0 n long_too ∙ sym is,
+    ))
     (cases_lt k n)
 
 longer_pairs : (xs ys : List ℕ) → IsPaired xs ys → (n : ℕ) → length xs ≡ n → IsPaired (xs ++ n ∷ []) (ys ++ n ∷ [])
