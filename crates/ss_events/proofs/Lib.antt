@@ -5,3 +5,4 @@ pub mod InOrders
 pub mod Agendas
 pub mod Outcomes
 pub mod Leasts
+pub mod Slotted

@@ -8,4 +8,5 @@ pub mod HeapEntries
 pub mod BinaryHeap
 pub mod Sifting
 pub mod InOrder
+pub mod Slots
 pub mod Calls
