@@ -624,27 +624,32 @@ fn are_numbered(heap: &mut Heap, rows: &[NumberRow]) -> bool {
     true
 }
 
-// Whether an attribute is this text.
-fn is_text(value: Option<Value>, wanted: &[u8]) -> bool {
-    match value {
-        Some(Value::Text(text)) => text.bytes() == wanted,
-        Some(Value::Whole(_)) | None => false,
-    }
-}
-
-// Whether these texts and numbers are read.
-fn are_read(heap: &Heap, texts: &[TextRow], numbers: &[NumberRow]) -> bool {
-    for (class, r, field, bytes) in texts {
-        if !is_text(attribute(heap, *class, *r, *field), bytes) {
+// Whether these texts are read.
+fn have_titles(heap: &Heap, rows: &[TextRow]) -> bool {
+    for (class, r, field, bytes) in rows {
+        let Some(text) = Alpha::of(bytes) else {
+            return false;
+        };
+        if attribute(heap, *class, *r, *field) != Some(Value::Text(text)) {
             return false;
         }
     }
-    for (class, r, field, number) in numbers {
+    true
+}
+
+// Whether these numbers are.
+fn have_numbers(heap: &Heap, rows: &[NumberRow]) -> bool {
+    for (class, r, field, number) in rows {
         if attribute(heap, *class, *r, *field) != Some(Value::Whole(*number)) {
             return false;
         }
     }
     true
+}
+
+// Whether both are.
+fn are_read(heap: &Heap, texts: &[TextRow], numbers: &[NumberRow]) -> bool {
+    have_titles(heap, texts) && have_numbers(heap, numbers)
 }
 
 static FIRST_TITLES: [TextRow; 3] = [(SHIP, 1, 0, b""), (SHIP, 1, 2, b""), (BUOY, 3, 1, b"")];
