@@ -4,7 +4,7 @@ use Rattle.std.specs.List.{list_all}
 
 -- the most characters of a text
 abbrev pub text_limit : ℕ
-text_limit = 8
+text_limit = 16
 
 -- a byte that a text may hold: a printable character of ASCII or a blank
 abbrev pub is_text_byte : ℕ → Bool

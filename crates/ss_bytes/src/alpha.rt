@@ -11,7 +11,7 @@ use std::fmt;
 use std::marker::Model;
 
 /// The most characters of a text.
-pub const TEXT_LIMIT: usize = 8;
+pub const TEXT_LIMIT: usize = 16;
 
 /// A text: at most `TEXT_LIMIT` bytes from 32 to 126, the last of which is no blank.
 ///
@@ -19,7 +19,7 @@ pub const TEXT_LIMIT: usize = 8;
 #[derive(Clone, Copy)]
 pub struct Alpha {
     room: [u8; TEXT_LIMIT],
-    // Lays the bytes where those of a number lie, so that a value is copied in two words.
+    // Lays the bytes where those of a number begin, so that a value, which has 24 bytes, is copied in three words.
     aligned: [u64; 0],
 }
 

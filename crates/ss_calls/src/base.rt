@@ -60,11 +60,17 @@ static TEXTS: [(&[u8], &[u8]); 7] = [
     (b"BOX", b"BOX"),
     (b"BOX  ", b"BOX"),
     (b" A B ", b" A B"),
-    (b"~ABCDEFG", b"~ABCDEFG"),
-    (b"ABCDEFGH   ", b"ABCDEFGH"),
+    (b"~ABCDEFGHIJKLMNO", b"~ABCDEFGHIJKLMNO"),
+    (b"ABCDEFGHIJKLMNOP   ", b"ABCDEFGHIJKLMNOP"),
 ];
 
-static NO_TEXTS: [&[u8]; 5] = [b"ABCDEFGHI", b"\x1f", b"A\x7f", b"A\tB", b"\xc8        "];
+static NO_TEXTS: [&[u8]; 5] = [
+    b"ABCDEFGHIJKLMNOPQ",
+    b"\x1f",
+    b"A\x7f",
+    b"A\tB",
+    b"\xc8                ",
+];
 
 // Whether bytes are these texts.
 fn are_kept(texts: &[(&[u8], &[u8])]) -> bool {
@@ -96,7 +102,19 @@ fn texts_lose_the_blanks_at_their_end(rt: HostRuntime) {
     assert!(rt; Alpha::of(b"  ") == Some(Alpha::empty()));
 }
 
-static RISING: [&[u8]; 5] = [b"", b" A", b"A", b"AB", b"B"];
+// The four before the last agree in their first eight characters.
+static RISING: [&[u8]; 10] = [
+    b"",
+    b" A",
+    b"A",
+    b"AB",
+    b"B",
+    b"NORTHSTA",
+    b"NORTHSTAR",
+    b"NORTHSTAR-A",
+    b"NORTHSTAR-B",
+    b"NORTHSTB",
+];
 
 // Whether texts rise, from above each whole number on.
 fn rise(texts: &[&[u8]]) -> bool {
@@ -106,7 +124,11 @@ fn rise(texts: &[&[u8]]) -> bool {
             return false;
         };
         let next = Value::Text(text);
-        if last >= next || next.cmp(&next) != Ordering::Equal || next.mode() != Mode::Alpha {
+        if last >= next
+            || last == next
+            || next.cmp(&next) != Ordering::Equal
+            || next.mode() != Mode::Alpha
+        {
             return false;
         }
         last = next;

@@ -262,16 +262,25 @@ fn three_come_out(alloc: Global, a: Alpha, ab: Alpha, notices: &[(i64, i64)]) ->
     }
 }
 
+// Whether they do where these are the texts, of which the first is the lesser.
+fn come_out_by_texts(alloc: Global, lesser: &[u8], greater: &[u8]) -> bool {
+    let Some(a) = Alpha::of(lesser) else {
+        return false;
+    };
+    let Some(ab) = Alpha::of(greater) else {
+        return false;
+    };
+    three_come_out(alloc, a, ab, &BY_TIME_RANK_AND_TIES)
+}
+
 #[test]
 fn times_then_ranks_then_ties(rt: HostRuntime) {
-    let texts = (Alpha::of(b"A"), Alpha::of(b"AB"));
-    let alloc = rt.alloc();
-    assert!(rt;
-        match texts {
-            (Some(a), Some(ab)) => three_come_out(alloc, a, ab, &BY_TIME_RANK_AND_TIES),
-            _ => false,
-        }
-    );
+    assert!(rt; come_out_by_texts(rt.alloc(), b"A", b"AB"));
+}
+
+#[test]
+fn ties_that_begin_alike_go_by_the_rest(rt: HostRuntime) {
+    assert!(rt; come_out_by_texts(rt.alloc(), b"NORTHSTAR-A", b"NORTHSTAR-B"));
 }
 
 // Schedules notices at earlier and earlier times. Where memory is refused, for a key with its tie or for the list, the list

@@ -106,7 +106,7 @@ type Answered = (&'static [u8], (u32, u32, usize));
 static TAKEN: [Answered; 6] = [
     (b"", (0, 0, 0)),
     (b"\n\n ", (0, 3, 0)),
-    (b"LET X = \"ABCDEFGH  \"", (0, 1, 4)),
+    (b"LET X = \"ABCDEFGHIJKLMNOP  \"", (0, 1, 4)),
     (b"9223372036854775807", (0, 1, 1)),
     (b"12. X..", (0, 1, 2)),
     (b"PRINT 1 LINE THUS\nONE\nPRINT THUS", (0, 3, 7)),
@@ -119,7 +119,7 @@ static REFUSED: [Answered; 10] = [
     (b"PRINT 2 LINES THUS 1.5 THUS", (33, 1, 0)),
     (b"MAIN LET X = \"AB", (34, 1, 0)),
     (b"LET X = \"A\tB\"", (34, 1, 0)),
-    (b"LET X =\n\"ABCDEFGHI\"", (35, 2, 0)),
+    (b"LET X =\n\"ABCDEFGHIJKLMNOPQ\"", (35, 2, 0)),
     (b"LET X = 1.5\n''\xc8", (32, 2, 0)),
     (b"9223372036854775808", (33, 1, 0)),
     (

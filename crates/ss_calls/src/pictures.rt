@@ -172,11 +172,23 @@ fn are_texts(alloc: Global, rows: &[TextRow]) -> bool {
     true
 }
 
-static TEXTS: [TextRow; 4] = [
+static TEXTS: [TextRow; 6] = [
     (b"[*****]", 5, b"BOX", b"[BOX  ]"),
     (b"[**]", 2, b"BOX", b"[**]"),
     (b"***", 3, b"BOX", b"BOX"),
     (b"[**]", 2, b"", b"[  ]"),
+    (
+        b"[****************]",
+        16,
+        b"NORTHSTAR-A",
+        b"[NORTHSTAR-A     ]",
+    ),
+    (
+        b"[****************]",
+        16,
+        b"ABCDEFGHIJKLMNOP",
+        b"[ABCDEFGHIJKLMNOP]",
+    ),
 ];
 
 #[test]

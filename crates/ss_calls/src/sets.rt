@@ -49,6 +49,11 @@ const LOW_NAME: RankKey = RankKey {
     high: false,
 };
 
+const HIGH_NAME: RankKey = RankKey {
+    field: 2,
+    high: true,
+};
+
 fn discipline(alloc: Global, by: By) -> Result<Discipline, AllocError> {
     match by {
         By::Fifo => Ok(Discipline::Fifo),
@@ -299,6 +304,29 @@ static NAMES: [Step; 7] = [
 #[test]
 fn texts_rank_by_their_characters(rt: HostRuntime) {
     assert!(rt; come(rt.alloc(), By::Keys(&[LOW_NAME]), &NAMES));
+}
+
+// Names that agree in their first eight characters.
+static ALIKE_LOW_FIRST: [Step; 5] = [
+    Step::ArriveNamed(b"NORTHSTAR-B"),
+    Step::ArriveNamed(b"NORTHSTAR-A"),
+    Step::ArriveNamed(b"NORTHSTAR"),
+    Step::ArriveNamed(b"NORTHSTAR-A"),
+    Step::Order(&[3, 2, 4, 1]),
+];
+
+static ALIKE_HIGH_FIRST: [Step; 5] = [
+    Step::ArriveNamed(b"NORTHSTAR-A"),
+    Step::ArriveNamed(b"NORTHSTAR"),
+    Step::ArriveNamed(b"NORTHSTAR-B"),
+    Step::ArriveNamed(b"NORTHSTAR-A"),
+    Step::Order(&[3, 1, 4, 2]),
+];
+
+#[test]
+fn texts_that_begin_alike_rank_by_the_rest(rt: HostRuntime) {
+    assert!(rt; come(rt.alloc(), By::Keys(&[LOW_NAME]), &ALIKE_LOW_FIRST));
+    assert!(rt; come(rt.alloc(), By::Keys(&[HIGH_NAME]), &ALIKE_HIGH_FIRST));
 }
 
 // At the end 50 goes before the 3, which ranks after it. 2 ranks with the second, and passes the third, now of 100.

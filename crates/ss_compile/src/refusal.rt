@@ -16,7 +16,7 @@ pub enum Refusal {
     BadNumber(Line),
     /// A quote that is not closed on its line.
     OpenText(Line),
-    /// A text with more than 8 characters without the blanks at its end.
+    /// A text with more than 16 characters without the blanks at its end.
     AlphaTooLong(Line),
     /// Fewer lines than the pictures that are called for.
     PictureCut(Line),

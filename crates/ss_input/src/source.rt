@@ -206,7 +206,7 @@ impl<R: FaultyRead> Source<R> {
         self.remember(answer)
     }
 
-    /// The text that the next word is: 1 to 8 bytes from 33 to 126.
+    /// The text that the next word is: 1 to 16 bytes from 33 to 126.
     ///
     /// `Missed::Fault` with END OF DATA where no word is left, and with BAD DATA for any other word, one
     /// of more than 64 bytes, or more than 1,048,576 separators before it; `Missed::Input` just where the

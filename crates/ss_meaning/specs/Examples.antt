@@ -9,7 +9,7 @@ use Rattle.ss_picture.specs.Pictures.{picture_fields, filled}
 use Rattle.ss_program.specs.declared.expression.Variable.TheVariants.{Local}
 use Rattle.ss_program.specs.declared.expression.Sign.TheVariants.{Plus, Minus}
 use Rattle.ss_program.specs.declared.expression.Operator.TheVariants.{Add, Subtract, Multiply, Quotient, Remainder}
-use Rattle.ss_program.specs.declared.condition.Relation.TheVariants.{Equal}
+use Rattle.ss_program.specs.declared.condition.Relation.TheVariants.{Equal, Less}
 use Rattle.ss_program.specs.declared.head.GuardKind.TheVariants.{While}
 use Rattle.ss_program.specs.Program.{Expression, Signed, Absolute, Calculate, Constant, Numbers, Compare, DataEnded, Statement, Let, Change, Call, Return, Stop, Read, If, For, Loop, Print, Skip, AValue, Routine, Program, Done}
 use Rattle.ss_meaning.specs.Building.{line, num, local, to_local, block, only, print_line, integers, plain, ends, pauses, faults}
@@ -122,7 +122,18 @@ pub a_text_in_its_field : meaning texts (codes "BOX") 9 ≡ ends (codes "[BOX  ]
 unfolding filled picture_fields
 a_text_in_its_field = refl
 
-pub a_text_too_long : meaning texts (codes "ABCDEFGHI") 9 ≡ faults [] BadData 3 9
+-- 16 characters are a text, 17 are none
+pub a_text_of_sixteen : meaning texts (codes "ABCDEFGHIJKLMNOP") 9 ≡ ends (codes "[*****]" ∷ codes "[**]" ∷ []) 9
+unfolding filled picture_fields
+a_text_of_sixteen = refl
+
+-- texts that agree in their first eight characters are compared by the rest
+pub texts_that_begin_alike : meaning (alone (If (line 2) (only (Compare Less (Constant (Text (codes "NORTHSTAR-A"))) (Constant (Text (codes "NORTHSTAR-B")))))
+    (block (print_line 3 [] (codes "LESS") ∷ [])) Done)) [] 9 ≡ ends (codes "LESS" ∷ []) 9
+unfolding filled picture_fields
+texts_that_begin_alike = refl
+
+pub a_text_too_long : meaning texts (codes "ABCDEFGHIJKLMNOPQ") 9 ≡ faults [] BadData 3 9
 a_text_too_long = refl
 
 -- ## Routines: HALF takes A, and yields H and R; it stops the run where A is 0

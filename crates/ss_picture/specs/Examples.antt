@@ -156,6 +156,11 @@ pub wide_box : filled (codes "[**]") (Is (Text (codes "BOX")) ∷ []) ≡ codes 
 unfolding filled
 wide_box = refl
 
+-- a text of 16 characters fills a field of 16
+pub sixteen : filled (codes "[****************]") (Is (Text (codes "ABCDEFGHIJKLMNOP")) ∷ []) ≡ codes "[ABCDEFGHIJKLMNOP]"
+unfolding filled
+sixteen = refl
+
 -- the items go to the fields from the left
 pub in_turn : filled (codes "** ** ** **") (number (pos 3) ∷ number (pos 9) ∷ number (pos 7) ∷ number (negsuc 1) ∷ []) ≡ codes " 3  9  7 -2"
 unfolding filled numeral
