@@ -23,13 +23,24 @@ impl Blocks {
         }
     }
 
-    // The text in a word and the next.
-    #[inline(never)]
+    // The text in a word and the next, as a value. Its room stands here, so that a number's way has none of it.
+    #[inline(always)]
     fn text(&self, place: Address, k: usize) -> Value
         requires first { IsNumber (word_at self.now.cells place.at k) }
         requires second { IsNumber (word_at self.now.cells place.at (k + 1)) }
         requires room { k + 1 < 2 ^ 64 }
         ensures { result ≡ value_at Mode.Alpha self.now.cells place.at k }
+    {
+        Value::Text(self.characters(place, k))
+    }
+
+    // The text in a word and the next.
+    #[inline(never)]
+    fn characters(&self, place: Address, k: usize) -> Alpha
+        requires first { IsNumber (word_at self.now.cells place.at k) }
+        requires second { IsNumber (word_at self.now.cells place.at (k + 1)) }
+        requires room { k + 1 < 2 ^ 64 }
+        ensures { Value.Text result ≡ value_at Mode.Alpha self.now.cells place.at k }
     {
         let first = self.number(place, k);
         let second = self.number(place, k + 1);
