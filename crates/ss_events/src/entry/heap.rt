@@ -123,14 +123,11 @@ impl Heap {
     {
         self.entries.reserve(1)?;
         self.places.push(notice)?;
-        let entry = Entry {
+        self.entries.push_reserved(Entry {
             key,
             number,
             notice,
-        };
-        if self.entries.push(entry).is_err() {
-            unreachable!();
-        }
+        });
         self.moves += 1;
         Ok(())
     }
