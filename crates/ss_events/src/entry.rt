@@ -64,6 +64,7 @@ impl Key {
         self.time < moment
     }
 
+    #[inline(always)]
     fn time(&self) -> i64
         ensures { result ≡ self.now.time }
     {

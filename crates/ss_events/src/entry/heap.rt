@@ -89,6 +89,7 @@ impl Heap {
     }
 
     /// Whether the entry at place `a` comes out before that at `b`. Counts a comparison.
+    #[inline(always)]
     pub fn is_before(&mut self, a: usize, b: usize) -> bool
         requires a_within { a < length self.old.entries }
         requires b_within { b < length self.old.entries }
@@ -101,6 +102,7 @@ impl Heap {
     }
 
     /// Lets the entries of two places change places. Counts two moves.
+    #[inline(always)]
     pub fn swap(&mut self, a: usize, b: usize)
         requires a_within { a < length self.old.entries }
         requires b_within { b < length self.old.entries }
@@ -121,14 +123,11 @@ impl Heap {
     {
         self.entries.reserve(1)?;
         self.places.push(notice)?;
-        let entry = Entry {
+        self.entries.push_reserved(Entry {
             key,
             number,
             notice,
-        };
-        if self.entries.push(entry).is_err() {
-            unreachable!();
-        }
+        });
         self.moves += 1;
         Ok(())
     }
