@@ -6,3 +6,5 @@ pub mod Agendas
 pub mod Outcomes
 pub mod Leasts
 pub mod Slotted
+pub mod Standing
+pub mod Times

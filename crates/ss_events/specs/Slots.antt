@@ -1,11 +1,21 @@
--- How pending notices stand in slots, and the slots in places.
-use Rattle.std.specs.Prelude.{◌≡◌, ℕ, ◌<◌, ℤ, pos, List, map, length, slice_index, slice_index_or, slice_set}
+-- How pending entries stand in slots, and the slots in places.
+use Rattle.std.specs.Prelude.{◌≡◌, ℕ, ◌<◌, ℤ, pos, List, [], map, length, slice_index, slice_index_or, slice_set}
 use Rattle.std.specs.Ordering.{int_eq}
 use Rattle.std.specs.List.{IsDistinct}
+use Rattle.ss_events.specs.declared.entry.Entry.{Entry}
+use Rattle.ss_events.specs.HeapEntries.{notices_of}
 
--- the notices by place, where `slots` says by place in which slot each stands
-abbrev pub by_place : List ℤ → List ℕ → List ℤ
-by_place notices slots = map (λ s. slice_index_or notices s (pos 0)) slots
+-- what stands in each place, where `slots` says by place in which slot it stands; `d` is read of no slot that is there
+abbrev pub by_place : {X : Type 0} → X → List X → List ℕ → List X
+by_place d xs slots = map (λ s. slice_index_or xs s d) slots
+
+-- in place of an entry, where a slot isn't there
+abbrev pub no_entry : Entry
+no_entry = record { key = record { time = pos 0; rank = 0; ties = [] }; number = 0; notice = pos 0 }
+
+-- the times of entries, in their order
+abbrev pub times_of : List Entry → List ℤ
+times_of es = map (λ e. e.key.time) es
 
 -- each place of `there` leads to a place from which `back` leads to it
 abbrev pub LeadsBack : List ℕ → List ℕ → Type 0
@@ -17,11 +27,14 @@ pub record IsPaired (slots places : List ℕ) : Type 0 where
   pub there : LeadsBack slots places
   pub back : LeadsBack places slots
 
--- `slots` says by place which slot stands there, and `places` by slot in which place it stands
-pub record IsPlaced (notices : List ℤ) (slots places : List ℕ) : Type 0 where
+-- `notices` and `entries` say by slot what stands there, `slots` and `times` by place which slot stands there and at what
+-- time its entry comes, and `places` by slot in which place it stands
+pub record IsPlaced (notices : List ℤ) (entries : List Entry) (slots places : List ℕ) (times : List ℤ) : Type 0 where
   pub distinct : IsDistinct int_eq notices
-  pub long : length slots ≡ length notices
+  pub named : notices ≡ notices_of entries
+  pub long : length slots ≡ length entries
   pub paired : IsPaired slots places
+  pub timed : times ≡ times_of (by_place no_entry entries slots)
 
 -- the places by slot, once the slots in the places a and b have changed places
 abbrev pub exchanged : List ℕ → List ℕ → ℕ → ℕ → List ℕ

@@ -7,6 +7,7 @@ ghost use Rattle.ss_events.specs.PendingList.{FitsClass};
 
 mod heap;
 mod order;
+mod places;
 
 use crate::key::{Tie, TieShape, fits_class};
 pub use heap::Heap;

@@ -6,7 +6,6 @@ mod entry;
 mod key;
 mod laws;
 mod pending;
-mod places;
 mod sift;
 
 pub use calls::{Answer, Call};

@@ -7,8 +7,8 @@ ghost use Rattle.ss_events.specs.HeapEntries.{notices_of, event_of, Removes};
 ghost use Rattle.ss_events.specs.Order.{comes_before};
 
 use super::order::comes_before;
+use super::places::Places;
 use super::{Entry, Key};
-use crate::places::Places;
 use std::alloc::{AllocError, Global};
 use std::marker::Model;
 
@@ -17,21 +17,17 @@ use std::marker::Model;
 /// It counts each comparison of two keys and each write of an entry into a place.
 #[derive(Drop)]
 pub struct Heap {
-    entries: Vec<Entry>,
-    places: Places,
+    entries: Places,
     comparisons: u64,
     moves: u64,
 }
 
 impl Model for Heap {
-    ghost use Rattle.std.specs.Prelude.{◌≡◌};
-    ghost use Rattle.ss_events.specs.HeapEntries.{HeapEntries, notices_of};
+    ghost use Rattle.ss_events.specs.HeapEntries.{HeapEntries};
 
     ghost Value = { HeapEntries };
 
-    ghost view = { λ h. record { entries = h.entries.items; comparisons = h.comparisons; moves = h.moves } };
-
-    ghost invariant = { λ h. h.places ≡ notices_of h.entries.items };
+    ghost view = { λ h. record { entries = h.entries; comparisons = h.comparisons; moves = h.moves } };
 }
 
 impl Heap {
@@ -39,8 +35,7 @@ impl Heap {
         ensures { result ≡ record { entries = []; comparisons = 0; moves = 0 } }
     {
         Heap {
-            entries: Vec::new(alloc),
-            places: Places::new(alloc),
+            entries: Places::new(alloc),
             comparisons: 0,
             moves: 0,
         }
@@ -77,7 +72,7 @@ impl Heap {
         ensures place { result ≡ position (int_eq notice) (notices_of self.now.entries) }
         ensures found { is_some result ≡ list_any (int_eq notice) (notices_of self.now.entries) }
     {
-        self.places.find(notice)
+        self.entries.find(notice)
     }
 
     /// The time and the notice of the entry in the first place.
@@ -85,7 +80,7 @@ impl Heap {
         requires { 0 < length self.now.entries }
         ensures { (d : Entry) → result ≡ event_of (slice_index_or self.now.entries 0 d) }
     {
-        self.entries[0].event()
+        self.entries.get(0).event()
     }
 
     /// Whether the entry at place `a` comes out before that at `b`. Counts a comparison.
@@ -98,7 +93,11 @@ impl Heap {
         ensures counted { self.new ≡ record self.old { comparisons = self.old.comparisons + 1 } }
     {
         self.comparisons += 1;
-        comes_before(&self.entries[a], &self.entries[b])
+        let (early, late) = (self.entries.time(a), self.entries.time(b));
+        if early != late {
+            return early < late;
+        }
+        comes_before(self.entries.get(a), self.entries.get(b))
     }
 
     /// Lets the entries of two places change places. Counts two moves.
@@ -111,7 +110,6 @@ impl Heap {
     {
         self.moves += 2;
         self.entries.swap(a, b);
-        self.places.swap(a, b);
     }
 
     /// Puts an entry of a notice into the next place. Counts a move.
@@ -121,13 +119,11 @@ impl Heap {
         ensures ok { OnOk result (self.new ≡ record self.old { entries = self.old.entries ++ record { key = key; number = number; notice = notice } ∷ []; moves = self.old.moves + 1 }) }
         ensures err { OnErr result (self.new ≡ self.old) }
     {
-        self.entries.reserve(1)?;
-        self.places.push(notice)?;
-        self.entries.push_reserved(Entry {
+        self.entries.push(Entry {
             key,
             number,
             notice,
-        });
+        })?;
         self.moves += 1;
         Ok(())
     }
@@ -143,8 +139,7 @@ impl Heap {
     {
         let last = self.entries.len() - 1;
         self.moves += u64::from(at != last);
-        self.places.remove(at);
-        let entry = self.entries.swap_remove(at);
+        let entry = self.entries.remove(at);
         entry.event()
     }
 }

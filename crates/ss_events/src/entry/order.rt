@@ -47,20 +47,12 @@ fn key_order(a: &Key, b: &Key) -> Ordering
         .then_with(|| ties_order(a.ties(), b.ties()))
 }
 
-fn entry_order(a: &Entry, b: &Entry) -> Ordering
-    ensures { result ≡ entry_order a.now b.now }
-{
-    key_order(&a.key, &b.key).then_with(|| a.number.cmp(&b.number))
-}
-
-// Whether `a` comes out before `b`. Where their times differ, nothing else is looked at.
-#[inline(always)]
+// Whether `a` comes out before `b`.
 #[tactic(auto, unfolding(crate::specs::Order::comes_before))]
 pub(super) fn comes_before(a: &Entry, b: &Entry) -> bool
     ensures { result ≡ comes_before a.now b.now }
 {
-    if a.key.time() != b.key.time() {
-        return a.key.time() < b.key.time();
-    }
-    entry_order(a, b).is_lt()
+    key_order(&a.key, &b.key)
+        .then_with(|| a.number.cmp(&b.number))
+        .is_lt()
 }
