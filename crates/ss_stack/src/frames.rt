@@ -35,6 +35,10 @@ impl Frames {
     pub fn push(&mut self, frame: Frame) -> Result<(), AllocError>
         ensures { OnOk result (self.new ≡ frame ∷ self.old) }
     {
+        if self.frames.len() < self.frames.capacity() {
+            self.frames.push_reserved(frame);
+            return Ok(());
+        }
         self.frames.push(frame)?;
         Ok(())
     }

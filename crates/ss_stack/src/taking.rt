@@ -1,6 +1,6 @@
 //! What instructions take off the stack of operands.
 
-ghost use Rattle.std.specs.Prelude.{◌≡◌, ◌∷◌, ◌≤◌, ◌+◌, [], List, length, drop, Option, MatchOption, true, false, ℤ};
+ghost use Rattle.std.specs.Prelude.{◌≡◌, ◌∷◌, [], List, Option, MatchOption, true, false, ℤ};
 ghost use Rattle.ss_base.specs.declared.value.Value.{Value as ValueSeen};
 ghost use Rattle.ss_meaning.specs.Places.{Spot as Place};
 ghost use Rattle.ss_base.specs.declared.value.Value.TheVariants.{Whole};
@@ -71,18 +71,6 @@ impl Operands {
         }
     }
 
-    /// The value below so many others, which are on top.
-    #[inline(always)]
-    pub fn under(&self, count: usize) -> Option<Value>
-        ensures { MatchOption result (length self.now.here ≤ count) (λ x. drop count self.now.here ≡ x ∷ drop (count + 1) self.now.here) }
-    {
-        let here = self.items();
-        if count >= here.len() {
-            return None;
-        }
-        Some(here[here.len() - 1 - count])
-    }
-
     /// The member of a loop on top, and the owner of its set below it, unless the system owns it.
     #[inline(always)]
     pub fn going(&self, system: bool) -> Option<Going>
@@ -105,13 +93,13 @@ impl Operands {
     pub(crate) fn top_two(&self) -> Option<TopTwo>
         ensures { MatchOption result ((go : ValueSeen → ValueSeen → List ValueSeen → Moved) → with_two self.now.here go ≡ Stuck) (λ two. (rest : List ValueSeen) × (self.now.here ≡ two.top ∷ two.below ∷ rest)) }
     {
-        let Some(values) = self.last(2) else {
+        let Some(below) = self.under(1) else {
             return None;
         };
-        Some(TopTwo {
-            top: values[1],
-            below: values[0],
-        })
+        let Some(top) = self.under(0) else {
+            return None;
+        };
+        Some(TopTwo { top, below })
     }
 
     /// The item, the step and the limit of a loop, which lie on top.
@@ -119,10 +107,16 @@ impl Operands {
     pub fn counting(&self) -> Option<Counting>
         ensures { MatchOption result ((go : ℤ → ℤ → ℤ → List ValueSeen → Moved) → with_number self.now.here (λ item above. with_number above (λ step over. with_number over (λ limit rest. go item step limit rest))) ≡ Stuck) (λ k. (rest : List ValueSeen) × (self.now.here ≡ Whole k.item ∷ Whole k.step ∷ Whole k.limit ∷ rest)) }
     {
-        let Some(values) = self.last(3) else {
+        let Some(limit) = self.under(2) else {
             return None;
         };
-        counted_by(&values[2], &values[1], &values[0])
+        let Some(step) = self.under(1) else {
+            return None;
+        };
+        let Some(item) = self.under(0) else {
+            return None;
+        };
+        counted_by(&item, &step, &limit)
     }
 }
 

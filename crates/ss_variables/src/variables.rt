@@ -1,6 +1,6 @@
 //! The global variables.
 
-ghost use Rattle.std.specs.Prelude.{◌≡◌, ◌≤◌, ◌++◌, [], ◌∷◌, false, List, length, take, drop, slice_get, IfOk};
+ghost use Rattle.std.specs.Prelude.{◌≡◌, ◌≤◌, ◌<◌, ◌-◌, ◌++◌, [], ◌∷◌, false, List, length, take, drop, slice_get, IfOk, MatchOption, Some};
 ghost use Rattle.ss_base.specs.declared.value.Value.{Value as ValueSeen};
 ghost use Rattle.ss_meaning.specs.Values.{same_mode};
 ghost use Rattle.ss_meaning.specs.Store.{put_at, firsts};
@@ -93,6 +93,29 @@ fn put(values: &mut [Value], number: usize, value: Value) -> bool
     true
 }
 
+/// The value with a number, counted from another number on, if it is there.
+#[inline(always)]
+pub fn value_above(values: &[Value], base: usize, number: usize) -> Option<Value>
+    ensures { result ≡ slice_get (drop base values.now) number }
+{
+    let Some(place) = base.checked_add(number) else {
+        return None;
+    };
+    value_at(values, place)
+}
+
+/// The value that lies below so many others, of those from a number on, if it is there.
+#[inline(always)]
+pub fn value_under(values: &[Value], base: usize, count: usize) -> Option<Value>
+    requires { base ≤ length values.now }
+    ensures { MatchOption result (length (drop base values.now) ≤ count) (λ x. (count < length (drop base values.now)) × (slice_get (drop base values.now) (length (drop base values.now) - 1 - count) ≡ Some x)) }
+{
+    if values.len() - base <= count {
+        return None;
+    }
+    Some(values[values.len() - 1 - count])
+}
+
 /// Changes one of the values from a number on to another of its mode, and says whether it is there. If not, nothing changes.
 #[inline(always)]
 pub fn put_above(values: &mut [Value], base: usize, number: usize, value: Value) -> bool
@@ -101,19 +124,21 @@ pub fn put_above(values: &mut [Value], base: usize, number: usize, value: Value)
     ensures here { put_at (drop base values.old) number value ≡ put_told result (drop base values.new) }
     ensures kept { result ≡ false → values.new ≡ values.old }
 {
-    let (_, here) = values.split_at_mut(base);
-    put(here, number, value)
+    let Some(place) = base.checked_add(number) else {
+        return false;
+    };
+    put(values, place, value)
 }
 
-// Puts a value in place of the last of these.
+/// Puts a value in place of the last of the values from a number on, of which there is one.
 #[inline(always)]
-fn set_last(values: &mut [Value], value: Value)
-    ensures { (last : ValueSeen) (rest : List ValueSeen) → values.old ≡ rest ++ last ∷ [] → values.new ≡ rest ++ value ∷ [] }
+pub fn put_last_above(values: &mut [Value], base: usize, value: Value)
+    requires { base < length values.old }
+    ensures below { take base values.new ≡ take base values.old }
+    ensures here { (last : ValueSeen) (rest : List ValueSeen) → drop base values.old ≡ rest ++ last ∷ [] → drop base values.new ≡ rest ++ value ∷ [] }
 {
-    let count = values.len();
-    if count > 0 {
-        values[count - 1] = value;
-    }
+    let last = values.len() - 1;
+    values[last] = value;
 }
 
 /// Puts a value in place of the last of the values from a number on. Where there is none, nothing changes.
@@ -123,6 +148,7 @@ pub fn set_last_above(values: &mut [Value], base: usize, value: Value)
     ensures below { take base values.new ≡ take base values.old }
     ensures here { (last : ValueSeen) (rest : List ValueSeen) → drop base values.old ≡ rest ++ last ∷ [] → drop base values.new ≡ rest ++ value ∷ [] }
 {
-    let (_, here) = values.split_at_mut(base);
-    set_last(here, value);
+    if values.len() != base {
+        put_last_above(values, base, value);
+    }
 }
