@@ -1,6 +1,6 @@
 //! What is done with each of some statistics.
 
-ghost use Rattle.std.specs.Prelude.{◌≡◌, ◌<◌, [], false, ◌≤ℤ◌, pos, map, fold, length, IfOk, OnOk, IsTrue, MatchResult, Some, None};
+ghost use Rattle.std.specs.Prelude.{◌≡◌, ◌<◌, [], false, ◌≤ℤ◌, pos, map, fold, length, IfOk, OnOk, IsTrue, MatchResult, IfSome, Some, None};
 ghost use Rattle.std.specs.List.{All};
 ghost use Rattle.std.specs.Ordering.{int_eq};
 ghost use Rattle.ss_base.specs.declared.value.Value.TheVariants.{Whole};
@@ -87,6 +87,46 @@ pub(crate) fn has_some(places: &[usize]) -> bool
     }
 }
 
+// Notes a number in the history of an entity in the statistic at a place, or says why that takes none; then nothing
+// changes.
+#[inline(never)]
+fn note_at_place(
+    kept: &mut [Kept],
+    place: usize,
+    entity: i64,
+    now: i64,
+    number: i64,
+) -> Option<Unnoted>
+    requires within { place < length kept.old }
+    requires until { All (KeptUntil now) kept.old }
+    ensures refused { result ≡ refused_at entity (map shown kept.old) place }
+    ensures same { IfSome result (λ _. kept.new ≡ kept.old) }
+    ensures shown { map shown kept.new ≡ changed_at (noted_one entity now number) (map shown kept.old) place }
+    ensures until { All (KeptUntil now) kept.new }
+{
+    kept[place].note_or_refuse(entity, now, number)
+}
+
+// The same as `note_all` does.
+#[inline(always)]
+fn note_one(
+    kept: &mut [Kept],
+    place: usize,
+    entity: i64,
+    now: i64,
+    number: i64,
+) -> Result<(), Unnoted>
+    requires within { place < length kept.old }
+    requires until { All (KeptUntil now) kept.old }
+    ensures noted { MatchResult result (λ _. (refused_at entity (map shown kept.old) place ≡ None) × (map shown kept.new ≡ changed_at (noted_one entity now number) (map shown kept.old) place)) (λ e. (refused_at entity (map shown kept.old) place ≡ Some e) × (kept.new ≡ kept.old)) }
+    ensures until { All (KeptUntil now) kept.new }
+{
+    match note_at_place(kept, place, entity, now, number) {
+        None => Ok(()),
+        Some(unnoted) => Err(unnoted),
+    }
+}
+
 // Notes a number in the histories of an entity in the statistics at some places, as `note_all` does.
 #[inline(never)]
 fn note_refusable(
@@ -126,6 +166,7 @@ fn note_number(
 {
     match places {
         [] => Ok(()),
+        [place] => note_one(kept, *place, entity, now, number),
         [..] => note_refusable(kept, places, entity, now, number),
     }
 }
