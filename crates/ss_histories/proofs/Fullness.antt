@@ -25,7 +25,7 @@ refused_there x [] j d h = absurd (omega arith)
 refused_there x (k ∷ ks) zero d h = refl
 refused_there x (k ∷ ks) (suc j) d h = refused_there x ks j d (omega arith)
 
-or_none : (o : Option Unnoted) → option_or o None ≡ o
+pub or_none : (o : Option Unnoted) → option_or o None ≡ o
 or_none None = refl
 or_none (Some e) = refl
 

@@ -7,3 +7,4 @@ pub mod Noted
 pub mod Bare
 pub mod Unstarted
 mod Quiet
+pub mod OnePlace

@@ -31,6 +31,7 @@ impl Tables {
     }
 
     /// What stands under a subject.
+    #[inline(always)]
     fn at(&self, subject: Subject) -> &[usize]
         ensures { result.now ≡ found subject self.now.variables self.now.attributes self.now.sets }
     {
@@ -44,6 +45,7 @@ impl Tables {
     }
 
     /// What stands under an attribute of a class.
+    #[inline(always)]
     fn at_attribute(&self, class: usize, field: usize) -> &[usize]
         ensures { result.now ≡ found (OfAttribute class field) self.now.variables self.now.attributes self.now.sets }
     {
@@ -99,6 +101,7 @@ impl About {
     }
 
     /// Where the statistics of a subject stand.
+    #[inline(always)]
     pub(crate) fn places(&self, subject: Subject) -> &[usize]
         ensures { result.now ≡ places (is_about subject) self.now }
     {
@@ -106,6 +109,7 @@ impl About {
     }
 
     /// Where the statistics of an attribute of a class stand.
+    #[inline(always)]
     pub(crate) fn attribute_places(&self, class: usize, field: usize) -> &[usize]
         ensures { result.now ≡ places (is_about (OfAttribute class field)) self.now }
     {

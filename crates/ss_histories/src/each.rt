@@ -1,8 +1,9 @@
 //! What is done with each of some statistics.
 
-ghost use Rattle.std.specs.Prelude.{◌≡◌, ◌<◌, [], false, ◌≤ℤ◌, pos, map, fold, length, IfOk, OnOk, IsTrue, MatchResult, Some, None};
+ghost use Rattle.std.specs.Prelude.{◌≡◌, ◌<◌, [], false, ◌≤ℤ◌, pos, map, fold, length, IfOk, OnOk, IsTrue, MatchResult, IfSome, Some, None};
 ghost use Rattle.std.specs.List.{All};
 ghost use Rattle.std.specs.Ordering.{int_eq};
+ghost use Rattle.ss_base.specs.declared.value.Value.TheVariants.{Whole};
 ghost use Rattle.ss_meaning.specs.Histories.{same_owner, home};
 ghost use Rattle.ss_histories.specs.Each.{shown, bare, KeptUntil, HasRoom, begun_shown, ended_shown, noted_one, noted_by, renewed_one, changed_at, refused_at, stops_at, first_at, has_at};
 ghost use Rattle.ss_histories.specs.Places.{has_some};
@@ -76,6 +77,7 @@ pub(crate) fn has_any(kept: &[Kept]) -> bool
 }
 
 /// Whether there is a place.
+#[inline(always)]
 pub(crate) fn has_some(places: &[usize]) -> bool
     ensures { result ≡ has_some places.now }
 {
@@ -85,8 +87,93 @@ pub(crate) fn has_some(places: &[usize]) -> bool
     }
 }
 
+// Notes a number in the history of an entity in the statistic at a place, or says why that takes none; then nothing
+// changes.
+#[inline(never)]
+fn note_at_place(
+    kept: &mut [Kept],
+    place: usize,
+    entity: i64,
+    now: i64,
+    number: i64,
+) -> Option<Unnoted>
+    requires within { place < length kept.old }
+    requires until { All (KeptUntil now) kept.old }
+    ensures refused { result ≡ refused_at entity (map shown kept.old) place }
+    ensures same { IfSome result (λ _. kept.new ≡ kept.old) }
+    ensures shown { map shown kept.new ≡ changed_at (noted_one entity now number) (map shown kept.old) place }
+    ensures until { All (KeptUntil now) kept.new }
+{
+    kept[place].note_or_refuse(entity, now, number)
+}
+
+// The same as `note_all` does.
+#[inline(always)]
+fn note_one(
+    kept: &mut [Kept],
+    place: usize,
+    entity: i64,
+    now: i64,
+    number: i64,
+) -> Result<(), Unnoted>
+    requires within { place < length kept.old }
+    requires until { All (KeptUntil now) kept.old }
+    ensures noted { MatchResult result (λ _. (refused_at entity (map shown kept.old) place ≡ None) × (map shown kept.new ≡ changed_at (noted_one entity now number) (map shown kept.old) place)) (λ e. (refused_at entity (map shown kept.old) place ≡ Some e) × (kept.new ≡ kept.old)) }
+    ensures until { All (KeptUntil now) kept.new }
+{
+    match note_at_place(kept, place, entity, now, number) {
+        None => Ok(()),
+        Some(unnoted) => Err(unnoted),
+    }
+}
+
+// Notes a number in the histories of an entity in the statistics at some places, as `note_all` does.
+#[inline(never)]
+fn note_refusable(
+    kept: &mut [Kept],
+    places: &[usize],
+    entity: i64,
+    now: i64,
+    number: i64,
+) -> Result<(), Unnoted>
+    requires within { All (λ j. j < length kept.old) places.now }
+    requires until { All (KeptUntil now) kept.old }
+    ensures noted { MatchResult result (λ _. (first_at (stops_at (Whole number) entity (map shown kept.old)) places.now ≡ None) × (map shown kept.new ≡ fold (changed_at (noted_by entity now (Whole number))) (map shown kept.old) places.now)) (λ e. (first_at (stops_at (Whole number) entity (map shown kept.old)) places.now ≡ Some e) × (kept.new ≡ kept.old)) }
+    ensures until { All (KeptUntil now) kept.new }
+{
+    match first_refused(kept, places, entity, now) {
+        Some(refused) => Err(refused),
+        None => {
+            note_each(kept, places, entity, now, number);
+            Ok(())
+        }
+    }
+}
+
+// The same, at once where there is no place.
+#[inline(always)]
+fn note_number(
+    kept: &mut [Kept],
+    places: &[usize],
+    entity: i64,
+    now: i64,
+    number: i64,
+) -> Result<(), Unnoted>
+    requires within { All (λ j. j < length kept.old) places.now }
+    requires until { All (KeptUntil now) kept.old }
+    ensures noted { MatchResult result (λ _. (first_at (stops_at (Whole number) entity (map shown kept.old)) places.now ≡ None) × (map shown kept.new ≡ fold (changed_at (noted_by entity now (Whole number))) (map shown kept.old) places.now)) (λ e. (first_at (stops_at (Whole number) entity (map shown kept.old)) places.now ≡ Some e) × (kept.new ≡ kept.old)) }
+    ensures until { All (KeptUntil now) kept.new }
+{
+    match places {
+        [] => Ok(()),
+        [place] => note_one(kept, *place, entity, now, number),
+        [..] => note_refusable(kept, places, entity, now, number),
+    }
+}
+
 /// Notes a value in the histories of an entity in the statistics at some places. The error is the first reason why one of
 /// them doesn't note it; then nothing changes.
+#[inline(always)]
 pub(crate) fn note_all(
     kept: &mut [Kept],
     places: &[usize],
@@ -100,13 +187,7 @@ pub(crate) fn note_all(
     ensures until { All (KeptUntil now) kept.new }
 {
     match value {
-        Value::Whole(number) => match first_refused(kept, places, entity, now) {
-            Some(refused) => Err(refused),
-            None => {
-                note_each(kept, places, entity, now, number);
-                Ok(())
-            }
-        },
+        Value::Whole(number) => note_number(kept, places, entity, now, number),
         Value::Text(_) => if has_some(places) {
             Err(Unnoted::Misfit)
         } else {

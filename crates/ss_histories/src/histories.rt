@@ -158,6 +158,7 @@ impl Histories {
 
     /// Notes a value of a subject of an entity, now, in each statistic of it. The error is the first in the order of the
     /// statistics; where there is one, everything is as it was.
+    #[inline(always)]
     pub fn note(
         &mut self,
         subject: Subject,
@@ -178,6 +179,7 @@ impl Histories {
     }
 
     /// The same of an attribute of a class.
+    #[inline(always)]
     pub fn note_attribute(
         &mut self,
         class: usize,
@@ -249,6 +251,7 @@ impl Histories {
 
 // Notes a value of an entity, now, in the statistics at some places, which are those of a subject. The error is the first
 // in the order of the statistics; where there is one, everything is as it was.
+#[inline(always)]
 fn note_at(
     kept: &mut [Kept],
     latest: &mut i64,

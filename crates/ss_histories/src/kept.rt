@@ -121,9 +121,27 @@ impl Kept {
         ensures statistic { self.new.statistic ≡ self.old.statistic }
         ensures column { column_of self.new.rows ≡ noted_column entity now value (column_of self.old.rows) }
     {
+        self.note_or_refuse(entity, now, value);
+    }
+
+    /// The same at once with why the history takes no number; then nothing changes.
+    #[inline(always)]
+    pub(crate) fn note_or_refuse(&mut self, entity: i64, now: i64, value: i64) -> Option<Unnoted>
+        requires { IsUntil now (column_of self.old.rows) }
+        ensures refused { result ≡ refused_in (column_of self.old.rows entity) }
+        ensures statistic { self.new.statistic ≡ self.old.statistic }
+        ensures column { column_of self.new.rows ≡ noted_column entity now value (column_of self.old.rows) }
+        ensures same { IfSome result (λ _. self.new ≡ self.old) }
+    {
         match self.watched.get_mut(&entity) {
-            Some(watched) => watched.note(now, value),
-            None => {}
+            None => Some(Unnoted::Misfit),
+            Some(watched) => {
+                if watched.note(now, value) {
+                    None
+                } else {
+                    Some(Unnoted::Full)
+                }
+            }
         }
     }
 

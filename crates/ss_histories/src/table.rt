@@ -29,6 +29,7 @@ impl Numbers {
         }
     }
 
+    #[inline(always)]
     pub(crate) fn as_slice(&self) -> &[usize]
         ensures { result.now ≡ self.now }
     {
@@ -68,6 +69,7 @@ impl Table {
     }
 
     /// What stands under a number.
+    #[inline(always)]
     pub(crate) fn at(&self, key: usize) -> &[usize]
         ensures { result.now ≡ row_at self.now key }
     {
@@ -121,6 +123,7 @@ impl Grid {
     }
 
     /// What stands under a pair of numbers.
+    #[inline(always)]
     pub(crate) fn at(&self, first: usize, second: usize) -> &[usize]
         ensures { result.now ≡ cell_at self.now first second }
     {

@@ -1,6 +1,6 @@
 //! The totals of one history.
 
-ghost use Rattle.std.specs.Prelude.{◌≡◌, pos, ◌≤ℤ◌};
+ghost use Rattle.std.specs.Prelude.{◌≡◌, pos, ◌≤ℤ◌, not, false};
 ghost use Rattle.ss_picture.specs.Suited.{IsMean};
 ghost use Rattle.ss_meaning.specs.Histories.{at_start};
 ghost use Rattle.ss_histories.specs.Records.{figure_of, noted_value};
@@ -64,13 +64,19 @@ impl Watched {
         totals.note(now, 0).is_err()
     }
 
-    /// Notes a value, unless it is full.
-    pub(crate) fn note(&mut self, now: i64, value: i64)
+    /// Notes a value, unless it is full, and answers whether it did.
+    #[inline(always)]
+    pub(crate) fn note(&mut self, now: i64, value: i64) -> bool
         requires { last_moment self.old ≤ℤ now }
-        ensures { self.new ≡ noted_value now value self.old }
+        ensures noted { self.new ≡ noted_value now value self.old }
+        ensures open { result ≡ not (is_full self.old) }
+        ensures same { result ≡ false → self.new ≡ self.old }
     {
         if self.totals.note(now, value).is_ok() {
             self.told.note(now, value);
+            true
+        } else {
+            false
         }
     }
 

@@ -100,6 +100,11 @@ settled (Ok u) = Ok u
 settled (Err (refusals.Fault kind)) = Err (unmade.Fault kind)
 settled (Err refusals.Memory) = Err unmade.Memory
 
+-- a number that a call made, as a value
+abbrev pub as_value : Result ℤ Unmade → Result Value Unmade
+as_value (Ok n) = Ok (Whole n)
+as_value (Err t) = Err t
+
 -- what noting a value comes to
 abbrev pub or_unnoted : Result (Unit {0}) Unnoted → Result (Unit {0}) Trouble
 or_unnoted (Ok u) = Ok u

@@ -8,7 +8,7 @@ ghost use Rattle.ss_meaning.specs.Store.{Store as StoreSeen};
 ghost use Rattle.ss_meaning.specs.Places.{is_of_mode, assigned_attribute};
 ghost use Rattle.ss_population.specs.Told.{numbered};
 ghost use Rattle.ss_classes.specs.Layouts.{class_in, kind_at};
-ghost use Rattle.ss_store.specs.Seen.{Looks, Changes, Notes, Makes, Grows, IsEarlier, settled, count_open, number_made, created_all_known, mode_at, with_seen};
+ghost use Rattle.ss_store.specs.Seen.{Looks, Changes, Notes, Makes, Grows, IsEarlier, as_value, settled, count_open, number_made, created_all_known, mode_at, with_seen};
 
 use crate::scene::Scene;
 use ss_base::{ClassKind, FaultKind, Mode, Refused, Value};
@@ -59,6 +59,7 @@ impl Scene {
     }
 
     // The trouble that a look at an entity comes to, by its number, or else one that came later.
+    #[inline(never)]
     fn earlier(&self, class: usize, known: Known, later: Trouble) -> Trouble
         ensures { IsEarlier class known.number self.now later result }
     {
@@ -118,6 +119,7 @@ impl Scene {
     }
 
     /// TIME.A of a notice. Faults: 1 to 4.
+    #[inline(always)]
     pub fn time_of(&self, x: Value) -> Result<Value, Trouble>
         ensures { Looks (time_of x) self.now result }
     {
@@ -129,6 +131,7 @@ impl Scene {
     }
 
     /// How many entities a permanent class has: 0 until they are made.
+    #[inline(always)]
     pub fn made_count(&self, class: usize) -> i64
         ensures { (s : StoreSeen) → pos (made_count class (with_seen s self.now)) ≡ result }
     {
@@ -203,9 +206,10 @@ impl Scene {
         is_single(self.population.layout(), class)
     }
 
-    /// The number of a new entity of a class, whose histories start. Faults: 14 after the last number.
-    pub fn create(&mut self, class: usize) -> Result<Value, Unmade>
-        ensures { Makes (made_one class) self.old self.new result }
+    // The number of a new entity of a class, whose histories start.
+    #[inline(never)]
+    fn create_number(&mut self, class: usize) -> Result<i64, Unmade>
+        ensures { Makes (made_one class) self.old self.new (as_value result) }
     {
         if !self.is_single(class) {
             return Err(Unmade::Misfit);
@@ -220,14 +224,26 @@ impl Scene {
         match self.population.create(class) {
             Ok(number) => {
                 self.timeline.start(self.population.layout(), class, number);
-                Ok(Value::Whole(number))
+                Ok(number)
             }
             Err(Refused::Fault(kind)) => Err(Unmade::Fault(kind)),
             Err(Refused::Memory) => Err(Unmade::Memory),
         }
     }
 
+    /// The number of a new entity of a class, whose histories start. Faults: 14 after the last number.
+    #[inline(always)]
+    pub fn create(&mut self, class: usize) -> Result<Value, Unmade>
+        ensures { Makes (made_one class) self.old self.new result }
+    {
+        match self.create_number(class) {
+            Ok(number) => Ok(Value::Whole(number)),
+            Err(unmade) => Err(unmade),
+        }
+    }
+
     // An entity goes by its number, and its histories end, whether or not it is pending.
+    #[inline(always)]
     fn remove_known(&mut self, class: usize, known: Known) -> Result<(), Trouble>
         ensures { Changes (gone class (Whole known.number)) self.old self.new result }
     {
@@ -256,6 +272,7 @@ impl Scene {
     }
 
     /// Sets TIME.A of a notice. Faults: 1 to 4.
+    #[inline(always)]
     pub fn set_time(&mut self, x: Value, time: i64) -> Result<(), Trouble>
         ensures { Changes (with_time x time) self.old self.new result }
     {
@@ -267,6 +284,7 @@ impl Scene {
     }
 
     // An entity goes by its number, unless it is pending.
+    #[inline(never)]
     fn destroy_known(&mut self, class: usize, known: Known) -> Result<(), Trouble>
         ensures { Changes (without class (Whole known.number)) self.old self.new result }
     {
@@ -280,6 +298,7 @@ impl Scene {
     }
 
     /// An entity goes, and its histories end, as DESTROY says. Faults: 1 to 4, then 21, then 9 and 10.
+    #[inline(always)]
     pub fn destroy(&mut self, class: usize, x: Value) -> Result<(), Trouble>
         ensures { Changes (without class x) self.old self.new result }
     {

@@ -40,6 +40,7 @@ impl Scene {
     }
 
     // Files a member directly before another one.
+    #[inline(never)]
     fn file_before(&mut self, set: usize, both: Membership, y: Value) -> Result<(), Trouble>
         requires set { set < length self.old.heap.layout.sets }
         ensures { Resettles (filed_by (Ahead y) set both.owner.number both.member.number) self.old self.new result }
@@ -54,6 +55,7 @@ impl Scene {
     }
 
     // Files a member directly after another one.
+    #[inline(never)]
     fn file_after(&mut self, set: usize, both: Membership, y: Value) -> Result<(), Trouble>
         requires set { set < length self.old.heap.layout.sets }
         ensures { Resettles (filed_by (Behind y) set both.owner.number both.member.number) self.old self.new result }
@@ -116,6 +118,7 @@ impl Scene {
     /// of the entity (1 to 5), those of the member beside which it is filed, those of the owner, then 6 where the entity
     /// is in some set of this name, then 7 where the member beside which it is filed is not in this one; then 14 where a
     /// history of N. is full, and the entity is filed.
+    #[inline(always)]
     pub fn file(
         &mut self,
         filing: Filing,

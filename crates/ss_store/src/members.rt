@@ -149,6 +149,7 @@ impl Scene {
     }
 
     // The trouble that a look at a member comes to, or else one that came later.
+    #[inline(never)]
     pub(crate) fn earliest(&mut self, set: usize, member: Known, later: Trouble) -> Trouble
         ensures value { IsEarliest self.old.heap set member.number later result }
         ensures same { self.new ≡ self.old }

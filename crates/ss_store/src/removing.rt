@@ -50,6 +50,7 @@ impl Scene {
     /// Takes an entity out of the set of an owner, as REMOVE says, and histories note how many members that has. Faults:
     /// those of the entity (1 to 5), those of the owner, then 7 where the entity is not in this set; then 14 where a
     /// history of N. is full, and the entity is out.
+    #[inline(always)]
     pub fn remove(&mut self, set: usize, owner: Option<Value>, x: Value) -> Result<(), Trouble>
         ensures { Notes (removed_from set x owner) self.old self.new result }
     {
@@ -94,6 +95,7 @@ impl Scene {
     /// Takes the member at an end out of the set of an owner, and answers it, as REMOVE FIRST and REMOVE LAST say.
     /// Histories note how many members are left. Faults: 1 to 5, then 8 where there is none; then 14 where a history of
     /// N. is full, and the member is out.
+    #[inline(always)]
     pub fn remove_end(
         &mut self,
         end: End,

@@ -58,6 +58,7 @@ impl Scene {
     }
 
     /// F., L. or N. of the set of an owner. Faults: 1 to 5.
+    #[inline(always)]
     pub fn of_set(
         &mut self,
         query: SetQuery,
@@ -89,6 +90,7 @@ impl Scene {
     }
 
     /// Whether the set of an owner has no member. Faults: 1 to 5.
+    #[inline(always)]
     pub fn is_empty(&mut self, set: usize, owner: Option<Value>) -> Result<bool, Trouble>
         ensures value { Looks (is_empty set owner) self.old result }
         ensures same { self.new ≡ self.old }
@@ -100,6 +102,7 @@ impl Scene {
     }
 
     // What is asked of a member by its number, where the layout has the set.
+    #[inline(always)]
     fn asked_of_member(
         &mut self,
         query: MemberQuery,
@@ -124,6 +127,7 @@ impl Scene {
     }
 
     /// P., S. or M. of a member. Faults: 1 to 5.
+    #[inline(always)]
     pub fn of_member(&mut self, query: MemberQuery, set: usize, x: Value) -> Result<Value, Trouble>
         ensures value { Looks (of_member query set x) self.old result }
         ensures same { self.new ≡ self.old }

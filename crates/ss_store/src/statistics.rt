@@ -64,6 +64,7 @@ impl Scene {
     }
 
     /// Notes the value that a global variable has now in its histories. Faults: 14 where one of them is full.
+    #[inline(always)]
     pub fn note_variable(&mut self, number: usize, value: Value) -> Result<(), Trouble>
         ensures { Changes (noted (OfVariable number) (pos 0) value) self.old self.new result }
     {
@@ -83,6 +84,7 @@ impl Scene {
     }
 
     // The same where there are statistics.
+    #[inline(never)]
     fn recount_watched(&mut self, set: usize, owner: Known) -> Result<(), Trouble>
         requires counted { IsCountable self.old.heap set owner.number }
         ensures { Changes (recounted_now set owner.number) self.old self.new result }
@@ -94,6 +96,7 @@ impl Scene {
     }
 
     // N. of the set of an owner, by its number, or something else where no statistic is about it.
+    #[inline(always)]
     fn count_watched(&mut self, set: usize, owner: Known) -> Result<Value, Trouble>
         requires counted { IsCountable self.old.heap set owner.number }
         ensures value { CountsWatched set owner.number self.old result }
