@@ -126,7 +126,7 @@ impl Population {
     }
 
     /// An entity goes. Faults: 1 to 4, then 9 and 10.
-    #[inline(always)]
+    #[inline(never)]
     pub fn destroy(&mut self, class: usize, n: i64) -> Result<(), FaultKind>
         requires class { class < length self.old.layout.classes }
         requires kind { IsPermanent (kind_of self.old.layout class) → ⊥ }

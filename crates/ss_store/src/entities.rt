@@ -284,7 +284,7 @@ impl Scene {
     }
 
     // An entity goes by its number, unless it is pending.
-    #[inline(never)]
+    #[inline(always)]
     fn destroy_known(&mut self, class: usize, known: Known) -> Result<(), Trouble>
         ensures { Changes (without class (Whole known.number)) self.old self.new result }
     {
