@@ -1,12 +1,14 @@
 // Filing by discipline.
 ghost use Rattle.std.specs.Prelude.{◌≡◌, ◌+◌, ◌<◌, ◌≤◌, ◌∷◌, not, length, IsOk, MatchResult, Ok, Err};
-ghost use Rattle.std.specs.Ordering.{match_ordering};
+ghost use Rattle.std.specs.Ordering.{match_ordering, int_cmp, nat_cmp};
+ghost use Rattle.std.specs.Cmp.Lexicographic.{slice_cmp};
+ghost use Rattle.ss_base.specs.Order.{value_cmp};
 ghost use Rattle.ss_states.specs.State.{and_then, modes_of};
 ghost use Rattle.ss_states.specs.Sets.{owner, member_class, first_in};
 ghost use Rattle.ss_states.specs.Disciplines.{value_of, ranks_after, passed, passed_by, owned, filed_ranked, filed, AreFields, Fits};
 ghost use Rattle.ss_sets.specs.Walks.{first_after, as_member, filed_at};
 
-use ss_base::{Discipline, FaultKind, RankKey, Value};
+use ss_base::{Alpha, Discipline, FaultKind, RankKey, Value};
 use ss_records::Heap;
 use std::cmp::Ordering;
 
@@ -123,7 +125,7 @@ fn first_after_by(
             Ok(its) => its,
             Err(fault) => return Err(fault),
         };
-        let order = its.value.cmp(&own);
+        let order = order_of(&its.value, &own);
         if ranks_after_by(heap, order, key.high, others, class, y, x) {
             return Ok(Some(y));
         }
@@ -161,8 +163,44 @@ fn as_member(number: i64) -> Option<i64>
     if number == 0 { None } else { Some(number) }
 }
 
+// The order of two values. That of two whole numbers is in line.
+#[inline(always)]
+fn order_of(first: &Value, second: &Value) -> Ordering
+    ensures { result ≡ value_cmp first.now second.now }
+{
+    match (first, second) {
+        (Value::Whole(x), Value::Whole(y)) => order_of_numbers(*x, *y),
+        (Value::Text(s), Value::Text(t)) => order_of_texts(*s, *t),
+        (Value::Whole(_), Value::Text(_)) => Ordering::Less,
+        (Value::Text(_), Value::Whole(_)) => Ordering::Greater,
+    }
+}
+
+// The order of two whole numbers.
+#[inline(always)]
+fn order_of_numbers(x: i64, y: i64) -> Ordering
+    ensures { result ≡ int_cmp x y }
+{
+    if x < y {
+        Ordering::Less
+    } else if y < x {
+        Ordering::Greater
+    } else {
+        Ordering::Equal
+    }
+}
+
+// The order of two texts.
+#[inline(never)]
+fn order_of_texts(s: Alpha, t: Alpha) -> Ordering
+    ensures { result ≡ slice_cmp nat_cmp s t }
+{
+    s.cmp(&t)
+}
+
 // Whether y ranks strictly after x: by the order of the two in a key, high or low, and where they tie in it by the first
 // of the others in which they differ.
+#[inline(always)]
 fn ranks_after_by(
     heap: &Heap,
     order: Ordering,
@@ -178,11 +216,15 @@ fn ranks_after_by(
     match order {
         Ordering::Less => high,
         Ordering::Greater => !high,
-        Ordering::Equal => ranks_after(heap, others, class, y, x),
+        Ordering::Equal => match others {
+            [] => false,
+            _ => ranks_after(heap, others, class, y, x),
+        },
     }
 }
 
 // Whether y ranks strictly after x: by the first key in which they differ.
+#[inline(never)]
 fn ranks_after(heap: &Heap, keys: &[RankKey], class: usize, y: i64, x: i64) -> bool
     requires keys { AreFields heap.now.state.layout class keys.now }
     ensures { result ≡ ranks_after heap.now.state class keys.now y x }

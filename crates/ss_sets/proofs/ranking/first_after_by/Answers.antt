@@ -51,7 +51,7 @@ returns-then-ranks_after_by-clause-found c =
     let st = c.args.heap.now.state in let o : ℤ = to_z w64 (of_z w64 c.args.o) in let x : ℤ = to_z w64 (of_z w64 c.args.x) in let y : ℤ = to_z w64 (of_z w64 c.in-Some.y) in
     let own : o ≡ c.args.o = search rules in let its : x ≡ c.args.x = search rules in let hand : y ≡ c.in-Some.y = search rules in
     let all : List ℕ = owned st c.args.set o in let class = member_class st.layout c.args.set in let ks : List RankKey = c.args.key ∷ c.args.others.now in let h = c.loop-member.invariant in
-    let p = looked st c.sets_are_apart.ensures c.args.set c.requires.set o x c.args.key c.args.others.now c.loop-member.member c.in-Some.y y c.in-Some.is h.here hand c.loop-member.heap.state c.member.new.self.state h.same c.in-Ok-member.ensures.same c.class_of-class.result c.class_of-class.ensures c.in-Ok-member.its.value c.value-own.result c.in-Ok-member.its.next c.in-Ok-member.ensures.found.0 c.in-Ok-member.ensures.found.1 c.value-own.ensures c.cmp-order.result true c.cmp-order.ensures c.if-ranks_after_by.ensures in (
+    let p = looked st c.sets_are_apart.ensures c.args.set c.requires.set o x c.args.key c.args.others.now c.loop-member.member c.in-Some.y y c.in-Some.is h.here hand c.loop-member.heap.state c.member.new.self.state h.same c.in-Ok-member.ensures.same c.class_of-class.result c.class_of-class.ensures c.in-Ok-member.its.value c.value-own.result c.in-Ok-member.its.next c.in-Ok-member.ensures.found.0 c.in-Ok-member.ensures.found.1 c.value-own.ensures c.order_of-order.result true c.order_of-order.ensures c.if-ranks_after_by.ensures in (
       subst (λ (n : ℤ). IsOk (owner st c.args.set n)) own (found_first st c.args.set c.in-Ok.first o c.in-Ok.ensures.first).0,
       ap Some (hand ∙ p.is) ∙ sym (stops st class ks x p.z p.zs p.ranks).0 ∙ sym (ap (first_after st class ks x) p.rest) ∙ h.found
           ∙ ap (λ (n : ℤ). first_after st class ks n all) its ∙ ap (λ (n : ℤ). first_after st class ks c.args.x (owned st c.args.set n)) own,
@@ -78,7 +78,7 @@ passed_one : (c : goal.After-as_member-member) → Looked c.args.heap.now.state 
 passed_one c =
     let st = c.args.heap.now.state in let o : ℤ = to_z w64 (of_z w64 c.args.o) in let x : ℤ = to_z w64 (of_z w64 c.args.x) in let y : ℤ = to_z w64 (of_z w64 c.in-Some.y) in
     let hand : y ≡ c.in-Some.y = search rules in let h = c.loop-member.invariant in
-    looked st c.sets_are_apart.ensures c.args.set c.requires.set o x c.args.key c.args.others.now c.loop-member.member c.in-Some.y y c.in-Some.is h.here hand c.loop-member.heap.state c.member.new.self.state h.same c.in-Ok-member.ensures.same c.class_of-class.result c.class_of-class.ensures c.in-Ok-member.its.value c.value-own.result c.in-Ok-member.its.next c.in-Ok-member.ensures.found.0 c.in-Ok-member.ensures.found.1 c.value-own.ensures c.cmp-order.result false c.cmp-order.ensures c.if-ranks_after_by.ensures
+    looked st c.sets_are_apart.ensures c.args.set c.requires.set o x c.args.key c.args.others.now c.loop-member.member c.in-Some.y y c.in-Some.is h.here hand c.loop-member.heap.state c.member.new.self.state h.same c.in-Ok-member.ensures.same c.class_of-class.result c.class_of-class.ensures c.in-Ok-member.its.value c.value-own.result c.in-Ok-member.its.next c.in-Ok-member.ensures.found.0 c.in-Ok-member.ensures.found.1 c.value-own.ensures c.order_of-order.result false c.order_of-order.ensures c.if-ranks_after_by.ensures
 
 -- the member that is next at hand
 next_one : (c : goal.After-as_member-member) → c.as_member-member.result ≡ as_member c.in-Ok-member.its.next
