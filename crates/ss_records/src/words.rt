@@ -52,13 +52,13 @@ fn word_of(bytes: &[u8]) -> u64
 }
 
 /// The text of two words.
-pub(crate) fn text_in(first: u64, second: u64) -> Value
-    ensures { result ≡ value_of Mode.Alpha first second }
+pub(crate) fn text_in(first: u64, second: u64) -> Alpha
+    ensures { Value.Text result ≡ value_of Mode.Alpha first second }
 {
     let bytes = bytes_of(first, second);
     match Alpha::of(used(&bytes)) {
-        Some(text) => Value::Text(text),
-        None => Value::Text(Alpha::empty()),
+        Some(text) => text,
+        None => Alpha::empty(),
     }
 }
 

@@ -1,3 +1,4 @@
+use Rattle.ss_base.specs.declared.value.Value.TheVariants.{Text}
 use Rattle.ss_records.proofs.ValueWords.{text_read_at}
 use Rattle.ss_records.proofs.store.Blocks.text.Goals as goal
 
@@ -8,4 +9,4 @@ pub number-second-requires : goal.number-second-requires
 number-second-requires c = c.requires.second
 
 pub returns : goal.returns
-returns c = text_read_at c.args.self.now.cells c.args.place.at c.args.k c.number-first.result c.number-second.result c.text_in.result c.text_in.ensures c.number-first.ensures c.number-second.ensures
+returns c = text_read_at c.args.self.now.cells c.args.place.at c.args.k c.number-first.result c.number-second.result (Text c.text_in.result) c.text_in.ensures c.number-first.ensures c.number-second.ensures
