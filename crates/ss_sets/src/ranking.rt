@@ -1,5 +1,5 @@
 // Filing by discipline.
-ghost use Rattle.std.specs.Prelude.{◌≡◌, ◌+◌, ◌<◌, ◌≤◌, ◌∷◌, not, length, IsOk, MatchResult, Ok, Err};
+ghost use Rattle.std.specs.Prelude.{◌≡◌, ℤ, ◌+◌, ◌<◌, ◌≤◌, ◌∷◌, not, length, slice_get, IsOk, MatchResult, Ok, Err, Some};
 ghost use Rattle.std.specs.Ordering.{match_ordering, int_cmp, nat_cmp};
 ghost use Rattle.std.specs.Cmp.Lexicographic.{slice_cmp};
 ghost use Rattle.ss_base.specs.Order.{value_cmp};
@@ -8,7 +8,7 @@ ghost use Rattle.ss_states.specs.Sets.{owner, member_class, first_in};
 ghost use Rattle.ss_states.specs.Disciplines.{value_of, ranks_after, passed, passed_by, owned, filed_ranked, filed, AreFields, Fits};
 ghost use Rattle.ss_sets.specs.Walks.{first_after, as_member, filed_at};
 
-use ss_base::{Alpha, Discipline, FaultKind, RankKey, Value};
+use ss_base::{Alpha, Discipline, FaultKind, Mode, RankKey, Value};
 use ss_records::Heap;
 use std::cmp::Ordering;
 
@@ -97,9 +97,70 @@ fn first_after(
     }
 }
 
-// The same by a key that counts most and the others. The value of x for that key is read once, and that of each member
-// with the member behind it.
+// The same by a key that counts most and the others.
 fn first_after_by(
+    heap: &mut Heap,
+    key: RankKey,
+    others: &[RankKey],
+    set: usize,
+    o: i64,
+    x: i64,
+) -> Result<Option<i64>, FaultKind>
+    requires set { set < length heap.old.state.layout.sets }
+    requires keys { AreFields heap.old.state.layout (member_class heap.old.state.layout set) (key ∷ others.now) }
+    ensures found { MatchResult result (λ y. IsOk (owner heap.old.state set o) × (y ≡ first_after heap.old.state (member_class heap.old.state.layout set) (key ∷ others.now) x (owned heap.old.state set o))) (λ e. owner heap.old.state set o ≡ Err e) }
+    ensures same { heap.new.state ≡ heap.old.state }
+    ensures touches { (heap.old.total ≤ heap.new.total) × (heap.new.total ≤ heap.old.total + 2 + passed heap.old.state (member_class heap.old.state.layout set) (key ∷ others.now) x (owned heap.old.state set o)) }
+{
+    let class = class_of(heap, set);
+    match whole_of(heap, class, key.field, x) {
+        Some(own) => first_after_whole(heap, key, others, set, o, x, own),
+        None => first_after_value(heap, key, others, set, o, x),
+    }
+}
+
+// The same where the key is one of whole numbers, and this is that of x. That of each member is read with the member
+// behind it.
+fn first_after_whole(
+    heap: &mut Heap,
+    key: RankKey,
+    others: &[RankKey],
+    set: usize,
+    o: i64,
+    x: i64,
+    own: i64,
+) -> Result<Option<i64>, FaultKind>
+    requires set { set < length heap.old.state.layout.sets }
+    requires keys { AreFields heap.old.state.layout (member_class heap.old.state.layout set) (key ∷ others.now) }
+    requires mode { slice_get (modes_of heap.old.state.layout (member_class heap.old.state.layout set)) key.field ≡ Some Mode.Integer }
+    requires own { value_of heap.old.state (member_class heap.old.state.layout set) key.field x ≡ Value.Whole own }
+    ensures found { MatchResult result (λ y. IsOk (owner heap.old.state set o) × (y ≡ first_after heap.old.state (member_class heap.old.state.layout set) (key ∷ others.now) x (owned heap.old.state set o))) (λ e. owner heap.old.state set o ≡ Err e) }
+    ensures same { heap.new.state ≡ heap.old.state }
+    ensures touches { (heap.old.total ≤ heap.new.total) × (heap.new.total ≤ heap.old.total + 2 + passed heap.old.state (member_class heap.old.state.layout set) (key ∷ others.now) x (owned heap.old.state set o)) }
+{
+    heap.sets_are_apart();
+    let class = class_of(heap, set);
+    let mut member = match first_member(heap, set, o) {
+        Ok(first) => first,
+        Err(fault) => return Err(fault),
+    };
+    while let Some(y) = member {
+        let its = match heap.whole_member(set, key.field, y) {
+            Ok(its) => its,
+            Err(fault) => return Err(fault),
+        };
+        let order = order_of_numbers(its.value, own);
+        if ranks_after_by(heap, order, key.high, others, class, y, x) {
+            return Ok(Some(y));
+        }
+        member = as_member(its.next);
+    }
+    Ok(None)
+}
+
+// The same by a key of any mode. The value of x for that key is read once, and that of each member with the member
+// behind it.
+fn first_after_value(
     heap: &mut Heap,
     key: RankKey,
     others: &[RankKey],
@@ -239,6 +300,36 @@ fn ranks_after(heap: &Heap, keys: &[RankKey], class: usize, y: i64, x: i64) -> b
         }
     }
     false
+}
+
+// The value of an attribute of an entity, where it is one of whole numbers.
+fn whole_of(heap: &Heap, class: usize, field: usize, x: i64) -> Option<i64>
+    requires field { field < length (modes_of heap.now.state.layout class) }
+    ensures { (n : ℤ) → result ≡ Some n → (slice_get (modes_of heap.now.state.layout class) field ≡ Some Mode.Integer) × (value_of heap.now.state class field x ≡ Value.Whole n) }
+{
+    match mode(heap, class, field) {
+        Mode::Integer => whole_in(&value(heap, class, field, x)),
+        Mode::Alpha => None,
+    }
+}
+
+// A whole number, where it is one.
+fn whole_in(value: &Value) -> Option<i64>
+    ensures { (n : ℤ) → result ≡ Some n → value.now ≡ Value.Whole n }
+{
+    match value {
+        Value::Whole(n) => Some(*n),
+        Value::Text(_) => None,
+    }
+}
+
+// The mode of an attribute.
+fn mode(heap: &Heap, class: usize, field: usize) -> Mode
+    requires field { field < length (modes_of heap.now.state.layout class) }
+    ensures { slice_get (modes_of heap.now.state.layout class) field ≡ Some result }
+{
+    let layout = heap.layout();
+    layout.classes[class].fields[field]
 }
 
 // The value of an attribute of an entity, 0 where there is none.
