@@ -9,6 +9,7 @@ pub mod Destroys
 pub mod Disjoint
 pub mod Filed
 pub mod Files
+pub mod Ends
 pub mod Fills
 pub mod Frees
 pub mod Indexing

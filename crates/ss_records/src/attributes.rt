@@ -19,24 +19,22 @@ impl Blocks {
     {
         match mode {
             Mode::Integer => words::whole_in(self.number(place, k)),
-            Mode::Alpha => self.text(place, k),
+            Mode::Alpha => Value::Text(self.text(place, k)),
         }
     }
 
-    // The text in a word and the next, as a value. Its room stands here, so that a number's way has none of it.
+    /// The whole number in a word.
     #[inline(always)]
-    fn text(&self, place: Address, k: usize) -> Value
-        requires first { IsNumber (word_at self.now.cells place.at k) }
-        requires second { IsNumber (word_at self.now.cells place.at (k + 1)) }
-        requires room { k + 1 < 2 ^ 64 }
-        ensures { result ≡ value_at Mode.Alpha self.now.cells place.at k }
+    pub(crate) fn whole(&self, place: Address, k: usize) -> i64
+        requires { IsNumber (word_at self.now.cells place.at k) }
+        ensures { Value.Whole result ≡ value_at Mode.Integer self.now.cells place.at k }
     {
-        Value::Text(self.characters(place, k))
+        self.number(place, k).cast_signed()
     }
 
     // The text in a word and the next.
     #[inline(never)]
-    fn characters(&self, place: Address, k: usize) -> Alpha
+    fn text(&self, place: Address, k: usize) -> Alpha
         requires first { IsNumber (word_at self.now.cells place.at k) }
         requires second { IsNumber (word_at self.now.cells place.at (k + 1)) }
         requires room { k + 1 < 2 ^ 64 }

@@ -1,7 +1,8 @@
 // Filing and removing.
 ghost use Rattle.std.specs.Prelude.{◌≡◌, ℕ, ◌+◌, ◌<◌, ◌≤◌, List, ◌∷◌, ◌++◌, length, false, true, Result, MatchResult, IsOk, Ok, Err};
 ghost use Rattle.ss_states.specs.State.{State, and_then, is_filed, contains, members_of};
-ghost use Rattle.ss_states.specs.Sets.{joiner, owner, with_list_of, put_in, put_beside, taken_out, filed_first, filed_last, filed_before, filed_after, removed};
+ghost use Rattle.ss_states.specs.Disciplines.{first_removed, last_removed, member_test};
+ghost use Rattle.ss_states.specs.Sets.{joiner, owner, less, with_list_of, put_in, put_beside, taken_out, filed_first, filed_last, filed_before, filed_after, removed};
 ghost use Rattle.ss_records.specs.Parts.{IsKept, state, held, Owns, Joins, Between, Around};
 
 use crate::links::Entry;
@@ -269,6 +270,86 @@ impl Records {
                 self.link_out(s, pair.owner, before, pair.x, after);
                 Ok(())
             }
+            Err(fault) => Err(fault),
+        }
+    }
+
+    // Takes a member out of the set that it is in: nine touches.
+    fn take_out(&mut self, s: usize, owner: Entry, x: Entry)
+        requires kept { IsKept self.old }
+        requires set { s < length self.old.layout.sets }
+        requires owns { Owns self.old s owner }
+        requires joins { Joins self.old s x }
+        requires there { contains (members_of self.old.notes.lists s owner.number) x.number ≡ true }
+        requires touches { self.old.blocks.touches ≤ 8 }
+        ensures kept { IsKept self.new }
+        ensures done { state self.new ≡ with_list_of (state self.old) s owner.number (less x.number (members_of self.old.notes.lists s owner.number)) }
+        ensures touches { (self.new.blocks.touches ≡ self.old.blocks.touches + 9) × (self.new.blocks.total ≡ self.old.blocks.total + 9) }
+    {
+        let base = self.layout.member_base(s);
+        let before = self.blocks.follow(x.place, base + 1);
+        let after = self.blocks.follow(x.place, base);
+        self.link_out(s, owner, before, x, after);
+    }
+
+    /// Takes the first member out of a set, and answers it.
+    pub(crate) fn remove_first(&mut self, s: usize, o: i64) -> Result<i64, FaultKind>
+        requires kept { IsKept self.old }
+        requires set { s < length self.old.layout.sets }
+        requires touches { self.old.blocks.touches ≡ 0 }
+        ensures kept { IsKept self.new }
+        ensures done { MatchResult result (λ x. first_removed (state self.old) s o ≡ Ok (x, state self.new)) (λ e. (first_removed (state self.old) s o ≡ Err e) × (state self.new ≡ state self.old)) }
+        ensures touches { (self.new.blocks.touches ≤ 12) × (self.new.blocks.total ≡ self.old.blocks.total + self.new.blocks.touches) }
+    {
+        match self.owner(s, o) {
+            Ok(owner) => {
+                let base = self.layout.owner_base(s);
+                let first = self.blocks.follow(owner.place, base);
+                if first.number == 0 {
+                    return Err(FaultKind::EmptySet);
+                }
+                self.take_out(s, owner, first);
+                Ok(first.number as i64)
+            }
+            Err(fault) => Err(fault),
+        }
+    }
+
+    /// Takes the last member out of a set, and answers it.
+    pub(crate) fn remove_last(&mut self, s: usize, o: i64) -> Result<i64, FaultKind>
+        requires kept { IsKept self.old }
+        requires set { s < length self.old.layout.sets }
+        requires touches { self.old.blocks.touches ≡ 0 }
+        ensures kept { IsKept self.new }
+        ensures done { MatchResult result (λ x. last_removed (state self.old) s o ≡ Ok (x, state self.new)) (λ e. (last_removed (state self.old) s o ≡ Err e) × (state self.new ≡ state self.old)) }
+        ensures touches { (self.new.blocks.touches ≤ 12) × (self.new.blocks.total ≡ self.old.blocks.total + self.new.blocks.touches) }
+    {
+        match self.owner(s, o) {
+            Ok(owner) => {
+                let base = self.layout.owner_base(s);
+                let last = self.blocks.follow(owner.place, base + 1);
+                if last.number == 0 {
+                    return Err(FaultKind::EmptySet);
+                }
+                self.take_out(s, owner, last);
+                Ok(last.number as i64)
+            }
+            Err(fault) => Err(fault),
+        }
+    }
+
+    /// Whether x is in the set of an owner: at most two touches.
+    pub(crate) fn has(&mut self, s: usize, o: i64, x: i64) -> Result<bool, FaultKind>
+        requires kept { IsKept self.old }
+        requires set { s < length self.old.layout.sets }
+        requires touches { self.old.blocks.touches ≡ 0 }
+        ensures value { result ≡ member_test (state self.old) s o x }
+        ensures kept { IsKept self.new }
+        ensures same { state self.new ≡ state self.old }
+        ensures touches { (self.new.blocks.touches ≤ 2) × (self.new.blocks.total ≡ self.old.blocks.total + self.new.blocks.touches) }
+    {
+        match self.pair(s, o, x) {
+            Ok(pair) => Ok(self.is_in(s, pair.owner, pair.x)),
             Err(fault) => Err(fault),
         }
     }

@@ -1,12 +1,13 @@
 ghost use Rattle.std.specs.Prelude.{◌≡◌, ◌+◌, ◌<◌, ◌≤◌, length, MatchResult, Ok, Err, Some, IsOk, slice_get, ⊤};
 ghost use Rattle.ss_base.specs.Layout.{mode_of};
 ghost use Rattle.ss_states.specs.State.{State, first_state, known_in, known_notice_in, kind_of, modes_of, value_in, time_in, created, created_all, destroyed, assigned, timed, RefusedFor, living_numbers, living_records};
+ghost use Rattle.ss_states.specs.Disciplines.{first_removed, last_removed, member_test};
 ghost use Rattle.ss_states.specs.Sets.{member_class, first_in, last_in, count_in, next_in, previous_in, owner_of_member, filed_first, filed_last, filed_before, filed_after, removed, Apart};
 ghost use Rattle.ss_records.specs.Kept.{IsPermanent};
 
 use crate::records::Records;
-use crate::sets::Member;
-use ss_base::{FaultKind, Layout, Refused, Value};
+use crate::sets::{Member, WholeMember};
+use ss_base::{FaultKind, Layout, Mode, Refused, Value};
 use std::alloc::{AllocError, Global};
 use std::marker::Model;
 
@@ -205,6 +206,23 @@ impl Heap {
         self.records.member(set, field, x)
     }
 
+    /// The same of an attribute that is a whole number. Faults: 1 to 5.
+    pub fn whole_member(
+        &mut self,
+        set: usize,
+        field: usize,
+        x: i64,
+    ) -> Result<WholeMember, FaultKind>
+        requires set { set < length self.old.state.layout.sets }
+        requires mode { slice_get (modes_of self.old.state.layout (member_class self.old.state.layout set)) field ≡ Some Mode.Integer }
+        ensures found { MatchResult result (λ m. (value_in self.old.state (member_class self.old.state.layout set) field x ≡ Ok (Value.Whole m.value)) × (next_in self.old.state set x ≡ Ok m.next)) (λ e. next_in self.old.state set x ≡ Err e) }
+        ensures same { self.new.state ≡ self.old.state }
+        ensures touches { (self.new.touches ≤ 1) × (IsOk result → 1 ≤ self.new.touches) × (self.new.total ≡ self.old.total + self.new.touches) }
+    {
+        self.records.start();
+        self.records.whole_member(set, field, x)
+    }
+
     /// The member that precedes x in its set, 0 where there is none or x is in no set. Faults: 1 to 5.
     pub fn previous(&mut self, set: usize, x: i64) -> Result<i64, FaultKind>
         requires set { set < length self.old.state.layout.sets }
@@ -280,6 +298,39 @@ impl Heap {
     {
         self.records.start();
         self.records.remove(set, o, x)
+    }
+
+    /// Takes the first member out of the set of an owner, and answers it: a `first` and a `remove` with one look for the
+    /// owner. Faults: 1 to 5, then 8 where there is none.
+    pub fn remove_first(&mut self, set: usize, o: i64) -> Result<i64, FaultKind>
+        requires set { set < length self.old.state.layout.sets }
+        ensures done { MatchResult result (λ x. first_removed self.old.state set o ≡ Ok (x, self.new.state)) (λ e. (first_removed self.old.state set o ≡ Err e) × (self.new.state ≡ self.old.state)) }
+        ensures touches { (self.new.touches ≤ 12) × (self.new.total ≡ self.old.total + self.new.touches) }
+    {
+        self.records.start();
+        self.records.remove_first(set, o)
+    }
+
+    /// Takes the last member out of the set of an owner, and answers it: a `last` and a `remove` with one look for the
+    /// owner. Faults: 1 to 5, then 8 where there is none.
+    pub fn remove_last(&mut self, set: usize, o: i64) -> Result<i64, FaultKind>
+        requires set { set < length self.old.state.layout.sets }
+        ensures done { MatchResult result (λ x. last_removed self.old.state set o ≡ Ok (x, self.new.state)) (λ e. (last_removed self.old.state set o ≡ Err e) × (self.new.state ≡ self.old.state)) }
+        ensures touches { (self.new.touches ≤ 12) × (self.new.total ≡ self.old.total + self.new.touches) }
+    {
+        self.records.start();
+        self.records.remove_last(set, o)
+    }
+
+    /// Whether x is in the set of an owner. Faults: those of x (1 to 5), then those of the owner.
+    pub fn is_in(&mut self, set: usize, o: i64, x: i64) -> Result<bool, FaultKind>
+        requires set { set < length self.old.state.layout.sets }
+        ensures value { result ≡ member_test self.old.state set o x }
+        ensures same { self.new.state ≡ self.old.state }
+        ensures touches { (self.new.touches ≤ 2) × (self.new.total ≡ self.old.total + self.new.touches) }
+    {
+        self.records.start();
+        self.records.has(set, o, x)
     }
 
     /// A law, for contracts: members are entities of their class, and none is twice in a set or in two sets of a

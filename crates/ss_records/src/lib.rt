@@ -21,5 +21,5 @@ pub(crate) mod ties;
 pub(crate) mod words;
 
 pub use heap::Heap;
-pub use sets::Member;
+pub use sets::{Member, WholeMember};
 pub use shape::kind;

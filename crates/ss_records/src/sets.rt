@@ -1,5 +1,5 @@
 // The sets: their ends, the neighbours of a member, and its owner.
-ghost use Rattle.std.specs.Prelude.{◌≡◌, ℕ, ◌+◌, ◌^◌, ◌<◌, ◌≤◌, length, MatchResult, IsOk, Ok, Err};
+ghost use Rattle.std.specs.Prelude.{◌≡◌, ℕ, ◌+◌, ◌^◌, ◌<◌, ◌≤◌, length, slice_get, MatchResult, IsOk, Ok, Err, Some};
 ghost use Rattle.ss_states.specs.State.{State, is_filed, modes_of, value_in};
 ghost use Rattle.ss_states.specs.Sets.{joiner, owner, member_class, first_in, last_in, count_in, next_in, previous_in, owner_of_member, Apart};
 ghost use Rattle.ss_records.specs.Parts.{IsKept, state, Owns, Joins};
@@ -7,13 +7,22 @@ ghost use Rattle.ss_records.specs.Parts.{IsKept, state, Owns, Joins};
 use crate::links::Entry;
 use crate::records::Records;
 use crate::shape::{NUMBER, value_start};
-use ss_base::{FaultKind, Owner, Value};
+use ss_base::{FaultKind, Mode, Owner, Value};
 
 /// What is read of a member of a set at once.
 #[derive(Clone, Copy)]
 pub struct Member {
     /// The value of one of its attributes.
     pub value: Value,
+    /// The member that follows it, 0 where there is none.
+    pub next: i64,
+}
+
+/// What is read of a member of a set at once, where the attribute is a whole number.
+#[derive(Clone, Copy)]
+pub struct WholeMember {
+    /// The number.
+    pub value: i64,
     /// The member that follows it, 0 where there is none.
     pub next: i64,
 }
@@ -179,6 +188,39 @@ impl Records {
                 let base = self.layout.member_base(s);
                 let next = self.blocks.follow(place, base);
                 Ok(Member {
+                    value,
+                    next: other_than(next.number, number) as i64,
+                })
+            }
+            Err(fault) => Err(fault),
+        }
+    }
+
+    /// The same of an attribute that is a whole number: a touch.
+    pub(crate) fn whole_member(
+        &mut self,
+        s: usize,
+        field: usize,
+        x: i64,
+    ) -> Result<WholeMember, FaultKind>
+        requires kept { IsKept self.old }
+        requires set { s < length self.old.layout.sets }
+        requires mode { slice_get (modes_of self.old.layout (member_class self.old.layout s)) field ≡ Some Mode.Integer }
+        requires touches { self.old.blocks.touches ≡ 0 }
+        ensures found { MatchResult result (λ m. (value_in (state self.old) (member_class self.old.layout s) field x ≡ Ok (Value.Whole m.value)) × (next_in (state self.old) s x ≡ Ok m.next)) (λ e. next_in (state self.old) s x ≡ Err e) }
+        ensures kept { IsKept self.new }
+        ensures same { state self.new ≡ state self.old }
+        ensures touches { (self.new.blocks.touches ≤ 1) × (IsOk result → 1 ≤ self.new.blocks.touches) × (self.new.blocks.total ≡ self.old.blocks.total + self.new.blocks.touches) }
+    {
+        let class = self.layout.member_class(s);
+        match self.find(class, x) {
+            Ok(place) => {
+                let number = self.blocks.number(place, NUMBER);
+                let k = value_start(field);
+                let value = self.blocks.whole(place, k);
+                let base = self.layout.member_base(s);
+                let next = self.blocks.follow(place, base);
+                Ok(WholeMember {
                     value,
                     next: other_than(next.number, number) as i64,
                 })

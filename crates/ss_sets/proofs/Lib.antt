@@ -1,4 +1,3 @@
-pub mod Filed
 pub mod Members
 pub mod Same
 pub mod Walking

@@ -1,12 +1,14 @@
 // Filing by discipline.
-ghost use Rattle.std.specs.Prelude.{◌≡◌, ◌+◌, ◌<◌, ◌≤◌, ◌∷◌, not, length, IsOk, MatchResult, Ok, Err};
-ghost use Rattle.std.specs.Ordering.{match_ordering};
+ghost use Rattle.std.specs.Prelude.{◌≡◌, ℤ, ◌+◌, ◌<◌, ◌≤◌, ◌∷◌, not, length, slice_get, IsOk, MatchResult, Ok, Err, Some};
+ghost use Rattle.std.specs.Ordering.{match_ordering, int_cmp, nat_cmp};
+ghost use Rattle.std.specs.Cmp.Lexicographic.{slice_cmp};
+ghost use Rattle.ss_base.specs.Order.{value_cmp};
 ghost use Rattle.ss_states.specs.State.{and_then, modes_of};
 ghost use Rattle.ss_states.specs.Sets.{owner, member_class, first_in};
 ghost use Rattle.ss_states.specs.Disciplines.{value_of, ranks_after, passed, passed_by, owned, filed_ranked, filed, AreFields, Fits};
 ghost use Rattle.ss_sets.specs.Walks.{first_after, as_member, filed_at};
 
-use ss_base::{Discipline, FaultKind, RankKey, Value};
+use ss_base::{Alpha, Discipline, FaultKind, Mode, RankKey, Value};
 use ss_records::Heap;
 use std::cmp::Ordering;
 
@@ -95,9 +97,70 @@ fn first_after(
     }
 }
 
-// The same by a key that counts most and the others. The value of x for that key is read once, and that of each member
-// with the member behind it.
+// The same by a key that counts most and the others.
 fn first_after_by(
+    heap: &mut Heap,
+    key: RankKey,
+    others: &[RankKey],
+    set: usize,
+    o: i64,
+    x: i64,
+) -> Result<Option<i64>, FaultKind>
+    requires set { set < length heap.old.state.layout.sets }
+    requires keys { AreFields heap.old.state.layout (member_class heap.old.state.layout set) (key ∷ others.now) }
+    ensures found { MatchResult result (λ y. IsOk (owner heap.old.state set o) × (y ≡ first_after heap.old.state (member_class heap.old.state.layout set) (key ∷ others.now) x (owned heap.old.state set o))) (λ e. owner heap.old.state set o ≡ Err e) }
+    ensures same { heap.new.state ≡ heap.old.state }
+    ensures touches { (heap.old.total ≤ heap.new.total) × (heap.new.total ≤ heap.old.total + 2 + passed heap.old.state (member_class heap.old.state.layout set) (key ∷ others.now) x (owned heap.old.state set o)) }
+{
+    let class = class_of(heap, set);
+    match whole_of(heap, class, key.field, x) {
+        Some(own) => first_after_whole(heap, key, others, set, o, x, own),
+        None => first_after_value(heap, key, others, set, o, x),
+    }
+}
+
+// The same where the key is one of whole numbers, and this is that of x. That of each member is read with the member
+// behind it.
+fn first_after_whole(
+    heap: &mut Heap,
+    key: RankKey,
+    others: &[RankKey],
+    set: usize,
+    o: i64,
+    x: i64,
+    own: i64,
+) -> Result<Option<i64>, FaultKind>
+    requires set { set < length heap.old.state.layout.sets }
+    requires keys { AreFields heap.old.state.layout (member_class heap.old.state.layout set) (key ∷ others.now) }
+    requires mode { slice_get (modes_of heap.old.state.layout (member_class heap.old.state.layout set)) key.field ≡ Some Mode.Integer }
+    requires own { value_of heap.old.state (member_class heap.old.state.layout set) key.field x ≡ Value.Whole own }
+    ensures found { MatchResult result (λ y. IsOk (owner heap.old.state set o) × (y ≡ first_after heap.old.state (member_class heap.old.state.layout set) (key ∷ others.now) x (owned heap.old.state set o))) (λ e. owner heap.old.state set o ≡ Err e) }
+    ensures same { heap.new.state ≡ heap.old.state }
+    ensures touches { (heap.old.total ≤ heap.new.total) × (heap.new.total ≤ heap.old.total + 2 + passed heap.old.state (member_class heap.old.state.layout set) (key ∷ others.now) x (owned heap.old.state set o)) }
+{
+    heap.sets_are_apart();
+    let class = class_of(heap, set);
+    let mut member = match first_member(heap, set, o) {
+        Ok(first) => first,
+        Err(fault) => return Err(fault),
+    };
+    while let Some(y) = member {
+        let its = match heap.whole_member(set, key.field, y) {
+            Ok(its) => its,
+            Err(fault) => return Err(fault),
+        };
+        let order = order_of_numbers(its.value, own);
+        if ranks_after_by(heap, order, key.high, others, class, y, x) {
+            return Ok(Some(y));
+        }
+        member = as_member(its.next);
+    }
+    Ok(None)
+}
+
+// The same by a key of any mode. The value of x for that key is read once, and that of each member with the member
+// behind it.
+fn first_after_value(
     heap: &mut Heap,
     key: RankKey,
     others: &[RankKey],
@@ -123,7 +186,7 @@ fn first_after_by(
             Ok(its) => its,
             Err(fault) => return Err(fault),
         };
-        let order = its.value.cmp(&own);
+        let order = order_of(&its.value, &own);
         if ranks_after_by(heap, order, key.high, others, class, y, x) {
             return Ok(Some(y));
         }
@@ -161,8 +224,44 @@ fn as_member(number: i64) -> Option<i64>
     if number == 0 { None } else { Some(number) }
 }
 
+// The order of two values. That of two whole numbers is in line.
+#[inline(always)]
+fn order_of(first: &Value, second: &Value) -> Ordering
+    ensures { result ≡ value_cmp first.now second.now }
+{
+    match (first, second) {
+        (Value::Whole(x), Value::Whole(y)) => order_of_numbers(*x, *y),
+        (Value::Text(s), Value::Text(t)) => order_of_texts(*s, *t),
+        (Value::Whole(_), Value::Text(_)) => Ordering::Less,
+        (Value::Text(_), Value::Whole(_)) => Ordering::Greater,
+    }
+}
+
+// The order of two whole numbers.
+#[inline(always)]
+fn order_of_numbers(x: i64, y: i64) -> Ordering
+    ensures { result ≡ int_cmp x y }
+{
+    if x < y {
+        Ordering::Less
+    } else if y < x {
+        Ordering::Greater
+    } else {
+        Ordering::Equal
+    }
+}
+
+// The order of two texts.
+#[inline(never)]
+fn order_of_texts(s: Alpha, t: Alpha) -> Ordering
+    ensures { result ≡ slice_cmp nat_cmp s t }
+{
+    s.cmp(&t)
+}
+
 // Whether y ranks strictly after x: by the order of the two in a key, high or low, and where they tie in it by the first
 // of the others in which they differ.
+#[inline(always)]
 fn ranks_after_by(
     heap: &Heap,
     order: Ordering,
@@ -178,11 +277,15 @@ fn ranks_after_by(
     match order {
         Ordering::Less => high,
         Ordering::Greater => !high,
-        Ordering::Equal => ranks_after(heap, others, class, y, x),
+        Ordering::Equal => match others {
+            [] => false,
+            _ => ranks_after(heap, others, class, y, x),
+        },
     }
 }
 
 // Whether y ranks strictly after x: by the first key in which they differ.
+#[inline(never)]
 fn ranks_after(heap: &Heap, keys: &[RankKey], class: usize, y: i64, x: i64) -> bool
     requires keys { AreFields heap.now.state.layout class keys.now }
     ensures { result ≡ ranks_after heap.now.state class keys.now y x }
@@ -197,6 +300,36 @@ fn ranks_after(heap: &Heap, keys: &[RankKey], class: usize, y: i64, x: i64) -> b
         }
     }
     false
+}
+
+// The value of an attribute of an entity, where it is one of whole numbers.
+fn whole_of(heap: &Heap, class: usize, field: usize, x: i64) -> Option<i64>
+    requires field { field < length (modes_of heap.now.state.layout class) }
+    ensures { (n : ℤ) → result ≡ Some n → (slice_get (modes_of heap.now.state.layout class) field ≡ Some Mode.Integer) × (value_of heap.now.state class field x ≡ Value.Whole n) }
+{
+    match mode(heap, class, field) {
+        Mode::Integer => whole_in(&value(heap, class, field, x)),
+        Mode::Alpha => None,
+    }
+}
+
+// A whole number, where it is one.
+fn whole_in(value: &Value) -> Option<i64>
+    ensures { (n : ℤ) → result ≡ Some n → value.now ≡ Value.Whole n }
+{
+    match value {
+        Value::Whole(n) => Some(*n),
+        Value::Text(_) => None,
+    }
+}
+
+// The mode of an attribute.
+fn mode(heap: &Heap, class: usize, field: usize) -> Mode
+    requires field { field < length (modes_of heap.now.state.layout class) }
+    ensures { slice_get (modes_of heap.now.state.layout class) field ≡ Some result }
+{
+    let layout = heap.layout();
+    layout.classes[class].fields[field]
 }
 
 // The value of an attribute of an entity, 0 where there is none.

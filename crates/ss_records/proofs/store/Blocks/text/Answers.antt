@@ -1,6 +1,6 @@
 use Rattle.ss_base.specs.declared.value.Value.TheVariants.{Text}
 use Rattle.ss_records.proofs.ValueWords.{text_read_at}
-use Rattle.ss_records.proofs.store.Blocks.characters.Goals as goal
+use Rattle.ss_records.proofs.store.Blocks.text.Goals as goal
 
 pub number-first-requires : goal.number-first-requires
 number-first-requires c = c.requires.first

@@ -1,0 +1,5 @@
+use Rattle.std.proofs.lemmas.Int.{to_z-of_z}
+use Rattle.ss_sets.proofs.taking.remove_first.Goals as goal
+
+pub returns-clause-done : goal.returns-clause-done
+returns-clause-done c = let fo = c.ranges.o in simp to_z-of_z at c.remove_first.ensures.done
