@@ -4,6 +4,7 @@
 //! entry is put into a place only by `Heap`, which counts it.
 ghost use Rattle.std.specs.Prelude.{◌≡◌, IfOk, IsTrue, ◌↔◌, int_lt, map};
 ghost use Rattle.ss_events.specs.PendingList.{FitsClass};
+ghost use Rattle.ss_events.specs.Slots.{is_tied, head_of};
 
 mod heap;
 mod order;
@@ -102,7 +103,38 @@ impl Model for Entry {
     ghost view = { λ e. record { key = e.key; number = e.number; notice = e.notice } };
 }
 
+// What tells most entries apart: the time, the rank, the order of scheduling, and whether there are ties between them.
+#[derive(Clone, Copy)]
+struct Head {
+    time: i64,
+    rank: usize,
+    number: u64,
+    tied: bool,
+}
+
+// Whether there are ties.
+fn is_tied(ties: &[Tie]) -> bool
+    ensures { result ≡ is_tied ties.now }
+{
+    match ties {
+        [] => false,
+        _ => true,
+    }
+}
+
 impl Entry {
+    // What tells it from most others.
+    fn head(&self) -> Head
+        ensures { result ≡ head_of self.now }
+    {
+        Head {
+            time: self.key.time(),
+            rank: self.key.rank(),
+            number: self.number,
+            tied: is_tied(self.key.ties()),
+        }
+    }
+
     // The time of the event, and the notice.
     fn event(&self) -> (i64, i64)
         ensures { result ≡ (self.now.key.time, self.now.notice) }

@@ -149,8 +149,7 @@ fn first_after_whole(
             Ok(its) => its,
             Err(fault) => return Err(fault),
         };
-        let order = order_of_numbers(its.value, own);
-        if ranks_after_by(heap, order, key.high, others, class, y, x) {
+        if ranks_after_whole(heap, its.value, own, key.high, others, class, y, x) {
             return Ok(Some(y));
         }
         member = as_member(its.next);
@@ -281,6 +280,33 @@ fn ranks_after_by(
             [] => false,
             _ => ranks_after(heap, others, class, y, x),
         },
+    }
+}
+
+// The same by their numbers in a key.
+#[inline(always)]
+fn ranks_after_whole(
+    heap: &Heap,
+    its: i64,
+    own: i64,
+    high: bool,
+    others: &[RankKey],
+    class: usize,
+    y: i64,
+    x: i64,
+) -> bool
+    requires keys { AreFields heap.now.state.layout class others.now }
+    ensures { result ≡ match_ordering (int_cmp its own) high (ranks_after heap.now.state class others.now y x) (not high) }
+{
+    if its < own {
+        return high;
+    }
+    if own < its {
+        return !high;
+    }
+    match others {
+        [] => false,
+        _ => ranks_after(heap, others, class, y, x),
     }
 }
 

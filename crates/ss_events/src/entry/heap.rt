@@ -6,7 +6,7 @@ ghost use Rattle.ss_events.specs.declared.entry.Entry.{Entry};
 ghost use Rattle.ss_events.specs.HeapEntries.{notices_of, event_of, Removes};
 ghost use Rattle.ss_events.specs.Order.{comes_before};
 
-use super::order::comes_before;
+use super::order::{comes_before, told_by_heads};
 use super::places::Places;
 use super::{Entry, Key};
 use std::alloc::{AllocError, Global};
@@ -93,11 +93,10 @@ impl Heap {
         ensures counted { self.new ≡ record self.old { comparisons = self.old.comparisons + 1 } }
     {
         self.comparisons += 1;
-        let (early, late) = (self.entries.time(a), self.entries.time(b));
-        if early != late {
-            return early < late;
+        match told_by_heads(self.entries.head(a), self.entries.head(b)) {
+            Some(before) => before,
+            None => comes_before(self.entries.get(a), self.entries.get(b)),
         }
-        comes_before(self.entries.get(a), self.entries.get(b))
     }
 
     /// Lets the entries of two places change places. Counts two moves.

@@ -1,9 +1,11 @@
 // How values, ties, keys and entries compare.
-ghost use Rattle.std.specs.Prelude.{◌≡◌};
+ghost use Rattle.std.specs.Prelude.{◌≡◌, IfSome};
+ghost use Rattle.ss_events.specs.declared.entry.Entry.{Entry as EntrySeen};
 ghost use Rattle.ss_events.specs.Order.{tie_order, key_order, entry_order, comes_before};
+ghost use Rattle.ss_events.specs.Slots.{head_of};
 ghost use Rattle.std.specs.Cmp.Lexicographic.{slice_cmp};
 
-use super::{Entry, Key};
+use super::{Entry, Head, Key};
 use crate::key::Tie;
 use std::cmp::Ordering;
 
@@ -55,4 +57,24 @@ pub(super) fn comes_before(a: &Entry, b: &Entry) -> bool
     key_order(&a.key, &b.key)
         .then_with(|| a.number.cmp(&b.number))
         .is_lt()
+}
+
+// Whether an entry comes out before another, where their heads tell it: only ties between them hide that.
+#[inline(always)]
+pub(super) fn told_by_heads(early: &Head, late: &Head) -> Option<bool>
+    ensures { IfSome result (λ before. (e f : EntrySeen) → early.now ≡ head_of e → late.now ≡ head_of f → before ≡ comes_before e f) }
+{
+    if early.time != late.time {
+        return Some(early.time < late.time);
+    }
+    if early.rank != late.rank {
+        return Some(early.rank < late.rank);
+    }
+    if early.tied {
+        return None;
+    }
+    if late.tied {
+        return None;
+    }
+    Some(early.number < late.number)
 }

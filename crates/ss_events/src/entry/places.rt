@@ -4,9 +4,9 @@ ghost use Rattle.std.specs.Ordering.{int_eq};
 ghost use Rattle.std.specs.List.{swap_remove, list_any};
 ghost use Rattle.ss_events.specs.declared.entry.Entry.{Entry};
 ghost use Rattle.ss_events.specs.HeapEntries.{notices_of};
-ghost use Rattle.ss_events.specs.Slots.{IsPaired, exchanged};
+ghost use Rattle.ss_events.specs.Slots.{head_of, IsPaired, exchanged};
 
-use super::Entry;
+use super::{Entry, Head};
 use indexmap::IndexSet;
 use std::alloc::{AllocError, Global};
 use std::marker::Model;
@@ -19,9 +19,9 @@ pub struct Places {
     // By slot: the notice, and its entry.
     notices: IndexSet<i64>,
     entries: Vec<Entry>,
-    // By place: which slot stands there, and the time of its entry.
+    // By place: which slot stands there, and what tells its entry from most others.
     slots: Vec<usize>,
-    times: Vec<i64>,
+    heads: Vec<Head>,
     // By slot: in which place it stands.
     places: Vec<usize>,
 }
@@ -35,7 +35,7 @@ impl Model for Places {
 
     ghost view = { λ p. by_place no_entry p.entries.items p.slots.items };
 
-    ghost invariant = { λ p. IsPlaced p.notices.keys p.entries.items p.slots.items p.places.items p.times.items };
+    ghost invariant = { λ p. IsPlaced p.notices.keys p.entries.items p.slots.items p.places.items p.heads.items };
 }
 
 impl Places {
@@ -46,7 +46,7 @@ impl Places {
             notices: IndexSet::new(alloc),
             entries: Vec::new(alloc),
             slots: Vec::new(alloc),
-            times: Vec::new(alloc),
+            heads: Vec::new(alloc),
             places: Vec::new(alloc),
         }
     }
@@ -67,13 +67,13 @@ impl Places {
         Some(self.places[slot])
     }
 
-    /// The time of the entry in a place.
+    /// What tells the entry in a place from most others.
     #[inline(always)]
-    pub fn time(&self, place: usize) -> i64
+    pub(super) fn head(&self, place: usize) -> &Head
         requires { place < length self.now }
-        ensures { (d : Entry) → result ≡ (slice_index_or self.now place d).key.time }
+        ensures { (d : Entry) → result.now ≡ head_of (slice_index_or self.now place d) }
     {
-        self.times[place]
+        &self.heads[place]
     }
 
     /// The entry in a place.
@@ -95,12 +95,12 @@ impl Places {
         make_room(
             &mut self.entries,
             &mut self.slots,
-            &mut self.times,
+            &mut self.heads,
             &mut self.places,
         )?;
         self.notices.insert(entry.notice)?;
         self.slots.push_reserved(next);
-        self.times.push_reserved(entry.key.time());
+        self.heads.push_reserved(entry.head());
         self.places.push_reserved(next);
         self.entries.push_reserved(entry);
         Ok(())
@@ -113,7 +113,7 @@ impl Places {
         requires b_within { b < length self.old }
         ensures { self.new ≡ swap self.old a b }
     {
-        self.times.swap(a, b);
+        self.heads.swap(a, b);
         exchange(&mut self.slots, &mut self.places, a, b);
     }
 
@@ -129,7 +129,7 @@ impl Places {
         exchange(&mut self.places, &mut self.slots, slot, last);
         let _ = self.slots.pop();
         let _ = self.places.pop();
-        let _ = self.times.swap_remove(at);
+        let _ = self.heads.swap_remove(at);
         let _ = self.notices.swap_remove_index(slot);
         self.entries.swap_remove(slot)
     }
@@ -140,21 +140,21 @@ impl Places {
 fn make_room(
     entries: &mut Vec<Entry>,
     slots: &mut Vec<usize>,
-    times: &mut Vec<i64>,
+    heads: &mut Vec<Head>,
     places: &mut Vec<usize>,
 ) -> Result<(), AllocError>
     ensures entries { entries.new.items ≡ entries.old.items }
     ensures slots { slots.new.items ≡ slots.old.items }
-    ensures times { times.new.items ≡ times.old.items }
+    ensures heads { heads.new.items ≡ heads.old.items }
     ensures places { places.new.items ≡ places.old.items }
     ensures entries_room { OnOk result (vec_len entries.new < vec_capacity entries.new) }
     ensures slots_room { OnOk result (vec_len slots.new < vec_capacity slots.new) }
-    ensures times_room { OnOk result (vec_len times.new < vec_capacity times.new) }
+    ensures heads_room { OnOk result (vec_len heads.new < vec_capacity heads.new) }
     ensures places_room { OnOk result (vec_len places.new < vec_capacity places.new) }
 {
     entries.reserve(1)?;
     slots.reserve(1)?;
-    times.reserve(1)?;
+    heads.reserve(1)?;
     places.reserve(1)
 }
 

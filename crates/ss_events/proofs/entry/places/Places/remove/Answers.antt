@@ -4,9 +4,9 @@ use Rattle.ss_events.specs.declared.entry.Entry.{Entry}
 use Rattle.std.proofs.lemmas.List.Edits.{length-swap}
 use Rattle.std.specs.Vec.{with_items}
 use Rattle.std.specs.List.{swap_remove}
-use Rattle.ss_events.specs.Slots.{no_entry, IsPaired, exchanged}
+use Rattle.ss_events.specs.Slots.{no_entry, head_of, IsPaired, exchanged}
 use Rattle.ss_events.proofs.Slotted.{written, turned, exchange_pairs, length-exchanged, length-by_place, at_place, left_of, whatever_default}
-use Rattle.ss_events.proofs.Standing.{placed-removed, seen-removed, slot_in, times_long}
+use Rattle.ss_events.proofs.Standing.{placed-removed, seen-removed, slot_in, heads_long}
 use Rattle.ss_events.proofs.entry.places.Places.remove.Goals as goal
 use Rattle.ss_events.proofs.entry.places.Places.remove.Goals.{After-exchange, After-swap_remove-2}
 
@@ -82,7 +82,7 @@ places_left c =
 slot_within : (c : After-swap_remove-2) → c.index-slot.result.now < length c.self.inside.entries.items
 slot_within c =
     let e = (goal.at.invariant_of-self c).After-exchange in
-    omega (arith, slot e, slot_in c.self.inside.notices.keys c.self.inside.entries.items c.self.inside.slots.items c.self.inside.places.items c.self.inside.times.items c.self.invariant c.args.at (within e))
+    omega (arith, slot e, slot_in c.self.inside.notices.keys c.self.inside.entries.items c.self.inside.slots.items c.self.inside.places.items c.self.inside.heads.items c.self.invariant c.args.at (within e))
 
 -- the notices by slot
 notices_left : (c : After-swap_remove-2) → c.swap_remove_index.new.self.keys ≡ swap_remove c.self.inside.notices.keys c.index-slot.result.now c.swap_remove-2.result.notice
@@ -94,13 +94,13 @@ notices_left c =
 pub invariant_of-self : goal.invariant_of-self
 invariant_of-self c =
     let e = (goal.at.invariant_of-self c).After-exchange in
-    let many = times_long c.self.inside.notices.keys c.self.inside.entries.items c.self.inside.slots.items c.self.inside.places.items c.self.inside.times.items c.self.invariant in
-    placed-removed c.self.inside.notices.keys c.self.inside.entries.items c.self.inside.slots.items c.self.inside.places.items c.self.inside.times.items c.self.invariant
+    let many = heads_long c.self.inside.notices.keys c.self.inside.entries.items c.self.inside.slots.items c.self.inside.places.items c.self.inside.heads.items c.self.invariant in
+    placed-removed c.self.inside.notices.keys c.self.inside.entries.items c.self.inside.slots.items c.self.inside.places.items c.self.inside.heads.items c.self.invariant
     c.args.at (c.len-last.result - 1) c.index-slot.result.now (long e) (within e) (slot e)
     c.swap_remove_index.new.self.keys c.swap_remove-2.new.self.items c.pop.new.self.items c.pop-2.new.self.items c.swap_remove-2.result
     (notices_left c) c.swap_remove-2.ensures.items (slots_left c) (places_left c)
     c.swap_remove.new.self.items c.swap_remove_index.ensures.unique
-    (c.swap_remove.ensures.items ∙ whatever_default c.self.inside.times.items c.args.at _ c.swap_remove-2.result.key.time (omega (arith, many, within e)))
+    (c.swap_remove.ensures.items ∙ whatever_default c.self.inside.heads.items c.args.at _ (head_of c.swap_remove-2.result) (omega (arith, many, within e)))
 
 pub returns-clause-there : goal.returns-clause-there
 returns-clause-there c =
@@ -117,7 +117,7 @@ returns-clause-there c =
 pub returns-clause-rest : goal.returns-clause-rest
 returns-clause-rest c =
     let e = (goal.at.returns-clause-rest c).After-exchange in
-    seen-removed c.self.inside.notices.keys c.self.inside.entries.items c.self.inside.slots.items c.self.inside.places.items c.self.inside.times.items c.self.invariant
+    seen-removed c.self.inside.notices.keys c.self.inside.entries.items c.self.inside.slots.items c.self.inside.places.items c.self.inside.heads.items c.self.invariant
     c.args.at (c.len-last.result - 1) c.index-slot.result.now (long e) (within e) (slot e)
     c.swap_remove_index.new.self.keys c.swap_remove-2.new.self.items c.pop.new.self.items c.pop-2.new.self.items c.swap_remove-2.result
     (notices_left c) c.swap_remove-2.ensures.items (slots_left c) (places_left c) c.swap_remove-2.result

@@ -20,7 +20,7 @@ invariant_of-self c =
     let ys = c.self.inside.places.items in
     let long = length-by_place no_entry c.self.inside.entries.items xs in
     let seen = ap length c.self.view_is in
-    placed-swapped c.self.inside.notices.keys c.self.inside.entries.items xs ys c.self.inside.times.items c.self.invariant c.args.a c.args.b
+    placed-swapped c.self.inside.notices.keys c.self.inside.entries.items xs ys c.self.inside.heads.items c.self.invariant c.args.a c.args.b
     (omega (arith, c.requires.a_within, long, seen)) (omega (arith, c.requires.b_within, long, seen))
     (with_items c.self.inside.slots c.exchange.new.slots).items
     (with_items c.self.inside.places c.exchange.new.places).items
