@@ -19,3 +19,5 @@ mod records;
 mod sets;
 #[cfg(test)]
 mod stats;
+#[cfg(test)]
+mod titles;
