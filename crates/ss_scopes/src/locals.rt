@@ -4,6 +4,7 @@ ghost use Rattle.std.specs.Prelude.{◌≡◌, ◌++◌, ◌==◌, [], ◌∷◌
 ghost use Rattle.std.specs.List.{flat_map, fold};
 ghost use Rattle.std.specs.Map.{lookup, keys_of};
 ghost use Rattle.ss_tree.specs.View.{view_definition, view_section};
+ghost use Rattle.ss_walk.specs.Mentions.{mentions};
 ghost use Rattle.ss_firsts.specs.Firsts.{firsts, same_name, with_first};
 ghost use Rattle.ss_scopes.specs.Locals.{declares, is_local_at, is_variable, local_mentioned, moded_in, number_of};
 ghost use Rattle.ss_scopes.specs.Whole.{is_global, locals_of};
@@ -12,7 +13,7 @@ use crate::globals::Globals;
 use crate::modes::{mode_in, modes_of};
 use indexmap::IndexMap;
 use ss_bytes::Name;
-use ss_firsts::{insert_first, key_at};
+use ss_firsts::{insert_first, is_told, key_at};
 use ss_tree::preamble::Mode;
 use ss_tree::program::Section;
 use ss_walk::{Mention, Mentioned, Role, mentions_of};
@@ -78,6 +79,9 @@ fn add_mentioned<G: Globals>(
 {
     match mention.what {
         Mentioned::Name(name) => {
+            if is_told(entries, &name) {
+                return Ok(());
+            }
             if is_local_at(globals, mention, name) {
                 insert_first(entries, name, mode_in(modes, usual, name))
             } else {
@@ -102,9 +106,25 @@ impl Locals {
     ) -> Result<Locals, AllocError>
         ensures { IfOk result (λ l. l ≡ locals_of (G.whole globals.now) (view_section section.now)) }
     {
+        let all = mentions_of(alloc, section)?;
+        Locals::among(alloc, globals, section, &all)
+    }
+
+    /// The same, where all that the section mentions is at hand.
+    ///
+    /// # Errors
+    /// `AllocError` where memory is refused.
+    pub fn among<G: Globals>(
+        alloc: Global,
+        globals: &G,
+        section: &Section,
+        all: &[Mention],
+    ) -> Result<Locals, AllocError>
+        requires { all.now ≡ mentions (view_section section.now) }
+        ensures { IfOk result (λ l. l ≡ locals_of (G.whole globals.now) (view_section section.now)) }
+    {
         let modes = modes_of(alloc, &section.definitions)?;
-        let mentions = mentions_of(alloc, section)?;
-        let entries = collect(alloc, globals, &modes, globals.usual(), &mentions)?;
+        let entries = collect(alloc, globals, &modes, globals.usual(), all)?;
         Ok(Locals { entries })
     }
 

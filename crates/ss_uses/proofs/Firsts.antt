@@ -42,3 +42,9 @@ no_line (Some l) h = absurd (h l refl)
 pub broken_later : (lines : Rule → List Line) (rules : List Rule) (i : ℕ) (r : Rule) (found : Option Line) (all : Option Broken) → i < length rules → r ≡ get_or rules i r → found ≡ first_of (lines r) → ((l : Line) → found ≡ Some l → ⊥) → all ≡ first_broken lines (drop i rules) → all ≡ first_broken lines (drop (i + 1) rules)
 broken_later lines rules i r found all lt is e n h =
     h ∙ ap (first_broken lines) (drop_more rules i r lt ∙ ap (λ y. y ∷ drop (i + 1) rules) (sym is)) ∙ ap (λ o. or_next r o (first_broken lines (drop (i + 1) rules))) (sym e ∙ no_line found n)
+
+-- ---- where nothing has a line
+
+pub no_lines : {X : Type 0} (f : X → List Line) (xs : List X) → ((x : X) → f x ≡ []) → flat_map f xs ≡ []
+no_lines f [] h = refl
+no_lines f (x ∷ xs) h = ap (λ ys. ys ++ flat_map f xs) (h x) ∙ no_lines f xs h

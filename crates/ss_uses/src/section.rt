@@ -1,10 +1,14 @@
 //! The rules in sections.
 
-ghost use Rattle.std.specs.Prelude.{◌≡◌, map};
+ghost use Rattle.std.specs.Prelude.{◌≡◌, false, map};
 ghost use Rattle.std.specs.List.{flat_map};
 ghost use Rattle.ss_uses.specs.Lines.{demand_lines, first_of, mention_lines};
 ghost use Rattle.ss_uses.specs.Refusal.{demand_breaks, in_section, mention_breaks};
 ghost use Rattle.ss_uses.specs.Seen.{uses_seen};
+ghost use Rattle.ss_uses.specs.Uses.{Uses as UsesSeen};
+ghost use Rattle.ss_scopes.specs.Whole.{Whole};
+ghost use Rattle.ss_walk.specs.declared.mention.Mention.{Mention as MentionSeen};
+ghost use Rattle.ss_demands.specs.declared.demand.Demand.{Demand as DemandSeen};
 
 use crate::arguments::miscounts;
 use crate::events::is_misplaced;
@@ -51,6 +55,26 @@ fn first_mention<G: Globals>(globals: &G, rule: Rule, uses: &SectionUses) -> Opt
     found
 }
 
+// Whether a rule looks at mentions.
+fn looks_at_mentions(rule: Rule) -> bool
+    ensures { result ≡ false → (w : Whole) (u : UsesSeen) (m : MentionSeen) → mention_breaks rule w u m ≡ false }
+{
+    match rule {
+        Rule::StartPlace | Rule::Unknown | Rule::Subscript | Rule::NotAssignable => true,
+        _ => false,
+    }
+}
+
+// The same, without a look at them where the rule is about others.
+fn first_mentioned<G: Globals>(globals: &G, rule: Rule, uses: &SectionUses) -> Option<Line>
+    ensures { result ≡ first_of (mention_lines (mention_breaks rule (G.whole globals.now) (uses_seen uses.now)) uses.now.mentions.items) }
+{
+    if !looks_at_mentions(rule) {
+        return None;
+    }
+    first_mention(globals, rule, uses)
+}
+
 // Whether a demand of a section breaks a rule.
 fn demand_breaks<G: Globals>(globals: &G, rule: Rule, uses: &SectionUses, demand: &Demand) -> bool
     ensures { result ≡ demand_breaks rule (G.whole globals.now) (uses_seen uses.now) demand.now }
@@ -75,12 +99,32 @@ fn first_demand<G: Globals>(globals: &G, rule: Rule, uses: &SectionUses) -> Opti
     found
 }
 
+// Whether a rule looks at demands.
+fn looks_at_demands(rule: Rule) -> bool
+    ensures { result ≡ false → (w : Whole) (u : UsesSeen) (d : DemandSeen) → demand_breaks rule w u d ≡ false }
+{
+    match rule {
+        Rule::Arguments | Rule::Mode | Rule::Fields => true,
+        _ => false,
+    }
+}
+
+// The same, without a look at them where the rule is about others.
+fn first_demanded<G: Globals>(globals: &G, rule: Rule, uses: &SectionUses) -> Option<Line>
+    ensures { result ≡ first_of (demand_lines (demand_breaks rule (G.whole globals.now) (uses_seen uses.now)) uses.now.demands.items) }
+{
+    if !looks_at_demands(rule) {
+        return None;
+    }
+    first_demand(globals, rule, uses)
+}
+
 /// The first line in which a section of these uses breaks a rule; None where it keeps it.
 pub fn first_in_section<G: Globals>(globals: &G, rule: Rule, uses: &SectionUses) -> Option<Line>
     ensures { result ≡ first_of (in_section rule (G.whole globals.now) (uses_seen uses.now)) }
 {
-    let mentioned = first_mention(globals, rule, uses);
-    let demanded = first_demand(globals, rule, uses);
+    let mentioned = first_mentioned(globals, rule, uses);
+    let demanded = first_demanded(globals, rule, uses);
     mentioned.or(demanded)
 }
 

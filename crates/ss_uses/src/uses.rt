@@ -35,8 +35,8 @@ fn section_uses<G: Globals>(
 ) -> Result<SectionUses, AllocError>
     ensures { IfOk result (λ u. uses_seen u ≡ uses_of (G.whole globals.now) (view_section section.now)) }
 {
-    let locals = Locals::of(alloc, globals, section)?;
     let mentions = mentions_of(alloc, section)?;
+    let locals = Locals::among(alloc, globals, section, &mentions)?;
     let demands = demands_of(alloc, section)?;
     Ok(SectionUses {
         in_main: is_main(&section.kind),

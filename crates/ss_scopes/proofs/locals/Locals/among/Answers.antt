@@ -10,7 +10,7 @@ use Rattle.ss_firsts.specs.Firsts.{firsts}
 use Rattle.ss_scopes.specs.Locals.{all_defined, local_mentioned, moded}
 use Rattle.ss_scopes.specs.Whole.{is_global}
 use Rattle.ss_scopes.proofs.Entering.{moded_found}
-use Rattle.ss_scopes.proofs.locals.Locals.of.Goals as goal
+use Rattle.ss_scopes.proofs.locals.Locals.among.Goals as goal
 
 pub returns : goal.returns
 returns g c =
@@ -20,6 +20,6 @@ returns g c =
     let is : modes ≡ firsts (all_defined s.definitions) =
     c.in_ok-modes.ensures ∙ ap (λ (l : List LocalDefinition). firsts (all_defined (map view_definition l))) c.deref.ensures.value in
     let found = moded_found c.usual.result s.definitions modes is in
-    c.in_ok-entries.ensures ∙ ap (λ (m : NameBytes → NameBytes × Option Mode). firsts (map m (flat_map local c.deref-2.result.now))) found ∙
-    ap (λ (l : List Mention). firsts (map (moded c.usual.result s.definitions) (flat_map local l))) (c.deref-2.ensures.value ∙ c.in_ok-mentions.ensures) ∙
+    c.in_ok-entries.ensures ∙ ap (λ (m : NameBytes → NameBytes × Option Mode). firsts (map m (flat_map local c.args.all.now))) found ∙
+    ap (λ (l : List Mention). firsts (map (moded c.usual.result s.definitions) (flat_map local l))) c.requires ∙
     ap (λ (u : Option Mode). firsts (map (moded u s.definitions) (flat_map local (mentions s)))) c.usual.ensures

@@ -1,5 +1,0 @@
-//! Worked examples of command lines.
-#![tactic(auto)]
-
-#[cfg(test)]
-mod orders;
