@@ -5,6 +5,7 @@ use ss_cases::{Counts, Simulator, Streams, counted};
 use ss_engine::{Model, Outcome, Refusal, Session, compile, outcome_line, simulate};
 use ss_lex::{Tokens, tokens};
 use ss_parse::parse;
+use ss_release::release_tree;
 use ss_streams::{MemoryRead, MemoryWrite};
 use std::alloc::{AllocError, Global};
 
@@ -43,7 +44,10 @@ impl Simulator for Engine {
 
     fn refusal(&self, alloc: Global, text: &[u8]) -> Option<Outcome> {
         match compile(alloc, text) {
-            Ok(_) => None,
+            Ok(model) => {
+                model.release();
+                None
+            }
             Err(refusal) => Some(Outcome::Refused(refusal)),
         }
     }
@@ -86,7 +90,11 @@ impl Simulator for Engine {
 // The counts of the tree that tokens spell.
 fn tree_of(alloc: Global, tokens: &Tokens) -> Result<Counts, Outcome> {
     match parse(alloc, tokens) {
-        Ok(program) => Ok(counted(program)),
+        Ok(program) => {
+            let counts = counted(&program);
+            release_tree(program);
+            Ok(counts)
+        }
         Err(error) => Err(Outcome::Refused(of_parser(error))),
     }
 }

@@ -47,9 +47,9 @@ impl fmt::Display for Counts {
     }
 }
 
-/// The counts of a tree that is of no further use.
-pub fn counted(program: Program) -> Counts {
-    Counts::of(&program)
+/// The counts of a tree.
+pub fn counted(program: &Program) -> Counts {
+    Counts::of(program)
 }
 
 /// How a case is to end.

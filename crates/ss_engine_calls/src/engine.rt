@@ -84,7 +84,11 @@ fn is_listing(alloc: Global, model: &Model, listing: &[u8]) -> bool {
 // Whether the code of a text is listed so.
 fn is_listed(alloc: Global, text: &[u8], listing: &[u8]) -> bool {
     match compile(alloc, text) {
-        Ok(model) => is_listing(alloc, &model, listing),
+        Ok(model) => {
+            let is = is_listing(alloc, &model, listing);
+            model.release();
+            is
+        }
         Err(_) => false,
     }
 }

@@ -61,8 +61,19 @@ impl ProgramGlobals {
         ensures whole { IfOk result (λ g. whole_in g.names g.signatures.items ≡ whole_of (view_program program.now)) }
         ensures names { IfOk result (λ g. g.names ≡ names) }
     {
-        let signatures = signatures_of(alloc, names.usual_mode(), &program.sections)?;
-        Ok(ProgramGlobals { names, signatures })
+        match signatures_of(alloc, names.usual_mode(), &program.sections) {
+            Ok(signatures) => Ok(ProgramGlobals { names, signatures }),
+            Err(e) => {
+                names.release();
+                Err(e)
+            }
+        }
+    }
+
+    /// Gives its memory back. To drop it in line does the same, and has the drops of its parts proved there once more.
+    pub fn release(self) {
+        let ProgramGlobals { names, .. } = self;
+        names.release();
     }
 
     // The signature of the routine that a name stands for. None where it is no routine.

@@ -124,6 +124,11 @@ fn told_in(
 }
 
 impl Names {
+    /// Gives its memory back. To drop it in line does the same, and has the drops of its parts proved there once more.
+    pub fn release(self) {
+        let _released = self;
+    }
+
     /// The table of a program of which this is said, also of one that breaks rules: of two declarations of
     /// a name the first counts.
     ///
