@@ -64,7 +64,9 @@ fn checked(alloc: Global, program: &Program, tables: Tables) -> Result<Checked, 
     ensures refused { IfErr result (λ e. Tells e (refusal_of (view_program program.now))) }
 {
     let globals = ProgramGlobals::of(alloc, program, tables.into_names())?;
-    judged(alloc, program, &globals)
+    let result = judged(alloc, program, &globals);
+    globals.release();
+    result
 }
 
 /// The program with each name replaced by what it stands for, where it breaks no rule on what it does with
