@@ -1,8 +1,9 @@
 -- What a program that breaks no rule comes to, by what was found.
-use Rattle.std.proofs.Common.{◌≡◌, ◌≤◌, Option, Some, None, sym, ap, subst, ◌∙◌}
+use Rattle.std.proofs.Common.{◌≡◌, ◌≤◌, List, map, Option, Some, None, sym, ap, subst, ◌∙◌}
 use Rattle.ss_tree.specs.Nodes.{nodes as tree_nodes}
 use Rattle.ss_tree.specs.Tree.{ProgramTree}
-use Rattle.ss_scopes.specs.Whole.{Whole}
+use Rattle.ss_scopes.specs.Locals.{Moded}
+use Rattle.ss_scopes.specs.Whole.{Whole, locals_of}
 use Rattle.ss_uses.specs.Refusal.{refusal}
 use Rattle.ss_declared.specs.Broken.{refusal as declared_refusal}
 use Rattle.ss_names.specs.Table.{Table, table}
@@ -12,10 +13,16 @@ use Rattle.ss_program.specs.Nodes.{nodes}
 use Rattle.ss_program.specs.Program.{Program}
 use Rattle.ss_program.specs.View.{view_option, view_program}
 use Rattle.ss_program.specs.WellTyped.{WellTyped}
-use Rattle.ss_whole.specs.Resolved.{resolved}
+use Rattle.ss_whole.specs.Resolved.{resolved, resolved_with_locals}
+use Rattle.ss_whole.proofs.Found.{by_their_locals}
 use Rattle.ss_links.specs.Laws.{KeptProgramsResolve}
 use Rattle.ss_sizes.specs.Laws.{ProgramsStaySmall}
 use Rattle.ss_check.specs.Checking.{FormedProgram, program_of}
+
+-- what was found by local variables is what is found by what the program says of its names, whose they are
+pub found_with : (t : Table) (w : Whole) (locals : List Moded) (p : ProgramTree) (found : Option ProgramValue) → locals ≡ map (locals_of w) p.sections →
+    view_option view_program found ≡ resolved_with_locals t locals p.sections → view_option view_program found ≡ resolved t w p.sections
+found_with t w locals p found e h = h ∙ ap (λ z. resolved_with_locals t z p.sections) e ∙ by_their_locals t w p.sections
 
 -- what was found by a table and by what it says of names is what the tree says
 found_so : (t : Table) (w : Whole) (p : ProgramTree) (found : Option Program) → t ≡ table p → w ≡ whole_of p → found ≡ resolved t w p.sections → found ≡ program_of p

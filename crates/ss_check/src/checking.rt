@@ -1,11 +1,12 @@
 //! The check of a program.
 
-ghost use Rattle.std.specs.Prelude.{◌≡◌, ◌≤◌, None, OnOk, IfOk, IfErr};
+ghost use Rattle.std.specs.Prelude.{◌≡◌, ◌≤◌, map, None, OnOk, IfOk, IfErr};
 ghost use Rattle.ss_tree.specs.Nodes.{nodes as tree_nodes};
-ghost use Rattle.ss_tree.specs.View.{view_program};
+ghost use Rattle.ss_tree.specs.View.{view_program, view_section};
 ghost use Rattle.ss_declared.specs.Broken.{refusal as declared_refusal};
 ghost use Rattle.ss_names.specs.Table.{table};
 ghost use Rattle.ss_globals.specs.WholeOf.{whole_in, whole_of};
+ghost use Rattle.ss_scopes.specs.Whole.{locals_of};
 ghost use Rattle.ss_uses.specs.Refusal.{refusal};
 ghost use Rattle.ss_program.specs.Checking.{program_in};
 ghost use Rattle.ss_program.specs.Nodes.{nodes};
@@ -16,23 +17,30 @@ ghost use Rattle.ss_check.specs.Checking.{Becomes, FormedProgram, Tells, refusal
 use crate::error::{CheckError, error_of};
 use ss_globals::ProgramGlobals;
 use ss_links::laws::kept_programs_resolve;
-use ss_misuses::refusal;
+use ss_misuses::judge;
 use ss_program::checked::Checked;
 use ss_release::release_tree;
+use ss_scopes::Locals;
 use ss_sizes::laws::laws as laws_of_nodes;
 use ss_tables::Tables;
 use ss_tree::program::Program;
 use ss_whole::resolve;
 use std::alloc::Global;
 
-// Refuses a program that breaks a rule on what it does with its names.
-fn keep_rules(alloc: Global, program: &Program, globals: &ProgramGlobals) -> Result<(), CheckError>
+// The local variables of each section; refuses a program that breaks a rule on what it does with its names.
+fn keep_rules(
+    alloc: Global,
+    program: &Program,
+    globals: &ProgramGlobals,
+) -> Result<Vec<Locals>, CheckError>
+    ensures locals { IfOk result (λ found. found.items ≡ map (locals_of (whole_in globals.now.names globals.now.signatures.items)) (map view_section program.now.sections.items)) }
     ensures kept { OnOk result (refusal (whole_in globals.now.names globals.now.signatures.items) (view_program program.now) ≡ None) }
     ensures refused { IfErr result (λ e. Tells e (refusal (whole_in globals.now.names globals.now.signatures.items) (view_program program.now))) }
 {
-    match refusal(alloc, program, globals)? {
+    let (broken, locals) = judge(alloc, program, globals)?;
+    match broken {
         Some(broken) => Err(error_of(broken)),
-        None => Ok(()),
+        None => Ok(locals),
     }
 }
 
@@ -48,8 +56,8 @@ fn judged(alloc: Global, program: &Program, globals: &ProgramGlobals) -> Result<
 {
     kept_programs_resolve();
     laws_of_nodes();
-    keep_rules(alloc, program, globals)?;
-    match resolve(alloc, program, &globals.names, globals)? {
+    let locals = keep_rules(alloc, program, globals)?;
+    match resolve(alloc, program, &globals.names, &locals)? {
         Some(resolved) => Ok(Checked::new(resolved)),
         None => unreachable!(),
     }

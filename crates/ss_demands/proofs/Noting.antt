@@ -1,5 +1,5 @@
 -- The demands of what stands in a row, as lists.
-use Rattle.std.proofs.Common.{◌≡◌, append_assoc, ℕ, suc, ◌+◌, ◌<◌, List, [], ◌∷◌, ◌++◌, length, get_or, take, map, refl, sym, ap, ◌∙◌, arith}
+use Rattle.std.proofs.Common.{◌≡◌, append_assoc, Bool, ℕ, suc, ◌+◌, ◌<◌, List, [], ◌∷◌, ◌++◌, length, get_or, take, map, refl, sym, ap, ◌∙◌, arith}
 use Rattle.std.proofs.lemmas.List.{append-nil, take_more, map-append, flat_map_more, length-map, length-take-le}
 use Rattle.std.specs.List.{flat_map}
 use Rattle.std.specs.Global.{Vec, Box}
@@ -18,9 +18,11 @@ use Rattle.ss_tree.specs.declared.statement.Statement.TheVariants as statements
 use Rattle.ss_tree.specs.Tree.{ExpressionTree, StatementTree, expression_row, term_row, statement_row}
 use Rattle.ss_tree.specs.View.{view_expression, view_named, view_statement, view_term}
 use Rattle.ss_tree.specs.Views.{view_named_made, view_call_made, view_product_made, view_sum_made, view_if_made, view_loop_made, view_find_if_made}
-use Rattle.ss_demands.specs.declared.demand.Aspect.TheVariants.{Count, ArgumentCount}
+use Rattle.ss_demands.specs.declared.demand.Aspect.TheVariants.{Integer, Count, ArgumentCount}
 use Rattle.ss_demands.specs.declared.demand.Demand.{Demand}
-use Rattle.ss_demands.specs.Demands.{row_length, demand, a_number, mode_of, implied, in_expression, in_numbers, in_terms, in_term, in_all_numbers, in_named, in_itself, in_inner, in_row, in_statement, in_body, in_places, valued, in_item}
+use Rattle.ss_demands.specs.declared.demand.Noted.{Noted}
+use Rattle.ss_demands.specs.Demands.{row_length, demand, a_number, designated, mode_of, implied, in_expression, in_number, in_numbers, in_terms, in_term, in_all_numbers, in_named, in_itself, in_inner, in_row, in_statement, in_body, in_places, valued, in_item}
+use Rattle.ss_demands.specs.Noted.{asked, in_asked, of_place, stands_for}
 
 -- ---- rows
 
@@ -42,27 +44,35 @@ in_named_listed line n =
     ap (λ (k : ℕ). implied line n.designator k ++ in_numbers line (expression_row (map view_expression n.subscripts.items))) (row_counted n.subscripts.items) ∙
     ap (λ ds. implied line n.designator (length n.subscripts.items) ++ ds) (in_number_row line (map view_expression n.subscripts.items))
 
-pub in_named_made : (line : Line) (n : Named) → in_expression line (view_expression (variants.Named n)) ≡ valued line n.designator ++ implied line n.designator (length n.subscripts.items) ++ in_all_numbers line (map view_expression n.subscripts.items)
-in_named_made line n =
-    ap (in_expression line) (view_named_made n) ∙
-    ap (λ (k : ℕ). valued line n.designator ++ implied line n.designator k ++ in_numbers line (expression_row (map view_expression n.subscripts.items))) (row_counted n.subscripts.items) ∙
-    ap (λ ds. valued line n.designator ++ implied line n.designator (length n.subscripts.items) ++ ds) (in_number_row line (map view_expression n.subscripts.items))
+-- ---- expressions where a number may have to be
 
-pub in_call_made : (line : Line) (f : Function) (v : Vec Expression) → in_expression line (view_expression (variants.Call f v)) ≡ demand line (Count (length v.items)) (ArgumentCount f) ∷ in_all_numbers line (map view_expression v.items)
-in_call_made line f v =
-    ap (in_expression line) (view_call_made f v) ∙
-    ap (λ (k : ℕ). demand line (Count k) (ArgumentCount f) ∷ in_numbers line (expression_row (map view_expression v.items))) (row_counted v.items) ∙
-    ap (λ ds. demand line (Count (length v.items)) (ArgumentCount f) ∷ ds) (in_number_row line (map view_expression v.items))
+pub in_named_made : (b : Bool) (line : Line) (n : Named) → in_asked b line (view_expression (variants.Named n)) ≡ of_place b line n.designator (length n.subscripts.items) ++ in_all_numbers line (map view_expression n.subscripts.items)
+in_named_made b line n =
+    let first = asked b line (designated n.designator) in
+    let own = valued line n.designator in
+    let entity = implied line n.designator (length n.subscripts.items) in
+    let further = in_all_numbers line (map view_expression n.subscripts.items) in
+    ap (in_asked b line) (view_named_made n) ∙
+    ap (λ (k : ℕ). first ++ (own ++ implied line n.designator k ++ in_numbers line (expression_row (map view_expression n.subscripts.items)))) (row_counted n.subscripts.items) ∙
+    ap (λ ds. first ++ (own ++ entity ++ ds)) (in_number_row line (map view_expression n.subscripts.items)) ∙
+    sym (append_assoc first (own ++ entity) further) ∙
+    ap (λ ds. ds ++ further) (sym (append_assoc first own entity))
 
-pub in_product_made : (line : Line) (b : Box Expression) (v : Vec Expression) → in_expression line (view_expression (variants.Product b v)) ≡ a_number line (mode_of (view_expression b.value)) ∷ in_expression line (view_expression b.value) ++ in_all_numbers line (map view_expression v.items)
-in_product_made line b v =
-    ap (in_expression line) (view_product_made b v) ∙
-    ap (λ ds. a_number line (mode_of (view_expression b.value)) ∷ in_expression line (view_expression b.value) ++ ds) (in_number_row line (map view_expression v.items))
+pub in_call_made : (b : Bool) (line : Line) (f : Function) (v : Vec Expression) → in_asked b line (view_expression (variants.Call f v)) ≡ asked b line Integer ++ (demand line (Count (length v.items)) (ArgumentCount f) ∷ in_all_numbers line (map view_expression v.items))
+in_call_made b line f v =
+    ap (in_asked b line) (view_call_made f v) ∙
+    ap (λ (k : ℕ). asked b line Integer ++ (demand line (Count k) (ArgumentCount f) ∷ in_numbers line (expression_row (map view_expression v.items)))) (row_counted v.items) ∙
+    ap (λ ds. asked b line Integer ++ (demand line (Count (length v.items)) (ArgumentCount f) ∷ ds)) (in_number_row line (map view_expression v.items))
 
-pub in_sum_made : (line : Line) (b : Box Expression) (v : Vec Term) → in_expression line (view_expression (variants.Sum b v)) ≡ a_number line (mode_of (view_expression b.value)) ∷ in_expression line (view_expression b.value) ++ flat_map (in_term line) (map view_term v.items)
-in_sum_made line b v =
-    ap (in_expression line) (view_sum_made b v) ∙
-    ap (λ ds. a_number line (mode_of (view_expression b.value)) ∷ in_expression line (view_expression b.value) ++ ds) (in_term_row line (map view_term v.items))
+pub in_product_made : (b : Bool) (line : Line) (e : Box Expression) (v : Vec Expression) → in_asked b line (view_expression (variants.Product e v)) ≡ asked b line Integer ++ (in_number line (view_expression e.value) ++ in_all_numbers line (map view_expression v.items))
+in_product_made b line e v =
+    ap (in_asked b line) (view_product_made e v) ∙
+    ap (λ ds. asked b line Integer ++ (in_number line (view_expression e.value) ++ ds)) (in_number_row line (map view_expression v.items))
+
+pub in_sum_made : (b : Bool) (line : Line) (e : Box Expression) (v : Vec Term) → in_asked b line (view_expression (variants.Sum e v)) ≡ asked b line Integer ++ (in_number line (view_expression e.value) ++ flat_map (in_term line) (map view_term v.items))
+in_sum_made b line e v =
+    ap (in_asked b line) (view_sum_made e v) ∙
+    ap (λ ds. asked b line Integer ++ (in_number line (view_expression e.value) ++ ds)) (in_term_row line (map view_term v.items))
 
 -- ---- items
 
@@ -89,9 +99,13 @@ pub next_noted : {X Y A : Type 0} (f : Y → List A) (v : X → Y) (xs : List X)
 next_noted f v xs i x old now new lt is h e =
     e ∙ ap (λ ms. ms ++ f (v x)) h ∙ flat_map_more f old (map v (take i xs)) (v x) ∙ ap (λ l. old ++ flat_map f l) (sym (next_taken v xs i x lt is))
 
--- what is noted in two steps, the first of them one demand
-pub both_noted : {A : Type 0} (now mid new : List A) (d : A) (ds : List A) → mid ≡ now ++ d ∷ [] → new ≡ mid ++ ds → new ≡ now ++ d ∷ ds
-both_noted now mid new d ds m n = n ∙ ap (λ l. l ++ ds) m ∙ append_assoc now (d ∷ []) ds
+-- what is noted in two steps
+pub both_noted : {A : Type 0} (now mid new xs ys : List A) → mid ≡ now ++ xs → new ≡ mid ++ ys → new ≡ now ++ (xs ++ ys)
+both_noted now mid new xs ys m n = n ∙ ap (λ l. l ++ ys) m ∙ append_assoc now xs ys
+
+-- one more is noted at once
+pub one_more_noted : (noted : List Noted) (one : Noted) → flat_map stands_for (noted ++ one ∷ []) ≡ flat_map stands_for noted ++ stands_for one
+one_more_noted noted one = sym (flat_map_more stands_for [] noted one)
 
 -- ---- places
 

@@ -1,7 +1,13 @@
-//! Demands.
+//! Demands, and how they are noted.
+
+ghost use Rattle.std.specs.Prelude.{◌≡◌, ◌++◌, [], IfOk};
+ghost use Rattle.std.specs.List.{flat_map};
+ghost use Rattle.ss_demands.specs.Noted.{stands_for};
 
 use ss_bytes::{Line, Name};
 use ss_tree::expression::Function;
+use std::alloc::{AllocError, Global};
+use std::marker::Model;
 
 /// What a demand compares: modes, counts, or what holds.
 #[derive(Clone, Copy)]
@@ -47,4 +53,68 @@ pub struct Demand {
     pub line: Line,
     pub found: Aspect,
     pub wanted: Aspect,
+}
+
+/// What is noted at once: a demand, or the three of a name where a number has to be, which take as much room
+/// as one.
+#[derive(Clone, Copy)]
+pub enum Noted {
+    /// A demand.
+    One {
+        line: Line,
+        found: Aspect,
+        wanted: Aspect,
+    },
+    /// What is demanded of a name without subscript where a number has to be: that it is one, that it is a
+    /// value, and that the variable in which the entity is that it may be of has numbers.
+    Number { line: Line, name: Name },
+}
+
+/// Demands, in the order in which they were noted. A contract sees their list.
+#[derive(Drop)]
+pub struct Demands {
+    noted: Vec<Noted>,
+}
+
+impl Model for Demands {
+    ghost use Rattle.std.specs.Prelude.{List};
+    ghost use Rattle.std.specs.List.{flat_map};
+    ghost use Rattle.ss_demands.specs.declared.demand.Demand.{Demand};
+    ghost use Rattle.ss_demands.specs.Noted.{stands_for};
+
+    ghost Value = { List Demand };
+
+    ghost view = { λ d. flat_map stands_for d.noted.items };
+}
+
+impl Demands {
+    /// None.
+    pub(crate) fn new(alloc: Global) -> Demands
+        ensures { result ≡ [] }
+    {
+        Demands {
+            noted: Vec::new(alloc),
+        }
+    }
+
+    /// Adds what is noted at once.
+    ///
+    /// # Errors
+    /// `AllocError` where memory is refused.
+    #[tactic(auto, using(crate::proofs::Noting::one_more_noted))]
+    pub(crate) fn add(&mut self, noted: Noted) -> Result<(), AllocError>
+        ensures { IfOk result (λ _. self.new ≡ self.old ++ stands_for noted) }
+    {
+        // The checker has to meet the type of what a demand compares.
+        let _met = Aspect::Integer;
+        self.noted.push(noted)?;
+        Ok(())
+    }
+
+    /// What was noted.
+    pub fn noted(&self) -> &[Noted]
+        ensures { flat_map stands_for result.now ≡ self.now }
+    {
+        &self.noted
+    }
 }

@@ -3,10 +3,12 @@
 ghost use Rattle.std.specs.Prelude.{◌≡◌, ◌++◌, ◌∷◌, [], map, IfOk};
 ghost use Rattle.std.specs.List.{flat_map};
 ghost use Rattle.ss_tree.specs.View.{view_expression, view_named, view_option, view_term};
-ghost use Rattle.ss_demands.specs.Demands.{a_number, demand, designated, implied, in_all_named, in_all_numbers, in_expression, in_named, in_number, in_number_target, in_option, in_term, mode_of, target_mode, valued};
+ghost use Rattle.ss_tree.specs.declared.expression.Designator.TheVariants as designators;
+ghost use Rattle.ss_demands.specs.Demands.{demand, designated, implied, in_all_named, in_all_numbers, in_expression, in_named, in_number, in_number_target, in_option, in_term, mode_of, target_mode};
+ghost use Rattle.ss_demands.specs.Noted.{asked, in_asked, of_place};
 
-use crate::demand::{Aspect, Demand};
-use ss_bytes::Line;
+use crate::demand::{Aspect, Demands, Noted};
+use ss_bytes::{Line, Name};
 use ss_tree::expression::{Designator, Expression, Named, Term};
 use std::alloc::AllocError;
 
@@ -46,40 +48,44 @@ pub(crate) fn mode_of(expression: &Expression) -> Aspect
 
 // Notes a demand.
 pub(crate) fn note(
-    into: &mut Vec<Demand>,
+    into: &mut Demands,
     line: Line,
     found: Aspect,
     wanted: Aspect,
 ) -> Result<(), AllocError>
-    ensures { IfOk result (λ _. into.new.items ≡ into.old.items ++ demand line found wanted ∷ []) }
+    ensures { IfOk result (λ _. into.new ≡ into.old ++ demand line found wanted ∷ []) }
 {
-    into.push(Demand {
+    into.add(Noted::One {
         line,
         found,
         wanted,
-    })?;
-    Ok(())
+    })
 }
 
-// Notes that an expression is a number.
-fn note_a_number(
-    into: &mut Vec<Demand>,
+// Notes, where that is asked, that what has this mode is a number.
+fn note_asked(
+    into: &mut Demands,
     line: Line,
-    expression: &Expression,
+    as_number: bool,
+    mode: Aspect,
 ) -> Result<(), AllocError>
-    ensures { IfOk result (λ _. into.new.items ≡ into.old.items ++ a_number line (mode_of (view_expression expression.now)) ∷ []) }
+    ensures { IfOk result (λ _. into.new ≡ into.old ++ asked as_number line mode) }
 {
-    note(into, line, mode_of(expression), Aspect::Integer)
+    if as_number {
+        note(into, line, mode, Aspect::Integer)
+    } else {
+        Ok(())
+    }
 }
 
 // Notes the entity that a named place with so many subscripts leaves to the variable of a class.
 fn note_implied(
-    into: &mut Vec<Demand>,
+    into: &mut Demands,
     line: Line,
     designator: Designator,
     subscripts: usize,
 ) -> Result<(), AllocError>
-    ensures { IfOk result (λ _. into.new.items ≡ into.old.items ++ implied line designator subscripts) }
+    ensures { IfOk result (λ _. into.new ≡ into.old ++ implied line designator subscripts) }
 {
     match designator {
         Designator::Name(name) => {
@@ -93,54 +99,84 @@ fn note_implied(
     }
 }
 
-// Notes that a named place that stands as a value is of something that is one.
-fn note_valued(into: &mut Vec<Demand>, line: Line, designator: Designator) -> Result<(), AllocError>
-    ensures { IfOk result (λ _. into.new.items ≡ into.old.items ++ valued line designator) }
+// Notes the demands of a name with so many subscripts that stands as a value, but for those of its subscripts.
+fn note_name(
+    into: &mut Demands,
+    line: Line,
+    as_number: bool,
+    name: Name,
+    subscripts: usize,
+) -> Result<(), AllocError>
+    ensures { IfOk result (λ _. into.new ≡ into.old ++ of_place as_number line (designators.Name name) subscripts) }
+{
+    if as_number && subscripts == 0 {
+        return into.add(Noted::Number { line, name });
+    }
+    note_asked(into, line, as_number, Aspect::Named(name))?;
+    note(into, line, Aspect::Value(name), Aspect::Fits(true))?;
+    note_implied(into, line, Designator::Name(name), subscripts)
+}
+
+// The same of what is named.
+fn note_place(
+    into: &mut Demands,
+    line: Line,
+    as_number: bool,
+    designator: Designator,
+    subscripts: usize,
+) -> Result<(), AllocError>
+    ensures { IfOk result (λ _. into.new ≡ into.old ++ of_place as_number line designator subscripts) }
 {
     match designator {
-        Designator::Name(name) => note(into, line, Aspect::Value(name), Aspect::Fits(true)),
-        Designator::TimeV | Designator::TimeA => Ok(()),
+        Designator::Name(name) => note_name(into, line, as_number, name, subscripts),
+        Designator::TimeV | Designator::TimeA => {
+            note_asked(into, line, as_number, Aspect::Integer)
+        }
     }
 }
 
-// Notes the demands of an expression, from left to right.
+// Notes the demands of an expression, from left to right, and before them, where that is asked, that it is a
+// number.
 #[cycle(demanding)]
 #[tactic(auto, unfolding(ss_tree::specs::View::view_expression))]
-pub(crate) fn note_expression(
-    into: &mut Vec<Demand>,
+fn note_in(
+    into: &mut Demands,
     line: Line,
+    as_number: bool,
     expression: &Expression,
 ) -> Result<(), AllocError>
-    ensures { IfOk result (λ _. into.new.items ≡ into.old.items ++ in_expression line (view_expression expression.now)) }
+    ensures { IfOk result (λ _. into.new ≡ into.old ++ in_asked as_number line (view_expression expression.now)) }
 {
     match expression {
-        Expression::Number(_) | Expression::Text(_) => Ok(()),
+        Expression::Number(_) => note_asked(into, line, as_number, Aspect::Integer),
+        Expression::Text(_) => note_asked(into, line, as_number, Aspect::Alpha),
         Expression::Named(named) => {
-            note_valued(into, line, named.designator)?;
-            note_implied(into, line, named.designator, named.subscripts.len())?;
+            let subscripts = named.subscripts.len();
+            note_place(into, line, as_number, named.designator, subscripts)?;
             note_numbers(into, line, &named.subscripts)
         }
         Expression::Call {
             function,
             arguments,
         } => {
+            note_asked(into, line, as_number, Aspect::Integer)?;
             let count = Aspect::Count(arguments.len());
             note(into, line, count, Aspect::ArgumentCount(*function))?;
             note_numbers(into, line, arguments)
         }
-        Expression::Parenthesised(inner) => note_expression(into, line, inner),
+        Expression::Parenthesised(inner) => note_in(into, line, as_number, inner),
         Expression::Product { first, further } => {
-            note_a_number(into, line, first)?;
-            note_expression(into, line, first)?;
+            note_asked(into, line, as_number, Aspect::Integer)?;
+            note_in(into, line, true, first)?;
             note_numbers(into, line, further)
         }
         Expression::Signed { term, .. } => {
-            note_a_number(into, line, term)?;
-            note_expression(into, line, term)
+            note_asked(into, line, as_number, Aspect::Integer)?;
+            note_in(into, line, true, term)
         }
         Expression::Sum { first, further } => {
-            note_a_number(into, line, first)?;
-            note_expression(into, line, first)?;
+            note_asked(into, line, as_number, Aspect::Integer)?;
+            note_in(into, line, true, first)?;
             note_terms(into, line, further)
         }
     }
@@ -149,50 +185,76 @@ pub(crate) fn note_expression(
 // Notes the demands of expressions that are numbers.
 #[cycle(demanding)]
 fn note_numbers(
-    into: &mut Vec<Demand>,
+    into: &mut Demands,
     line: Line,
     expressions: &[Expression],
 ) -> Result<(), AllocError>
-    ensures { IfOk result (λ _. into.new.items ≡ into.old.items ++ in_all_numbers line (map view_expression expressions.now)) }
+    ensures { IfOk result (λ _. into.new ≡ into.old ++ in_all_numbers line (map view_expression expressions.now)) }
 {
     for expression in expressions {
-        note_a_number(into, line, expression)?;
-        note_expression(into, line, expression)?;
+        note_in(into, line, true, expression)?;
     }
     Ok(())
 }
 
 // Notes the demands of the further terms of a sum.
 #[cycle(demanding)]
-fn note_terms(into: &mut Vec<Demand>, line: Line, terms: &[Term]) -> Result<(), AllocError>
-    ensures { IfOk result (λ _. into.new.items ≡ into.old.items ++ flat_map (in_term line) (map view_term terms.now)) }
+fn note_terms(into: &mut Demands, line: Line, terms: &[Term]) -> Result<(), AllocError>
+    ensures { IfOk result (λ _. into.new ≡ into.old ++ flat_map (in_term line) (map view_term terms.now)) }
 {
     for term in terms {
-        note_a_number(into, line, &term.value)?;
-        note_expression(into, line, &term.value)?;
+        note_in(into, line, true, &term.value)?;
     }
     Ok(())
 }
 
-// Notes the demands of an expression that is a number.
-pub(crate) fn note_number(
-    into: &mut Vec<Demand>,
+// Notes the demands of an expression.
+pub(crate) fn note_expression(
+    into: &mut Demands,
     line: Line,
     expression: &Expression,
 ) -> Result<(), AllocError>
-    ensures { IfOk result (λ _. into.new.items ≡ into.old.items ++ in_number line (view_expression expression.now)) }
+    ensures { IfOk result (λ _. into.new ≡ into.old ++ in_expression line (view_expression expression.now)) }
 {
-    note_a_number(into, line, expression)?;
-    note_expression(into, line, expression)
+    note_in(into, line, false, expression)
+}
+
+// Notes the demands of an expression that is a number.
+pub(crate) fn note_number(
+    into: &mut Demands,
+    line: Line,
+    expression: &Expression,
+) -> Result<(), AllocError>
+    ensures { IfOk result (λ _. into.new ≡ into.old ++ in_number line (view_expression expression.now)) }
+{
+    note_in(into, line, true, expression)
+}
+
+// Notes the demands of an expression that has this mode.
+pub(crate) fn note_of_mode(
+    into: &mut Demands,
+    line: Line,
+    expression: &Expression,
+    wanted: Aspect,
+) -> Result<(), AllocError>
+    ensures { IfOk result (λ _. into.new ≡ into.old ++ demand line (mode_of (view_expression expression.now)) wanted ∷ in_expression line (view_expression expression.now)) }
+{
+    match wanted {
+        Aspect::Integer => note_number(into, line, expression),
+        _ => {
+            note(into, line, mode_of(expression), wanted)?;
+            note_expression(into, line, expression)
+        }
+    }
 }
 
 // Notes the demands of an expression that is a number, where there is one.
 pub(crate) fn note_maybe_number(
-    into: &mut Vec<Demand>,
+    into: &mut Demands,
     line: Line,
     expression: &Option<Expression>,
 ) -> Result<(), AllocError>
-    ensures { IfOk result (λ _. into.new.items ≡ into.old.items ++ in_option (in_number line) (view_option view_expression expression.now)) }
+    ensures { IfOk result (λ _. into.new ≡ into.old ++ in_option (in_number line) (view_option view_expression expression.now)) }
 {
     match expression {
         Some(expression) => note_number(into, line, expression),
@@ -202,11 +264,11 @@ pub(crate) fn note_maybe_number(
 
 // Notes the demands of a target, a set or what RESET names.
 pub(crate) fn note_named(
-    into: &mut Vec<Demand>,
+    into: &mut Demands,
     line: Line,
     named: &Named,
 ) -> Result<(), AllocError>
-    ensures { IfOk result (λ _. into.new.items ≡ into.old.items ++ in_named line (view_named named.now)) }
+    ensures { IfOk result (λ _. into.new ≡ into.old ++ in_named line (view_named named.now)) }
 {
     note_implied(into, line, named.designator, named.subscripts.len())?;
     note_numbers(into, line, &named.subscripts)
@@ -214,11 +276,11 @@ pub(crate) fn note_named(
 
 // Notes the demands of several targets.
 pub(crate) fn note_all_named(
-    into: &mut Vec<Demand>,
+    into: &mut Demands,
     line: Line,
     all: &[Named],
 ) -> Result<(), AllocError>
-    ensures { IfOk result (λ _. into.new.items ≡ into.old.items ++ in_all_named line (map view_named all.now)) }
+    ensures { IfOk result (λ _. into.new ≡ into.old ++ in_all_named line (map view_named all.now)) }
 {
     for named in all {
         note_named(into, line, named)?;
@@ -228,11 +290,11 @@ pub(crate) fn note_all_named(
 
 // Notes the demands of a target that takes a number.
 pub(crate) fn note_number_target(
-    into: &mut Vec<Demand>,
+    into: &mut Demands,
     line: Line,
     target: &Named,
 ) -> Result<(), AllocError>
-    ensures { IfOk result (λ _. into.new.items ≡ into.old.items ++ in_number_target line (view_named target.now)) }
+    ensures { IfOk result (λ _. into.new ≡ into.old ++ in_number_target line (view_named target.now)) }
 {
     note(into, line, target_mode(target), Aspect::Integer)?;
     note_named(into, line, target)

@@ -4,8 +4,8 @@ ghost use Rattle.std.specs.Prelude.{◌≡◌, ◌++◌, map, IfOk};
 ghost use Rattle.ss_tree.specs.View.{view_expression, view_named};
 ghost use Rattle.ss_demands.specs.Demands.{handed, in_places, parameter, received, taken};
 
-use crate::demand::{Aspect, Demand};
-use crate::expressions::{mode_of, note, note_expression, note_named, target_mode};
+use crate::demand::{Aspect, Demands};
+use crate::expressions::{note, note_named, note_of_mode, target_mode};
 use ss_bytes::{Line, Name};
 use ss_tree::expression::{Expression, Named};
 use std::alloc::AllocError;
@@ -43,26 +43,25 @@ fn received(by: &Receiver, place: usize) -> Aspect
 
 // Notes the demands of a value for a place.
 fn note_value(
-    into: &mut Vec<Demand>,
+    into: &mut Demands,
     line: Line,
     by: &Receiver,
     place: usize,
     value: &Expression,
 ) -> Result<(), AllocError>
-    ensures { IfOk result (λ _. into.new.items ≡ into.old.items ++ handed line by.now place (view_expression value.now)) }
+    ensures { IfOk result (λ _. into.new ≡ into.old ++ handed line by.now place (view_expression value.now)) }
 {
-    note(into, line, mode_of(value), received(by, place))?;
-    note_expression(into, line, value)
+    note_of_mode(into, line, value, received(by, place))
 }
 
 // Notes the demands of values for the places from the first on.
 pub(crate) fn note_handed(
-    into: &mut Vec<Demand>,
+    into: &mut Demands,
     line: Line,
     by: &Receiver,
     values: &[Expression],
 ) -> Result<(), AllocError>
-    ensures { IfOk result (λ _. into.new.items ≡ into.old.items ++ in_places (handed line by.now) 0 (map view_expression values.now)) }
+    ensures { IfOk result (λ _. into.new ≡ into.old ++ in_places (handed line by.now) 0 (map view_expression values.now)) }
 {
     for (place, value) in values.iter().enumerate() {
         note_value(into, line, by, place, value)?;
@@ -72,13 +71,13 @@ pub(crate) fn note_handed(
 
 // Notes the demands of a target for a place.
 fn note_target(
-    into: &mut Vec<Demand>,
+    into: &mut Demands,
     line: Line,
     by: &Receiver,
     place: usize,
     target: &Named,
 ) -> Result<(), AllocError>
-    ensures { IfOk result (λ _. into.new.items ≡ into.old.items ++ taken line by.now place (view_named target.now)) }
+    ensures { IfOk result (λ _. into.new ≡ into.old ++ taken line by.now place (view_named target.now)) }
 {
     note(into, line, target_mode(target), received(by, place))?;
     note_named(into, line, target)
@@ -86,12 +85,12 @@ fn note_target(
 
 // Notes the demands of targets for the places from the first on.
 pub(crate) fn note_taken(
-    into: &mut Vec<Demand>,
+    into: &mut Demands,
     line: Line,
     by: &Receiver,
     targets: &[Named],
 ) -> Result<(), AllocError>
-    ensures { IfOk result (λ _. into.new.items ≡ into.old.items ++ in_places (taken line by.now) 0 (map view_named targets.now)) }
+    ensures { IfOk result (λ _. into.new ≡ into.old ++ in_places (taken line by.now) 0 (map view_named targets.now)) }
 {
     for (place, target) in targets.iter().enumerate() {
         note_target(into, line, by, place, target)?;
@@ -101,12 +100,12 @@ pub(crate) fn note_taken(
 
 // Notes that parameters have the modes of the attributes in their places.
 pub(crate) fn note_parameters(
-    into: &mut Vec<Demand>,
+    into: &mut Demands,
     line: Line,
     by: &Receiver,
     names: &[Name],
 ) -> Result<(), AllocError>
-    ensures { IfOk result (λ _. into.new.items ≡ into.old.items ++ in_places (parameter line by.now) 0 names.now) }
+    ensures { IfOk result (λ _. into.new ≡ into.old ++ in_places (parameter line by.now) 0 names.now) }
 {
     for (place, name) in names.iter().enumerate() {
         note(into, line, Aspect::Named(*name), received(by, place))?;

@@ -5,15 +5,15 @@ ghost use Rattle.ss_tree.specs.View.{view_guard, view_head, view_phrase, view_st
 ghost use Rattle.ss_demands.specs.Demands.{in_class_variable, in_guards, in_head, in_phrases, in_start, in_variable};
 
 use crate::conditions::note_condition;
-use crate::demand::{Aspect, Demand};
+use crate::demand::{Aspect, Demands};
 use crate::expressions::{note, note_maybe_number, note_named, note_number};
 use ss_bytes::{Line, Name};
 use ss_tree::head::{Guard, Head, MemberStart, Phrase};
 use std::alloc::AllocError;
 
 // Notes the demands of phrases.
-fn note_phrases(into: &mut Vec<Demand>, line: Line, phrases: &[Phrase]) -> Result<(), AllocError>
-    ensures { IfOk result (λ _. into.new.items ≡ into.old.items ++ in_phrases line (map view_phrase phrases.now)) }
+fn note_phrases(into: &mut Demands, line: Line, phrases: &[Phrase]) -> Result<(), AllocError>
+    ensures { IfOk result (λ _. into.new ≡ into.old ++ in_phrases line (map view_phrase phrases.now)) }
 {
     for phrase in phrases {
         note_condition(into, line, &phrase.condition)?;
@@ -22,8 +22,8 @@ fn note_phrases(into: &mut Vec<Demand>, line: Line, phrases: &[Phrase]) -> Resul
 }
 
 // Notes the demands of the conditions of a loop that begins with WHILE or UNTIL.
-fn note_guards(into: &mut Vec<Demand>, line: Line, guards: &[Guard]) -> Result<(), AllocError>
-    ensures { IfOk result (λ _. into.new.items ≡ into.old.items ++ in_guards line (map view_guard guards.now)) }
+fn note_guards(into: &mut Demands, line: Line, guards: &[Guard]) -> Result<(), AllocError>
+    ensures { IfOk result (λ _. into.new ≡ into.old ++ in_guards line (map view_guard guards.now)) }
 {
     for guard in guards {
         note_condition(into, line, &guard.condition)?;
@@ -32,8 +32,8 @@ fn note_guards(into: &mut Vec<Demand>, line: Line, guards: &[Guard]) -> Result<(
 }
 
 // Notes the demands of the member with which a loop begins.
-fn note_start(into: &mut Vec<Demand>, line: Line, start: &MemberStart) -> Result<(), AllocError>
-    ensures { IfOk result (λ _. into.new.items ≡ into.old.items ++ in_start line (view_start start.now)) }
+fn note_start(into: &mut Demands, line: Line, start: &MemberStart) -> Result<(), AllocError>
+    ensures { IfOk result (λ _. into.new ≡ into.old ++ in_start line (view_start start.now)) }
 {
     match start {
         MemberStart::End => Ok(()),
@@ -44,20 +44,20 @@ fn note_start(into: &mut Vec<Demand>, line: Line, start: &MemberStart) -> Result
 }
 
 // Notes that the variable of a loop takes numbers.
-fn note_variable(into: &mut Vec<Demand>, line: Line, variable: Name) -> Result<(), AllocError>
-    ensures { IfOk result (λ _. into.new.items ≡ into.old.items ++ in_variable line variable) }
+fn note_variable(into: &mut Demands, line: Line, variable: Name) -> Result<(), AllocError>
+    ensures { IfOk result (λ _. into.new ≡ into.old ++ in_variable line variable) }
 {
     note(into, line, Aspect::Named(variable), Aspect::Integer)
 }
 
 // Notes the same of a loop over a class.
 fn note_class_variable(
-    into: &mut Vec<Demand>,
+    into: &mut Demands,
     line: Line,
     class: Name,
     called: &Option<Name>,
 ) -> Result<(), AllocError>
-    ensures { IfOk result (λ _. into.new.items ≡ into.old.items ++ in_class_variable line class called.now) }
+    ensures { IfOk result (λ _. into.new ≡ into.old ++ in_class_variable line class called.now) }
 {
     match called {
         Some(variable) => note_variable(into, line, *variable),
@@ -66,8 +66,8 @@ fn note_class_variable(
 }
 
 // Notes the demands of the head of a loop.
-pub(crate) fn note_head(into: &mut Vec<Demand>, line: Line, head: &Head) -> Result<(), AllocError>
-    ensures { IfOk result (λ _. into.new.items ≡ into.old.items ++ in_head line (view_head head.now)) }
+pub(crate) fn note_head(into: &mut Demands, line: Line, head: &Head) -> Result<(), AllocError>
+    ensures { IfOk result (λ _. into.new ≡ into.old ++ in_head line (view_head head.now)) }
 {
     match head {
         Head::Range {

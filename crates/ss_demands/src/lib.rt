@@ -10,5 +10,5 @@ mod pictures;
 mod section;
 mod statements;
 
-pub use demand::{Aspect, Demand};
+pub use demand::{Aspect, Demand, Demands, Noted};
 pub use section::demands_of;

@@ -5,7 +5,7 @@ ghost use Rattle.ss_tree.specs.View.{view_expression};
 ghost use Rattle.ss_picture.specs.Pictures.{picture_fields};
 ghost use Rattle.ss_demands.specs.Demands.{fields_of, in_field, in_field_at, in_fields, in_item, in_items, in_places, in_print, mean_designated, mean_of};
 
-use crate::demand::{Aspect, Demand};
+use crate::demand::{Aspect, Demands};
 use crate::expressions::{note, note_expression, note_named};
 use ss_bytes::{Line, PictureLine};
 use ss_picture::{Field, Picture};
@@ -60,12 +60,12 @@ fn mean_of(item: &Expression) -> Aspect
 
 // Notes what a field demands of its item.
 fn note_field(
-    into: &mut Vec<Demand>,
+    into: &mut Demands,
     line: Line,
     item: &Expression,
     field: Field,
 ) -> Result<(), AllocError>
-    ensures { IfOk result (λ _. into.new.items ≡ into.old.items ++ in_field line (view_expression item.now) field) }
+    ensures { IfOk result (λ _. into.new ≡ into.old ++ in_field line (view_expression item.now) field) }
 {
     if field.decimals == 0 {
         return Ok(());
@@ -88,13 +88,13 @@ fn field_at(fields: &[Field], place: usize) -> Option<Field>
 
 // Notes what the field in the same place demands of an item.
 fn note_field_at(
-    into: &mut Vec<Demand>,
+    into: &mut Demands,
     line: Line,
     fields: &[Field],
     place: usize,
     item: &Expression,
 ) -> Result<(), AllocError>
-    ensures { IfOk result (λ _. into.new.items ≡ into.old.items ++ in_field_at line fields.now place (view_expression item.now)) }
+    ensures { IfOk result (λ _. into.new ≡ into.old ++ in_field_at line fields.now place (view_expression item.now)) }
 {
     match field_at(fields, place) {
         Some(field) => note_field(into, line, item, field),
@@ -104,12 +104,12 @@ fn note_field_at(
 
 // Notes what fields demand of items, each of the item in its place.
 fn note_places(
-    into: &mut Vec<Demand>,
+    into: &mut Demands,
     line: Line,
     fields: &[Field],
     items: &[Expression],
 ) -> Result<(), AllocError>
-    ensures { IfOk result (λ _. into.new.items ≡ into.old.items ++ in_places (in_field_at line fields.now) 0 (map view_expression items.now)) }
+    ensures { IfOk result (λ _. into.new ≡ into.old ++ in_places (in_field_at line fields.now) 0 (map view_expression items.now)) }
 {
     for (place, item) in items.iter().enumerate() {
         note_field_at(into, line, fields, place, item)?;
@@ -119,8 +119,8 @@ fn note_places(
 
 // Notes the demands of an item.
 #[tactic(auto, unfolding(ss_tree::specs::View::view_expression))]
-fn note_item(into: &mut Vec<Demand>, line: Line, item: &Expression) -> Result<(), AllocError>
-    ensures { IfOk result (λ _. into.new.items ≡ into.old.items ++ in_item line (view_expression item.now)) }
+fn note_item(into: &mut Demands, line: Line, item: &Expression) -> Result<(), AllocError>
+    ensures { IfOk result (λ _. into.new ≡ into.old ++ in_item line (view_expression item.now)) }
 {
     match item {
         Expression::Named(named) => note_named(into, line, named),
@@ -135,8 +135,8 @@ fn note_item(into: &mut Vec<Demand>, line: Line, item: &Expression) -> Result<()
 }
 
 // Notes the demands of items.
-fn note_items(into: &mut Vec<Demand>, line: Line, items: &[Expression]) -> Result<(), AllocError>
-    ensures { IfOk result (λ _. into.new.items ≡ into.old.items ++ in_items line (map view_expression items.now)) }
+fn note_items(into: &mut Demands, line: Line, items: &[Expression]) -> Result<(), AllocError>
+    ensures { IfOk result (λ _. into.new ≡ into.old ++ in_items line (map view_expression items.now)) }
 {
     for item in items {
         note_item(into, line, item)?;
@@ -146,12 +146,12 @@ fn note_items(into: &mut Vec<Demand>, line: Line, items: &[Expression]) -> Resul
 
 // Notes the demands of items with fields.
 fn note_fields(
-    into: &mut Vec<Demand>,
+    into: &mut Demands,
     line: Line,
     items: &[Expression],
     fields: &[Field],
 ) -> Result<(), AllocError>
-    ensures { IfOk result (λ _. into.new.items ≡ into.old.items ++ in_fields line (map view_expression items.now) fields.now) }
+    ensures { IfOk result (λ _. into.new ≡ into.old ++ in_fields line (map view_expression items.now) fields.now) }
 {
     let fits = items.len() == fields.len();
     note(into, line, Aspect::Fits(fits), Aspect::Fits(true))?;
@@ -162,12 +162,12 @@ fn note_fields(
 // Notes the demands of a PRINT.
 pub(crate) fn note_print(
     alloc: Global,
-    into: &mut Vec<Demand>,
+    into: &mut Demands,
     line: Line,
     items: &[Expression],
     pictures: &[PictureLine],
 ) -> Result<(), AllocError>
-    ensures { IfOk result (λ _. into.new.items ≡ into.old.items ++ in_print line (map view_expression items.now) pictures.now) }
+    ensures { IfOk result (λ _. into.new ≡ into.old ++ in_print line (map view_expression items.now) pictures.now) }
 {
     let fields = fields_of(alloc, pictures)?;
     note_fields(into, line, items, &fields)

@@ -4,7 +4,7 @@ ghost use Rattle.std.specs.Prelude.{◌≡◌, ◌++◌, map, IfOk};
 ghost use Rattle.ss_tree.specs.View.{view_kind, view_section};
 ghost use Rattle.ss_demands.specs.Demands.{demands, in_kind};
 
-use crate::demand::{Aspect, Demand};
+use crate::demand::{Aspect, Demands};
 use crate::expressions::note;
 use crate::handed::{Receiver, note_parameters};
 use crate::statements::note_body;
@@ -13,8 +13,8 @@ use ss_tree::program::{Section, SectionKind};
 use std::alloc::{AllocError, Global};
 
 // Notes the demands of the head of a section.
-fn note_kind(into: &mut Vec<Demand>, line: Line, kind: &SectionKind) -> Result<(), AllocError>
-    ensures { IfOk result (λ _. into.new.items ≡ into.old.items ++ in_kind line (view_kind kind.now)) }
+fn note_kind(into: &mut Demands, line: Line, kind: &SectionKind) -> Result<(), AllocError>
+    ensures { IfOk result (λ _. into.new ≡ into.old ++ in_kind line (view_kind kind.now)) }
 {
     match kind {
         SectionKind::Main | SectionKind::Routine { .. } => Ok(()),
@@ -30,10 +30,10 @@ fn note_kind(into: &mut Vec<Demand>, line: Line, kind: &SectionKind) -> Result<(
 ///
 /// # Errors
 /// `AllocError` where memory is refused.
-pub fn demands_of(alloc: Global, section: &Section) -> Result<Vec<Demand>, AllocError>
-    ensures { IfOk result (λ found. found.items ≡ demands (view_section section.now)) }
+pub fn demands_of(alloc: Global, section: &Section) -> Result<Demands, AllocError>
+    ensures { IfOk result (λ found. found ≡ demands (view_section section.now)) }
 {
-    let mut found = Vec::new(alloc);
+    let mut found = Demands::new(alloc);
     note_kind(&mut found, section.line, &section.kind)?;
     note_body(alloc, &mut found, &section.body)?;
     Ok(found)

@@ -5,7 +5,7 @@ ghost use Rattle.ss_tree.specs.View.{view_expression, view_named, view_option, v
 ghost use Rattle.ss_demands.specs.Demands.{in_body, in_call, in_entity_statement, in_given, in_inner, in_itself, in_let, in_new, in_old, in_position, in_when};
 
 use crate::conditions::note_condition;
-use crate::demand::{Aspect, Demand};
+use crate::demand::{Aspect, Demands};
 use crate::expressions::{
     mode_of, note, note_all_named, note_expression, note_named, note_number, note_number_target,
     target_mode,
@@ -19,8 +19,8 @@ use ss_tree::statement::{Position, Statement, When};
 use std::alloc::{AllocError, Global};
 
 // Notes the demands of where a member is filed.
-fn note_position(into: &mut Vec<Demand>, line: Line, position: &Position) -> Result<(), AllocError>
-    ensures { IfOk result (λ _. into.new.items ≡ into.old.items ++ in_position line (view_position position.now)) }
+fn note_position(into: &mut Demands, line: Line, position: &Position) -> Result<(), AllocError>
+    ensures { IfOk result (λ _. into.new ≡ into.old ++ in_position line (view_position position.now)) }
 {
     match position {
         Position::Discipline | Position::First | Position::Last => Ok(()),
@@ -31,8 +31,8 @@ fn note_position(into: &mut Vec<Demand>, line: Line, position: &Position) -> Res
 }
 
 // Notes the demands of when a notice is due.
-fn note_when(into: &mut Vec<Demand>, line: Line, when: &When) -> Result<(), AllocError>
-    ensures { IfOk result (λ _. into.new.items ≡ into.old.items ++ in_when line (view_when when.now)) }
+fn note_when(into: &mut Demands, line: Line, when: &When) -> Result<(), AllocError>
+    ensures { IfOk result (λ _. into.new ≡ into.old ++ in_when line (view_when when.now)) }
 {
     match when {
         When::At(expression) | When::In(expression) => note_number(into, line, expression),
@@ -42,12 +42,12 @@ fn note_when(into: &mut Vec<Demand>, line: Line, when: &When) -> Result<(), Allo
 
 // Notes the demands of what gets a new entity.
 fn note_new(
-    into: &mut Vec<Demand>,
+    into: &mut Demands,
     line: Line,
     class: Name,
     called: &Option<Named>,
 ) -> Result<(), AllocError>
-    ensures { IfOk result (λ _. into.new.items ≡ into.old.items ++ in_new line class (view_option view_named called.now)) }
+    ensures { IfOk result (λ _. into.new ≡ into.old ++ in_new line class (view_option view_named called.now)) }
 {
     match called {
         Some(target) => note_number_target(into, line, target),
@@ -57,12 +57,12 @@ fn note_new(
 
 // Notes the demands of the reference to an entity.
 fn note_old(
-    into: &mut Vec<Demand>,
+    into: &mut Demands,
     line: Line,
     class: Name,
     called: &Option<Expression>,
 ) -> Result<(), AllocError>
-    ensures { IfOk result (λ _. into.new.items ≡ into.old.items ++ in_old line class (view_option view_expression called.now)) }
+    ensures { IfOk result (λ _. into.new ≡ into.old ++ in_old line class (view_option view_expression called.now)) }
 {
     match called {
         Some(reference) => note_number(into, line, reference),
@@ -72,12 +72,12 @@ fn note_old(
 
 // Notes the demands of the values that SCHEDULE gives to the attributes of a class.
 fn note_given(
-    into: &mut Vec<Demand>,
+    into: &mut Demands,
     line: Line,
     class: Name,
     given: &[Expression],
 ) -> Result<(), AllocError>
-    ensures { IfOk result (λ _. into.new.items ≡ into.old.items ++ in_given line class (map view_expression given.now)) }
+    ensures { IfOk result (λ _. into.new ≡ into.old ++ in_given line class (map view_expression given.now)) }
 {
     let count = Aspect::Count(given.len());
     note(into, line, count, Aspect::AttributeCount(class))?;
@@ -86,13 +86,13 @@ fn note_given(
 
 // Notes the demands of a CALL.
 fn note_call(
-    into: &mut Vec<Demand>,
+    into: &mut Demands,
     line: Line,
     routine: Name,
     given: &[Expression],
     yielding: &[Named],
 ) -> Result<(), AllocError>
-    ensures { IfOk result (λ _. into.new.items ≡ into.old.items ++ in_call line routine (map view_expression given.now) (map view_named yielding.now)) }
+    ensures { IfOk result (λ _. into.new ≡ into.old ++ in_call line routine (map view_expression given.now) (map view_named yielding.now)) }
 {
     let count = Aspect::Count(given.len());
     note(into, line, count, Aspect::GivenCount(routine))?;
@@ -104,8 +104,8 @@ fn note_call(
 
 // Notes the demands of a statement on entities, sets or notices; of others it notes nothing.
 #[tactic(auto, unfolding(ss_tree::specs::View::view_statement))]
-fn note_of_entities(into: &mut Vec<Demand>, statement: &Statement) -> Result<(), AllocError>
-    ensures { IfOk result (λ _. into.new.items ≡ into.old.items ++ in_entity_statement (view_statement statement.now)) }
+fn note_of_entities(into: &mut Demands, statement: &Statement) -> Result<(), AllocError>
+    ensures { IfOk result (λ _. into.new ≡ into.old ++ in_entity_statement (view_statement statement.now)) }
 {
     match statement {
         Statement::Create {
@@ -174,12 +174,12 @@ fn note_of_entities(into: &mut Vec<Demand>, statement: &Statement) -> Result<(),
 
 // Notes the demands of a LET.
 fn note_let(
-    into: &mut Vec<Demand>,
+    into: &mut Demands,
     line: Line,
     target: &Named,
     value: &Expression,
 ) -> Result<(), AllocError>
-    ensures { IfOk result (λ _. into.new.items ≡ into.old.items ++ in_let line (view_named target.now) (view_expression value.now)) }
+    ensures { IfOk result (λ _. into.new ≡ into.old ++ in_let line (view_named target.now) (view_expression value.now)) }
 {
     note(into, line, target_mode(target), mode_of(value))?;
     note_named(into, line, target)?;
@@ -190,10 +190,10 @@ fn note_let(
 #[tactic(auto, unfolding(ss_tree::specs::View::view_statement))]
 fn note_itself(
     alloc: Global,
-    into: &mut Vec<Demand>,
+    into: &mut Demands,
     statement: &Statement,
 ) -> Result<(), AllocError>
-    ensures { IfOk result (λ _. into.new.items ≡ into.old.items ++ in_itself (view_statement statement.now)) }
+    ensures { IfOk result (λ _. into.new ≡ into.old ++ in_itself (view_statement statement.now)) }
 {
     match statement {
         Statement::Let {
@@ -249,10 +249,10 @@ fn note_itself(
 #[tactic(auto, unfolding(ss_tree::specs::View::view_statement))]
 fn note_inner(
     alloc: Global,
-    into: &mut Vec<Demand>,
+    into: &mut Demands,
     statement: &Statement,
 ) -> Result<(), AllocError>
-    ensures { IfOk result (λ _. into.new.items ≡ into.old.items ++ in_inner (view_statement statement.now)) }
+    ensures { IfOk result (λ _. into.new ≡ into.old ++ in_inner (view_statement statement.now)) }
 {
     match statement {
         Statement::If {
@@ -300,10 +300,10 @@ fn note_inner(
 #[cycle(walking)]
 pub(crate) fn note_body(
     alloc: Global,
-    into: &mut Vec<Demand>,
+    into: &mut Demands,
     body: &[Statement],
 ) -> Result<(), AllocError>
-    ensures { IfOk result (λ _. into.new.items ≡ into.old.items ++ in_body (map view_statement body.now)) }
+    ensures { IfOk result (λ _. into.new ≡ into.old ++ in_body (map view_statement body.now)) }
 {
     for statement in body {
         note_itself(alloc, into, statement)?;

@@ -1,6 +1,6 @@
 -- A program in which each name is replaced by what it stands for.
 use Rattle.std.specs.Prelude.{ℕ, nat_le, Bool, true, false, is_some, List, [], length, take, drop, slice_get, get_or, Option, Some, None}
-use Rattle.std.specs.List.{find, list_all}
+use Rattle.std.specs.List.{find, list_all, position}
 use Rattle.std.specs.Map.{keys_of, lookup, values_of}
 use Rattle.ss_base.specs.declared.layout.Mode.{Mode}
 use Rattle.ss_base.specs.declared.layout.RankKey.{RankKey}
@@ -17,7 +17,7 @@ use Rattle.ss_scopes.specs.Locals.{Moded}
 use Rattle.ss_scopes.specs.Whole.{Whole, locals_of}
 use Rattle.ss_program.specs.Program.{Block, Routine, Event, Program}
 use Rattle.ss_contexts.specs.Answers.{◌>>=◌, each, upto, where_holds}
-use Rattle.ss_meant.specs.Layouts.{laid_out, tie_keys}
+use Rattle.ss_meant.specs.Layouts.{Laid, laid_out, tie_keys}
 use Rattle.ss_meant.specs.Meanings.{context_in}
 use Rattle.ss_meant.specs.Words.{mode_given}
 use Rattle.ss_contexts.specs.Statements.{statements}
@@ -61,6 +61,13 @@ parts_at t w sections n = do
   s ← slice_get sections n
   parts_of t w s
 
+-- the same, where the local variables of each section are at hand
+abbrev pub parts_with_locals : Table → List Moded → List SectionTree → ℕ → Option Parts
+parts_with_locals t locals sections n = do
+  s ← slice_get sections n
+  its ← slice_get locals n
+  parts_with t its s
+
 -- ---- routines
 
 -- a routine that is given and yields so many values: of its local variables given ones stand first, then yielded ones
@@ -72,12 +79,15 @@ routine_of given yielding parts = record {
   body = parts.body;
 }
 
--- the routine of a number
-abbrev pub resolved_routine : Table → Whole → List SectionTree → ℕ → Option Routine
-resolved_routine t w sections n = do
+-- the routine of a number, from what the section of a number comes to
+abbrev pub routine_from : Table → (ℕ → Option Parts) → ℕ → Option Routine
+routine_from t section n = do
   known ← slice_get (values_of t.routines) n
-  parts ← parts_at t w sections known.section
+  parts ← section known.section
   Some (routine_of known.given known.yielding parts)
+
+abbrev pub resolved_routine : Table → Whole → List SectionTree → ℕ → Option Routine
+resolved_routine t w sections n = routine_from t (parts_at t w sections) n
 
 -- ---- event routines
 
@@ -104,22 +114,29 @@ event_of class keys given variable parts = record {
   body = parts.body;
 }
 
--- a notice class with its EVENT section, which is given as many values as the class has attributes at most
-abbrev pub class_event : Table → Whole → List SectionTree → ℕ → NameBytes → EventSection → Option Event
-class_event t w sections class name known = do
+-- a notice class with its EVENT section, which is given as many values as the class has attributes at most, from what
+-- the section of a number comes to
+abbrev pub class_event_from : Table → (ℕ → Option Parts) → ℕ → NameBytes → EventSection → Option Event
+class_event_from t section class name known = do
   given ← where_holds (nat_le known.given (length (get_or t.fields class []))) known.given
   keys ← tie_keys t class name
   variable ← saved t name known.saving
-  parts ← parts_at t w sections known.section
+  parts ← section known.section
   Some (event_of class keys given variable parts)
 
--- the notice class of this place in the order of rank
-abbrev pub resolved_event : Table → Whole → List SectionTree → ℕ → Option Event
-resolved_event t w sections rank = do
+abbrev pub class_event : Table → Whole → List SectionTree → ℕ → NameBytes → EventSection → Option Event
+class_event t w sections class name known = class_event_from t (parts_at t w sections) class name known
+
+-- the notice class of this place in the order of rank, from what the section of a number comes to
+abbrev pub event_from : Table → (ℕ → Option Parts) → ℕ → Option Event
+event_from t section rank = do
   class ← slice_get (values_of t.ranks) rank
   name ← slice_get (keys_of t.classes) class
   known ← told_of t.events name
-  class_event t w sections class name known
+  class_event_from t section class name known
+
+abbrev pub resolved_event : Table → Whole → List SectionTree → ℕ → Option Event
+resolved_event t w sections rank = event_from t (parts_at t w sections) rank
 
 -- an EVENT section is one of a notice class
 abbrev pub is_known_kind : Table → SectionKindTree → Bool
@@ -146,16 +163,18 @@ main_parts t w sections = do
   s ← find is_main sections
   parts_of t w s
 
--- The program that has these sections, by its table and by what it says of names, with each name replaced by what it
--- stands for. None where a name isn't of the kind that its place needs, a subscript is missing or too many, or a count of
--- arguments doesn't fit.
-unfoldable pub resolved : Table → Whole → List SectionTree → Option Program
-resolved t w sections = do
-  laid ← laid_out t
-  known ← where_holds (list_all (is_known t) sections) sections
-  routines ← each (resolved_routine t w known) (upto (length t.routines))
-  events ← each (resolved_event t w known) (upto (length t.ranks))
-  parts ← main_parts t w known
+-- MAIN, from what the section of a number comes to
+abbrev pub main_from : (ℕ → Option Parts) → List SectionTree → Option Parts
+main_from section sections = do
+  n ← position is_main sections
+  section n
+
+-- the program that is laid out so, from what the section of a number comes to, and MAIN
+abbrev pub put_together : Table → Laid → (ℕ → Option Parts) → Option Parts → Option Program
+put_together t laid section of_main = do
+  routines ← each (routine_from t section) (upto (length t.routines))
+  events ← each (event_from t section) (upto (length t.ranks))
+  parts ← of_main
   Some (record {
     layout = laid.layout;
     disciplines = laid.disciplines;
@@ -167,3 +186,21 @@ resolved t w sections = do
     locals = parts.modes;
     main = parts.body;
   })
+
+-- the program that has these sections
+abbrev pub program_from : Table → (List SectionTree → ℕ → Option Parts) → (List SectionTree → Option Parts) → List SectionTree → Option Program
+program_from t section of_main sections = do
+  laid ← laid_out t
+  known ← where_holds (list_all (is_known t) sections) sections
+  put_together t laid (section known) (of_main known)
+
+-- The program that has these sections, by its table and by what it says of names, with each name replaced by what it
+-- stands for. None where a name isn't of the kind that its place needs, a subscript is missing or too many, or a count of
+-- arguments doesn't fit.
+unfoldable pub resolved : Table → Whole → List SectionTree → Option Program
+resolved t w sections = program_from t (parts_at t w) (main_parts t w) sections
+
+-- the same, where the local variables of each section are at hand
+unfoldable pub resolved_with_locals : Table → List Moded → List SectionTree → Option Program
+resolved_with_locals t locals sections =
+    program_from t (parts_with_locals t locals) (λ known. main_from (parts_with_locals t locals known) known) sections

@@ -7,15 +7,16 @@ ghost use Rattle.ss_uses.specs.Lines.{first_of};
 ghost use Rattle.ss_uses.specs.Refusal.{first_broken, in_program, lines_in, refusal};
 ghost use Rattle.ss_uses.specs.Seen.{uses_seen};
 ghost use Rattle.ss_uses.specs.Uses.{uses_of};
+ghost use Rattle.ss_scopes.specs.Whole.{locals_of};
 
 use indexmap::IndexSet;
 use ss_bytes::{Line, Name};
-use ss_scopes::Globals;
+use ss_scopes::{Globals, Locals};
 use ss_tree::program::{Program, Section};
 use ss_uses::events::{event_names, has_main};
 use ss_uses::preamble::first_in_preamble;
 use ss_uses::section::first_in_sections;
-use ss_uses::uses::{SectionUses, all_uses};
+use ss_uses::uses::{SectionUses, all_uses, into_locals};
 use ss_uses::{Broken, Rule};
 use std::alloc::{AllocError, Global};
 
@@ -84,18 +85,22 @@ fn first_broken<G: Globals>(
 }
 
 /// The first rule that a program breaks, in the order 71, 72, 78, 79, 75, 76, 74, 73, 77, each over the
-/// whole program, with the line of its first place in the text; 0 for 71. None where every rule is kept.
+/// whole program, with the line of its first place in the text; 0 for 71. None where every rule is kept. And the
+/// local variables of each of its sections, in their order, which the rules look at.
 ///
 /// # Errors
 /// `AllocError` where memory is refused.
-pub fn refusal<G: Globals>(
+pub fn judge<G: Globals>(
     alloc: Global,
     program: &Program,
     globals: &G,
-) -> Result<Option<Broken>, AllocError>
-    ensures { IfOk result (λ found. found ≡ refusal (G.whole globals.now) (view_program program.now)) }
+) -> Result<(Option<Broken>, Vec<Locals>), AllocError>
+    ensures refusal { IfOk result (λ found. found.0 ≡ refusal (G.whole globals.now) (view_program program.now)) }
+    ensures locals { IfOk result (λ found. found.1.items ≡ map (locals_of (G.whole globals.now)) (map view_section program.now.sections.items)) }
 {
     let events = event_names(alloc, &program.sections)?;
     let all = all_uses(alloc, globals, &program.sections)?;
-    Ok(first_broken(program, globals, &events, &all, &RULES))
+    let broken = first_broken(program, globals, &events, &all, &RULES);
+    let locals = into_locals(alloc, all)?;
+    Ok((broken, locals))
 }

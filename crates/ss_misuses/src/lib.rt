@@ -3,5 +3,5 @@
 
 mod checking;
 
-pub use checking::refusal;
+pub use checking::judge;
 pub use ss_uses::{Broken, Rule};

@@ -16,7 +16,7 @@ use ss_bytes::Name;
 use ss_firsts::{insert_first, is_told, key_at};
 use ss_tree::preamble::Mode;
 use ss_tree::program::Section;
-use ss_walk::{Mention, Mentioned, Role, mentions_of};
+use ss_walk::{Mention, Mentioned, Role};
 use std::alloc::{AllocError, Global};
 use std::marker::Model;
 
@@ -95,26 +95,11 @@ fn add_mentioned<G: Globals>(
 impl Locals {
     /// The local variables of a section: its parameters, given ones before yielded ones, those that its
     /// DEFINEs name, and those that its statements only use. Their modes are those of its DEFINEs, else
-    /// that of NORMALLY.
+    /// that of NORMALLY. All that the section mentions is at hand.
     ///
     /// # Errors
     /// `AllocError` where memory is refused.
     pub fn of<G: Globals>(
-        alloc: Global,
-        globals: &G,
-        section: &Section,
-    ) -> Result<Locals, AllocError>
-        ensures { IfOk result (λ l. l ≡ locals_of (G.whole globals.now) (view_section section.now)) }
-    {
-        let all = mentions_of(alloc, section)?;
-        Locals::among(alloc, globals, section, &all)
-    }
-
-    /// The same, where all that the section mentions is at hand.
-    ///
-    /// # Errors
-    /// `AllocError` where memory is refused.
-    pub fn among<G: Globals>(
         alloc: Global,
         globals: &G,
         section: &Section,

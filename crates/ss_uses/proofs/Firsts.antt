@@ -1,13 +1,28 @@
 -- The first of some lines, part by part.
-use Rattle.std.proofs.Common.{◌≡◌, ℕ, ◌+◌, ◌<◌, List, [], ◌∷◌, ◌++◌, length, get_or, take, drop, map, Option, Some, None, refl, sym, ap, ◌∙◌}
+use Rattle.std.proofs.Common.{◌≡◌, ℕ, ◌+◌, ◌<◌, Bool, true, false, List, [], ◌∷◌, ◌++◌, length, get_or, take, drop, map, Option, Some, None, refl, sym, ap, ◌∙◌}
+use Rattle.std.specs.Prelude.{◌||◌}
 use Rattle.std.specs.List.{flat_map}
 use Rattle.std.specs.Option.{option_or}
 use Rattle.std.proofs.lemmas.List.{take_more, drop_more, map-append, flat_map_more}
+use Rattle.std.proofs.lemmas.Grind.{flat_map-append}
 use Rattle.ss_bytes.specs.declared.line.Line.{Line}
+use Rattle.ss_base.specs.declared.layout.Mode.TheVariants as modes
+use Rattle.ss_walk.specs.Mentions.{NameBytes}
+use Rattle.ss_demands.specs.declared.demand.Noted.TheVariants.{Number}
+use Rattle.ss_demands.specs.Noted.{stands_for}
+use Rattle.ss_scopes.specs.declared.known.Known.{Known}
+use Rattle.ss_scopes.specs.Locals.{Moded}
+use Rattle.ss_scopes.specs.Meanings.{meaning_in}
+use Rattle.ss_scopes.specs.Whole.{Whole}
 use Rattle.ss_uses.specs.declared.rule.Rule.{Rule}
+use Rattle.ss_uses.specs.declared.rule.Rule.TheVariants as rules
 use Rattle.ss_uses.specs.declared.rule.Broken.{Broken}
-use Rattle.ss_uses.specs.Lines.{first_of}
-use Rattle.ss_uses.specs.Refusal.{first_broken, or_next}
+use Rattle.ss_uses.specs.Lines.{line_if, first_of, demand_lines}
+use Rattle.ss_uses.specs.Modes.{class_implied, class_mode, differ, is_mean, known_class, known_mode, mode_of}
+use Rattle.ss_uses.specs.Numbers.{is_no_number, means_no_number}
+use Rattle.ss_uses.specs.Refusal.{demand_breaks, first_broken, or_next}
+use Rattle.ss_uses.specs.Unknown.{if_known}
+use Rattle.ss_uses.specs.Uses.{Uses}
 
 pub first_of_both : (xs ys : List Line) → first_of (xs ++ ys) ≡ option_or (first_of xs) (first_of ys)
 first_of_both [] ys = refl
@@ -28,6 +43,26 @@ next_first_plain f xs i x found one new lt is h e n =
     let before = take i xs in
     n ∙ ap (λ o. option_or o one) h ∙ ap (option_or (first_of (flat_map f before))) e ∙ sym (first_of_both (flat_map f before) (f x)) ∙
     ap first_of (flat_map_more f [] before x ∙ ap (flat_map f) (sym (take_more xs i x lt ∙ ap (λ y. before ++ y ∷ []) (sym is))))
+
+-- the first of the lines of what each of a list stands for
+pub flat_twice : {X Y Z : Type 0} (f : Y → List Z) (v : X → List Y) (xs : List X) → flat_map f (flat_map v xs) ≡ flat_map (λ x. flat_map f (v x)) xs
+flat_twice f v [] = refl
+flat_twice f v (x ∷ xs) = flat_map-append f (v x) (flat_map v xs) ∙ ap (λ l. flat_map f (v x) ++ l) (flat_twice f v xs)
+
+-- where a number has to be: the first line of what is demanded of a name, by what it means
+three_lines : (x y z : Bool) (line : Line) → first_of (line_if (x || y || z) line) ≡ first_of (line_if (x || false) line ++ (line_if y line ++ (line_if (z || false) line ++ [])))
+three_lines true y z line = refl
+three_lines false true z line = refl
+three_lines false false true line = refl
+three_lines false false false line = refl
+
+meant_lines : (w : Whole) (locals : Moded) (line : Line) (o : Option Known) → first_of (line_if (if_known (means_no_number w locals) o) line) ≡
+    first_of (line_if (differ (known_mode o) (Some modes.Integer) || false) line ++ (line_if (if_known is_mean o) line ++ (line_if (differ (class_mode w locals (known_class o)) (Some modes.Integer) || false) line ++ [])))
+meant_lines w locals line None = refl
+meant_lines w locals line (Some m) = three_lines (differ (mode_of m) (Some modes.Integer)) (is_mean m) (differ (class_mode w locals (class_implied m)) (Some modes.Integer)) line
+
+pub number_lines : (w : Whole) (u : Uses) (line : Line) (name : NameBytes) → first_of (line_if (is_no_number w u.locals name) line) ≡ first_of (demand_lines (demand_breaks rules.Mode w u) (stands_for (Number line name)))
+number_lines w u line name = meant_lines w u.locals line (meaning_in w.meanings u.locals name)
 
 -- ---- rules one after another
 

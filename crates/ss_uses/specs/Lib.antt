@@ -8,6 +8,7 @@ pub mod Subscripts
 pub mod Targets
 pub mod Arguments
 pub mod Modes
+pub mod Numbers
 pub mod Fields
 pub mod Refusal
 pub mod Examples

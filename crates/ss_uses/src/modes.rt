@@ -3,6 +3,7 @@
 ghost use Rattle.std.specs.Prelude.{◌≡◌};
 ghost use Rattle.ss_scopes.specs.Meanings.{meaning_in};
 ghost use Rattle.ss_uses.specs.Modes.{are_two, aspect_mode, breaks_modes, class_implied, class_mode, differ, held_by, is_mean, known_class, known_mode, misplaces, mixes, mode_in, mode_of, names_mean};
+ghost use Rattle.ss_uses.specs.Numbers.{is_no_number, means_no_number};
 
 use ss_base::Mode;
 use ss_bytes::Name;
@@ -86,14 +87,21 @@ fn class_in<G: Globals>(globals: &G, locals: &Locals, name: Name) -> Option<Name
     }
 }
 
+// The mode of the variable named like a class, if there is one.
+fn class_mode<G: Globals>(globals: &G, locals: &Locals, class: Option<Name>) -> Option<Mode>
+    ensures { result ≡ class_mode (G.whole globals.now) locals.now class }
+{
+    match class {
+        Some(class) => mode_in(globals, locals, class),
+        None => None,
+    }
+}
+
 // The mode of the variable of the class that a name implies in a section.
 fn implied_mode<G: Globals>(globals: &G, locals: &Locals, name: Name) -> Option<Mode>
     ensures { result ≡ class_mode (G.whole globals.now) locals.now (known_class (meaning_in (G.whole globals.now).meanings locals.now name)) }
 {
-    match class_in(globals, locals, name) {
-        Some(class) => mode_in(globals, locals, class),
-        None => None,
-    }
+    class_mode(globals, locals, class_in(globals, locals, name))
 }
 
 // The mode that an aspect is. None for a count.
@@ -173,6 +181,28 @@ fn misplaces<G: Globals>(globals: &G, locals: &Locals, demand: &Demand) -> bool
     match &demand.found {
         Aspect::Value(name) => names_mean(globals, locals, *name),
         _ => false,
+    }
+}
+
+// Whether what a name without subscript means is no number, or a MEAN, or of an entity in a variable of texts.
+fn means_no_number<G: Globals>(globals: &G, locals: &Locals, meaning: &Known) -> bool
+    ensures { result ≡ means_no_number (G.whole globals.now) locals.now meaning.now }
+{
+    differ(mode_of(meaning), Some(Mode::Integer))
+        || is_mean(meaning)
+        || differ(
+            class_mode(globals, locals, class_implied(meaning)),
+            Some(Mode::Integer),
+        )
+}
+
+// The same of a name that means anything.
+pub(crate) fn is_no_number<G: Globals>(globals: &G, locals: &Locals, name: Name) -> bool
+    ensures { result ≡ is_no_number (G.whole globals.now) locals.now name }
+{
+    match meaning_in(globals, locals, name) {
+        Some(meaning) => means_no_number(globals, locals, &meaning),
+        None => false,
     }
 }
 

@@ -9,19 +9,22 @@ ghost use Rattle.ss_uses.specs.Uses.{Uses as UsesSeen};
 ghost use Rattle.ss_scopes.specs.Whole.{Whole};
 ghost use Rattle.ss_walk.specs.declared.mention.Mention.{Mention as MentionSeen};
 ghost use Rattle.ss_demands.specs.declared.demand.Demand.{Demand as DemandSeen};
+ghost use Rattle.ss_demands.specs.declared.demand.Noted.TheVariants.{Number};
+ghost use Rattle.ss_demands.specs.Noted.{stands_for};
 
 use crate::arguments::miscounts;
 use crate::events::is_misplaced;
 use crate::fields::misfits;
 use crate::lines::line_if;
-use crate::modes::breaks_modes;
+use crate::modes::{breaks_modes, is_no_number};
 use crate::rule::Rule;
 use crate::subscripts::has_wrong_subscripts;
 use crate::targets::is_not_assignable;
 use crate::unknown::is_unknown;
 use crate::uses::SectionUses;
 use ss_base::Line;
-use ss_demands::Demand;
+use ss_bytes::Name;
+use ss_demands::{Demand, Noted};
 use ss_scopes::Globals;
 use ss_walk::Mention;
 
@@ -65,7 +68,7 @@ fn looks_at_mentions(rule: Rule) -> bool
     }
 }
 
-// The same, without a look at them where the rule is about others.
+// The line of the first mention that breaks a rule; none is looked at where the rule is about others.
 fn first_mentioned<G: Globals>(globals: &G, rule: Rule, uses: &SectionUses) -> Option<Line>
     ensures { result ≡ first_of (mention_lines (mention_breaks rule (G.whole globals.now) (uses_seen uses.now)) uses.now.mentions.items) }
 {
@@ -87,14 +90,55 @@ fn demand_breaks<G: Globals>(globals: &G, rule: Rule, uses: &SectionUses, demand
     }
 }
 
+// The line, if what is demanded of a name without subscript where a number has to be breaks a rule.
+fn number_line<G: Globals>(
+    globals: &G,
+    rule: Rule,
+    uses: &SectionUses,
+    line: Line,
+    name: Name,
+) -> Option<Line>
+    ensures { result ≡ first_of (demand_lines (demand_breaks rule (G.whole globals.now) (uses_seen uses.now)) (stands_for (Number line name))) }
+{
+    match rule {
+        Rule::Mode => line_if(is_no_number(globals, &uses.locals, name), line),
+        _ => None,
+    }
+}
+
+// The line, if what was noted at once breaks a rule.
+fn noted_line<G: Globals>(
+    globals: &G,
+    rule: Rule,
+    uses: &SectionUses,
+    noted: &Noted,
+) -> Option<Line>
+    ensures { result ≡ first_of (demand_lines (demand_breaks rule (G.whole globals.now) (uses_seen uses.now)) (stands_for noted.now)) }
+{
+    match noted {
+        Noted::One {
+            line,
+            found,
+            wanted,
+        } => {
+            let demand = Demand {
+                line: *line,
+                found: *found,
+                wanted: *wanted,
+            };
+            line_if(demand_breaks(globals, rule, uses, &demand), *line)
+        }
+        Noted::Number { line, name } => number_line(globals, rule, uses, *line, *name),
+    }
+}
+
 // The line of the first demand of a section that breaks a rule.
 fn first_demand<G: Globals>(globals: &G, rule: Rule, uses: &SectionUses) -> Option<Line>
-    ensures { result ≡ first_of (demand_lines (demand_breaks rule (G.whole globals.now) (uses_seen uses.now)) uses.now.demands.items) }
+    ensures { result ≡ first_of (demand_lines (demand_breaks rule (G.whole globals.now) (uses_seen uses.now)) uses.now.demands) }
 {
     let mut found = None;
-    for demand in &uses.demands {
-        let is_broken = demand_breaks(globals, rule, uses, demand);
-        found = found.or(line_if(is_broken, demand.line));
+    for noted in uses.demands.noted() {
+        found = found.or(noted_line(globals, rule, uses, noted));
     }
     found
 }
@@ -109,9 +153,9 @@ fn looks_at_demands(rule: Rule) -> bool
     }
 }
 
-// The same, without a look at them where the rule is about others.
+// The line of the first demand that breaks a rule; none is looked at where the rule is about others.
 fn first_demanded<G: Globals>(globals: &G, rule: Rule, uses: &SectionUses) -> Option<Line>
-    ensures { result ≡ first_of (demand_lines (demand_breaks rule (G.whole globals.now) (uses_seen uses.now)) uses.now.demands.items) }
+    ensures { result ≡ first_of (demand_lines (demand_breaks rule (G.whole globals.now) (uses_seen uses.now)) uses.now.demands) }
 {
     if !looks_at_demands(rule) {
         return None;

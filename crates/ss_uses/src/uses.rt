@@ -4,8 +4,9 @@ ghost use Rattle.std.specs.Prelude.{◌≡◌, map, IfOk};
 ghost use Rattle.ss_tree.specs.View.{view_kind, view_section};
 ghost use Rattle.ss_uses.specs.Seen.{uses_seen};
 ghost use Rattle.ss_uses.specs.Uses.{is_main, uses_of};
+ghost use Rattle.ss_uses.specs.declared.uses.SectionUses.{SectionUses as UsesValue};
 
-use ss_demands::{Demand, demands_of};
+use ss_demands::{Demands, demands_of};
 use ss_scopes::{Globals, Locals};
 use ss_tree::program::{Section, SectionKind};
 use ss_walk::{Mention, mentions_of};
@@ -17,7 +18,7 @@ pub struct SectionUses {
     pub in_main: bool,
     pub locals: Locals,
     pub mentions: Vec<Mention>,
-    pub demands: Vec<Demand>,
+    pub demands: Demands,
 }
 
 // Whether a section is MAIN.
@@ -36,7 +37,7 @@ fn section_uses<G: Globals>(
     ensures { IfOk result (λ u. uses_seen u ≡ uses_of (G.whole globals.now) (view_section section.now)) }
 {
     let mentions = mentions_of(alloc, section)?;
-    let locals = Locals::among(alloc, globals, section, &mentions)?;
+    let locals = Locals::of(alloc, globals, section, &mentions)?;
     let demands = demands_of(alloc, section)?;
     Ok(SectionUses {
         in_main: is_main(&section.kind),
@@ -44,6 +45,16 @@ fn section_uses<G: Globals>(
         mentions,
         demands,
     })
+}
+
+/// The local variables of each of some sections, by their uses.
+///
+/// # Errors
+/// `AllocError` where memory is refused.
+pub fn into_locals(alloc: Global, all: Vec<SectionUses>) -> Result<Vec<Locals>, AllocError>
+    ensures { IfOk result (λ found. found.items ≡ map (λ (u : UsesValue). u.locals) all.items) }
+{
+    all.into_iter().map(|uses| uses.locals).collect(alloc)
 }
 
 /// The uses of each of some sections.

@@ -4,7 +4,7 @@ ghost use Rattle.std.specs.Prelude.{◌≡◌, length, map, IfOk};
 ghost use Rattle.ss_tree.specs.View.{view_section};
 ghost use Rattle.ss_program.specs.View.{view_event};
 ghost use Rattle.ss_contexts.specs.Answers.{Gives, each, upto};
-ghost use Rattle.ss_meant.specs.Resolved.{class_event, class_variable, event_of, resolved_event, saved};
+ghost use Rattle.ss_meant.specs.Resolved.{class_event_from, class_variable, event_from, event_of, parts_with_locals, saved};
 ghost use Rattle.ss_whole.specs.View.{view_parts};
 
 use crate::sections::{Parts, parts_at, split};
@@ -15,7 +15,7 @@ use ss_entities::Event as EventSection;
 use ss_meant::resolve_ties;
 use ss_names::{Meaning, Names};
 use ss_program::sections::Event;
-use ss_scopes::Globals;
+use ss_scopes::Locals;
 use ss_tree::program::Section;
 use std::alloc::{AllocError, Global};
 
@@ -58,36 +58,36 @@ fn event_of(
 }
 
 // A notice class with its EVENT section.
-fn class_event<G: Globals>(
+fn class_event(
     alloc: Global,
     names: &Names,
-    globals: &G,
+    locals: &[Locals],
     sections: &[Section],
     class: usize,
     name: Name,
     known: EventSection,
 ) -> Result<Event, ResolveError>
-    ensures { Gives view_event result (class_event names.now (G.whole globals.now) (map view_section sections.now) class name known) }
+    ensures { Gives view_event result (class_event_from names.now (parts_with_locals names.now locals.now (map view_section sections.now)) class name known) }
 {
     if names.fields(class).len() < known.given {
         return Err(ResolveError::Unresolved);
     }
     let ties = resolve_ties(alloc, names, class, name)?;
     let saved = saved(names, name, known.saving)?;
-    let parts = parts_at(alloc, names, globals, sections, known.section)?;
+    let parts = parts_at(alloc, names, locals, sections, known.section)?;
     let event = event_of(alloc, class, ties, known.given, saved, parts)?;
     Ok(event)
 }
 
 // The notice class of a place in the order of rank.
-fn resolve_event<G: Globals>(
+fn resolve_event(
     alloc: Global,
     names: &Names,
-    globals: &G,
+    locals: &[Locals],
     sections: &[Section],
     rank: usize,
 ) -> Result<Event, ResolveError>
-    ensures { Gives view_event result (resolved_event names.now (G.whole globals.now) (map view_section sections.now) rank) }
+    ensures { Gives view_event result (event_from names.now (parts_with_locals names.now locals.now (map view_section sections.now)) rank) }
 {
     let Some(class) = names.ranked(rank) else {
         return Err(ResolveError::Unresolved);
@@ -98,21 +98,21 @@ fn resolve_event<G: Globals>(
     let Some(known) = names.event(&name) else {
         return Err(ResolveError::Unresolved);
     };
-    class_event(alloc, names, globals, sections, class, name, known)
+    class_event(alloc, names, locals, sections, class, name, known)
 }
 
 /// The notice classes with their event routines, in the order of rank.
-pub(crate) fn resolve_events<G: Globals>(
+pub(crate) fn resolve_events(
     alloc: Global,
     names: &Names,
-    globals: &G,
+    locals: &[Locals],
     sections: &[Section],
 ) -> Result<Vec<Event>, ResolveError>
-    ensures { Gives (λ v. map view_event v.items) result (each (resolved_event names.now (G.whole globals.now) (map view_section sections.now)) (upto (length names.now.ranks))) }
+    ensures { Gives (λ v. map view_event v.items) result (each (event_from names.now (parts_with_locals names.now locals.now (map view_section sections.now))) (upto (length names.now.ranks))) }
 {
     let mut resolved = Vec::new(alloc);
     for number in 0..names.ranks() {
-        let one = resolve_event(alloc, names, globals, sections, number)?;
+        let one = resolve_event(alloc, names, locals, sections, number)?;
         resolved.push(one)?;
     }
     Ok(resolved)

@@ -1,22 +1,21 @@
 //! Whole programs.
 
 ghost use Rattle.std.specs.Prelude.{◌≡◌, map, IfOk};
-ghost use Rattle.std.specs.List.{find, list_all};
-ghost use Rattle.std.specs.Option.{option_copied};
+ghost use Rattle.std.specs.List.{list_all, position};
 ghost use Rattle.ss_tree.specs.View.{view_section};
 ghost use Rattle.ss_program.specs.View.{view_option, view_program};
 ghost use Rattle.ss_contexts.specs.Answers.{Gives};
-ghost use Rattle.ss_meant.specs.Resolved.{is_known, is_main, main_parts, parts_of, resolved};
+ghost use Rattle.ss_meant.specs.Resolved.{is_known, is_main, main_from, parts_with_locals, resolved_with_locals};
 ghost use Rattle.ss_whole.specs.View.{view_parts};
 
 use crate::events::resolve_events;
 use crate::routines::resolve_routines;
-use crate::sections::{Parts, parts_of};
+use crate::sections::{Parts, parts_at};
 use ss_contexts::ResolveError;
 use ss_meant::lay_out;
 use ss_names::Names;
 use ss_program::sections::Program as Resolved;
-use ss_scopes::Globals;
+use ss_scopes::Locals;
 use ss_tree::program::{Program, Section, SectionKind};
 use std::alloc::{AllocError, Global};
 
@@ -53,46 +52,46 @@ fn is_main(section: &Section) -> bool
     }
 }
 
-// MAIN, the first where there are several.
-fn main_section(sections: &[Section]) -> Option<&Section>
-    ensures { option_copied result ≡ find (λ s. is_main (view_section s)) sections.now }
+// The number of MAIN, the first where there are several.
+fn main_number(sections: &[Section]) -> Option<usize>
+    ensures { result ≡ position (λ s. is_main (view_section s)) sections.now }
 {
-    sections.iter().find(|section| is_main(section))
+    sections.iter().position(|section| is_main(section))
 }
 
 // What MAIN comes to.
-#[tactic(auto, using(crate::proofs::Found::found_viewed))]
-fn main_parts<G: Globals>(
+#[tactic(auto, using(crate::proofs::Found::position_viewed))]
+fn main_parts(
     alloc: Global,
     names: &Names,
-    globals: &G,
+    locals: &[Locals],
     sections: &[Section],
 ) -> Result<Parts, ResolveError>
-    ensures { Gives view_parts result (main_parts names.now (G.whole globals.now) (map view_section sections.now)) }
+    ensures { Gives view_parts result (main_from (parts_with_locals names.now locals.now (map view_section sections.now)) (map view_section sections.now)) }
 {
-    match main_section(sections) {
-        Some(section) => parts_of(alloc, names, globals, section),
+    match main_number(sections) {
+        Some(number) => parts_at(alloc, names, locals, sections, number),
         None => Err(ResolveError::Unresolved),
     }
 }
 
 // The program, by its sections.
-#[tactic(auto, unfolding(ss_meant::specs::Resolved::resolved))]
-fn resolved<G: Globals>(
+#[tactic(auto, unfolding(ss_meant::specs::Resolved::resolved_with_locals))]
+fn resolved(
     alloc: Global,
     names: &Names,
-    globals: &G,
+    locals: &[Locals],
     sections: &[Section],
 ) -> Result<Resolved, ResolveError>
-    ensures { Gives view_program result (resolved names.now (G.whole globals.now) (map view_section sections.now)) }
+    ensures { Gives view_program result (resolved_with_locals names.now locals.now (map view_section sections.now)) }
 {
     let laid = lay_out(alloc, names)?;
     if !all_known(names, sections) {
         return Err(ResolveError::Unresolved);
     }
-    let routines = resolve_routines(alloc, names, globals, sections)?;
-    let events = resolve_events(alloc, names, globals, sections)?;
-    let parts = main_parts(alloc, names, globals, sections)?;
+    let routines = resolve_routines(alloc, names, locals, sections)?;
+    let events = resolve_events(alloc, names, locals, sections)?;
+    let parts = main_parts(alloc, names, locals, sections)?;
     Ok(Resolved {
         layout: laid.layout,
         disciplines: laid.disciplines,
@@ -106,21 +105,21 @@ fn resolved<G: Globals>(
     })
 }
 
-/// The program with each name replaced by what it stands for, by the table of its names and what the whole
-/// program says of them. None where a name isn't of the kind that its place needs, a subscript is missing or
-/// too many, or a count of arguments doesn't fit.
+/// The program with each name replaced by what it stands for, by the table of its names and the local variables
+/// of each of its sections, in their order. None where a name isn't of the kind that its place needs, a
+/// subscript is missing or too many, or a count of arguments doesn't fit.
 ///
 /// # Errors
 /// `AllocError` where memory is refused.
-pub fn resolve<G: Globals>(
+pub fn resolve(
     alloc: Global,
     program: &Program,
     names: &Names,
-    globals: &G,
+    locals: &[Locals],
 ) -> Result<Option<Resolved>, AllocError>
-    ensures { IfOk result (λ p. view_option view_program p ≡ resolved names.now (G.whole globals.now) (map view_section program.now.sections.items)) }
+    ensures { IfOk result (λ p. view_option view_program p ≡ resolved_with_locals names.now locals.now (map view_section program.now.sections.items)) }
 {
-    match resolved(alloc, names, globals, &program.sections) {
+    match resolved(alloc, names, locals, &program.sections) {
         Ok(resolved) => Ok(Some(resolved)),
         Err(ResolveError::Unresolved) => Ok(None),
         Err(ResolveError::Memory) => Err(AllocError),

@@ -4,14 +4,14 @@ ghost use Rattle.std.specs.Prelude.{◌≡◌, length, map, IfOk};
 ghost use Rattle.ss_tree.specs.View.{view_section};
 ghost use Rattle.ss_program.specs.View.{view_routine};
 ghost use Rattle.ss_contexts.specs.Answers.{Gives, each, upto};
-ghost use Rattle.ss_meant.specs.Resolved.{resolved_routine, routine_of};
+ghost use Rattle.ss_meant.specs.Resolved.{parts_with_locals, routine_from, routine_of};
 ghost use Rattle.ss_whole.specs.View.{view_parts};
 
 use crate::sections::{Parts, parts_at, split};
 use ss_contexts::ResolveError;
 use ss_names::Names;
 use ss_program::sections::Routine;
-use ss_scopes::Globals;
+use ss_scopes::Locals;
 use ss_tree::program::Section;
 use std::alloc::{AllocError, Global};
 
@@ -38,35 +38,35 @@ fn routine_of(
 }
 
 // The routine of a number.
-fn resolve_routine<G: Globals>(
+fn resolve_routine(
     alloc: Global,
     names: &Names,
-    globals: &G,
+    locals: &[Locals],
     sections: &[Section],
     number: usize,
 ) -> Result<Routine, ResolveError>
-    ensures { Gives view_routine result (resolved_routine names.now (G.whole globals.now) (map view_section sections.now) number) }
+    ensures { Gives view_routine result (routine_from names.now (parts_with_locals names.now locals.now (map view_section sections.now)) number) }
 {
     let Some(known) = names.routine(number) else {
         return Err(ResolveError::Unresolved);
     };
-    let parts = parts_at(alloc, names, globals, sections, known.section)?;
+    let parts = parts_at(alloc, names, locals, sections, known.section)?;
     let routine = routine_of(alloc, known.given, known.yielding, parts)?;
     Ok(routine)
 }
 
 /// The routines, by their numbers.
-pub(crate) fn resolve_routines<G: Globals>(
+pub(crate) fn resolve_routines(
     alloc: Global,
     names: &Names,
-    globals: &G,
+    locals: &[Locals],
     sections: &[Section],
 ) -> Result<Vec<Routine>, ResolveError>
-    ensures { Gives (λ v. map view_routine v.items) result (each (resolved_routine names.now (G.whole globals.now) (map view_section sections.now)) (upto (length names.now.routines))) }
+    ensures { Gives (λ v. map view_routine v.items) result (each (routine_from names.now (parts_with_locals names.now locals.now (map view_section sections.now))) (upto (length names.now.routines))) }
 {
     let mut resolved = Vec::new(alloc);
     for number in 0..names.routines() {
-        let one = resolve_routine(alloc, names, globals, sections, number)?;
+        let one = resolve_routine(alloc, names, locals, sections, number)?;
         resolved.push(one)?;
     }
     Ok(resolved)

@@ -4,7 +4,7 @@ ghost use Rattle.std.specs.Prelude.{◌≡◌, drop, length, map, take};
 ghost use Rattle.ss_tree.specs.View.{view_section};
 ghost use Rattle.ss_program.specs.View.{view_body};
 ghost use Rattle.ss_contexts.specs.Answers.{Gives, each, upto};
-ghost use Rattle.ss_meant.specs.Resolved.{body, local_mode, local_modes, parts_at, parts_of, parts_with};
+ghost use Rattle.ss_meant.specs.Resolved.{body, local_mode, local_modes, parts_with, parts_with_locals};
 ghost use Rattle.ss_whole.specs.View.{view_parts};
 
 use ss_base::{Line, Mode};
@@ -13,7 +13,7 @@ use ss_meant::{SectionScope, mode_given};
 use ss_names::Names;
 use ss_program::statement::Statement;
 use ss_resolve::resolve_body;
-use ss_scopes::{Globals, Locals};
+use ss_scopes::Locals;
 use ss_tree::program::Section;
 use std::alloc::Global;
 
@@ -84,33 +84,23 @@ fn parts_with(
     })
 }
 
-/// A section.
-pub(crate) fn parts_of<G: Globals>(
+/// The section of a number, by the local variables of each.
+pub(crate) fn parts_at(
     alloc: Global,
     names: &Names,
-    globals: &G,
-    section: &Section,
-) -> Result<Parts, ResolveError>
-    ensures { Gives view_parts result (parts_of names.now (G.whole globals.now) (view_section section.now)) }
-{
-    let locals = Locals::of(alloc, globals, section)?;
-    parts_with(alloc, names, &locals, section)
-}
-
-/// The section of a number.
-pub(crate) fn parts_at<G: Globals>(
-    alloc: Global,
-    names: &Names,
-    globals: &G,
+    locals: &[Locals],
     sections: &[Section],
     number: usize,
 ) -> Result<Parts, ResolveError>
-    ensures { Gives view_parts result (parts_at names.now (G.whole globals.now) (map view_section sections.now) number) }
+    ensures { Gives view_parts result (parts_with_locals names.now locals.now (map view_section sections.now) number) }
 {
-    match sections.get(number) {
-        Some(section) => parts_of(alloc, names, globals, section),
-        None => Err(ResolveError::Unresolved),
-    }
+    let Some(section) = sections.get(number) else {
+        return Err(ResolveError::Unresolved);
+    };
+    let Some(locals) = locals.get(number) else {
+        return Err(ResolveError::Unresolved);
+    };
+    parts_with(alloc, names, locals, section)
 }
 
 /// The first of some modes, as many as these, and the others.

@@ -1,27 +1,27 @@
-use Rattle.std.proofs.Common.{ap}
+use Rattle.std.proofs.Common.{ap, ◌∙◌}
 use Rattle.ss_tree.specs.View.{view_program}
 use Rattle.ss_uses.specs.Refusal.{refusal}
 use Rattle.ss_globals.specs.WholeOf.{whole_in}
 use Rattle.ss_tables.proofs.Refused.{refused_so}
 use Rattle.ss_check.specs.Checking.{Tells}
-use Rattle.ss_check.proofs.Kept.{not_missing, small, typed}
+use Rattle.ss_check.proofs.Kept.{found_with, not_missing, small, typed}
 use Rattle.ss_check.proofs.checking.judged.Goals as goal
 
-pub returns-in_err-keep_rules-clause-refused : goal.returns-in_err-keep_rules-clause-refused
-returns-in_err-keep_rules-clause-refused c =
-    refused_so Tells c.from_residual.result c.in_err-keep_rules.field-0.0 _ _ c.from_residual.ensures.1 c.in_err-keep_rules.ensures.refused (ap (λ w. refusal w (view_program c.args.program.now)) c.requires.whole)
+pub returns-in_err-locals-clause-refused : goal.returns-in_err-locals-clause-refused
+returns-in_err-locals-clause-refused c =
+    refused_so Tells c.from_residual.result c.in_err-locals.field-0.0 _ _ c.from_residual.ensures.1 c.in_err-locals.ensures.refused (ap (λ w. refusal w (view_program c.args.program.now)) c.requires.whole)
 
 pub new-requires : goal.new-requires
 new-requires c =
     typed c.kept_programs_resolve.ensures c.args.globals.now.names (whole_in c.args.globals.now.names c.args.globals.now.signatures.items) (view_program c.args.program.now) c.in_ok-resolved.field-0 c.in-Some.resolved
-    c.requires.formed c.requires.declared c.in_ok-keep_rules.ensures.kept c.requires.names c.requires.whole c.in_ok-resolved.ensures c.in-Some.is
+    c.requires.formed c.requires.declared c.in_ok-locals.ensures.kept c.requires.names c.requires.whole (found_with c.args.globals.now.names (whole_in c.args.globals.now.names c.args.globals.now.signatures.items) c.deref.result.now (view_program c.args.program.now) c.in_ok-resolved.field-0 (c.deref.ensures.value ∙ c.in_ok-locals.ensures.locals) c.in_ok-resolved.ensures) c.in-Some.is
 
 pub unreachable-requires : goal.unreachable-requires
 unreachable-requires c =
     not_missing c.kept_programs_resolve.ensures c.args.globals.now.names (whole_in c.args.globals.now.names c.args.globals.now.signatures.items) (view_program c.args.program.now) c.in_ok-resolved.field-0
-    c.requires.formed c.requires.declared c.in_ok-keep_rules.ensures.kept c.requires.names c.requires.whole c.in_ok-resolved.ensures c.in-None.is
+    c.requires.formed c.requires.declared c.in_ok-locals.ensures.kept c.requires.names c.requires.whole (found_with c.args.globals.now.names (whole_in c.args.globals.now.names c.args.globals.now.signatures.items) c.deref.result.now (view_program c.args.program.now) c.in_ok-resolved.field-0 (c.deref.ensures.value ∙ c.in_ok-locals.ensures.locals) c.in_ok-resolved.ensures) c.in-None.is
 
 pub returns-clause-nodes : goal.returns-clause-nodes
 returns-clause-nodes c =
     small c.laws.ensures.programs c.args.globals.now.names (whole_in c.args.globals.now.names c.args.globals.now.signatures.items) (view_program c.args.program.now) c.in_ok-resolved.field-0 c.in-Some.resolved _
-    c.requires.names c.in_ok-resolved.ensures c.in-Some.is c.new.ensures
+    c.requires.names (found_with c.args.globals.now.names (whole_in c.args.globals.now.names c.args.globals.now.signatures.items) c.deref.result.now (view_program c.args.program.now) c.in_ok-resolved.field-0 (c.deref.ensures.value ∙ c.in_ok-locals.ensures.locals) c.in_ok-resolved.ensures) c.in-Some.is c.new.ensures

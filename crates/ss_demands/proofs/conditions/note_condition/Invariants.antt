@@ -5,4 +5,4 @@ use Rattle.ss_demands.specs.Demands.{in_test}
 use Rattle.ss_demands.proofs.conditions.note_condition.Given as goal
 
 abbrev pub invariant-loop-conjunction : goal.invariant-loop-conjunction
-invariant-loop-conjunction l = l.into.items ≡ l.initial.into.items ++ flat_map (flat_map (in_test l.line)) (map view_conjunction (take l.conjunction-index l.condition.alternatives.items))
+invariant-loop-conjunction l = l.into ≡ l.initial.into ++ flat_map (flat_map (in_test l.line)) (map view_conjunction (take l.conjunction-index l.condition.alternatives.items))

@@ -5,4 +5,4 @@ use Rattle.ss_demands.specs.Demands.{in_test}
 use Rattle.ss_demands.proofs.conditions.note_conjunction.Given as goal
 
 abbrev pub invariant-loop-test : goal.invariant-loop-test
-invariant-loop-test l = l.into.items ≡ l.initial.into.items ++ flat_map (in_test l.line) (map view_test (take l.test-index l.tests))
+invariant-loop-test l = l.into ≡ l.initial.into ++ flat_map (in_test l.line) (map view_test (take l.test-index l.tests))

@@ -5,7 +5,7 @@ use Rattle.ss_demands.specs.Demands.{in_all_numbers, in_term}
 use Rattle.ss_demands.proofs.expressions.+demanding.Given as goal
 
 abbrev pub invariant-note_numbers-loop-expression : goal.invariant-note_numbers-loop-expression
-invariant-note_numbers-loop-expression l = l.into.items ≡ l.initial.into.items ++ in_all_numbers l.line (map view_expression (take l.expression-index l.expressions))
+invariant-note_numbers-loop-expression l = l.into ≡ l.initial.into ++ in_all_numbers l.line (map view_expression (take l.expression-index l.expressions))
 
 abbrev pub invariant-note_terms-loop-term : goal.invariant-note_terms-loop-term
-invariant-note_terms-loop-term l = l.into.items ≡ l.initial.into.items ++ flat_map (in_term l.line) (map view_term (take l.term-index l.terms))
+invariant-note_terms-loop-term l = l.into ≡ l.initial.into ++ flat_map (in_term l.line) (map view_term (take l.term-index l.terms))

@@ -5,4 +5,4 @@ use Rattle.ss_demands.proofs.expressions.note_all_named.Goals as goal
 
 pub loop-named-preserved : goal.loop-named-preserved
 loop-named-preserved c =
-    next_noted (in_named c.args.line) view_named c.args.all.now c.loop-named.named-index c.named-item.result c.args.into.now.items c.loop-named.into.items c.note_named.new.into.items c.loop-named-test.true c.named-item.is c.loop-named.invariant c.in_ok-note_named.ensures
+    next_noted (in_named c.args.line) view_named c.args.all.now c.loop-named.named-index c.named-item.result c.args.into.now c.loop-named.into c.note_named.new.into c.loop-named-test.true c.named-item.is c.loop-named.invariant c.in_ok-note_named.ensures

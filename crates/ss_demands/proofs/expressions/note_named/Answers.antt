@@ -6,4 +6,4 @@ use Rattle.ss_demands.proofs.expressions.note_named.Goals as goal
 pub returns : goal.returns
 returns c =
     let counted : c.len.result ≡ length c.args.named.now.subscripts.items = search rules in
-    rw (in_named_listed c.args.line c.args.named.now, ← counted, ← c.deref.ensures.value, ← append_assoc c.args.into.now.items (implied c.args.line c.args.named.now.designator c.len.result) _, ← c.in_ok-note_implied.ensures) c.note_numbers.ensures
+    rw (in_named_listed c.args.line c.args.named.now, ← counted, ← c.deref.ensures.value, ← append_assoc c.args.into.now (implied c.args.line c.args.named.now.designator c.len.result) _, ← c.in_ok-note_implied.ensures) c.note_numbers.ensures

@@ -5,4 +5,4 @@ use Rattle.ss_demands.proofs.handed.note_handed.Goals as goal
 
 pub loop-place-preserved : goal.loop-place-preserved
 loop-place-preserved c =
-    next_place (handed c.args.line c.args.by.now) view_expression c.args.values.now c.loop-place.place c.index-values-place.result c.args.into.now.items c.loop-place.into.items c.note_value.new.into.items c.loop-place-test.true c.index-values-place.is c.loop-place.invariant c.in_ok-note_value.ensures
+    next_place (handed c.args.line c.args.by.now) view_expression c.args.values.now c.loop-place.place c.index-values-place.result c.args.into.now c.loop-place.into c.note_value.new.into c.loop-place-test.true c.index-values-place.is c.loop-place.invariant c.in_ok-note_value.ensures

@@ -7,5 +7,5 @@ use Rattle.ss_demands.proofs.handed.note_parameters.Goals as goal
 
 pub loop-place-preserved : goal.loop-place-preserved
 loop-place-preserved c =
-    next_place_plain (parameter c.args.line c.args.by.now) c.args.names.now c.loop-place.place c.index-names-place.result c.args.into.now.items c.loop-place.into.items c.note.new.into.items c.loop-place-test.true c.index-names-place.is c.loop-place.invariant
-    (c.in_ok-note.ensures ∙ ap (λ (a : Aspect). c.loop-place.into.items ++ demand c.args.line (Named c.index-names-place.result) a ∷ []) c.received.ensures)
+    next_place_plain (parameter c.args.line c.args.by.now) c.args.names.now c.loop-place.place c.index-names-place.result c.args.into.now c.loop-place.into c.note.new.into c.loop-place-test.true c.index-names-place.is c.loop-place.invariant
+    (c.in_ok-note.ensures ∙ ap (λ (a : Aspect). c.loop-place.into ++ demand c.args.line (Named c.index-names-place.result) a ∷ []) c.received.ensures)

@@ -3,4 +3,4 @@ use Rattle.ss_demands.specs.Demands.{in_places, parameter}
 use Rattle.ss_demands.proofs.handed.note_parameters.Given as goal
 
 abbrev pub invariant-loop-place : goal.invariant-loop-place
-invariant-loop-place l = l.into.items ≡ l.initial.into.items ++ in_places (parameter l.line l.by) 0 (take l.place l.names)
+invariant-loop-place l = l.into ≡ l.initial.into ++ in_places (parameter l.line l.by) 0 (take l.place l.names)

@@ -5,4 +5,4 @@ use Rattle.ss_demands.proofs.handed.note_taken.Goals as goal
 
 pub loop-place-preserved : goal.loop-place-preserved
 loop-place-preserved c =
-    next_place (taken c.args.line c.args.by.now) view_named c.args.targets.now c.loop-place.place c.index-targets-place.result c.args.into.now.items c.loop-place.into.items c.note_target.new.into.items c.loop-place-test.true c.index-targets-place.is c.loop-place.invariant c.in_ok-note_target.ensures
+    next_place (taken c.args.line c.args.by.now) view_named c.args.targets.now c.loop-place.place c.index-targets-place.result c.args.into.now c.loop-place.into c.note_target.new.into c.loop-place-test.true c.index-targets-place.is c.loop-place.invariant c.in_ok-note_target.ensures

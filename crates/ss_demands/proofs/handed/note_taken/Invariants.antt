@@ -4,4 +4,4 @@ use Rattle.ss_demands.specs.Demands.{taken, in_places}
 use Rattle.ss_demands.proofs.handed.note_taken.Given as goal
 
 abbrev pub invariant-loop-place : goal.invariant-loop-place
-invariant-loop-place l = l.into.items ≡ l.initial.into.items ++ in_places (taken l.line l.by) 0 (map view_named (take l.place l.targets))
+invariant-loop-place l = l.into ≡ l.initial.into ++ in_places (taken l.line l.by) 0 (map view_named (take l.place l.targets))

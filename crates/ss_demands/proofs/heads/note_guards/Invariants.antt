@@ -4,4 +4,4 @@ use Rattle.ss_demands.specs.Demands.{in_guards}
 use Rattle.ss_demands.proofs.heads.note_guards.Given as goal
 
 abbrev pub invariant-loop-guard : goal.invariant-loop-guard
-invariant-loop-guard l = l.into.items ≡ l.initial.into.items ++ in_guards l.line (map view_guard (take l.guard-index l.guards))
+invariant-loop-guard l = l.into ≡ l.initial.into ++ in_guards l.line (map view_guard (take l.guard-index l.guards))

@@ -4,4 +4,4 @@ use Rattle.ss_demands.specs.Demands.{in_items}
 use Rattle.ss_demands.proofs.pictures.note_items.Given as goal
 
 abbrev pub invariant-loop-item : goal.invariant-loop-item
-invariant-loop-item l = l.into.items ≡ l.initial.into.items ++ in_items l.line (map view_expression (take l.item-index l.items))
+invariant-loop-item l = l.into ≡ l.initial.into ++ in_items l.line (map view_expression (take l.item-index l.items))

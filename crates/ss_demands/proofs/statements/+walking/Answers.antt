@@ -15,4 +15,4 @@ note_inner-returns-in-Loop t c = rw (c.in-Loop.is, inner_loop c.in-Loop.line c.i
 
 pub note_body-loop-statement-preserved : goal.note_body-loop-statement-preserved
 note_body-loop-statement-preserved t c =
-    next_walked c.args.body.now c.loop-statement.statement-index c.statement-item.result c.args.into.now.items c.loop-statement.into.items c.note_itself.new.into.items c.note_inner.new.into.items c.loop-statement-test.true c.statement-item.is c.loop-statement.invariant c.in_ok-note_itself.ensures c.in_ok-note_inner.ensures
+    next_walked c.args.body.now c.loop-statement.statement-index c.statement-item.result c.args.into.now c.loop-statement.into c.note_itself.new.into c.note_inner.new.into c.loop-statement-test.true c.statement-item.is c.loop-statement.invariant c.in_ok-note_itself.ensures c.in_ok-note_inner.ensures

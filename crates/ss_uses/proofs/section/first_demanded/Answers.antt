@@ -9,4 +9,4 @@ pub returns-then-not-looks_at_demands : goal.returns-then-not-looks_at_demands
 returns-then-not-looks_at_demands g c =
     let w = g.G.Globals.whole c.args.globals.now in
     let u = uses_seen c.args.uses.now in
-    sym (ap first_of (no_lines (demand_line (demand_breaks c.args.rule w u)) c.args.uses.now.demands.items (λ x. ap (λ (b : Bool). line_if b x.line) (c.looks_at_demands.ensures c.if-not-looks_at_demands.true w u x))))
+    sym (ap first_of (no_lines (demand_line (demand_breaks c.args.rule w u)) c.args.uses.now.demands (λ x. ap (λ (b : Bool). line_if b x.line) (c.looks_at_demands.ensures c.if-not-looks_at_demands.true w u x))))

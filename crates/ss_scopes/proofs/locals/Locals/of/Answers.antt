@@ -10,7 +10,7 @@ use Rattle.ss_firsts.specs.Firsts.{firsts}
 use Rattle.ss_scopes.specs.Locals.{all_defined, local_mentioned, moded}
 use Rattle.ss_scopes.specs.Whole.{is_global}
 use Rattle.ss_scopes.proofs.Entering.{moded_found}
-use Rattle.ss_scopes.proofs.locals.Locals.among.Goals as goal
+use Rattle.ss_scopes.proofs.locals.Locals.of.Goals as goal
 
 pub returns : goal.returns
 returns g c =
