@@ -67,7 +67,10 @@ pub enum Noted {
     },
     /// What is demanded of a name without subscript where a number has to be: that it is one, that it is a
     /// value, and that the variable in which the entity is that it may be of has numbers.
-    Number { line: Line, name: Name },
+    Number {
+        line: Line,
+        name: Name,
+    },
 }
 
 /// Demands, in the order in which they were noted. A contract sees their list.

@@ -263,11 +263,7 @@ pub(crate) fn note_maybe_number(
 }
 
 // Notes the demands of a target, a set or what RESET names.
-pub(crate) fn note_named(
-    into: &mut Demands,
-    line: Line,
-    named: &Named,
-) -> Result<(), AllocError>
+pub(crate) fn note_named(into: &mut Demands, line: Line, named: &Named) -> Result<(), AllocError>
     ensures { IfOk result (λ _. into.new ≡ into.old ++ in_named line (view_named named.now)) }
 {
     note_implied(into, line, named.designator, named.subscripts.len())?;

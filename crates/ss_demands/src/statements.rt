@@ -188,11 +188,7 @@ fn note_let(
 
 // Notes the demands of a statement, but for those of the statements in it.
 #[tactic(auto, unfolding(ss_tree::specs::View::view_statement))]
-fn note_itself(
-    alloc: Global,
-    into: &mut Demands,
-    statement: &Statement,
-) -> Result<(), AllocError>
+fn note_itself(alloc: Global, into: &mut Demands, statement: &Statement) -> Result<(), AllocError>
     ensures { IfOk result (λ _. into.new ≡ into.old ++ in_itself (view_statement statement.now)) }
 {
     match statement {
@@ -247,11 +243,7 @@ fn note_itself(
 // Notes the demands of the statements in a statement, in the order of the text.
 #[cycle(walking)]
 #[tactic(auto, unfolding(ss_tree::specs::View::view_statement))]
-fn note_inner(
-    alloc: Global,
-    into: &mut Demands,
-    statement: &Statement,
-) -> Result<(), AllocError>
+fn note_inner(alloc: Global, into: &mut Demands, statement: &Statement) -> Result<(), AllocError>
     ensures { IfOk result (λ _. into.new ≡ into.old ++ in_inner (view_statement statement.now)) }
 {
     match statement {
