@@ -1,1 +1,1 @@
-mod Found
+pub mod Found
