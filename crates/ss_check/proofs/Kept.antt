@@ -17,7 +17,7 @@ use Rattle.ss_whole.specs.Resolved.{resolved, resolved_with_locals}
 use Rattle.ss_whole.proofs.Found.{by_their_locals}
 use Rattle.ss_links.specs.Laws.{KeptProgramsResolve}
 use Rattle.ss_sizes.specs.Laws.{ProgramsStaySmall}
-use Rattle.ss_check.specs.Checking.{FormedProgram, program_of}
+use Rattle.ss_check.specs.Checking.{Becomes, FormedProgram, program_of}
 
 -- what was found by local variables is what is found by what the program says of its names, whose they are
 pub found_with : (t : Table) (w : Whole) (locals : List Moded) (p : ProgramTree) (found : Option ProgramValue) → locals ≡ map (locals_of w) p.sections →
@@ -54,3 +54,10 @@ pub small : ProgramsStaySmall → (t : Table) (w : Whole) (p : ProgramTree) (fou
 small law t w p found r made e h g same =
     let so : resolved (table p) w p.sections ≡ Some (view_program r) = ap (λ z. resolved z w p.sections) (sym e) ∙ sym h ∙ ap (view_option view_program) g in
     subst (λ z. nodes (view_program z) ≤ tree_nodes p) (sym same) (law p w (view_program r) so)
+
+pub becomes : (t : Table) (w : Whole) (p : ProgramTree) (found : Option ProgramValue) (r made : ProgramValue) →
+    refusal w p ≡ None → t ≡ table p → w ≡ whole_of p → view_option view_program found ≡ resolved t w p.sections → found ≡ Some r → made ≡ r → Becomes p made
+becomes t w p found r made kept e f h g same = record {
+  kept = subst (λ z. refusal z p ≡ None) f kept;
+  resolved = sym (found_so t w p (view_option view_program found) e f h) ∙ ap (view_option view_program) g ∙ ap (λ (z : ProgramValue). Some (view_program z)) (sym same);
+}

@@ -4,7 +4,7 @@ use Rattle.ss_uses.specs.Refusal.{refusal}
 use Rattle.ss_globals.specs.WholeOf.{whole_in}
 use Rattle.ss_tables.proofs.Refused.{refused_so}
 use Rattle.ss_check.specs.Checking.{Tells}
-use Rattle.ss_check.proofs.Kept.{found_with, not_missing, small, typed}
+use Rattle.ss_check.proofs.Kept.{becomes, found_with, not_missing, small, typed}
 use Rattle.ss_check.proofs.checking.judged.Goals as goal
 
 pub returns-in_err-locals-clause-refused : goal.returns-in_err-locals-clause-refused
@@ -25,3 +25,8 @@ pub returns-clause-nodes : goal.returns-clause-nodes
 returns-clause-nodes c =
     small c.laws.ensures.programs c.args.globals.now.names (whole_in c.args.globals.now.names c.args.globals.now.signatures.items) (view_program c.args.program.now) c.in_ok-resolved.field-0 c.in-Some.resolved _
     c.requires.names (found_with c.args.globals.now.names (whole_in c.args.globals.now.names c.args.globals.now.signatures.items) c.deref.result.now (view_program c.args.program.now) c.in_ok-resolved.field-0 (c.deref.ensures.value ∙ c.in_ok-locals.ensures.locals) c.in_ok-resolved.ensures) c.in-Some.is c.new.ensures
+
+pub returns-clause-checked : goal.returns-clause-checked
+returns-clause-checked c =
+    becomes c.args.globals.now.names (whole_in c.args.globals.now.names c.args.globals.now.signatures.items) (view_program c.args.program.now) c.in_ok-resolved.field-0 c.in-Some.resolved _
+    c.in_ok-locals.ensures.kept c.requires.names c.requires.whole (found_with c.args.globals.now.names (whole_in c.args.globals.now.names c.args.globals.now.signatures.items) c.deref.result.now (view_program c.args.program.now) c.in_ok-resolved.field-0 (c.deref.ensures.value ∙ c.in_ok-locals.ensures.locals) c.in_ok-resolved.ensures) c.in-Some.is c.new.ensures
