@@ -55,6 +55,7 @@ small law t w p found r made e h g same =
     let so : resolved (table p) w p.sections ≡ Some (view_program r) = ap (λ z. resolved z w p.sections) (sym e) ∙ sym h ∙ ap (view_option view_program) g in
     subst (λ z. nodes (view_program z) ≤ tree_nodes p) (sym same) (law p w (view_program r) so)
 
+-- a program that breaks no rule becomes what it is resolved to
 pub becomes : (t : Table) (w : Whole) (p : ProgramTree) (found : Option ProgramValue) (r made : ProgramValue) →
     refusal w p ≡ None → t ≡ table p → w ≡ whole_of p → view_option view_program found ≡ resolved t w p.sections → found ≡ Some r → made ≡ r → Becomes p made
 becomes t w p found r made kept e f h g same = record {

@@ -30,19 +30,21 @@ module _ (l : Layout) (cs : Cells) (sys : Ptr) (d : Directory) (ms : List Member
   abbrev st : State
   st = state_of l cs d ms
 
+  -- what an entity of a class is
+  pub entity_is : (c n i : ℕ) (p : Address) → n ≡ suc i → class_at cs p ≡ c → Lists d i p → entity st c (pos n) ≡ Ok (record_of l (words_at cs p.at))
+  entity_is c n i p e k (inl m) =
+      let kind = subst (λ b. IsPermanent (kind_of l b) → ⊥) k (K.kinds i p m) in
+      let place : numbered_place d.numbers (pos n) ≡ Ok p = ap (λ z. numbered_place d.numbers (pos z)) e ∙ ap issued_place m in
+      let read : numbered st (pos n) ≡ Ok (record_of l (words_at cs p.at)) = numbered_is l cs d ms (pos n) ∙ ap (read_place l cs) place in
+      let class : of_class c (record_of l (words_at cs p.at)) ≡ Ok (record_of l (words_at cs p.at)) = rw (k, same c) refl in
+      of_kind st (kind_of l c) c n kind ∙ ap (λ z. and_then z (of_class c)) read ∙ class
+  entity_is c n i p e k (inr (b, ps, m, h)) =
+      let y = K.made b ps m in let q : b ≡ c = sym (y.class i p h) ∙ k in
+      of_permanent st (kind_of l c) c (pos n) (subst (λ a. IsPermanent (kind_of l a)) q y.permanent) ∙ ap (λ z. indexed st c (pos z)) e ∙ indexed_there l cs d ms c ps i p (subst (λ a. slice_get d.classes a ≡ Some (Some ps)) q m) h
+
   -- an entity of a class is what its number means
   pub is_entity : (c n : ℕ) → IsOf cs d c n → and_then (entity st c (pos n)) (λ r. Ok (number_in (pos n))) ≡ Ok n
-  is_entity c n h = let a = entry_of cs d c n h in ap (λ z. and_then z (λ r. Ok (number_in (pos n)))) (whole a.0 a.1 a.2 a.4 (listed d c a.0 a.1 a.3)) where
-    whole : (i : ℕ) (p : Address) → n ≡ suc i → class_at cs p ≡ c → Lists d i p → entity st c (pos n) ≡ Ok (record_of l (words_at cs p.at))
-    whole i p e k (inl m) =
-        let kind = subst (λ b. IsPermanent (kind_of l b) → ⊥) k (K.kinds i p m) in
-        let place : numbered_place d.numbers (pos n) ≡ Ok p = ap (λ z. numbered_place d.numbers (pos z)) e ∙ ap issued_place m in
-        let read : numbered st (pos n) ≡ Ok (record_of l (words_at cs p.at)) = numbered_is l cs d ms (pos n) ∙ ap (read_place l cs) place in
-        let class : of_class c (record_of l (words_at cs p.at)) ≡ Ok (record_of l (words_at cs p.at)) = rw (k, same c) refl in
-        of_kind st (kind_of l c) c n kind ∙ ap (λ z. and_then z (of_class c)) read ∙ class
-    whole i p e k (inr (b, ps, m, h)) =
-        let y = K.made b ps m in let q : b ≡ c = sym (y.class i p h) ∙ k in
-        of_permanent st (kind_of l c) c (pos n) (subst (λ a. IsPermanent (kind_of l a)) q y.permanent) ∙ ap (λ z. indexed st c (pos z)) e ∙ indexed_there l cs d ms c ps i p (subst (λ a. slice_get d.classes a ≡ Some (Some ps)) q m) h
+  is_entity c n h = let a = entry_of cs d c n h in ap (λ z. and_then z (λ r. Ok (number_in (pos n)))) (entity_is c n a.0 a.1 a.2 a.4 (listed d c a.0 a.1 a.3))
 
   pub sets_apart : Apart st
   sets_apart = record {

@@ -30,7 +30,7 @@ module _ (r : Records) (K : IsKept r) (s : ℕ) (inside : s < length r.layout.se
   abbrev end : Entry
   end = record { place = r.system; number = 0 }
 
-  lies_there : (p : Ptr) (k n : ℕ) → To r.blocks.cells at p k n → (q : Entry) → word_at r.blocks.cells p k ≡ link q.place.at → word_at r.blocks.cells q.place.at 1 ≡ number q.number → (Lies r s q) × (q.number ≡ n)
+  pub lies_there : (p : Ptr) (k n : ℕ) → To r.blocks.cells at p k n → (q : Entry) → word_at r.blocks.cells p k ≡ link q.place.at → word_at r.blocks.cells q.place.at 1 ≡ number q.number → (Lies r s q) × (q.number ≡ n)
   lies_there p k n h q w v = let e = its_number r.blocks.cells at p k n h q.place.at w q.number v in (at_target r.blocks.cells at p k n h q.place.at w ∙ ap at (sym e) ∙ ap (λ c. entity_at r.system.at (places r) c q.number) (sym (its_members r.layout r.blocks.cells r.system.at (places r) r.notes.lists K s inside)), e)
 
   -- at the ends of a set

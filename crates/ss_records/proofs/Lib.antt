@@ -32,6 +32,7 @@ pub mod NamesKept
 pub mod Numbers
 pub mod Owning
 pub mod Paging
+pub mod Passing
 pub mod Planned
 pub mod Planning
 pub mod Puts

@@ -8,6 +8,7 @@ pub mod Links
 pub mod Ownership
 pub mod Pages
 pub mod Parts
+pub mod Passing
 pub mod Places
 pub mod Plans
 pub mod Reading

@@ -1,9 +1,10 @@
-ghost use Rattle.std.specs.Prelude.{◌≡◌, ◌+◌, ◌<◌, ◌≤◌, length, MatchResult, Ok, Err, Some, IsOk, slice_get, ⊤};
+ghost use Rattle.std.specs.Prelude.{◌≡◌, ◌+◌, ◌<◌, ◌≤◌, length, pos, MatchResult, Ok, Err, Some, IsOk, slice_get, ⊤};
 ghost use Rattle.ss_base.specs.Layout.{mode_of};
 ghost use Rattle.ss_states.specs.State.{State, first_state, known_in, known_notice_in, kind_of, modes_of, value_in, time_in, created, created_all, destroyed, assigned, timed, RefusedFor, living_numbers, living_records};
-ghost use Rattle.ss_states.specs.Disciplines.{first_removed, last_removed, member_test};
-ghost use Rattle.ss_states.specs.Sets.{member_class, first_in, last_in, count_in, next_in, previous_in, owner_of_member, filed_first, filed_last, filed_before, filed_after, removed, Apart};
+ghost use Rattle.ss_states.specs.Disciplines.{first_removed, last_removed, member_test, owned};
+ghost use Rattle.ss_states.specs.Sets.{member_class, owner, first_in, last_in, count_in, next_in, previous_in, owner_of_member, filed_first, filed_last, filed_before, filed_after, removed, Apart};
 ghost use Rattle.ss_records.specs.Kept.{IsPermanent};
+ghost use Rattle.ss_records.specs.Passing.{ranks_past, first_where, before_where};
 
 use crate::records::Records;
 use crate::sets::{Member, WholeMember};
@@ -50,6 +51,7 @@ impl Heap {
     }
 
     /// Whether r is an entity of a class. Faults: 1 to 4, or 5 for a permanent class.
+    #[inline(always)]
     pub fn known(&self, class: usize, r: i64) -> Result<(), FaultKind>
         requires class { class < length self.now.state.layout.classes }
         ensures { result ≡ known_in self.now.state class r }
@@ -221,6 +223,27 @@ impl Heap {
     {
         self.records.start();
         self.records.whole_member(set, field, x)
+    }
+
+    /// The first member of the set of an owner that ranks strictly after a number by an attribute of whole numbers, 0 where
+    /// there is none: where the high come first, one whose own number is lower, else one whose own is higher. It touches the
+    /// members before it once each. Faults: 1 to 5 of the owner.
+    pub fn first_past(
+        &mut self,
+        set: usize,
+        o: i64,
+        field: usize,
+        own: i64,
+        high: bool,
+    ) -> Result<i64, FaultKind>
+        requires set { set < length self.old.state.layout.sets }
+        requires mode { slice_get (modes_of self.old.state.layout (member_class self.old.state.layout set)) field ≡ Some Mode.Integer }
+        ensures found { MatchResult result (λ y. IsOk (owner self.old.state set o) × (y ≡ pos (first_where (ranks_past self.old.state (member_class self.old.state.layout set) field high (Value.Whole own)) (owned self.old.state set o)))) (λ e. owner self.old.state set o ≡ Err e) }
+        ensures same { self.new.state ≡ self.old.state }
+        ensures touches { (self.new.touches ≤ 1 + before_where (ranks_past self.old.state (member_class self.old.state.layout set) field high (Value.Whole own)) (owned self.old.state set o)) × (self.new.total ≡ self.old.total + self.new.touches) }
+    {
+        self.records.start();
+        self.records.first_past(set, o, field, own, high)
     }
 
     /// The member that precedes x in its set, 0 where there is none or x is in no set. Faults: 1 to 5.

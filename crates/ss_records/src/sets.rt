@@ -1,8 +1,11 @@
 // The sets: their ends, the neighbours of a member, and its owner.
-ghost use Rattle.std.specs.Prelude.{◌≡◌, ℕ, ◌+◌, ◌^◌, ◌<◌, ◌≤◌, length, slice_get, MatchResult, IsOk, Ok, Err, Some};
-ghost use Rattle.ss_states.specs.State.{State, is_filed, modes_of, value_in};
+ghost use Rattle.std.specs.Prelude.{◌≡◌, ℕ, ◌+◌, ◌^◌, ◌<◌, ◌≤◌, length, slice_get, not, false, pos, MatchResult, IsOk, Ok, Err, Some};
+ghost use Rattle.std.specs.Ordering.{match_ordering, int_cmp};
+ghost use Rattle.ss_states.specs.State.{State, is_filed, members_of, modes_of, value_in};
 ghost use Rattle.ss_states.specs.Sets.{joiner, owner, member_class, first_in, last_in, count_in, next_in, previous_in, owner_of_member, Apart};
+ghost use Rattle.ss_states.specs.Disciplines.{owned};
 ghost use Rattle.ss_records.specs.Parts.{IsKept, state, Owns, Joins};
+ghost use Rattle.ss_records.specs.Passing.{ranks_past, first_where, before_where};
 
 use crate::links::Entry;
 use crate::records::Records;
@@ -229,6 +232,69 @@ impl Records {
         }
     }
 
+    /// The first member of a set that ranks strictly after a number by an attribute of whole numbers, 0 where there is none: a touch
+    /// for each member before it, and one.
+    pub(crate) fn first_past(
+        &mut self,
+        s: usize,
+        o: i64,
+        field: usize,
+        own: i64,
+        high: bool,
+    ) -> Result<i64, FaultKind>
+        requires kept { IsKept self.old }
+        requires set { s < length self.old.layout.sets }
+        requires mode { slice_get (modes_of self.old.layout (member_class self.old.layout s)) field ≡ Some Mode.Integer }
+        requires touches { self.old.blocks.touches ≡ 0 }
+        ensures found { MatchResult result (λ y. IsOk (owner (state self.old) s o) × (y ≡ pos (first_where (ranks_past (state self.old) (member_class self.old.layout s) field high (Value.Whole own)) (owned (state self.old) s o)))) (λ e. owner (state self.old) s o ≡ Err e) }
+        ensures kept { IsKept self.new }
+        ensures same { state self.new ≡ state self.old }
+        ensures touches { (self.new.blocks.touches ≤ 1 + before_where (ranks_past (state self.old) (member_class self.old.layout s) field high (Value.Whole own)) (owned (state self.old) s o)) × (self.new.blocks.total ≡ self.old.blocks.total + self.new.blocks.touches) }
+    {
+        match self.owner(s, o) {
+            Ok(owner) => Ok(self.past(s, owner, field, own, high) as i64),
+            Err(fault) => Err(fault),
+        }
+    }
+
+    // The same for an owner that is there.
+    fn past(&mut self, s: usize, owner: Entry, field: usize, own: i64, high: bool) -> u64
+        requires kept { IsKept self.old }
+        requires set { s < length self.old.layout.sets }
+        requires owns { Owns self.old s owner }
+        requires mode { slice_get (modes_of self.old.layout (member_class self.old.layout s)) field ≡ Some Mode.Integer }
+        requires touches { self.old.blocks.touches ≡ 0 }
+        ensures value { result ≡ first_where (ranks_past (state self.old) (member_class self.old.layout s) field high (Value.Whole own)) (members_of self.old.notes.lists s owner.number) }
+        ensures small { result < 2 ^ 62 }
+        ensures same { self.new ≡ record self.old { blocks = self.new.blocks } }
+        ensures cells { self.new.blocks.cells ≡ self.old.blocks.cells }
+        ensures touches { (self.new.blocks.touches ≤ 1 + before_where (ranks_past (state self.old) (member_class self.old.layout s) field high (Value.Whole own)) (members_of self.old.notes.lists s owner.number)) × (self.new.blocks.total ≡ self.old.blocks.total + self.new.blocks.touches) }
+    {
+        let first = self.layout.owner_base(s);
+        let next = self.layout.member_base(s);
+        let mut member = self.blocks.follow(owner.place, first);
+        'members: while member.number != 0 {
+            if self.is_past(s, member, field, own, high) {
+                return member.number;
+            }
+            member = self.blocks.follow(member.place, next);
+        }
+        0
+    }
+
+    // Whether a member ranks strictly after a number by an attribute of whole numbers.
+    #[inline(always)]
+    fn is_past(&self, s: usize, member: Entry, field: usize, own: i64, high: bool) -> bool
+        requires kept { IsKept self.now }
+        requires set { s < length self.now.layout.sets }
+        requires joins { Joins self.now s member }
+        requires mode { slice_get (modes_of self.now.layout (member_class self.now.layout s)) field ≡ Some Mode.Integer }
+        ensures { result ≡ ranks_past (state self.now) (member_class self.now.layout s) field high (Value.Whole own) member.number }
+    {
+        let k = value_start(field);
+        is_after(self.blocks.whole(member.place, k), own, high)
+    }
+
     /// The member that precedes x in its set, 0 where there is none: a touch.
     pub(crate) fn previous(&mut self, s: usize, x: i64) -> Result<i64, FaultKind>
         requires kept { IsKept self.old }
@@ -271,6 +337,20 @@ impl Records {
             Err(fault) => Err(fault),
         }
     }
+}
+
+// Whether a number ranks strictly after another: the high come first, or the low.
+#[inline(always)]
+fn is_after(its: i64, own: i64, high: bool) -> bool
+    ensures { result ≡ match_ordering (int_cmp its own) high false (not high) }
+{
+    if its < own {
+        return high;
+    }
+    if own < its {
+        return !high;
+    }
+    false
 }
 
 // A number, or 0 where it is that of the member itself: then it is in no set.

@@ -1,4 +1,5 @@
 pub mod Members
 pub mod Same
 pub mod Walking
+pub mod Past
 pub mod Ranked

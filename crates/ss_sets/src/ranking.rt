@@ -1,5 +1,5 @@
 // Filing by discipline.
-ghost use Rattle.std.specs.Prelude.{◌≡◌, ℤ, ◌+◌, ◌<◌, ◌≤◌, ◌∷◌, not, length, slice_get, IsOk, MatchResult, Ok, Err, Some};
+ghost use Rattle.std.specs.Prelude.{◌≡◌, ℤ, ◌+◌, ◌<◌, ◌≤◌, [], ◌∷◌, not, length, slice_get, IsOk, MatchResult, Ok, Err, Some};
 ghost use Rattle.std.specs.Ordering.{match_ordering, int_cmp, nat_cmp};
 ghost use Rattle.std.specs.Cmp.Lexicographic.{slice_cmp};
 ghost use Rattle.ss_base.specs.Order.{value_cmp};
@@ -114,8 +114,34 @@ fn first_after_by(
 {
     let class = class_of(heap, set);
     match whole_of(heap, class, key.field, x) {
-        Some(own) => first_after_whole(heap, key, others, set, o, x, own),
+        Some(own) => match others {
+            [] => first_after_number(heap, key, set, o, x, own),
+            _ => first_after_whole(heap, key, others, set, o, x, own),
+        },
         None => first_after_value(heap, key, others, set, o, x),
+    }
+}
+
+// The same where the key is one of whole numbers, and the only one, and this is that of x.
+fn first_after_number(
+    heap: &mut Heap,
+    key: RankKey,
+    set: usize,
+    o: i64,
+    x: i64,
+    own: i64,
+) -> Result<Option<i64>, FaultKind>
+    requires set { set < length heap.old.state.layout.sets }
+    requires mode { slice_get (modes_of heap.old.state.layout (member_class heap.old.state.layout set)) key.field ≡ Some Mode.Integer }
+    requires own { value_of heap.old.state (member_class heap.old.state.layout set) key.field x ≡ Value.Whole own }
+    ensures found { MatchResult result (λ y. IsOk (owner heap.old.state set o) × (y ≡ first_after heap.old.state (member_class heap.old.state.layout set) (key ∷ []) x (owned heap.old.state set o))) (λ e. owner heap.old.state set o ≡ Err e) }
+    ensures same { heap.new.state ≡ heap.old.state }
+    ensures touches { (heap.old.total ≤ heap.new.total) × (heap.new.total ≤ heap.old.total + 1 + passed heap.old.state (member_class heap.old.state.layout set) (key ∷ []) x (owned heap.old.state set o)) }
+{
+    heap.sets_are_apart();
+    match heap.first_past(set, o, key.field, own, key.high) {
+        Ok(first) => Ok(as_member(first)),
+        Err(fault) => Err(fault),
     }
 }
 

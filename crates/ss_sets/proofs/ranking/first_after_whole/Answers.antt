@@ -1,4 +1,4 @@
-use Rattle.std.proofs.Common.{rules, ◌≡◌, ◌<◌, ℕ, List, ◌∷◌, length, Some, Ok, Err, true, false, refl, sym, ap, subst, ◌∙◌, arith, w64, to_z, of_z, ℤ, pos}
+use Rattle.std.proofs.Common.{rules, ◌≡◌, ◌<◌, ℕ, List, ◌∷◌, length, Some, Ok, Err, true, false, sym, ap, subst, ◌∙◌, arith, w64, to_z, of_z, ℤ, pos}
 use Rattle.std.specs.Prelude.{IsOk, slice_get}
 use Rattle.std.specs.Ordering.{int_cmp}
 use Rattle.ss_base.specs.Order.{value_cmp}
@@ -11,7 +11,7 @@ use Rattle.ss_states.specs.Lists.{head0}
 use Rattle.ss_states.specs.Sets.{owner, first_in, member_class}
 use Rattle.ss_states.specs.Disciplines.{value_of, passed, owned, AreFields}
 use Rattle.ss_sets.specs.Walks.{first_after, as_member}
-use Rattle.ss_sets.proofs.Walking.{onward, leader, onward_all, first_leads, at_hand, next_is, stops, passes, found_first, not_found, Looked, looked, never_lost, first_field, other_fields}
+use Rattle.ss_sets.proofs.Walking.{onward, leader, onward_all, first_leads, at_hand, next_is, stops, passes, found_first, not_found, Looked, looked, never_lost, other_fields}
 use Rattle.ss_sets.proofs.ranking.first_after_whole.Goals as goal
 
 pub returns-in-Err-clause-found : goal.returns-in-Err-clause-found
