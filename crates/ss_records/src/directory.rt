@@ -76,6 +76,21 @@ impl Directory {
         }
     }
 
+    /// The entry i, if a block lies there that is found without a search.
+    #[inline(always)]
+    pub(crate) fn near(&self, i: usize) -> Option<Address>
+        requires { i < length self.now.places }
+        ensures { (p : Address) → result ≡ Some p → slice_get self.now.places i ≡ Some (Some p) }
+    {
+        if i >= self.start {
+            return self.current.get(i - self.start);
+        }
+        match self.earlier.near(i / PAGE) {
+            Some(page) => page.get(i % PAGE),
+            None => None,
+        }
+    }
+
     /// The place of the next number.
     pub(crate) fn push(&mut self, place: Address) -> Result<(), AllocError>
         requires room { length self.old.places < 2 ^ 62 }

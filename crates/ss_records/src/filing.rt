@@ -339,7 +339,28 @@ impl Records {
     }
 
     /// Whether x is in the set of an owner: at most two touches.
+    #[inline(always)]
     pub(crate) fn has(&mut self, s: usize, o: i64, x: i64) -> Result<bool, FaultKind>
+        requires kept { IsKept self.old }
+        requires set { s < length self.old.layout.sets }
+        requires touches { self.old.blocks.touches ≡ 0 }
+        ensures value { result ≡ member_test (state self.old) s o x }
+        ensures kept { IsKept self.new }
+        ensures same { state self.new ≡ state self.old }
+        ensures touches { (self.new.blocks.touches ≤ 2) × (self.new.blocks.total ≡ self.old.blocks.total + self.new.blocks.touches) }
+    {
+        let Some(member) = self.near_joiner(s, x) else {
+            return self.far_has(s, o, x);
+        };
+        let Some(owner) = self.near_owner(s, o) else {
+            return self.far_has(s, o, x);
+        };
+        Ok(self.is_in(s, owner, member))
+    }
+
+    // The same where one of them is searched, or is not there.
+    #[inline(never)]
+    fn far_has(&mut self, s: usize, o: i64, x: i64) -> Result<bool, FaultKind>
         requires kept { IsKept self.old }
         requires set { s < length self.old.layout.sets }
         requires touches { self.old.blocks.touches ≡ 0 }

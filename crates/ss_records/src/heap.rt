@@ -56,6 +56,18 @@ impl Heap {
         requires class { class < length self.now.state.layout.classes }
         ensures { result ≡ known_in self.now.state class r }
     {
+        match self.records.near(class, r) {
+            Some(_) => Ok(()),
+            None => self.far_known(class, r),
+        }
+    }
+
+    // The same of one that is searched, or is not there.
+    #[inline(never)]
+    fn far_known(&self, class: usize, r: i64) -> Result<(), FaultKind>
+        requires class { class < length self.now.state.layout.classes }
+        ensures { result ≡ known_in self.now.state class r }
+    {
         match self.records.find(class, r) {
             Ok(_) => Ok(()),
             Err(fault) => Err(fault),

@@ -62,6 +62,19 @@ impl PageMap {
         }
     }
 
+    /// The page of a number, if none is missing from it on: then it is found without a search.
+    #[inline(always)]
+    pub(crate) fn near(&self, number: usize) -> Option<&Page>
+        ensures { (page : List (Option Address)) → option_copied result ≡ Some page → page_of self.now number ≡ Some page }
+    {
+        let k = self.from_last(number);
+        if self.has(k, number) {
+            Some(&self.entries[k].1)
+        } else {
+            None
+        }
+    }
+
     // Where the page of a number stands.
     #[inline(always)]
     fn place(&self, number: usize) -> Option<usize>

@@ -1,5 +1,5 @@
 // The records: where each lies, and what its block says.
-ghost use Rattle.std.specs.Prelude.{◌≡◌, ℕ, ◌+◌, ◌-◌, ◌*◌, ◌^◌, ◌<◌, ◌≤◌, length, MatchResult, IfOk, Ok, Err, Some, None, slice_get, true, ⊤, suc};
+ghost use Rattle.std.specs.Prelude.{◌≡◌, ℕ, ℤ, ◌+◌, ◌-◌, ◌*◌, ◌^◌, ◌<◌, ◌≤◌, length, MatchResult, IfOk, Ok, Err, Some, None, slice_get, true, ⊤, suc};
 ghost use Rattle.ss_states.specs.State.{entity, notice, numbered, and_then, of_class, kind_of, modes_of, is_notice, first_state, living_numbers, living_records, value_in, time_in, in_a_set, owns_members, destroyed, created, created_all, with_made, assigned, timed, RefusedFor};
 ghost use Rattle.ss_records.specs.Cells.{words_at, number};
 ghost use Rattle.ss_records.specs.Reading.{record_of};
@@ -183,6 +183,57 @@ impl Records {
         }
     }
 
+    // The block of a creation number, where it is found without a search.
+    #[inline(always)]
+    fn near_numbered(&self, r: i64) -> Option<Address>
+        ensures { (p : Address) → result ≡ Some p → numbered_place self.now.directory.places r ≡ Ok p }
+    {
+        if r <= 0 {
+            return None;
+        }
+        let i = r as usize - 1;
+        if i >= self.directory.len() {
+            return None;
+        }
+        self.directory.near(i)
+    }
+
+    // The block of a creation number of a class, where it is found without a search.
+    #[inline(always)]
+    fn near_of_class(&self, class: usize, r: i64) -> Option<Address>
+        requires kept { IsKept self.now }
+        ensures found { (p : Address) → result ≡ Some p → (numbered_place self.now.directory.places r ≡ Ok p) × (class_at self.now.blocks.cells p ≡ class) × (and_then (numbered (state self.now) r) (of_class class) ≡ Ok (record_of self.now.layout (words_at self.now.blocks.cells p.at))) }
+    {
+        match self.near_numbered(r) {
+            Some(place) => {
+                if self.blocks.number(place, CLASS) == class as u64 {
+                    Some(place)
+                } else {
+                    None
+                }
+            }
+            None => None,
+        }
+    }
+
+    /// The block of an entity of a class, where it is found without a search. What follows then needs no register kept for
+    /// a call: the rest is in functions of their own.
+    #[inline(always)]
+    pub(crate) fn near(&self, class: usize, r: i64) -> Option<Address>
+        requires kept { IsKept self.now }
+        requires class { class < length self.now.layout.classes }
+        ensures found { (p : Address) → result ≡ Some p → Found self.now class r p }
+    {
+        match self.layout.kind(class) {
+            ClassKind::Permanent => match self.indexed(class, r) {
+                Ok(place) => Some(place),
+                Err(_) => None,
+            },
+            ClassKind::Temporary => self.near_of_class(class, r),
+            ClassKind::Notice => self.near_of_class(class, r),
+        }
+    }
+
     /// The block of a notice of any class.
     pub(crate) fn find_notice(&self, r: i64) -> Result<Address, FaultKind>
         requires kept { IsKept self.now }
@@ -212,24 +263,76 @@ impl Records {
     }
 
     /// The value of an attribute.
+    #[inline(always)]
     pub(crate) fn value(&self, class: usize, field: usize, r: i64) -> Result<Value, FaultKind>
         requires kept { IsKept self.now }
         requires class { class < length self.now.layout.classes }
         requires field { field < length (modes_of self.now.layout class) }
         ensures { result ≡ value_in (state self.now) class field r }
     {
+        match self.near(class, r) {
+            Some(place) => Ok(self.value_at(class, field, place)),
+            None => self.far_value(class, field, r),
+        }
+    }
+
+    // The same of one that is searched, or is not there.
+    #[inline(never)]
+    fn far_value(&self, class: usize, field: usize, r: i64) -> Result<Value, FaultKind>
+        requires kept { IsKept self.now }
+        requires class { class < length self.now.layout.classes }
+        requires field { field < length (modes_of self.now.layout class) }
+        ensures { result ≡ value_in (state self.now) class field r }
+    {
         match self.find(class, r) {
-            Ok(place) => {
-                let mode = self.layout.mode(class, field);
-                let k = value_start(field);
-                Ok(self.blocks.value(place, k, mode))
-            }
+            Ok(place) => Ok(self.value_at(class, field, place)),
             Err(fault) => Err(fault),
         }
     }
 
+    // The value of an attribute of the entity in a block.
+    #[inline(always)]
+    fn value_at(&self, class: usize, field: usize, place: Address) -> Value
+        requires kept { IsKept self.now }
+        requires class { class < length self.now.layout.classes }
+        requires field { field < length (modes_of self.now.layout class) }
+        requires found { (x : ℤ) × Found self.now class x place }
+        ensures { (x : ℤ) → Found self.now class x place → value_in (state self.now) class field x ≡ Ok result }
+    {
+        let mode = self.layout.mode(class, field);
+        let k = value_start(field);
+        self.blocks.value(place, k, mode)
+    }
+
     /// Sets the value of an attribute.
+    #[inline(always)]
     pub(crate) fn set_value(
+        &mut self,
+        class: usize,
+        field: usize,
+        r: i64,
+        value: Value,
+    ) -> Result<(), FaultKind>
+        requires kept { IsKept self.old }
+        requires class { class < length self.old.layout.classes }
+        requires mode { slice_get (modes_of self.old.layout class) field ≡ Some (mode_of value) }
+        ensures kept { IsKept self.new }
+        ensures done { MatchResult result (λ _. assigned (state self.old) class field r value ≡ Ok (state self.new)) (λ e. (assigned (state self.old) class field r value ≡ Err e) × (state self.new ≡ state self.old)) }
+        ensures touches { (self.new.blocks.touches ≡ self.old.blocks.touches) × (self.new.blocks.total ≡ self.old.blocks.total) }
+        ensures blocks { length self.new.blocks.cells ≡ length self.old.blocks.cells }
+    {
+        match self.near(class, r) {
+            Some(place) => {
+                self.assign_at(class, field, place, value);
+                Ok(())
+            }
+            None => self.far_set_value(class, field, r, value),
+        }
+    }
+
+    // The same of one that is searched, or is not there.
+    #[inline(never)]
+    fn far_set_value(
         &mut self,
         class: usize,
         field: usize,
@@ -246,12 +349,26 @@ impl Records {
     {
         match self.find(class, r) {
             Ok(place) => {
-                let k = value_start(field);
-                self.blocks.set_value(place, k, value);
+                self.assign_at(class, field, place, value);
                 Ok(())
             }
             Err(fault) => Err(fault),
         }
+    }
+
+    // Sets the value of an attribute of the entity in a block.
+    #[inline(always)]
+    fn assign_at(&mut self, class: usize, field: usize, place: Address, value: Value)
+        requires kept { IsKept self.old }
+        requires mode { slice_get (modes_of self.old.layout class) field ≡ Some (mode_of value) }
+        requires found { (x : ℤ) × Found self.old class x place }
+        ensures kept { IsKept self.new }
+        ensures done { (x : ℤ) → Found self.old class x place → assigned (state self.old) class field x value ≡ Ok (state self.new) }
+        ensures touches { (self.new.blocks.touches ≡ self.old.blocks.touches) × (self.new.blocks.total ≡ self.old.blocks.total) }
+        ensures blocks { length self.new.blocks.cells ≡ length self.old.blocks.cells }
+    {
+        let k = value_start(field);
+        self.blocks.set_value(place, k, value);
     }
 
     /// The time of a notice.

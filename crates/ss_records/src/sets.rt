@@ -1,5 +1,5 @@
 // The sets: their ends, the neighbours of a member, and its owner.
-ghost use Rattle.std.specs.Prelude.{◌≡◌, ℕ, ◌+◌, ◌^◌, ◌<◌, ◌≤◌, length, slice_get, not, false, pos, MatchResult, IsOk, Ok, Err, Some};
+ghost use Rattle.std.specs.Prelude.{◌≡◌, ℕ, ℤ, ◌+◌, ◌^◌, ◌<◌, ◌≤◌, length, slice_get, not, false, pos, MatchResult, IsOk, Ok, Err, Some};
 ghost use Rattle.std.specs.Ordering.{match_ordering, int_cmp};
 ghost use Rattle.ss_states.specs.State.{State, is_filed, members_of, modes_of, value_in};
 ghost use Rattle.ss_states.specs.Sets.{joiner, owner, member_class, first_in, last_in, count_in, next_in, previous_in, owner_of_member, Apart};
@@ -72,6 +72,44 @@ impl Records {
                 number: self.blocks.number(place, NUMBER),
             }),
             Err(fault) => Err(fault),
+        }
+    }
+
+    /// What x means as one that may be in a set, where it is found without a search.
+    #[inline(always)]
+    pub(crate) fn near_joiner(&self, s: usize, x: i64) -> Option<Entry>
+        requires kept { IsKept self.now }
+        requires set { s < length self.now.layout.sets }
+        ensures found { (e : Entry) → result ≡ Some e → Joins self.now s e × (joiner (state self.now) s x ≡ Ok e.number) }
+    {
+        match self.near(self.layout.member_class(s), x) {
+            Some(place) => Some(Entry {
+                place,
+                number: self.blocks.number(place, NUMBER),
+            }),
+            None => None,
+        }
+    }
+
+    /// What o means as an owner of a set, where it is found without a search.
+    #[inline(always)]
+    pub(crate) fn near_owner(&self, s: usize, o: i64) -> Option<Entry>
+        requires kept { IsKept self.now }
+        requires set { s < length self.now.layout.sets }
+        ensures found { (e : Entry) → result ≡ Some e → Owns self.now s e × (owner (state self.now) s o ≡ Ok e.number) }
+    {
+        match self.layout.owner_class(s) {
+            Owner::System => Some(Entry {
+                place: self.system,
+                number: 0,
+            }),
+            Owner::Class(class) => match self.near(class, o) {
+                Some(place) => Some(Entry {
+                    place,
+                    number: self.blocks.number(place, NUMBER),
+                }),
+                None => None,
+            },
         }
     }
 
@@ -151,6 +189,7 @@ impl Records {
     }
 
     /// The member that follows x in its set, 0 where there is none: a touch.
+    #[inline(always)]
     pub(crate) fn next(&mut self, s: usize, x: i64) -> Result<i64, FaultKind>
         requires kept { IsKept self.old }
         requires set { s < length self.old.layout.sets }
@@ -160,14 +199,44 @@ impl Records {
         ensures same { state self.new ≡ state self.old }
         ensures touches { (self.new.blocks.touches ≤ 1) × (IsOk result → 1 ≤ self.new.blocks.touches) × (self.new.blocks.total ≡ self.old.blocks.total + self.new.blocks.touches) }
     {
+        match self.near_joiner(s, x) {
+            Some(member) => Ok(self.next_of(s, member)),
+            None => self.far_next(s, x),
+        }
+    }
+
+    // The same of one that is searched, or is not there.
+    #[inline(never)]
+    fn far_next(&mut self, s: usize, x: i64) -> Result<i64, FaultKind>
+        requires kept { IsKept self.old }
+        requires set { s < length self.old.layout.sets }
+        requires touches { self.old.blocks.touches ≡ 0 }
+        ensures value { result ≡ next_in (state self.old) s x }
+        ensures kept { IsKept self.new }
+        ensures same { state self.new ≡ state self.old }
+        ensures touches { (self.new.blocks.touches ≤ 1) × (IsOk result → 1 ≤ self.new.blocks.touches) × (self.new.blocks.total ≡ self.old.blocks.total + self.new.blocks.touches) }
+    {
         match self.joiner(s, x) {
-            Ok(member) => {
-                let base = self.layout.member_base(s);
-                let next = self.blocks.follow(member.place, base);
-                Ok(other_than(next.number, member.number) as i64)
-            }
+            Ok(member) => Ok(self.next_of(s, member)),
             Err(fault) => Err(fault),
         }
+    }
+
+    // The member that follows a member in its set, 0 where there is none or it is in no set: a touch.
+    #[inline(always)]
+    fn next_of(&mut self, s: usize, member: Entry) -> i64
+        requires kept { IsKept self.old }
+        requires set { s < length self.old.layout.sets }
+        requires joins { Joins self.old s member }
+        requires touches { self.old.blocks.touches ≡ 0 }
+        ensures value { (x : ℤ) → joiner (state self.old) s x ≡ Ok member.number → next_in (state self.old) s x ≡ Ok result }
+        ensures kept { IsKept self.new }
+        ensures same { state self.new ≡ state self.old }
+        ensures touches { (self.new.blocks.touches ≡ 1) × (self.new.blocks.total ≡ self.old.blocks.total + 1) }
+    {
+        let base = self.layout.member_base(s);
+        let next = self.blocks.follow(member.place, base);
+        other_than(next.number, member.number) as i64
     }
 
     /// The value of an attribute of x and the member that follows it in its set, 0 where there is none: a touch.

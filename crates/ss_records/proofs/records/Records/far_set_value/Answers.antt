@@ -1,0 +1,9 @@
+use Rattle.std.proofs.Common.{w64, to_z, of_z}
+use Rattle.std.proofs.lemmas.Int.{to_z-of_z}
+use Rattle.ss_records.proofs.records.Records.far_set_value.Goals as goal
+
+pub assign_at-requires-clause-found : goal.assign_at-requires-clause-found
+assign_at-requires-clause-found c = (to_z w64 (of_z w64 c.args.r), c.in-Ok.ensures.found)
+
+pub returns-in-Ok-clause-done : goal.returns-in-Ok-clause-done
+returns-in-Ok-clause-done c = let fits = c.ranges.r in let f = simp to_z-of_z at c.in-Ok.ensures.found in c.assign_at.ensures.done c.args.r f
