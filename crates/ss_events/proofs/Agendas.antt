@@ -11,7 +11,7 @@ use Rattle.std.proofs.lemmas.Bool.{cases_lt, cases_Bool}
 use Rattle.ss_events.specs.declared.entry.Entry.{Entry}
 use Rattle.ss_events.specs.HeapEntries.{HeapEntries, notices_of}
 use Rattle.ss_events.specs.Sifting.{IsLogarithmic}
-use Rattle.ss_events.specs.BinaryHeap.{IsHeap}
+use Rattle.ss_events.specs.HeapOrder.{IsHeap}
 use Rattle.ss_events.specs.Order.{comes_before}
 use Rattle.ss_events.specs.PendingList.{PendingList, scheduling_limit, is_pending, without, earlier, least, next, after_next}
 use Rattle.ss_events.specs.InOrder.{put, in_order, numbers_of, IsAgenda}

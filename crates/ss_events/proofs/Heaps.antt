@@ -1,11 +1,11 @@
--- What a step up or down a binary heap keeps.
+-- What a step up or down a heap keeps, and which child comes first.
 use Rattle.std.proofs.Common.{◌≡◌, ◌≢◌, ℕ, zero, suc, ◌+◌, ◌-◌, ◌*◌, ◌/◌, ◌<◌, ◌≤◌, Bool, true, false, List, [], ◌∷◌, ◌++◌, length, get_or, swap, set, refl, ap, subst, ◌∙◌, ◌⊎◌, ⊎_elim, arith, length-append}
 use Rattle.std.specs.Cmp.{IsStrictWeakOrder}
 use Rattle.std.specs.List.{swap_remove}
 use Rattle.std.proofs.lemmas.List.{get_or-take, get_or-set_other, length-take, length-set, get_or_append_left}
 use Rattle.std.proofs.lemmas.List.Edits.{Swapped, swapped_from_swap, length-swap}
-use Rattle.std.proofs.lemmas.Bool.{cases_eq}
-use Rattle.ss_events.specs.BinaryHeap.{IsChild, IsHeap, IsUnderParent, IsOverChildren, IsHeapBut, IsFirstChild}
+use Rattle.std.proofs.lemmas.Bool.{cases_eq, cases_lt}
+use Rattle.ss_events.specs.HeapOrder.{IsChild, IsHeap, IsUnderParent, IsOverChildren, IsHeapBut, IsFirstOf, IsFirstAmong, IsFirstChild}
 
 -- by cases
 either : {A B C : Type 0} → A ⊎ B → (A → C) → (B → C) → C
@@ -105,7 +105,7 @@ module _ {X : Type 0} (before : X → X → Bool) where
   rests o xs j c best f = record { order = λ k jk k_in d. o.chain _ _ _ (best.order k jk k_in d) (f d) }
 
   -- a place without children
-  pub leaf : (xs : List X) (j : ℕ) → length xs ≤ 2 * j + 1 → IsOverChildren before xs j
+  pub leaf : (xs : List X) (j : ℕ) → length xs ≤ 4 * j + 1 → IsOverChildren before xs j
   leaf xs j le = record { order = λ k jk k_in d. absurd (omega (arith, jk.from)) }
 
   -- the top has no parent
@@ -121,8 +121,8 @@ module _ {X : Type 0} (before : X → X → Bool) where
       never false e = e
   first o xs h zero (suc k) le k_in d = absurd (omega arith)
   first o xs h (suc fuel) (suc k) le k_in d =
-      let child : IsChild (k / 2) (suc k) = record { from = omega arith; to = omega arith } in
-      o.chain _ _ _ (h.order (k / 2) (suc k) child k_in d) (first o xs h fuel (k / 2) (omega arith) (omega arith) d)
+      let child : IsChild (k / 4) (suc k) = record { from = omega arith; to = omega arith } in
+      o.chain _ _ _ (h.order (k / 4) (suc k) child k_in d) (first o xs h fuel (k / 4) (omega arith) (omega arith) d)
 
   -- a new element at the end
   pub pushed : (xs : List X) (x : X) → IsHeap before xs → IsHeapBut before (xs ++ x ∷ []) (length xs)
@@ -173,26 +173,28 @@ module _ {X : Type 0} (before : X → X → Bool) where
     alike : (xs : List X) (i k : ℕ) → k ≡ i → (d : X) → before (get_or xs k d) (get_or xs i d) ≡ false
     alike xs i k e d = along _ _ _ _ (here xs k i d e) refl (never (get_or xs i d) _ refl)
 
-    module _ (xs : List X) (at : ℕ) where
-      pub only_child : 2 * at + 1 < length xs → length xs ≤ 2 * at + 1 + 1 → IsFirstChild before xs at (2 * at + 1)
-      only_child within short = record {
-        child = record { from = omega arith; to = omega arith };
-        within = within;
-        order = λ k child k_in. alike xs (2 * at + 1) k (omega (arith, child.from));
+    module _ (xs : List X) where
+      -- the first of two, where the right one comes before the left one, and where it doesn't
+      pub right_first : (a b : ℕ) → a < b → ((d : X) → before (get_or xs b d) (get_or xs a d) ≡ true) → IsFirstOf before xs a b b
+      right_first a b apart t = record { from = omega arith; to = omega arith; left = λ d. o.one_way _ _ (t d); right = alike xs b b refl }
+
+      pub left_first : (a b : ℕ) → a < b → ((d : X) → before (get_or xs b d) (get_or xs a d) ≡ false) → IsFirstOf before xs a b a
+      left_first a b apart f = record { from = omega arith; to = omega arith; left = alike xs a a refl; right = f }
+
+      -- the first of one
+      pub only : (a to : ℕ) → to ≡ a + 1 → IsFirstAmong before xs a to a
+      only a to one = record { above = omega arith; below = omega arith; order = λ k k_from k_to. alike xs a k (omega (arith, k_from, k_to)) }
+
+      -- the first of some and of those that follow them
+      pub joined : (from mid to a b c : ℕ) → IsFirstAmong before xs from mid a → IsFirstAmong before xs mid to b → IsFirstOf before xs a b c → IsFirstAmong before xs from to c
+      joined from mid to a b c left right first = record {
+        above = omega (arith, left.above, first.from);
+        below = omega (arith, first.to, right.below);
+        order = λ k k_from k_to. either (cases_lt k mid)
+            (λ lt d. o.chain _ _ _ (left.order k k_from lt d) (first.left d))
+            (λ le d. o.chain _ _ _ (right.order k le k_to d) (first.right d));
       }
 
-      pub right_child : 2 * at + 1 + 1 < length xs → ((d : X) → before (get_or xs (2 * at + 1 + 1) d) (get_or xs (2 * at + 1) d) ≡ true) → IsFirstChild before xs at (2 * at + 1 + 1)
-      right_child within t = record {
-        child = record { from = omega arith; to = omega arith };
-        within = within;
-        order = λ k child k_in. either (cases_eq k (2 * at + 1 + 1)) (alike xs (2 * at + 1 + 1) k)
-            (λ other d. let e : k ≡ 2 * at + 1 = omega (arith, child.from, child.to) in along _ _ _ _ (here xs k (2 * at + 1) d e) refl (o.one_way _ _ (t d)));
-      }
-
-      pub left_child : 2 * at + 1 + 1 < length xs → ((d : X) → before (get_or xs (2 * at + 1 + 1) d) (get_or xs (2 * at + 1) d) ≡ false) → IsFirstChild before xs at (2 * at + 1)
-      left_child within f = record {
-        child = record { from = omega arith; to = omega arith };
-        within = omega arith;
-        order = λ k child k_in. either (cases_eq k (2 * at + 1)) (alike xs (2 * at + 1) k)
-            (λ other d. let e : k ≡ 2 * at + 1 + 1 = omega (arith, child.from, child.to) in along _ _ _ _ (here xs k (2 * at + 1 + 1) d e) refl (f d));
-      }
+      -- the first of two neighbours
+      pub pair : (a b to c : ℕ) → b ≡ a + 1 → to ≡ a + 2 → IsFirstOf before xs a b c → IsFirstAmong before xs a to c
+      pair a b to c next two first = joined a (a + 1) to a b c (only a (a + 1) refl) (subst (λ k. IsFirstAmong before xs k to b) next (only b to (omega arith))) first

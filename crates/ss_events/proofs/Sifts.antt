@@ -1,16 +1,16 @@
 -- Each step of an entry that rises or sinks in a heap.
-use Rattle.std.proofs.Common.{◌≡◌, ℕ, ◌+◌, ◌-◌, ◌*◌, ◌/◌, ◌<◌, ◌≤◌, ◌^◌, true, false, List, length, get_or, swap, sym, ap, subst, ⊎_elim, arith, [], ◌∷◌, ◌++◌, length-append}
+use Rattle.std.proofs.Common.{◌≡◌, ℕ, ◌+◌, ◌-◌, ◌*◌, ◌/◌, ◌<◌, ◌≤◌, ◌^◌, zero, suc, true, false, List, length, get_or, swap, refl, sym, ap, subst, ⊎_elim, arith, [], ◌∷◌, ◌++◌, length-append, pow-suc, pow_pos, pow_mono, pow-add}
 use Rattle.std.specs.List.Sorted.{IsPermutation}
 use Rattle.std.specs.List.{swap_remove}
 use Rattle.std.proofs.lemmas.List.Sorted.{IsPermutation-sym, IsPermutation-to_front, IsPermutation-cons, IsPermutation-swap_remove, IsPermutation-refl, IsPermutation-swap, IsPermutation-trans, length_permutation}
 use Rattle.std.proofs.lemmas.List.Edits.{length-swap}
 use Rattle.std.proofs.lemmas.Nat.{pow_below}
 use Rattle.std.proofs.lemmas.Grind.{pow_more}
-use Rattle.std.proofs.lemmas.Bool.{cases_lt, cases_eq}
-use Rattle.std.proofs.Math.Nat.{mul-le-mul_left, mul-le-mul_right}
+use Rattle.std.proofs.lemmas.Bool.{cases_lt}
+use Rattle.std.proofs.Math.Nat.{mul-le-mul_right}
 use Rattle.ss_events.specs.declared.entry.Entry.{Entry}
 use Rattle.ss_events.specs.HeapEntries.{HeapEntries}
-use Rattle.ss_events.specs.BinaryHeap.{IsChild, IsHeap, IsUnderParent, IsOverChildren, IsHeapBut, IsFirstChild}
+use Rattle.ss_events.specs.HeapOrder.{IsChild, IsHeap, IsUnderParent, IsOverChildren, IsHeapBut, IsFirstChild}
 use Rattle.ss_events.specs.Order.{comes_before}
 use Rattle.ss_events.specs.Sifting.{Raises, CostsToRaise, Lowers, CostsToLower, Mends, CostsToMend, IsLogarithmic}
 use Rattle.ss_events.specs.Digits.{binary_digits}
@@ -19,34 +19,30 @@ use Rattle.std.proofs.lemmas.Int.Digits.{number_lt, number_digits_of, all_below_
 use Rattle.ss_events.proofs.Heaps.{up_but, up_over, down_but, down_under, rests, leaf, closes, pushed, removed_but, removed_last, long-swap_remove}
 use Rattle.ss_events.proofs.EntryOrder.{entries_rank}
 
--- ---- powers of two
+-- ---- powers of four
 
--- twice as far at twice the power
-halves : (at from k : ℕ) → 0 < at → (at + 1) * 2 ^ k ≤ from + 1 → ((at - 1) / 2 + 1) * 2 ^ (k + 1) ≤ from + 1
-halves at from k some h =
-    let q = (at - 1) / 2 in
-    let near : 2 * (q + 1) ≤ at + 1 = omega arith in
-    let scaled : (2 * (q + 1)) * 2 ^ k ≤ (at + 1) * 2 ^ k = mul-le-mul_right (2 ^ k) near in
-    rw (pow_more 2 k) (omega arith)
+-- four times as far at four times the power
+quarters : (at from k : ℕ) → 0 < at → (3 * at + 1) * 4 ^ k ≤ 3 * from + 1 → (3 * ((at - 1) / 4) + 1) * 4 ^ (k + 1) ≤ 3 * from + 1
+quarters at from k some h =
+    let q = (at - 1) / 4 in
+    let near : 4 * (3 * q + 1) ≤ 3 * at + 1 = omega arith in
+    let scaled : (4 * (3 * q + 1)) * 4 ^ k ≤ (3 * at + 1) * 4 ^ k = mul-le-mul_right (4 ^ k) near in
+    rw (pow_more 4 k) (omega arith)
 
--- so many levels stand above a place
-pub levels_above : (at from k : ℕ) → (at + 1) * 2 ^ k ≤ from + 1 → 2 ^ k ≤ from + 1
-levels_above at from k h =
-    let some : 1 * 2 ^ k ≤ (at + 1) * 2 ^ k = mul-le-mul_right (2 ^ k) (omega arith) in
+-- the power alone
+pub levels_above : (at n k : ℕ) → (3 * at + 1) * 4 ^ k ≤ n → 4 ^ k ≤ n
+levels_above at n k h =
+    let some : 1 * 4 ^ k ≤ (3 * at + 1) * 4 ^ k = mul-le-mul_right (4 ^ k) (omega arith) in
     omega arith
 
--- fewer than 2 ^ 64 places have at most 64 levels
-pub few_levels : (k n : ℕ) → 2 ^ k ≤ n → n ≤ 2 ^ 64 → k ≤ 64
-few_levels k n le small = ⊎_elim (λ lt. absurd (omega (arith, pow_below 64 k lt))) (λ le. le) (cases_lt 64 k)
+-- in powers of two
+squares : (k : ℕ) → 4 ^ k ≡ 2 ^ (2 * k)
+squares zero = refl
+squares (suc k) = let twice : 2 * suc k ≡ 2 * k + 1 + 1 = omega arith in rw (pow-suc 4 k, squares k, twice, pow_more 2 (2 * k + 1), pow_more 2 (2 * k)) (omega arith)
 
--- a power above 1 is no more than 1 times
-no_level : (from k : ℕ) → (from + 1) * 2 ^ k ≤ from + 1 → k ≡ 0
-no_level from k h = ⊎_elim (λ e. e)
-    (λ some.
-    let two : 2 ≤ 2 ^ k = pow_below 0 k (omega arith) in
-    let twice : (from + 1) * 2 ≤ (from + 1) * 2 ^ k = mul-le-mul_left (from + 1) two in
-    absurd (omega arith))
-    (cases_eq k 0)
+-- fewer than 2 ^ 64 places have at most 64 levels
+pub few_levels : (k n : ℕ) → 4 ^ k ≤ n → n ≤ 3 * 2 ^ 64 + 1 → k ≤ 64
+few_levels k n le small = ⊎_elim (λ lt. absurd (omega (arith, squares k, pow_below 66 (2 * k) (omega arith)))) (λ le. le) (cases_lt 64 k)
 
 -- ---- rising
 
@@ -58,14 +54,14 @@ pub record Rising (old new : HeapEntries) (from at : ℕ) : Type 0 where
   pub but : IsHeapBut comes_before old.entries from → IsHeapBut comes_before new.entries at
   pub over : IsHeapBut comes_before old.entries from → at < from → IsOverChildren comes_before new.entries at
   pub levels : ℕ
-  pub halved : (at + 1) * 2 ^ levels ≤ from + 1
+  pub quartered : (3 * at + 1) * 4 ^ levels ≤ 3 * from + 1
   pub comparisons : new.comparisons ≡ old.comparisons + levels
   pub moves : new.moves ≡ old.moves + 2 * levels
   pub some : at < from → 0 < levels
 
 pub rising_few : (old new : HeapEntries) (from at : ℕ) → Rising old new from at → from < 2 ^ 64 → (new.comparisons ≤ old.comparisons + 64) × (new.moves ≤ old.moves + 128)
 rising_few old new from at r small =
-    let few = few_levels r.levels (from + 1) (levels_above at from r.levels r.halved) (omega arith) in
+    let few = few_levels r.levels (3 * from + 1) (levels_above at (3 * from + 1) r.levels r.quartered) (omega arith) in
     (omega (arith, r.comparisons, few), omega (arith, r.moves, few))
 
 pub rising_begins : (old : HeapEntries) (from : ℕ) → from < length old.entries → Rising old old from from
@@ -76,26 +72,26 @@ rising_begins old from within = record {
   but = λ h. h;
   over = λ h lt. absurd (omega arith);
   levels = 0;
-  halved = omega arith;
+  quartered = omega arith;
   comparisons = omega arith;
   moves = omega arith;
   some = λ lt. absurd (omega arith);
 }
 
-module _ (old was new : HeapEntries) (from at : ℕ) (some : 0 < at) (r : Rising old was from at) (t : (d : Entry) → comes_before (get_or was.entries at d) (get_or was.entries ((at - 1) / 2) d) ≡ true)
-    (entries : new.entries ≡ swap was.entries at ((at - 1) / 2)) (comparisons : new.comparisons ≡ was.comparisons + 1) (moves : new.moves ≡ was.moves + 2) where
-  child : IsChild ((at - 1) / 2) at
+module _ (old was new : HeapEntries) (from at : ℕ) (some : 0 < at) (r : Rising old was from at) (t : (d : Entry) → comes_before (get_or was.entries at d) (get_or was.entries ((at - 1) / 4) d) ≡ true)
+    (entries : new.entries ≡ swap was.entries at ((at - 1) / 4)) (comparisons : new.comparisons ≡ was.comparisons + 1) (moves : new.moves ≡ was.moves + 2) where
+  child : IsChild ((at - 1) / 4) at
   child = record { from = omega arith; to = omega arith }
 
-  pub rising_steps : Rising old new from ((at - 1) / 2)
+  pub rising_steps : Rising old new from ((at - 1) / 4)
   rising_steps = record {
-    permutation = IsPermutation-trans old.entries was.entries new.entries r.permutation (IsPermutation-swap was.entries new.entries at ((at - 1) / 2) r.within (omega (arith, r.within)) entries);
-    within = omega (arith, r.within, ap length entries, length-swap was.entries at ((at - 1) / 2));
+    permutation = IsPermutation-trans old.entries was.entries new.entries r.permutation (IsPermutation-swap was.entries new.entries at ((at - 1) / 4) r.within (omega (arith, r.within)) entries);
+    within = omega (arith, r.within, ap length entries, length-swap was.entries at ((at - 1) / 4));
     up = omega (arith, r.up);
-    but = λ h. up_but comes_before entries_rank was.entries new.entries ((at - 1) / 2) at child r.within entries t (r.but h);
-    over = λ h lt. up_over comes_before entries_rank was.entries new.entries ((at - 1) / 2) at child r.within entries t (r.but h);
+    but = λ h. up_but comes_before entries_rank was.entries new.entries ((at - 1) / 4) at child r.within entries t (r.but h);
+    over = λ h lt. up_over comes_before entries_rank was.entries new.entries ((at - 1) / 4) at child r.within entries t (r.but h);
     levels = r.levels + 1;
-    halved = halves at from r.levels some r.halved;
+    quartered = quarters at from r.levels some r.quartered;
     comparisons = omega (arith, r.comparisons);
     moves = omega (arith, r.moves);
     some = λ lt. omega arith;
@@ -114,17 +110,16 @@ rising_tops old new from at top r = (
   },
   record {
     levels = r.levels;
-    halved = levels_above at from r.levels r.halved;
+    quartered = levels_above at (3 * from + 1) r.levels r.quartered;
     comparisons = r.comparisons;
     moves = omega (arith, r.moves);
     some = λ some. r.some (omega arith);
     grows = omega (arith, r.moves);
-    still = λ e. omega (arith, r.moves, no_level from r.levels (subst (λ n. (n + 1) * 2 ^ r.levels ≤ from + 1) e r.halved));
   },
 )
 
 -- its parent doesn't come after it
-pub rising_rests : (old was new : HeapEntries) (from at : ℕ) → 0 < at → Rising old was from at → ((d : Entry) → comes_before (get_or was.entries at d) (get_or was.entries ((at - 1) / 2) d) ≡ false) → new.entries ≡ was.entries → new.comparisons ≡ was.comparisons + 1 → new.moves ≡ was.moves → Raises old.entries new.entries from at × CostsToRaise old new from at
+pub rising_rests : (old was new : HeapEntries) (from at : ℕ) → 0 < at → Rising old was from at → ((d : Entry) → comes_before (get_or was.entries at d) (get_or was.entries ((at - 1) / 4) d) ≡ false) → new.entries ≡ was.entries → new.comparisons ≡ was.comparisons + 1 → new.moves ≡ was.moves → Raises old.entries new.entries from at × CostsToRaise old new from at
 rising_rests old was new from at some r f entries comparisons moves = (
   subst (λ es. Raises old.entries es from at) (sym entries)
       record {
@@ -132,17 +127,16 @@ rising_rests old was new from at some r f entries comparisons moves = (
         within = r.within;
         up = r.up;
         but = r.but;
-        under = λ h. record { order = λ p child d. let e : p ≡ (at - 1) / 2 = omega (arith, child.from, child.to) in subst (λ q. comes_before (get_or was.entries at d) (get_or was.entries q d) ≡ false) (sym e) (f d) };
+        under = λ h. record { order = λ p child d. let e : p ≡ (at - 1) / 4 = omega (arith, child.from, child.to) in subst (λ q. comes_before (get_or was.entries at d) (get_or was.entries q d) ≡ false) (sym e) (f d) };
         over = r.over;
       },
   record {
     levels = r.levels + 1;
-    halved = levels_above ((at - 1) / 2) from (r.levels + 1) (halves at from r.levels some r.halved);
+    quartered = levels_above ((at - 1) / 4) (3 * from + 1) (r.levels + 1) (quarters at from r.levels some r.quartered);
     comparisons = omega (arith, r.comparisons);
     moves = omega (arith, r.moves);
     some = λ h. omega arith;
     grows = omega (arith, r.moves);
-    still = λ e. omega (arith, r.moves, no_level from r.levels (subst (λ n. (n + 1) * 2 ^ r.levels ≤ from + 1) e r.halved));
   },
 )
 
@@ -154,13 +148,13 @@ pub record Sinking (old new : HeapEntries) (from at : ℕ) : Type 0 where
   pub within : at < length new.entries
   pub but : IsHeapBut comes_before old.entries from → IsUnderParent comes_before old.entries from → IsHeapBut comes_before new.entries at × IsUnderParent comes_before new.entries at
   pub levels : ℕ
-  pub doubled : (from + 1) * 2 ^ levels ≤ at + 1
-  pub comparisons : new.comparisons ≤ old.comparisons + 2 * levels
+  pub quadrupled : (3 * from + 1) * 4 ^ levels ≤ 3 * at + 1
+  pub comparisons : new.comparisons ≤ old.comparisons + 4 * levels
   pub moves : new.moves ≤ old.moves + 2 * levels
 
-pub sinking_few : (old new : HeapEntries) (from at : ℕ) → Sinking old new from at → length old.entries < 2 ^ 64 → (new.comparisons ≤ old.comparisons + 128) × (new.moves ≤ old.moves + 128)
+pub sinking_few : (old new : HeapEntries) (from at : ℕ) → Sinking old new from at → length old.entries < 2 ^ 64 → (new.comparisons ≤ old.comparisons + 256) × (new.moves ≤ old.moves + 128)
 sinking_few old new from at r small =
-    let few = few_levels r.levels (at + 1) (levels_above from at r.levels r.doubled) (omega (arith, r.within, length_permutation old.entries new.entries r.permutation)) in
+    let few = few_levels r.levels (3 * at + 1) (levels_above from (3 * at + 1) r.levels r.quadrupled) (omega (arith, r.within, length_permutation old.entries new.entries r.permutation)) in
     (omega (arith, r.comparisons, few), omega (arith, r.moves, few))
 
 pub sinking_begins : (old : HeapEntries) (from : ℕ) → from < length old.entries → Sinking old old from from
@@ -169,31 +163,31 @@ sinking_begins old from within = record {
   within = within;
   but = λ h under. (h, under);
   levels = 0;
-  doubled = omega arith;
+  quadrupled = omega arith;
   comparisons = omega arith;
   moves = omega arith;
 }
 
--- twice as far at twice the power
-doubles : (from at c k : ℕ) → IsChild at c → (from + 1) * 2 ^ k ≤ at + 1 → (from + 1) * 2 ^ (k + 1) ≤ c + 1
-doubles from at c k child h =
-    let near : 2 * (at + 1) ≤ c + 1 = omega (arith, child.from) in
-    rw (pow_more 2 k) (omega arith)
+-- four times as far at four times the power
+quadruples : (from at c k : ℕ) → IsChild at c → (3 * from + 1) * 4 ^ k ≤ 3 * at + 1 → (3 * from + 1) * 4 ^ (k + 1) ≤ 3 * c + 1
+quadruples from at c k child h =
+    let near : 4 * (3 * at + 1) ≤ 3 * c + 1 = omega (arith, child.from) in
+    rw (pow_more 4 k) (omega arith)
 
 module _ (old was new : HeapEntries) (from at c : ℕ) (r : Sinking old was from at) (best : IsFirstChild comes_before was.entries at c) (t : (d : Entry) → comes_before (get_or was.entries c d) (get_or was.entries at d) ≡ true)
-    (entries : new.entries ≡ swap was.entries at c) (comparisons : new.comparisons ≤ was.comparisons + 2) (moves : new.moves ≡ was.moves + 2) where
+    (entries : new.entries ≡ swap was.entries at c) (comparisons : new.comparisons ≤ was.comparisons + 4) (moves : new.moves ≡ was.moves + 2) where
   pub sinking_steps : Sinking old new from c
   sinking_steps = record {
     permutation = IsPermutation-trans old.entries was.entries new.entries r.permutation (IsPermutation-swap was.entries new.entries at c r.within best.within entries);
     within = omega (arith, best.within, ap length entries, length-swap was.entries at c);
     but = λ h under. (down_but comes_before was.entries new.entries at c best entries (r.but h under).0, down_under comes_before was.entries new.entries at c best entries entries_rank t);
     levels = r.levels + 1;
-    doubled = doubles from at c r.levels best.child r.doubled;
+    quadrupled = quadruples from at c r.levels best.child r.quadrupled;
     comparisons = omega (arith, r.comparisons);
     moves = omega (arith, r.moves);
   }
 
-pub sinking_leaf : (old was new : HeapEntries) (from at : ℕ) → Sinking old was from at → length was.entries ≤ 2 * at + 1 → new.entries ≡ was.entries → new.comparisons ≤ was.comparisons → new.moves ≡ was.moves → Lowers old.entries new.entries from × CostsToLower old new from
+pub sinking_leaf : (old was new : HeapEntries) (from at : ℕ) → Sinking old was from at → length was.entries ≤ 4 * at + 1 → new.entries ≡ was.entries → new.comparisons ≤ was.comparisons → new.moves ≡ was.moves → Lowers old.entries new.entries from × CostsToLower old new from
 sinking_leaf old was new from at r le entries comparisons moves = (
   subst (λ es. Lowers old.entries es from) (sym entries)
       record {
@@ -202,13 +196,13 @@ sinking_leaf old was new from at r le entries comparisons moves = (
       },
   record {
     levels = r.levels;
-    doubled = omega (arith, r.doubled, r.within, length_permutation old.entries was.entries r.permutation);
+    quadrupled = omega (arith, r.quadrupled, r.within, length_permutation old.entries was.entries r.permutation);
     comparisons = omega (arith, r.comparisons);
     moves = omega (arith, r.moves);
   },
 )
 
-pub sinking_rests : (old was new : HeapEntries) (from at c : ℕ) → Sinking old was from at → IsFirstChild comes_before was.entries at c → ((d : Entry) → comes_before (get_or was.entries c d) (get_or was.entries at d) ≡ false) → new.entries ≡ was.entries → new.comparisons ≤ was.comparisons + 2 → new.moves ≡ was.moves → Lowers old.entries new.entries from × CostsToLower old new from
+pub sinking_rests : (old was new : HeapEntries) (from at c : ℕ) → Sinking old was from at → IsFirstChild comes_before was.entries at c → ((d : Entry) → comes_before (get_or was.entries c d) (get_or was.entries at d) ≡ false) → new.entries ≡ was.entries → new.comparisons ≤ was.comparisons + 4 → new.moves ≡ was.moves → Lowers old.entries new.entries from × CostsToLower old new from
 sinking_rests old was new from at c r best f entries comparisons moves = (
   subst (λ es. Lowers old.entries es from) (sym entries)
       record {
@@ -217,7 +211,7 @@ sinking_rests old was new from at c r best f entries comparisons moves = (
       },
   record {
     levels = r.levels + 1;
-    doubled = omega (arith, doubles from at c r.levels best.child r.doubled, best.within, length_permutation old.entries was.entries r.permutation);
+    quadrupled = omega (arith, quadruples from at c r.levels best.child r.quadrupled, best.within, length_permutation old.entries was.entries r.permutation);
     comparisons = omega (arith, r.comparisons);
     moves = omega (arith, r.moves);
   },
@@ -225,13 +219,27 @@ sinking_rests old was new from at c r best f entries comparisons moves = (
 
 -- ---- both, and the whole changes
 
--- no more levels than there are binary digits
-pub levels_digits : (k held : ℕ) → 2 ^ k ≤ held + 1 → k ≤ binary_digits held
+-- a number of so many binary digits
+below_power : (held : ℕ) → held < 2 ^ binary_digits held
+below_power held =
+    let short : number_from_digits 2 (digits_of 2 held) < 2 ^ binary_digits held = number_lt 2 (digits_of 2 held) (all_below_base_digits_of 2 held (omega arith)) in
+    subst (λ n. n < 2 ^ binary_digits held) (number_digits_of 2 held (omega arith)) short
+
+-- half as many levels as there are binary digits
+pub levels_digits : (k held : ℕ) → 4 ^ k ≤ 3 * held + 1 → 2 * k ≤ binary_digits held + 1
 levels_digits k held fits =
     let b = binary_digits held in
-    let short : number_from_digits 2 (digits_of 2 held) < 2 ^ b = number_lt 2 (digits_of 2 held) (all_below_base_digits_of 2 held (omega arith)) in
-    let below : held < 2 ^ b = subst (λ n. n < 2 ^ b) (number_digits_of 2 held (omega arith)) short in
-    ⊎_elim (λ lt. absurd (omega (arith, pow_below b k lt))) (λ le. le) (cases_lt b k)
+    ⊎_elim
+    (λ lt.
+    let high : 2 ^ (b + 1 + 1) ≤ 2 ^ (2 * k) = pow_mono (omega arith) in
+    absurd (omega (arith, high, pow_more 2 (b + 1), pow_more 2 b, squares k, below_power held)))
+    (λ le. le)
+    (cases_lt (b + 1) (2 * k))
+
+-- two or more have two digits
+two_digits : (held : ℕ) → 2 ≤ held → 2 ≤ binary_digits held
+two_digits held two =
+    ⊎_elim (λ lt. let low : 2 ^ binary_digits held ≤ 2 ^ 1 = pow_mono {j = 1} (omega arith) in absurd (omega (arith, low, below_power held))) (λ le. le) (cases_lt (binary_digits held) 2)
 
 pub mended_up : (old new : List Entry) (at to : ℕ) → (to ≡ at → ⊥) → Raises old new at to → Mends old new at
 mended_up old new at to moved r = record {
@@ -248,18 +256,20 @@ mended_down old was new at to still r l = record {
 pub cost_up : (old new : HeapEntries) (at to : ℕ) → at < length old.entries → CostsToRaise old new at to → CostsToMend old new
 cost_up old new at to within u = record {
   levels = u.levels;
-  fits = omega (arith, u.halved);
+  fits = omega (arith, u.quartered);
   comparisons = omega (arith, u.comparisons);
   moves = u.moves;
 }
 
-pub cost_down : (old was new : HeapEntries) (at to : ℕ) → at < length old.entries → length was.entries ≡ length old.entries → to ≡ at → CostsToRaise old was at to → CostsToLower was new at → CostsToMend old new
-cost_down old was new at to within long still u l =
-    let deep = levels_above at (length was.entries - 1) l.levels (omega (arith, l.doubled)) in
-    ⊎_elim
-    (λ lt. record { levels = l.levels; fits = omega (arith, deep); comparisons = omega (arith, u.comparisons, l.comparisons); moves = omega (arith, u.still still, l.moves) })
-    (λ le. record { levels = u.levels; fits = omega (arith, u.halved); comparisons = omega (arith, u.comparisons, l.comparisons); moves = omega (arith, u.still still, l.moves) })
-    (cases_lt u.levels l.levels)
+pub cost_down : (old was new : HeapEntries) (at to : ℕ) → length was.entries ≡ length old.entries → CostsToRaise old was at to → CostsToLower was new at → CostsToMend old new
+cost_down old was new at to long u l =
+    let scaled : 4 ^ u.levels * 4 ^ l.levels ≤ (3 * at + 1) * 4 ^ l.levels = mul-le-mul_right (4 ^ l.levels) u.quartered in
+    record {
+      levels = u.levels + l.levels;
+      fits = rw (pow-add 4 u.levels l.levels) (omega (arith, l.quadrupled));
+      comparisons = omega (arith, u.comparisons, l.comparisons);
+      moves = omega (arith, u.moves, l.moves);
+    }
 
 -- a new entry that rose from the end
 module _ (old put new : List Entry) (entry : Entry) (from to : ℕ) (is : put ≡ old ++ entry ∷ []) (last : from ≡ length old) (raised : Raises put new from to) where
@@ -278,7 +288,7 @@ module _ (old put new : List Entry) (entry : Entry) (from to : ℕ) (is : put �
 
 pub insert_work : (old new : HeapEntries) (held from to : ℕ) → old.comparisons ≡ 0 → old.moves ≡ 1 → from ≡ held → CostsToRaise old new from to → IsLogarithmic held new
 insert_work old new held from to none one last u =
-    let few = levels_digits u.levels held (omega (arith, u.halved)) in
+    let few = levels_digits u.levels held (omega (arith, u.quartered)) in
     record { comparisons = omega (arith, u.comparisons); moves = omega (arith, u.moves) }
 
 -- an entry that was taken out of a heap, where the last entry took its place
@@ -301,4 +311,5 @@ module _ (old mid : List Entry) (at : ℕ) (entry : Entry) (within : at < length
 pub take_work : (old new : HeapEntries) (held : ℕ) → old.comparisons ≡ 0 → old.moves ≤ 1 → length old.entries + 1 ≡ held → CostsToMend old new → IsLogarithmic held new
 take_work old new held none one less u =
     let few = levels_digits u.levels held (omega (arith, u.fits)) in
+    let two = two_digits held (omega (arith, u.fits, squares u.levels, pow_pos (2 * u.levels))) in
     record { comparisons = omega (arith, u.comparisons); moves = omega (arith, u.moves) }

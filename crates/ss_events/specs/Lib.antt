@@ -5,7 +5,7 @@ pub mod Order
 pub mod Digits
 pub mod PendingList
 pub mod HeapEntries
-pub mod BinaryHeap
+pub mod HeapOrder
 pub mod Sifting
 pub mod InOrder
 pub mod Slots

@@ -3,7 +3,7 @@ use Rattle.std.specs.Prelude.{◌≡◌, ℕ, ◌+◌, ◌*◌, ◌<◌, ◌≤�
 use Rattle.std.specs.List.Sorted.{IsPermutation}
 use Rattle.ss_events.specs.declared.entry.Entry.{Entry}
 use Rattle.ss_events.specs.HeapEntries.{HeapEntries}
-use Rattle.ss_events.specs.BinaryHeap.{IsHeap, IsHeapBut, IsUnderParent, IsOverChildren}
+use Rattle.ss_events.specs.HeapOrder.{IsHeap, IsHeapBut, IsUnderParent, IsOverChildren}
 use Rattle.ss_events.specs.Order.{comes_before}
 use Rattle.ss_events.specs.Digits.{binary_digits}
 
@@ -16,26 +16,25 @@ pub record Raises (old new : List Entry) (from to : ℕ) : Type 0 where
   pub under : IsHeapBut comes_before old from → IsUnderParent comes_before new to
   pub over : IsHeapBut comes_before old from → to < from → IsOverChildren comes_before new to
 
--- it looked at so many levels, each half as far from the top: a comparison each, and two moves for each that it passed
+-- it looked at so many levels, each a quarter as far from the top: a comparison each, and two moves for each that it passed
 pub record CostsToRaise (old new : HeapEntries) (from to : ℕ) : Type 0 where
   pub levels : ℕ
-  pub halved : 2 ^ levels ≤ from + 1
+  pub quartered : 4 ^ levels ≤ 3 * from + 1
   pub comparisons : new.comparisons ≡ old.comparisons + levels
   pub moves : new.moves ≤ old.moves + 2 * levels
   pub some : 0 < from → 0 < levels
   pub grows : old.moves ≤ new.moves
-  pub still : to ≡ from → new.moves ≡ old.moves
 
 -- the entry at `from`, which was under its parent, sank until all were in order
 pub record Lowers (old new : List Entry) (from : ℕ) : Type 0 where
   pub permutation : IsPermutation old new
   pub heap : IsHeapBut comes_before old from → IsUnderParent comes_before old from → IsHeap comes_before new
 
--- it looked at so many levels, each twice as far from the top: two comparisons and two moves each at most
+-- it looked at so many levels, each four times as far from the top: four comparisons and two moves each at most
 pub record CostsToLower (old new : HeapEntries) (from : ℕ) : Type 0 where
   pub levels : ℕ
-  pub doubled : (from + 1) * 2 ^ levels ≤ length old.entries
-  pub comparisons : new.comparisons ≤ old.comparisons + 2 * levels
+  pub quadrupled : (3 * from + 1) * 4 ^ levels ≤ 3 * length old.entries
+  pub comparisons : new.comparisons ≤ old.comparisons + 4 * levels
   pub moves : new.moves ≤ old.moves + 2 * levels
 
 -- the entry at `from` was put in order
@@ -43,11 +42,11 @@ pub record Mends (old new : List Entry) (from : ℕ) : Type 0 where
   pub permutation : IsPermutation old new
   pub heap : IsHeapBut comes_before old from → IsHeap comes_before new
 
--- it looked at no more levels than there are upwards, or downwards
+-- it looked at so many levels, upwards and downwards: four comparisons and two moves each at most
 pub record CostsToMend (old new : HeapEntries) : Type 0 where
   pub levels : ℕ
-  pub fits : 2 ^ levels ≤ length old.entries
-  pub comparisons : new.comparisons ≤ old.comparisons + 3 * levels
+  pub fits : 4 ^ levels ≤ 3 * length old.entries
+  pub comparisons : new.comparisons ≤ old.comparisons + 4 * levels
   pub moves : new.moves ≤ old.moves + 2 * levels
 
 -- the work of one change to a heap that held so many entries

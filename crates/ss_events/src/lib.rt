@@ -2,6 +2,7 @@
 #![tactic(auto)]
 
 mod calls;
+mod children;
 mod entry;
 mod key;
 mod laws;

@@ -1,13 +1,14 @@
 // How entries go into a heap in order and come out of it.
-ghost use Rattle.std.specs.Prelude.{false, ◌∷◌, OnOk, OnErr, ℕ, ◌≡◌, ◌<◌, ◌≤◌, ◌+◌, ◌*◌, ◌^◌, length, MatchOption, is_some, if◌then◌else◌};
+ghost use Rattle.std.specs.Prelude.{false, ◌∷◌, OnOk, OnErr, ℕ, ◌≡◌, ◌<◌, ◌≤◌, ◌^◌, length};
 ghost use Rattle.ss_events.specs.HeapEntries.{notices_of, TakesOut};
 ghost use Rattle.std.specs.Ordering.{int_eq};
 ghost use Rattle.std.specs.List.{list_any};
 ghost use Rattle.std.specs.List.Sorted.{IsPermutation};
-ghost use Rattle.ss_events.specs.BinaryHeap.{IsHeap, IsFirstChild};
+ghost use Rattle.ss_events.specs.HeapOrder.{IsHeap};
 ghost use Rattle.ss_events.specs.Order.{comes_before};
 ghost use Rattle.ss_events.specs.Sifting.{Raises, CostsToRaise, Lowers, CostsToLower, Mends, CostsToMend, IsLogarithmic};
 
+use crate::children::first_child;
 use crate::entry::{Heap, Key};
 use std::alloc::AllocError;
 
@@ -68,7 +69,7 @@ fn raise(heap: &mut Heap, mut at: usize) -> usize
     ensures cost { CostsToRaise heap.old heap.new at result }
 {
     while at > 0 {
-        let parent = (at - 1) / 2;
+        let parent = (at - 1) / 4;
         if !heap.is_before(at, parent) {
             return at;
         }
@@ -97,27 +98,4 @@ fn lower(heap: &mut Heap, mut at: usize)
         heap.swap(at, child);
         at = child;
     }
-}
-
-// The first child of the entry at a place. Counts a comparison where there are two.
-fn first_child(heap: &mut Heap, at: usize) -> Option<usize>
-    requires within { at < length heap.old.entries }
-    requires countable { heap.old.comparisons + 1 < 2 ^ 64 }
-    ensures child { MatchOption result (length heap.old.entries ≤ 2 * at + 1) (IsFirstChild comes_before heap.old.entries at) }
-    ensures entries { heap.new.entries ≡ heap.old.entries }
-    ensures comparisons { heap.new.comparisons ≤ heap.old.comparisons + (if is_some result then 1 else 0) }
-    ensures moves { heap.new.moves ≡ heap.old.moves }
-{
-    if at >= heap.len() / 2 {
-        return None;
-    }
-    let left = 2 * at + 1;
-    let right = left + 1;
-    if right >= heap.len() {
-        return Some(left);
-    }
-    if heap.is_before(right, left) {
-        return Some(right);
-    }
-    Some(left)
 }

@@ -1,4 +1,4 @@
-// The entries of the event list in the places of a binary heap.
+// The entries of the event list in the places of a heap.
 ghost use Rattle.std.specs.Prelude.{false, pos, ℕ, ◌≡◌, ◌<◌, ◌+◌, ◌++◌, ◌∷◌, ◌^◌, ◌==◌, if◌then◌else◌, [], length, swap, slice_get, slice_index_or, OnOk, OnErr, Some, None, IfSome, position, is_some};
 ghost use Rattle.std.specs.Ordering.{int_eq};
 ghost use Rattle.std.specs.List.{swap_remove, list_any};

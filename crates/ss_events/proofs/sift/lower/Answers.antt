@@ -3,8 +3,8 @@ use Rattle.ss_events.specs.Order.{comes_before}
 use Rattle.ss_events.proofs.Sifts.{sinking_few, sinking_steps, sinking_rests, sinking_leaf}
 use Rattle.ss_events.proofs.sift.lower.Goals as goal
 
-pub first_child-requires-clause-countable : goal.first_child-requires-clause-countable
-first_child-requires-clause-countable c = omega (arith, sinking_few c.args.heap.now c.loop-child.heap c.args.at c.loop-child.at c.loop-child.invariant c.requires.small)
+pub first_child-requires : goal.first_child-requires
+first_child-requires c = omega (arith, sinking_few c.args.heap.now c.loop-child.heap c.args.at c.loop-child.at c.loop-child.invariant c.requires.small)
 
 pub is_before-requires-clause-countable : goal.is_before-requires-clause-countable
 is_before-requires-clause-countable c = omega (arith, c.in-Some.ensures.comparisons, sinking_few c.args.heap.now c.loop-child.heap c.args.at c.loop-child.at c.loop-child.invariant c.requires.small)

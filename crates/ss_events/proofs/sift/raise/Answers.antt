@@ -13,7 +13,7 @@ loop-at-preserved c =
     let looked = c.is_before.ensures.counted in
     rising_steps c.args.heap.now c.loop-at.heap c.swap.new.self c.args.at c.loop-at.at c.loop-at-test.true c.loop-at.invariant
     (λ d. sym (c.if-not-is_before.ensures.value d))
-    (ap (λ h. h.entries) c.swap.ensures ∙ ap (λ h. swap h.entries c.loop-at.at ((c.loop-at.at - 1) / 2)) looked)
+    (ap (λ h. h.entries) c.swap.ensures ∙ ap (λ h. swap h.entries c.loop-at.at ((c.loop-at.at - 1) / 4)) looked)
     (ap (λ h. h.comparisons) c.swap.ensures ∙ ap (λ h. h.comparisons) looked)
     (ap (λ h. h.moves) c.swap.ensures ∙ ap (λ h. h.moves + 2) looked)
 

@@ -1,10 +1,10 @@
--- The order of a binary heap: the place p has the children 2 p + 1 and 2 p + 2.
+-- The order of a heap: the place p has four children, from 4 p + 1 to 4 p + 4.
 use Rattle.std.specs.Prelude.{◌≡◌, ◌≢◌, ℕ, ◌+◌, ◌*◌, ◌<◌, ◌≤◌, Bool, false, List, length, slice_index_or}
 
 -- k is a child of p
 pub record IsChild (p k : ℕ) : Type 0 where
-  pub from : 2 * p + 1 ≤ k
-  pub to : k ≤ 2 * p + 2
+  pub from : 4 * p + 1 ≤ k
+  pub to : k ≤ 4 * p + 4
 
 module _ {X : Type 0} (before : X → X → Bool) where
   -- what stands at k doesn't come before what stands at p
@@ -27,6 +27,19 @@ module _ {X : Type 0} (before : X → X → Bool) where
   pub record IsHeapBut (xs : List X) (at : ℕ) : Type 0 where
     pub others : (p k : ℕ) → IsChild p k → k < length xs → p ≢ at → k ≢ at → InOrder xs p k
     pub across : (p k : ℕ) → IsChild p at → IsChild at k → k < length xs → InOrder xs p k
+
+  -- c lies from a to b, and neither a nor b comes before it
+  pub record IsFirstOf (xs : List X) (a b c : ℕ) : Type 0 where
+    pub from : a ≤ c
+    pub to : c ≤ b
+    pub left : InOrder xs c a
+    pub right : InOrder xs c b
+
+  -- c is one of the places from `from` on and below `to`, and none of them comes before it
+  pub record IsFirstAmong (xs : List X) (from to c : ℕ) : Type 0 where
+    pub above : from ≤ c
+    pub below : c < to
+    pub order : (k : ℕ) → from ≤ k → k < to → InOrder xs c k
 
   -- c is a child of `at`, and no child of `at` comes before it
   pub record IsFirstChild (xs : List X) (at c : ℕ) : Type 0 where
