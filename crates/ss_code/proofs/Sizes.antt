@@ -259,9 +259,11 @@ shown_size l (x ∷ xs) = omega (arith, item_size l x, shown_size l xs, length-a
 -- ---- statements
 
 if_size : (l : Line) (c : Condition) (a b : List Instruction) → length (if_code l c a b) ≤ 1 + 3 * condition_nodes c + length a + length b
-if_size l c a b =
+if_size l c a [] = omega (arith, condition_size l (length a) c, length-append (condition_code l (length a) c) a)
+if_size l c a (j ∷ b) =
+    let side = j ∷ b in
     let test = condition_code l (length a + 1) c in
-    omega (arith, condition_size l (length a + 1) c, length-append test (a ++ (i.Jump (length b) ∷ b)), length-append a (i.Jump (length b) ∷ b))
+    omega (arith, condition_size l (length a + 1) c, length-append test (a ++ (i.Jump (length side) ∷ side)), length-append a (i.Jump (length side) ∷ side))
 
 loop_size : (l : Line) (gs : List Guard) (body : List Instruction) → length (loop_code l gs body) ≤ 2 + 8 * total guard_nodes gs + length body
 loop_size l gs body =

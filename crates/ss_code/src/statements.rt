@@ -1,10 +1,10 @@
 //! The instructions of statements.
 
-ghost use Rattle.std.specs.Prelude.{◌≡◌, ◌∷◌, ◌++◌, [], length, map, IfOk, OnOk};
+ghost use Rattle.std.specs.Prelude.{◌≡◌, ◌+◌, ◌∷◌, ◌++◌, [], length, map, IfOk, OnOk};
 ghost use Rattle.ss_program.specs.Program.{Simulate};
 ghost use Rattle.ss_program.specs.View.{view_expression, view_condition, view_place, view_item, view_statement, view_body};
-ghost use Rattle.ss_machine_code.specs.declared.instruction.Instruction.TheVariants.{Call, Destroy, Cancel, Skip, Print};
-ghost use Rattle.ss_machine_code.specs.Translation.{expression_code, values_code, gives_code, if_code, shown_code, values_taken, lines_of, statement_code, statement_prints, block_code, block_prints, section_code};
+ghost use Rattle.ss_machine_code.specs.declared.instruction.Instruction.TheVariants.{Jump, Call, Destroy, Cancel, Skip, Print};
+ghost use Rattle.ss_machine_code.specs.Translation.{expression_code, values_code, condition_code, gives_code, if_code, shown_code, values_taken, lines_of, statement_code, statement_prints, block_code, block_prints, section_code};
 
 use crate::lines::Lines;
 use ss_base::Line;
@@ -23,8 +23,23 @@ use ss_program::expression::Expression;
 use ss_program::statement::{Item, Place, Statement};
 use std::alloc::{AllocError, Global};
 
-// A condition, and two sides.
-fn emit_if(
+// A condition, and one side.
+fn emit_one_side(
+    alloc: Global,
+    code: &mut Vec<Instruction>,
+    line: Line,
+    condition: &Condition,
+    mut then: Vec<Instruction>,
+) -> Result<(), AllocError>
+    ensures { OnOk result (code.new.items ≡ code.old.items ++ (condition_code line (length then.items) (view_condition condition.now) ++ then.items)) }
+{
+    let mut test = emit_condition(alloc, line, then.len(), condition)?;
+    code.append(&mut test)?;
+    code.append(&mut then)
+}
+
+// A condition, and two sides: a jump stands before the second, past it.
+fn emit_two_sides(
     alloc: Global,
     code: &mut Vec<Instruction>,
     line: Line,
@@ -32,7 +47,7 @@ fn emit_if(
     mut then: Vec<Instruction>,
     mut otherwise: Vec<Instruction>,
 ) -> Result<(), AllocError>
-    ensures { OnOk result (code.new.items ≡ code.old.items ++ if_code line (view_condition condition.now) then.items otherwise.items) }
+    ensures { OnOk result (code.new.items ≡ code.old.items ++ (condition_code line (length then.items + 1) (view_condition condition.now) ++ (then.items ++ Jump (length otherwise.items) ∷ otherwise.items))) }
 {
     let mut test = emit_condition(alloc, line, then.len() + 1, condition)?;
     code.append(&mut test)?;
@@ -44,6 +59,24 @@ fn emit_if(
         },
     )?;
     code.append(&mut otherwise)
+}
+
+// IF.
+fn emit_if(
+    alloc: Global,
+    code: &mut Vec<Instruction>,
+    line: Line,
+    condition: &Condition,
+    then: Vec<Instruction>,
+    otherwise: Vec<Instruction>,
+) -> Result<(), AllocError>
+    ensures { OnOk result (code.new.items ≡ code.old.items ++ if_code line (view_condition condition.now) then.items otherwise.items) }
+{
+    if otherwise.is_empty() {
+        emit_one_side(alloc, code, line, condition, then)
+    } else {
+        emit_two_sides(alloc, code, line, condition, then, otherwise)
+    }
 }
 
 // CALL.

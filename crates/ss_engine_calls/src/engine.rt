@@ -40,34 +40,33 @@ END\n";
 static BELL_LISTING: &[u8] = b"0       push         1\n\
 1       push         3\n\
 2       push         1\n\
-3       begin        else to 14, line 6\n\
+3       begin        else to 13, line 6\n\
 4       take         local 0, line 6\n\
 5       fetch        local 0\n\
 6       push         1\n\
-7       compare      greater, else to 13\n\
+7       compare      greater, else to 12\n\
 8       fetch        local 0\n\
 9       push         10\n\
 10      calculate    times, line 8\n\
-11      call         routine 0 at 24, given 1, yielding 0\n\
-12      jump         to 13\n\
-13      next         to 4\n\
-14      forget       values 3\n\
-15      push         5\n\
-16      when         at, line 11\n\
-17      make notice  class 0, given 0, line 11\n\
-18      name         global 0, line 11\n\
-19      file notice  class 0, line 11\n\
-20      await        else to 23\n\
-21      take event   to 27\n\
-22      next event   to 21\n\
-23      leave\n\
-24      fetch        local 0\n\
-25      print        pictures 0, values 1\n\
-26      leave\n\
-27      push         \"TIME\"\n\
-28      clock\n\
-29      print        pictures 1, values 2\n\
-30      leave\n";
+11      call         routine 0 at 23, given 1, yielding 0\n\
+12      next         to 4\n\
+13      forget       values 3\n\
+14      push         5\n\
+15      when         at, line 11\n\
+16      make notice  class 0, given 0, line 11\n\
+17      name         global 0, line 11\n\
+18      file notice  class 0, line 11\n\
+19      await        else to 22\n\
+20      take event   to 26\n\
+21      next event   to 20\n\
+22      leave\n\
+23      fetch        local 0\n\
+24      print        pictures 0, values 1\n\
+25      leave\n\
+26      push         \"TIME\"\n\
+27      clock\n\
+28      print        pictures 1, values 2\n\
+29      leave\n";
 
 // Two numbers that are read, each printed.
 static TWO_WORDS: &[u8] =

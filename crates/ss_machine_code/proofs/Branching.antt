@@ -97,3 +97,23 @@ module _ (code : Code) (n : ℕ) where
             subst (λ j. Reaches code (at j stack frames w) (arrive (λ u w'. at end stack frames w') frames (mb w))) e
             (subst (λ j. Reaches code (at (p + length ca + 1) stack frames w) (arrive (λ u w'. at j stack frames w') frames (mb w))) q
             (rb.by (p + length ca + 1) stack frames w h' le))
+
+    -- the same without a jump, where nothing stands on the second side
+    pub if_alone_run : {ca : List Instruction} {ma mb : Part (Unit {0})} → Runs code n same ca done ma → Runs code n same [] done mb → Runs code n same (test (length ca) ++ ca) done (λ w. and_then (mt w) (λ b. choose b ma mb))
+    if_alone_run {ca = ca} {ma = ma} {mb = mb} ra rb = record {
+      by = λ place stack frames w has le.
+          let ct = test (length ca) in
+          let end = place + length (ct ++ ca) in
+          let len : place + length ct + length ca ≡ end = omega (arith, length-append ct ca) in
+          join (at place stack frames w) (λ b w'. at (past (length ca) b (place + length ct)) stack frames w') (λ u w'. at end stack frames w') frames (mt w) (λ b. choose b ma mb)
+          ((rt (length ca)).by place stack frames w (has_front code.instructions place ct ca has) le)
+          (λ b w' fewer. sides (place + length ct) stack frames w' end len (has_back code.instructions place ct ca has) (omega (arith, fewer, le)) b);
+    }
+      where
+        sides : (p : ℕ) (stack : List Value) (frames : List Frame) (w : World) (end : ℕ) → p + length ca ≡ end → HasAt code.instructions p ca → w.ticks ≤ n → (b : Bool) → Reaches code (at (past (length ca) b p) stack frames w) (arrive (λ u w'. at end stack frames w') frames (choose b ma mb w))
+        sides p stack frames w end len h le true =
+            subst (λ j. Reaches code (at p stack frames w) (arrive (λ u w'. at j stack frames w') frames (ma w))) len (ra.by p stack frames w h le)
+        sides p stack frames w end len h le false =
+            let q : p + length ca + 0 ≡ end = omega (arith, len) in
+            subst (λ j. Reaches code (at (p + length ca) stack frames w) (arrive (λ u w'. at j stack frames w') frames (mb w))) q
+            (rb.by (p + length ca) stack frames w tt le)

@@ -1,23 +1,24 @@
 -- The code of statements.
 use Rattle.std.proofs.Common.{◌≡◌, ℕ, suc, ◌+◌, ◌-◌, ◌≤◌, Bool, true, false, List, [], ◌∷◌, ◌++◌, length, Option, Some, None, refl, sym, ap, subst, arith}
 use Rattle.std.specs.Prelude.{slice_get}
+use Rattle.ss_bytes.specs.declared.line.Line.{Line}
 use Rattle.ss_base.specs.declared.value.Value.{Value}
-use Rattle.ss_program.specs.Program.{Statement, Let, Change, Call, Return, Stop, Read, Simulate, If, Loop, For, Find, Create, CreateEvery, Destroy, File, RemoveEnd, Remove, ScheduleNew, Schedule, Cancel, Reset, Print, Skip, Block, Done, Then}
+use Rattle.ss_program.specs.Program.{Condition, Statement, Let, Change, Call, Return, Stop, Read, Simulate, If, Loop, For, Find, Create, CreateEvery, Destroy, File, RemoveEnd, Remove, ScheduleNew, Schedule, Cancel, Reset, Print, Skip, Block, Done, Then}
 use Rattle.ss_machine_code.specs.declared.instruction.Instruction.{Instruction}
 use Rattle.ss_machine_code.specs.declared.instruction.Instruction.TheVariants as i
 use Rattle.ss_meaning.specs.Store.{yielded}
 use Rattle.ss_meaning.specs.Entities.{made_one}
 use Rattle.ss_meaning.specs.Events.{is_awaited}
 use Rattle.ss_meaning.specs.Expressions.{holds}
-use Rattle.ss_meaning.specs.Parts.{World, Returned, Stopped, WentOn, Left, choose, look, Again, Over, loop}
+use Rattle.ss_meaning.specs.Parts.{World, Part, Returned, Stopped, WentOn, Left, and_then, choose, look, Again, Over, loop}
 use Rattle.ss_meaning.specs.Statements.{Calls, effect, effects, event_turn, next_due, simulate}
 use Rattle.ss_meaning.specs.Meaning.{Ended, with_locals}
 use Rattle.ss_machine_code.specs.States.{Frame, To, core_of, fit, past}
 use Rattle.ss_machine_code.specs.Machine.{Code, with_rest, backwards}
-use Rattle.ss_machine_code.specs.Translation.{condition_code, statement_prints, block_prints, statement_code, block_code}
+use Rattle.ss_machine_code.specs.Translation.{condition_code, if_code, statement_prints, block_prints, statement_code, block_code}
 use Rattle.ss_machine_code.proofs.Steps.{HasAt, has_front, has_back, Reaches, here, at, arrive, left_to, landed, Ticks, ticks_and}
 use Rattle.ss_machine_code.proofs.Parts.{Runs, IfWentOn, same, done, put_on, onto, seq, seq_such, none, get_runs, goes, rests, sticks, ticked}
-use Rattle.ss_machine_code.proofs.Branching.{if_run}
+use Rattle.ss_machine_code.proofs.Branching.{if_run, if_alone_run}
 use Rattle.ss_machine_code.proofs.Loops.{turned, Turns, loop_run}
 use Rattle.ss_machine_code.proofs.Expressions.{value_runs, values_run, values_length}
 use Rattle.ss_machine_code.proofs.Conditions.{condition_lands}
@@ -51,6 +52,11 @@ module _ (code : Code) (n : ℕ) where
       leaves : (place : ℕ) (stack : List Value) (frames : List Frame) (w : World) → slice_get code.instructions place ≡ Some i.Leave → Reaches code (at place stack frames w) (left_to Returned frames w)
       leaves place stack [] w has = rests code (at place stack [] w) i.Leave Ended w.ticks has refl
       leaves place stack (f ∷ fs) w has = leave_run place stack f fs w has (yielded f.first f.count w.store.locals) refl
+
+  -- IF
+  if_runs : (l : Line) (c : Condition) {ca : List Instruction} (cb : List Instruction) {ma mb : Part (Unit {0})} → Runs code n same ca done ma → Runs code n same cb done mb → Runs code n same (if_code l c ca cb) done (λ w. and_then (look l (holds c) w) (λ b. choose b ma mb))
+  if_runs l c [] ra rb = if_alone_run code n (λ skip. condition_code l skip c) (look l (holds c)) (λ skip. condition_lands code n l skip c) ra rb
+  if_runs l c (j ∷ cb) ra rb = if_run code n (λ skip. condition_code l skip c) (look l (holds c)) (λ skip. condition_lands code n l skip c) ra rb
 
   module _ (h : Calls) (ok : CallsRun code n h) where
     -- event after event
@@ -101,7 +107,7 @@ module _ (code : Code) (n : ℕ) where
       statement_runs first (Read l targets) prints = reads_run code n l targets
       statement_runs first Simulate prints = simulate_runs
       statement_runs first (If l c a b) prints =
-          if_run code n (λ skip. condition_code l skip c) (look l (holds c)) (λ skip. condition_lands code n l skip c)
+          if_runs l c (block_code (first + length (block_prints a)) b)
           (block_runs first a (has_front code.prints first (block_prints a) (block_prints b) prints))
           (block_runs (first + length (block_prints a)) b (has_back code.prints first (block_prints a) (block_prints b) prints))
       statement_runs first (Loop l gs a) prints = guarded_runs code n l gs (block_code first a) (effects h n a) (block_runs first a prints)

@@ -165,9 +165,10 @@ find_code l head ps found none =
     for_code l head (phrases_code l ps (i.Jump (length none + 3) ∷ []))
     ++ (none ++ (i.Jump (length found + 1) ∷ (i.Forget (kept_by head) ∷ found)))
 
--- a condition, and two sides
+-- a condition, and two sides; before the second stands a jump past it, and nothing where it is empty
 abbrev pub if_code : Line → Condition → List Instruction → List Instruction → List Instruction
-if_code l c a b = condition_code l (length a + 1) c ++ (a ++ (i.Jump (length b) ∷ b))
+if_code l c a [] = condition_code l (length a) c ++ a
+if_code l c a (j ∷ b) = condition_code l (length a + 1) c ++ (a ++ (i.Jump (length (j ∷ b)) ∷ (j ∷ b)))
 
 -- the guards; the tick of a turn; the body; the guards again; and a jump back to the tick
 abbrev pub loop_code : Line → List Guard → (body : List Instruction) → List Instruction
