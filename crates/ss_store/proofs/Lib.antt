@@ -12,3 +12,4 @@ pub mod Noting
 pub mod Rehoming
 pub mod Starting
 pub mod Figured
+pub mod Going

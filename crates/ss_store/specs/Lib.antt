@@ -1,4 +1,5 @@
 pub mod Seen
+pub mod AtOnce
 pub mod Filed
 pub mod Scheduled
 pub mod Events

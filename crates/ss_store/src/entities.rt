@@ -27,7 +27,7 @@ impl Scene {
 
     // The mode of a field, where the layout has it.
     #[inline(always)]
-    fn mode(&self, class: usize, field: usize) -> Option<Mode>
+    pub(crate) fn mode(&self, class: usize, field: usize) -> Option<Mode>
         ensures { result ≡ mode_at self.now.heap.layout class field }
     {
         field_mode(self.population.layout(), class, field)

@@ -92,7 +92,7 @@ impl Scene {
 
     // The same by the number of the member and what refers to the owner, which is answered.
     #[inline(always)]
-    fn file_member(
+    pub(crate) fn file_member(
         &mut self,
         filing: Filing,
         set: usize,

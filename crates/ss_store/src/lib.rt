@@ -2,6 +2,7 @@
 //! histories that statistics are taken of.
 #![tactic(auto)]
 
+pub mod at_once;
 pub mod coming;
 pub mod entities;
 pub mod filing;

@@ -10,6 +10,7 @@ ghost use Rattle.ss_histories.specs.Records.{figured};
 ghost use Rattle.ss_population.specs.Told.{told, numbered};
 ghost use Rattle.ss_program.specs.declared.sections.Subject.TheVariants.{OfVariable, OfAttribute};
 ghost use Rattle.ss_timeline.specs.Figures.{subject_in, variable_in, variable_of, held_by, present_with, renewed_known, reset_of};
+ghost use Rattle.ss_store.specs.AtOnce.{Ignores};
 ghost use Rattle.ss_store.specs.Filed.{IsCountable, CountsWatched, recounted_now};
 ghost use Rattle.ss_store.specs.Seen.{Looks, Changes, ChangesWhere, or_unnoted, with_seen};
 
@@ -36,6 +37,18 @@ impl Scene {
         ensures { result ≡ true → (v : ValueSeen) (s : StoreSeen) → noted (OfVariable number) (pos 0) v (with_seen s self.now) ≡ Ok (with_seen s self.now) }
     {
         self.timeline.ignores_variable(number)
+    }
+
+    // Whether no statistic is about a subject: then noting a value of it changes nothing. A variable that no program has
+    // tells that no statistic lacks its histories.
+    #[inline(always)]
+    pub(crate) fn ignores(&self, subject: Subject) -> bool
+        ensures { result ≡ true → Ignores subject self.now }
+    {
+        if !self.has_statistics() {
+            return true;
+        }
+        !self.timeline.watches(subject) && self.timeline.ignores_variable(usize::MAX)
     }
 
     // Notes a value of a subject in its histories of an entity, by its number.
