@@ -1,6 +1,6 @@
 //! The entities of a run, and how many of each permanent class are made.
 
-ghost use Rattle.std.specs.Prelude.{◌≡◌, ◌<◌, length, pos, IfOk, MatchResult, None, Some, Ok, Err, replicate, slice_get, slice_set};
+ghost use Rattle.std.specs.Prelude.{◌≡◌, ◌<◌, true, false, length, pos, IfOk, IfSome, MatchResult, None, Some, Ok, Err, replicate, slice_get, slice_set};
 ghost use Rattle.ss_base.specs.Layout.{mode_of};
 ghost use Rattle.ss_records.specs.Kept.{IsPermanent};
 ghost use Rattle.ss_records.specs.State.{first_state, is_made, records_in, known_in, value_in, time_in, assigned, timed, created, created_all, destroyed, kind_of, modes_of, RefusedFor};
@@ -8,7 +8,7 @@ ghost use Rattle.ss_records.specs.Sets.{first_in, last_in, count_in, next_in, pr
 
 mod filing;
 
-use ss_base::{FaultKind, Layout, Refused, Value};
+use ss_base::{FaultKind, Layout, Mode, Refused, Value};
 use ss_records::Heap;
 use std::alloc::{AllocError, Global};
 use std::marker::Model;
@@ -82,6 +82,27 @@ impl Population {
         ensures { MatchResult result (λ _. assigned self.old class field n value ≡ Ok self.new) (λ e. (assigned self.old class field n value ≡ Err e) × (self.new ≡ self.old)) }
     {
         self.heap.set_value(class, field, n, value)
+    }
+
+    /// The whole number that an attribute is, where there is no fault.
+    #[inline(always)]
+    pub fn whole(&self, class: usize, field: usize, n: i64) -> Option<i64>
+        requires class { class < length self.now.layout.classes }
+        requires mode { slice_get (modes_of self.now.layout class) field ≡ Some Mode.Integer }
+        ensures { IfSome result (λ whole. value_in self.now class field n ≡ Ok (Value.Whole whole)) }
+    {
+        self.heap.whole(class, field, n)
+    }
+
+    /// Assigns a whole number to an attribute, and says whether it did: not where there is a fault.
+    #[inline(always)]
+    pub fn set_whole(&mut self, class: usize, field: usize, n: i64, value: i64) -> bool
+        requires class { class < length self.old.layout.classes }
+        requires mode { slice_get (modes_of self.old.layout class) field ≡ Some Mode.Integer }
+        ensures done { result ≡ true → assigned self.old class field n (Value.Whole value) ≡ Ok self.new }
+        ensures same { result ≡ false → self.new ≡ self.old }
+    {
+        self.heap.set_whole(class, field, n, value)
     }
 
     /// TIME.A of a notice. Faults: 1 to 4.

@@ -30,6 +30,7 @@ pub mod NamesCreated
 pub mod NamesGone
 pub mod NamesKept
 pub mod Numbers
+pub mod Onward
 pub mod Owning
 pub mod Paging
 pub mod Passing

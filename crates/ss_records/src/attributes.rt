@@ -55,9 +55,20 @@ impl Blocks {
         ensures touches { (self.new.touches ≡ self.old.touches) × (self.new.total ≡ self.old.total) }
     {
         match value {
-            Value::Whole(number) => self.set_number(place, k, words::whole_word(number)),
+            Value::Whole(number) => self.set_whole(place, k, number),
             Value::Text(text) => self.set_text(place, k, text),
         }
+    }
+
+    /// Writes a whole number into a word.
+    #[inline(always)]
+    pub(crate) fn set_whole(&mut self, place: Address, k: usize, number: i64)
+        requires first { IsNumber (word_at self.old.cells place.at k) }
+        requires second { IsNumber (word_at self.old.cells place.at (k + 1)) }
+        ensures written { PutsValue self.old.cells self.new.cells place.at k (Value.Whole number) }
+        ensures touches { (self.new.touches ≡ self.old.touches) × (self.new.total ≡ self.old.total) }
+    {
+        self.set_number(place, k, words::whole_word(number));
     }
 
     // Writes a text into a word and the next.

@@ -1,4 +1,4 @@
-ghost use Rattle.std.specs.Prelude.{◌≡◌, ◌+◌, ◌<◌, ◌≤◌, length, pos, MatchResult, Ok, Err, Some, IsOk, slice_get, ⊤};
+ghost use Rattle.std.specs.Prelude.{◌≡◌, ◌+◌, ◌<◌, ◌≤◌, true, false, if◌then◌else◌, length, pos, MatchResult, IfSome, Ok, Err, Some, IsOk, slice_get, ⊤};
 ghost use Rattle.ss_base.specs.Layout.{mode_of};
 ghost use Rattle.ss_states.specs.State.{State, first_state, known_in, known_notice_in, kind_of, modes_of, value_in, time_in, created, created_all, destroyed, assigned, timed, RefusedFor, living_numbers, living_records};
 ghost use Rattle.ss_states.specs.Disciplines.{first_removed, last_removed, member_test, owned};
@@ -112,6 +112,29 @@ impl Heap {
     {
         self.records.start();
         self.records.set_value(class, field, r, value)
+    }
+
+    /// The whole number that an attribute is, where there is no fault.
+    #[inline(never)]
+    pub fn whole(&self, class: usize, field: usize, r: i64) -> Option<i64>
+        requires class { class < length self.now.state.layout.classes }
+        requires mode { slice_get (modes_of self.now.state.layout class) field ≡ Some Mode.Integer }
+        ensures { IfSome result (λ n. value_in self.now.state class field r ≡ Ok (Value.Whole n)) }
+    {
+        self.records.whole(class, field, r)
+    }
+
+    /// Sets an attribute of whole numbers, and says whether it did: not where there is a fault.
+    #[inline(never)]
+    pub fn set_whole(&mut self, class: usize, field: usize, r: i64, n: i64) -> bool
+        requires class { class < length self.old.state.layout.classes }
+        requires mode { slice_get (modes_of self.old.state.layout class) field ≡ Some Mode.Integer }
+        ensures done { result ≡ true → assigned self.old.state class field r (Value.Whole n) ≡ Ok self.new.state }
+        ensures same { result ≡ false → self.new.state ≡ self.old.state }
+        ensures touches { (self.new.touches ≡ 0) × (self.new.total ≡ self.old.total) }
+    {
+        self.records.start();
+        self.records.set_whole(class, field, r, n)
     }
 
     /// A new entity of a temporary class or a class of notices, with first values, in no set: its creation
@@ -255,6 +278,19 @@ impl Heap {
     {
         self.records.start();
         self.records.previous(set, x)
+    }
+
+    /// The member that follows x in the set of an owner, or in reverse the one that precedes it, 0 where there is none: an
+    /// `is_in` and a `next` or `previous` with one look for x. None where x is not in that set, or there is a fault.
+    #[inline(never)]
+    pub fn onward(&mut self, set: usize, o: i64, x: i64, reverse: bool) -> Option<i64>
+        requires set { set < length self.old.state.layout.sets }
+        ensures found { IfSome result (λ y. (member_test self.old.state set o x ≡ Ok true) × ((if reverse then previous_in self.old.state set x else next_in self.old.state set x) ≡ Ok y)) }
+        ensures same { self.new.state ≡ self.old.state }
+        ensures touches { (self.new.touches ≤ 2) × (self.new.total ≡ self.old.total + self.new.touches) }
+    {
+        self.records.start();
+        self.records.onward(set, o, x, reverse)
     }
 
     /// The owner whose set of this name x is in, if any. Faults: 1 to 5.

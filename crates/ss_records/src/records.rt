@@ -1,5 +1,5 @@
 // The records: where each lies, and what its block says.
-ghost use Rattle.std.specs.Prelude.{◌≡◌, ℕ, ◌+◌, ◌-◌, ◌*◌, ◌^◌, ◌<◌, ◌≤◌, length, MatchResult, IfOk, Ok, Err, Some, None, slice_get, true, ⊤, suc};
+ghost use Rattle.std.specs.Prelude.{◌≡◌, ℕ, ◌+◌, ◌-◌, ◌*◌, ◌^◌, ◌<◌, ◌≤◌, length, MatchResult, IfOk, IfSome, Ok, Err, Some, None, slice_get, true, false, ⊤, suc};
 ghost use Rattle.ss_states.specs.State.{entity, notice, numbered, and_then, of_class, kind_of, modes_of, is_notice, first_state, living_numbers, living_records, value_in, time_in, in_a_set, owns_members, destroyed, created, created_all, with_made, assigned, timed, RefusedFor};
 ghost use Rattle.ss_records.specs.Cells.{words_at, number};
 ghost use Rattle.ss_records.specs.Reading.{record_of};
@@ -16,7 +16,7 @@ use crate::row::{self, Row};
 use crate::shape::{CLASS, value_start};
 use crate::store::{Address, Blocks};
 use crate::{laying, placing, ties};
-use ss_base::{ClassKind, FaultKind, Layout, Owner, Refused, Value};
+use ss_base::{ClassKind, FaultKind, Layout, Mode, Owner, Refused, Value};
 use std::alloc::{AllocError, Global};
 
 /// The greatest creation number.
@@ -251,6 +251,45 @@ impl Records {
                 Ok(())
             }
             Err(fault) => Err(fault),
+        }
+    }
+
+    /// The whole number that an attribute is, where there is no fault.
+    #[inline(always)]
+    pub(crate) fn whole(&self, class: usize, field: usize, r: i64) -> Option<i64>
+        requires kept { IsKept self.now }
+        requires class { class < length self.now.layout.classes }
+        requires mode { slice_get (modes_of self.now.layout class) field ≡ Some Mode.Integer }
+        ensures { IfSome result (λ n. value_in (state self.now) class field r ≡ Ok (Value.Whole n)) }
+    {
+        match self.find(class, r) {
+            Ok(place) => {
+                let k = value_start(field);
+                Some(self.blocks.whole(place, k))
+            }
+            Err(_) => None,
+        }
+    }
+
+    /// Sets an attribute of whole numbers, and says whether it did: not where there is a fault.
+    #[inline(always)]
+    pub(crate) fn set_whole(&mut self, class: usize, field: usize, r: i64, n: i64) -> bool
+        requires kept { IsKept self.old }
+        requires class { class < length self.old.layout.classes }
+        requires mode { slice_get (modes_of self.old.layout class) field ≡ Some Mode.Integer }
+        ensures kept { IsKept self.new }
+        ensures done { result ≡ true → assigned (state self.old) class field r (Value.Whole n) ≡ Ok (state self.new) }
+        ensures same { result ≡ false → state self.new ≡ state self.old }
+        ensures touches { (self.new.blocks.touches ≡ self.old.blocks.touches) × (self.new.blocks.total ≡ self.old.blocks.total) }
+        ensures blocks { length self.new.blocks.cells ≡ length self.old.blocks.cells }
+    {
+        match self.find(class, r) {
+            Ok(place) => {
+                let k = value_start(field);
+                self.blocks.set_whole(place, k, n);
+                true
+            }
+            Err(_) => false,
         }
     }
 

@@ -1,9 +1,9 @@
 // The sets: their ends, the neighbours of a member, and its owner.
-ghost use Rattle.std.specs.Prelude.{◌≡◌, ℕ, ◌+◌, ◌^◌, ◌<◌, ◌≤◌, length, slice_get, not, false, pos, MatchResult, IsOk, Ok, Err, Some};
+ghost use Rattle.std.specs.Prelude.{◌≡◌, ℕ, ◌+◌, ◌^◌, ◌<◌, ◌≤◌, length, slice_get, not, true, false, if◌then◌else◌, pos, MatchResult, IfSome, IsOk, Ok, Err, Some};
 ghost use Rattle.std.specs.Ordering.{match_ordering, int_cmp};
 ghost use Rattle.ss_states.specs.State.{State, is_filed, members_of, modes_of, value_in};
 ghost use Rattle.ss_states.specs.Sets.{joiner, owner, member_class, first_in, last_in, count_in, next_in, previous_in, owner_of_member, Apart};
-ghost use Rattle.ss_states.specs.Disciplines.{owned};
+ghost use Rattle.ss_states.specs.Disciplines.{member_test, owned};
 ghost use Rattle.ss_records.specs.Parts.{IsKept, state, Owns, Joins};
 ghost use Rattle.ss_records.specs.Passing.{ranks_past, first_where, before_where};
 
@@ -315,6 +315,35 @@ impl Records {
         }
     }
 
+    /// The member that follows x in the set of an owner, or in reverse the one that precedes it, 0 where there is none: at most
+    /// two touches. None where x is not in that set, or there is a fault.
+    #[inline(always)]
+    pub(crate) fn onward(&mut self, s: usize, o: i64, x: i64, reverse: bool) -> Option<i64>
+        requires kept { IsKept self.old }
+        requires set { s < length self.old.layout.sets }
+        requires touches { self.old.blocks.touches ≡ 0 }
+        ensures found { IfSome result (λ y. (member_test (state self.old) s o x ≡ Ok true) × ((if reverse then previous_in (state self.old) s x else next_in (state self.old) s x) ≡ Ok y)) }
+        ensures kept { IsKept self.new }
+        ensures same { state self.new ≡ state self.old }
+        ensures touches { (self.new.blocks.touches ≤ 2) × (self.new.blocks.total ≡ self.old.blocks.total + self.new.blocks.touches) }
+    {
+        match self.joiner(s, x) {
+            Ok(member) => {
+                let base = self.layout.member_base(s);
+                let neighbour = self.blocks.follow(member.place, beside(base, reverse));
+                if neighbour.number == member.number {
+                    return None;
+                }
+                let owner = self.blocks.follow(member.place, base + 2);
+                if owner.number as i64 != o {
+                    return None;
+                }
+                Some(neighbour.number as i64)
+            }
+            Err(_) => None,
+        }
+    }
+
     /// Whose set x is in: at most two touches.
     pub(crate) fn owner_in(&mut self, s: usize, x: i64) -> Result<Option<i64>, FaultKind>
         requires kept { IsKept self.old }
@@ -351,6 +380,15 @@ fn is_after(its: i64, own: i64, high: bool) -> bool
         return !high;
     }
     false
+}
+
+// Where the link to the member that follows stands, or in reverse that to the one that precedes.
+#[inline(always)]
+fn beside(base: usize, reverse: bool) -> usize
+    requires { base ≤ 5242883 }
+    ensures { result ≡ (if reverse then base + 1 else base) }
+{
+    if reverse { base + 1 } else { base }
 }
 
 // A number, or 0 where it is that of the member itself: then it is in no set.

@@ -1,7 +1,7 @@
 //! Filing and removing.
 
-ghost use Rattle.std.specs.Prelude.{◌≡◌, ◌<◌, length, IsTrue, MatchResult, Ok, Err};
-ghost use Rattle.ss_meaning.specs.Sets.{is_fit, end_removed};
+ghost use Rattle.std.specs.Prelude.{◌≡◌, ◌<◌, length, true, IsTrue, IfSome, MatchResult, Ok, Err};
+ghost use Rattle.ss_meaning.specs.Sets.{beside, is_fit, end_removed};
 ghost use Rattle.ss_meaning.specs.Values.{due, where_fit};
 ghost use Rattle.ss_population.specs.Told.{meant};
 ghost use Rattle.ss_records.specs.Sets.{filed_first, filed_last, filed_before, filed_after, removed};
@@ -149,5 +149,16 @@ impl Population {
         ensures same { self.new ≡ self.old }
     {
         is_in(&mut self.heap, set, o, x)
+    }
+
+    /// The member that comes next to x in the set of an owner, behind it or in reverse before it, 0 for none. None where x is
+    /// not in that set, or there is a fault.
+    #[inline(always)]
+    pub fn onward(&mut self, set: usize, o: i64, n: i64, reverse: bool) -> Option<i64>
+        requires set { set < length self.old.layout.sets }
+        ensures found { IfSome result (λ y. (member_test self.old set o n ≡ Ok true) × (beside reverse self.old set n ≡ Ok y)) }
+        ensures same { self.new ≡ self.old }
+    {
+        self.heap.onward(set, o, n, reverse)
     }
 }

@@ -1,18 +1,14 @@
-use Rattle.std.proofs.Common.{◌≡◌, sym, subst, ◌∙◌, rules, w64, to_z, of_z}
+use Rattle.std.proofs.Common.{◌≡◌, sym, subst, rules, ℤ, w64, to_z, of_z}
 use Rattle.ss_base.specs.declared.value.Value.{Value}
+use Rattle.ss_base.specs.declared.value.Value.TheVariants.{Whole}
 use Rattle.ss_records.specs.Reading.{PutsValue}
-use Rattle.ss_records.proofs.WordKinds.{may_number}
-use Rattle.ss_records.proofs.ValueWords.{whole_put}
 use Rattle.ss_records.proofs.store.Blocks.set_value.Goals as goal
-
-pub set_number-requires : goal.set_number-requires
-set_number-requires c = may_number c.args.self.now.cells c.args.place.at c.args.k c.requires.first
 
 pub returns-in-Whole-clause-written : goal.returns-in-Whole-clause-written
 returns-in-Whole-clause-written c =
-    let cs = c.args.self.now.cells in let ds = c.set_number.new.self.cells in
+    let cs = c.args.self.now.cells in let ds = c.set_whole.new.self.cells in
     let same : to_z w64 (of_z w64 c.in-Whole.number) ≡ c.in-Whole.number = search rules in
-    let w = whole_put cs ds c.args.place.at c.args.k c.whole_word.result c.in-Whole.number (c.whole_word.ensures ∙ same) c.requires.second c.set_number.ensures.cells in
+    let w = subst (λ (n : ℤ). PutsValue cs ds c.args.place.at c.args.k (Whole n)) same c.set_whole.ensures.written in
     subst (λ (v : Value). PutsValue cs ds c.args.place.at c.args.k v) (sym c.in-Whole.is) w
 
 pub returns-in-Text-clause-written : goal.returns-in-Text-clause-written
