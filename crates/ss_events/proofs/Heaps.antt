@@ -1,5 +1,5 @@
 -- What a step up or down a heap keeps, and which child comes first.
-use Rattle.std.proofs.Common.{◌≡◌, ◌≢◌, ℕ, zero, suc, ◌+◌, ◌-◌, ◌*◌, ◌/◌, ◌<◌, ◌≤◌, Bool, true, false, List, [], ◌∷◌, ◌++◌, length, get_or, swap, set, refl, ap, subst, ◌∙◌, ◌⊎◌, ⊎_elim, arith, length-append}
+use Rattle.std.proofs.Common.{◌≡◌, ◌≢◌, ℕ, zero, suc, ◌+◌, ◌-◌, ◌*◌, ◌/◌, ◌<◌, ◌≤◌, Bool, true, false, List, [], ◌∷◌, ◌++◌, length, get_or, swap, set, refl, sym, ap, subst, ◌∙◌, ◌⊎◌, ⊎_elim, arith, length-append, if◌then◌else◌}
 use Rattle.std.specs.Cmp.{IsStrictWeakOrder}
 use Rattle.std.specs.List.{swap_remove}
 use Rattle.std.proofs.lemmas.List.{get_or-take, get_or-set_other, length-take, length-set, get_or_append_left}
@@ -174,12 +174,14 @@ module _ {X : Type 0} (before : X → X → Bool) where
     alike xs i k e d = along _ _ _ _ (here xs k i d e) refl (never (get_or xs i d) _ refl)
 
     module _ (xs : List X) where
-      -- the first of two, where the right one comes before the left one, and where it doesn't
-      pub right_first : (a b : ℕ) → a < b → ((d : X) → before (get_or xs b d) (get_or xs a d) ≡ true) → IsFirstOf before xs a b b
-      right_first a b apart t = record { from = omega arith; to = omega arith; left = λ d. o.one_way _ _ (t d); right = alike xs b b refl }
-
-      pub left_first : (a b : ℕ) → a < b → ((d : X) → before (get_or xs b d) (get_or xs a d) ≡ false) → IsFirstOf before xs a b a
-      left_first a b apart f = record { from = omega arith; to = omega arith; left = alike xs a a refl; right = f }
+      -- the first of two: so many steps from the left one
+      pub first_by : (a b step : ℕ) (is_right : Bool) → a < b → step ≡ (if is_right then 1 else 0) → ((d : X) → is_right ≡ before (get_or xs b d) (get_or xs a d)) → IsFirstOf before xs a b (a + step * (b - a))
+      first_by a b step true apart is t =
+          let e : a + step * (b - a) ≡ b = rw (is) (omega arith) in
+          subst (IsFirstOf before xs a b) (sym e) record { from = omega arith; to = omega arith; left = λ d. o.one_way _ _ (sym (t d)); right = alike xs b b refl }
+      first_by a b step false apart is f =
+          let e : a + step * (b - a) ≡ a = rw (is) (omega arith) in
+          subst (IsFirstOf before xs a b) (sym e) record { from = omega arith; to = omega arith; left = alike xs a a refl; right = λ d. sym (f d) }
 
       -- the first of one
       pub only : (a to : ℕ) → to ≡ a + 1 → IsFirstAmong before xs a to a

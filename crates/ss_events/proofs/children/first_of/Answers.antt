@@ -1,11 +1,15 @@
-use Rattle.std.proofs.Common.{sym}
+use Rattle.std.proofs.Common.{◌≡◌, ℕ, Bool, true, false, if◌then◌else◌}
+use mir.Val.{bool_byte}
 use Rattle.ss_events.specs.Order.{comes_before}
 use Rattle.ss_events.proofs.EntryOrder.{entries_rank}
-use Rattle.ss_events.proofs.Heaps.{right_first, left_first}
+use Rattle.ss_events.proofs.Heaps.{first_by}
 use Rattle.ss_events.proofs.children.first_of.Goals as goal
 
-pub returns-then-is_before-clause-first : goal.returns-then-is_before-clause-first
-returns-then-is_before-clause-first c = right_first comes_before entries_rank c.args.heap.now.entries c.args.left c.args.right c.requires.apart (λ d. sym (c.if-is_before.ensures.value d))
+one_if : (b : Bool) (n : ℕ) → n ≡ bool_byte b → n ≡ (if b then 1 else 0)
+one_if true n e = e
+one_if false n e = e
 
-pub returns-else-is_before-clause-first : goal.returns-else-is_before-clause-first
-returns-else-is_before-clause-first c = left_first comes_before entries_rank c.args.heap.now.entries c.args.left c.args.right c.requires.apart (λ d. sym (c.if-is_before.ensures.value d))
+pub returns-clause-first : goal.returns-clause-first
+returns-clause-first c =
+    let is_right = c.is_before-is_right.result in
+    first_by comes_before entries_rank c.args.heap.now.entries c.args.left c.args.right c.from.result is_right c.requires.apart (one_if is_right c.from.result c.from.ensures) c.is_before-is_right.ensures.value
