@@ -42,6 +42,7 @@ pub mod ReadWords
 pub mod Relinked
 pub mod Rising
 pub mod Same
+pub mod Setless
 pub mod Sharing
 pub mod Spared
 pub mod Splice

@@ -1,6 +1,6 @@
 -- Pages: what a number leads to once one is noted, let go of, or the current page turns.
 use Rattle.std.proofs.Common.{◌≡◌, ℕ, zero, suc, ◌+◌, ◌-◌, ◌*◌, ◌/◌, ◌%◌, ◌<◌, ◌≤◌, Bool, true, false, cond, List, [], ◌∷◌, ◌++◌, length, slice_get, slice_set, replicate, Option, Some, None, refl, sym, ap, subst, ◌∙◌, arith}
-use Rattle.std.specs.Prelude.{nat_le, nat_eq}
+use Rattle.std.specs.Prelude.{nat_le, nat_eq, IfSome}
 use Rattle.std.specs.Ordering.{nat_cmp, is_eq}
 use Rattle.std.specs.Cmp.{nat_cmp_is}
 use Rattle.std.specs.declared.cmp.Ordering.TheVariants.{Less, Equal, Greater}
@@ -406,6 +406,21 @@ module _ (ps : Pages) (cur : Page) (start issued : ℕ) (P : Paged ps cur start 
 
     pub read_none : i < start → page_of ps (i / 256) ≡ None → slice_get (upto (entry ps cur start) issued) i ≡ Some None
     read_none a w = upto_get (entry ps cur start) issued i inside_of ∙ ap Some (at_earlier ps cur start i a ∙ ap (λ o. slot o (i % 256)) w)
+
+  -- the same of any number, where its page was found
+  module _ (i : ℕ) (e : Option Address) where
+    long : i < issued → i < length (upto (entry ps cur start) issued)
+    long h = omega (arith, h, upto_length (entry ps cur start) issued)
+
+    by_entry : (v : Option Address) → slice_get (upto (entry ps cur start) issued) i ≡ Some v → IfSome v (λ p. slice_get (upto (entry ps cur start) issued) i ≡ Some (Some p))
+    by_entry None h = tt
+    by_entry (Some p) h = h
+
+    pub near_current : start ≤ i → i < issued → slice_get cur (i - start) ≡ Some e → IfSome e (λ p. slice_get (upto (entry ps cur start) issued) i ≡ Some (Some p))
+    near_current a h g = by_entry e (read_current i (long h) a e g)
+
+    pub near_earlier : i < start → (p : Page) → page_of ps (i / 256) ≡ Some p → slice_get p (i % 256) ≡ Some e → IfSome e (λ p. slice_get (upto (entry ps cur start) issued) i ≡ Some (Some p))
+    near_earlier a p w g = by_entry e (read_earlier i (long (omega (arith, a, P.low))) a p w e g)
 
 each_living : (es : Pages) → ((i q : ℕ) (p : Page) → slice_get es i ≡ Some (q, p) → 1 ≤ living p) → length es ≤ sum_by living (values_of es)
 each_living [] h = omega arith

@@ -1,5 +1,5 @@
 // Where the block of each creation number lies, in pages.
-ghost use Rattle.std.specs.Prelude.{◌≡◌, ◌+◌, ◌^◌, ◌<◌, ◌≤◌, ◌++◌, [], ◌∷◌, length, nat_eq, Some, None, slice_get, slice_set, MatchResult, ⊤};
+ghost use Rattle.std.specs.Prelude.{◌≡◌, ◌+◌, ◌^◌, ◌<◌, ◌≤◌, ◌++◌, [], ◌∷◌, length, nat_eq, Some, None, IfSome, slice_get, slice_set, MatchResult, ⊤};
 ghost use Rattle.ss_records.specs.declared.store.Address.{Address};
 ghost use Rattle.ss_records.specs.Places.{living};
 
@@ -76,6 +76,23 @@ impl Directory {
         }
     }
 
+    /// The entry i, from 0 on, where it is found without a search and is not destroyed.
+    #[inline(always)]
+    pub(crate) fn near(&self, i: usize) -> Option<Address>
+        ensures { IfSome result (λ p. slice_get self.now.places i ≡ Some (Some p)) }
+    {
+        if i >= self.start {
+            if i >= self.issued {
+                return None;
+            }
+            return self.current.get(i - self.start);
+        }
+        match self.earlier.near(i / PAGE) {
+            Some(page) => page.get(i % PAGE),
+            None => None,
+        }
+    }
+
     /// The place of the next number.
     pub(crate) fn push(&mut self, place: Address) -> Result<(), AllocError>
         requires room { length self.old.places < 2 ^ 62 }
@@ -108,6 +125,7 @@ impl Directory {
     }
 
     // Makes the page of the next number, where the current one is full. One without a living number serves again.
+    #[inline(never)]
     fn turn(&mut self) -> Result<(), AllocError>
         requires full { length self.old.places ≡ self.old.start + 256 }
         requires room { length self.old.places < 2 ^ 62 }

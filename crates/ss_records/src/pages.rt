@@ -1,5 +1,5 @@
 // The pages of a directory by their numbers.
-ghost use Rattle.std.specs.Prelude.{◌≡◌, ℕ, ◌^◌, ◌<◌, ◌++◌, [], ◌∷◌, List, length, cond, true, nat_eq, Option, Some, None, slice_get, slice_set, MatchOption, MatchResult, option_copied};
+ghost use Rattle.std.specs.Prelude.{◌≡◌, ℕ, ◌^◌, ◌<◌, ◌++◌, [], ◌∷◌, List, length, cond, true, nat_eq, Option, Some, None, IfSome, slice_get, slice_set, MatchOption, MatchResult, option_copied};
 ghost use Rattle.std.specs.Ordering.{nat_cmp};
 ghost use Rattle.std.specs.BTreeMap.{is_at};
 ghost use Rattle.std.specs.Map.{set_value, remove_entry};
@@ -62,10 +62,32 @@ impl PageMap {
         }
     }
 
+    /// The page of a number, where one of the two guesses finds it.
+    #[inline(always)]
+    pub(crate) fn near(&self, number: usize) -> Option<&Page>
+        ensures { IfSome (option_copied result) (λ page. page_of self.now number ≡ Some page) }
+    {
+        match self.guessed(number) {
+            Some(k) => Some(&self.entries[k].1),
+            None => None,
+        }
+    }
+
     // Where the page of a number stands.
     #[inline(always)]
     fn place(&self, number: usize) -> Option<usize>
         ensures { MatchOption result (page_of self.now number ≡ None) (λ k. (page : List (Option Address)) × (slice_get self.now k ≡ Some (number, page))) }
+    {
+        match self.guessed(number) {
+            Some(k) => Some(k),
+            None => self.searched(number),
+        }
+    }
+
+    // The same, where one of the two guesses is right.
+    #[inline(always)]
+    fn guessed(&self, number: usize) -> Option<usize>
+        ensures { IfSome result (λ k. (page : List (Option Address)) × (slice_get self.now k ≡ Some (number, page))) }
     {
         let k = self.from_last(number);
         if self.has(k, number) {
@@ -75,7 +97,7 @@ impl PageMap {
         if self.has(k, number) {
             return Some(k);
         }
-        self.searched(number)
+        None
     }
 
     // Where a number stands if none is missing from it on. It is a guess.
@@ -154,6 +176,7 @@ impl PageMap {
     }
 
     /// Gives a page back.
+    #[inline(never)]
     pub(crate) fn remove(&mut self, number: usize)
         ensures entries { self.new ≡ remove_entry (is_at (nat_cmp number)) self.old }
         ensures updates { (q : ℕ) → page_of self.new q ≡ cond (is_at (nat_cmp number) q) None (page_of self.old q) }

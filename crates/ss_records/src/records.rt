@@ -144,8 +144,7 @@ impl Records {
     {
         match self.layout.kind(class) {
             ClassKind::Permanent => self.indexed(class, r),
-            ClassKind::Temporary => self.of_class(class, r),
-            ClassKind::Notice => self.of_class(class, r),
+            ClassKind::Temporary | ClassKind::Notice => self.of_class(class, r),
         }
     }
 
@@ -181,6 +180,51 @@ impl Records {
             }
             Err(fault) => Err(fault),
         }
+    }
+
+    /// The block of an entity of a class, where it is found without a search.
+    #[inline(always)]
+    pub(crate) fn near(&self, class: usize, r: i64) -> Option<Address>
+        requires kept { IsKept self.now }
+        requires class { class < length self.now.layout.classes }
+        ensures { IfSome result (λ p. Found self.now class r p) }
+    {
+        match self.layout.kind(class) {
+            ClassKind::Permanent => match self.indexed(class, r) {
+                Ok(place) => Some(place),
+                Err(_) => None,
+            },
+            ClassKind::Temporary | ClassKind::Notice => self.near_of_class(class, r),
+        }
+    }
+
+    // The block of a creation number of a class, where it is found without a search.
+    #[inline(always)]
+    fn near_of_class(&self, class: usize, r: i64) -> Option<Address>
+        requires kept { IsKept self.now }
+        ensures { IfSome result (λ p. (numbered_place self.now.directory.places r ≡ Ok p) × (class_at self.now.blocks.cells p ≡ class) × (and_then (numbered (state self.now) r) (of_class class) ≡ Ok (record_of self.now.layout (words_at self.now.blocks.cells p.at)))) }
+    {
+        match self.near_numbered(r) {
+            Some(place) => {
+                if self.blocks.number(place, CLASS) == class as u64 {
+                    Some(place)
+                } else {
+                    None
+                }
+            }
+            None => None,
+        }
+    }
+
+    // The block of a creation number, where it is found without a search.
+    #[inline(always)]
+    fn near_numbered(&self, r: i64) -> Option<Address>
+        ensures { IfSome result (λ p. numbered_place self.now.directory.places r ≡ Ok p) }
+    {
+        if r < 1 {
+            return None;
+        }
+        self.directory.near(r as usize - 1)
     }
 
     /// The block of a notice of any class.
@@ -262,6 +306,23 @@ impl Records {
         requires mode { slice_get (modes_of self.now.layout class) field ≡ Some Mode.Integer }
         ensures { IfSome result (λ n. value_in (state self.now) class field r ≡ Ok (Value.Whole n)) }
     {
+        match self.near(class, r) {
+            Some(place) => {
+                let k = value_start(field);
+                Some(self.blocks.whole(place, k))
+            }
+            None => self.whole_apart(class, field, r),
+        }
+    }
+
+    // The same where it may take a search. The call comes last, so that what needs none keeps nothing aside.
+    #[inline(never)]
+    fn whole_apart(&self, class: usize, field: usize, r: i64) -> Option<i64>
+        requires kept { IsKept self.now }
+        requires class { class < length self.now.layout.classes }
+        requires mode { slice_get (modes_of self.now.layout class) field ≡ Some Mode.Integer }
+        ensures { IfSome result (λ n. value_in (state self.now) class field r ≡ Ok (Value.Whole n)) }
+    {
         match self.find(class, r) {
             Ok(place) => {
                 let k = value_start(field);
@@ -274,6 +335,28 @@ impl Records {
     /// Sets an attribute of whole numbers, and says whether it did: not where there is a fault.
     #[inline(always)]
     pub(crate) fn set_whole(&mut self, class: usize, field: usize, r: i64, n: i64) -> bool
+        requires kept { IsKept self.old }
+        requires class { class < length self.old.layout.classes }
+        requires mode { slice_get (modes_of self.old.layout class) field ≡ Some Mode.Integer }
+        ensures kept { IsKept self.new }
+        ensures done { result ≡ true → assigned (state self.old) class field r (Value.Whole n) ≡ Ok (state self.new) }
+        ensures same { result ≡ false → state self.new ≡ state self.old }
+        ensures touches { (self.new.blocks.touches ≡ self.old.blocks.touches) × (self.new.blocks.total ≡ self.old.blocks.total) }
+        ensures blocks { length self.new.blocks.cells ≡ length self.old.blocks.cells }
+    {
+        match self.near(class, r) {
+            Some(place) => {
+                let k = value_start(field);
+                self.blocks.set_whole(place, k, n);
+                true
+            }
+            None => self.set_whole_apart(class, field, r, n),
+        }
+    }
+
+    // The same where it may take a search.
+    #[inline(never)]
+    fn set_whole_apart(&mut self, class: usize, field: usize, r: i64, n: i64) -> bool
         requires kept { IsKept self.old }
         requires class { class < length self.old.layout.classes }
         requires mode { slice_get (modes_of self.old.layout class) field ≡ Some Mode.Integer }

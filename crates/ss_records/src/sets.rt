@@ -1,5 +1,5 @@
 // The sets: their ends, the neighbours of a member, and its owner.
-ghost use Rattle.std.specs.Prelude.{◌≡◌, ℕ, ◌+◌, ◌^◌, ◌<◌, ◌≤◌, length, slice_get, not, true, false, if◌then◌else◌, pos, MatchResult, IfSome, IsOk, Ok, Err, Some};
+ghost use Rattle.std.specs.Prelude.{◌≡◌, ℕ, ◌+◌, ◌^◌, ◌<◌, ◌≤◌, length, slice_get, not, true, false, if◌then◌else◌, ℤ, pos, MatchResult, IfSome, IsOk, Ok, Err, Some};
 ghost use Rattle.std.specs.Ordering.{match_ordering, int_cmp};
 ghost use Rattle.ss_states.specs.State.{State, is_filed, members_of, modes_of, value_in};
 ghost use Rattle.ss_states.specs.Sets.{joiner, owner, member_class, first_in, last_in, count_in, next_in, previous_in, owner_of_member, Apart};
@@ -327,21 +327,68 @@ impl Records {
         ensures same { state self.new ≡ state self.old }
         ensures touches { (self.new.blocks.touches ≤ 2) × (self.new.blocks.total ≡ self.old.blocks.total + self.new.blocks.touches) }
     {
+        match self.near_joiner(s, x) {
+            Some(member) => self.neighbour(s, o, member, reverse),
+            None => self.onward_apart(s, o, x, reverse),
+        }
+    }
+
+    // The same where it may take a search for x.
+    #[inline(never)]
+    fn onward_apart(&mut self, s: usize, o: i64, x: i64, reverse: bool) -> Option<i64>
+        requires kept { IsKept self.old }
+        requires set { s < length self.old.layout.sets }
+        requires touches { self.old.blocks.touches ≡ 0 }
+        ensures found { IfSome result (λ y. (member_test (state self.old) s o x ≡ Ok true) × ((if reverse then previous_in (state self.old) s x else next_in (state self.old) s x) ≡ Ok y)) }
+        ensures kept { IsKept self.new }
+        ensures same { state self.new ≡ state self.old }
+        ensures touches { (self.new.blocks.touches ≤ 2) × (self.new.blocks.total ≡ self.old.blocks.total + self.new.blocks.touches) }
+    {
         match self.joiner(s, x) {
-            Ok(member) => {
-                let base = self.layout.member_base(s);
-                let neighbour = self.blocks.follow(member.place, beside(base, reverse));
-                if neighbour.number == member.number {
-                    return None;
-                }
-                let owner = self.blocks.follow(member.place, base + 2);
-                if owner.number as i64 != o {
-                    return None;
-                }
-                Some(neighbour.number as i64)
-            }
+            Ok(member) => self.neighbour(s, o, member, reverse),
             Err(_) => None,
         }
+    }
+
+    // What x means as one that may be in a set, where it is found without a search.
+    #[inline(always)]
+    fn near_joiner(&self, s: usize, x: i64) -> Option<Entry>
+        requires kept { IsKept self.now }
+        requires set { s < length self.now.layout.sets }
+        ensures { IfSome result (λ e. Joins self.now s e × (joiner (state self.now) s x ≡ Ok e.number)) }
+    {
+        match self.near(self.layout.member_class(s), x) {
+            Some(place) => Some(Entry {
+                place,
+                number: self.blocks.number(place, NUMBER),
+            }),
+            None => None,
+        }
+    }
+
+    // The member that comes next to one in the set of an owner, 0 where there is none: at most two touches. None where it is
+    // not in that set.
+    #[inline(always)]
+    fn neighbour(&mut self, s: usize, o: i64, member: Entry, reverse: bool) -> Option<i64>
+        requires kept { IsKept self.old }
+        requires set { s < length self.old.layout.sets }
+        requires joins { Joins self.old s member }
+        requires touches { self.old.blocks.touches ≡ 0 }
+        ensures found { IfSome result (λ y. (x : ℤ) → joiner (state self.old) s x ≡ Ok member.number → (member_test (state self.old) s o x ≡ Ok true) × ((if reverse then previous_in (state self.old) s x else next_in (state self.old) s x) ≡ Ok y)) }
+        ensures kept { IsKept self.new }
+        ensures same { state self.new ≡ state self.old }
+        ensures touches { (self.new.blocks.touches ≤ 2) × (self.new.blocks.total ≡ self.old.blocks.total + self.new.blocks.touches) }
+    {
+        let base = self.layout.member_base(s);
+        let neighbour = self.blocks.follow(member.place, beside(base, reverse));
+        if neighbour.number == member.number {
+            return None;
+        }
+        let owner = self.blocks.follow(member.place, base + 2);
+        if owner.number as i64 != o {
+            return None;
+        }
+        Some(neighbour.number as i64)
     }
 
     /// Whose set x is in: at most two touches.

@@ -84,6 +84,9 @@ pub(crate) fn in_a_set(
     ensures cells { blocks.new.cells ≡ blocks.old.cells }
     ensures touches { (blocks.new.touches ≤ blocks.old.touches + 1048576) × (blocks.new.total + blocks.old.touches ≡ blocks.old.total + blocks.new.touches) }
 {
+    if layout.joins_none(class) {
+        return false;
+    }
     for s in 0..layout.names() {
         if layout.member_class(s) == class {
             if filed_in(
@@ -116,6 +119,9 @@ pub(crate) fn owns_members(
     ensures cells { blocks.new.cells ≡ blocks.old.cells }
     ensures touches { (blocks.new.touches ≤ blocks.old.touches + 1048576) × (blocks.new.total + blocks.old.touches ≡ blocks.old.total + blocks.new.touches) }
 {
+    if layout.owns_none(class) {
+        return false;
+    }
     for s in 0..layout.names() {
         if layout.is_owner(s, class) {
             if owns_in(

@@ -1,8 +1,9 @@
-use Rattle.std.proofs.Common.{sym, ap, subst, ◌∙◌, arith}
+use Rattle.std.proofs.Common.{◌<◌, length, inl, sym, ap, subst, ◌∙◌, arith}
 use Rattle.ss_records.specs.Kept.{Kept}
 use Rattle.ss_records.specs.Places.{class_at, lying}
 use Rattle.ss_records.proofs.Filed.{get_there, in_here, in_not_filed, in_other}
 use Rattle.ss_records.proofs.Still.{early_room, last_look}
+use Rattle.ss_records.proofs.Setless.{in_none}
 use Rattle.ss_records.proofs.ties.in_a_set.Goals as goal
 use Rattle.ss_records.proofs.ties.in_a_set.Goals.{then-member_class-class+else-filed_in, else-member_class-class}
 
@@ -45,3 +46,9 @@ returns-then-filed_in-clause-cells c = c.filed_in.ensures.cells ∙ c.loop-s.inv
 
 pub returns-then-filed_in-clause-touches : goal.returns-then-filed_in-clause-touches
 returns-then-filed_in-clause-touches c = last_look _ _ _ _ _ _ _ _ _ c.loop-s.invariant.touches c.loop-s-test.true c.names-s-end.ensures c.requires.kept.small.sets c.filed_in.ensures.touches
+
+pub joins_none-requires : goal.joins_none-requires
+joins_none-requires c = let e = c.requires.entry in subst (λ k. k < length c.args.layout.now.classes) c.requires.class (c.requires.kept.classes e.0 c.args.place (inl e.1))
+
+pub returns-then-joins_none-clause-value : goal.returns-then-joins_none-clause-value
+returns-then-joins_none-clause-value c = sym (in_none c.args.layout.now.sets 0 c.args.class c.args.number c.args.notes.now.lists (c.joins_none.ensures c.if-joins_none.true))

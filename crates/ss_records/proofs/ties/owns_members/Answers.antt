@@ -1,9 +1,10 @@
-use Rattle.std.proofs.Common.{sym, ap, subst, ◌∙◌, arith}
+use Rattle.std.proofs.Common.{◌<◌, length, inl, sym, ap, subst, ◌∙◌, arith}
 use Rattle.ss_records.specs.Kept.{Kept}
 use Rattle.ss_base.specs.declared.layout.Owner.TheVariants.{Class}
 use Rattle.ss_records.specs.Places.{class_at, lying}
 use Rattle.ss_records.proofs.Filed.{get_there, owns_here, owns_not, owns_other, class_of_owner}
 use Rattle.ss_records.proofs.Still.{later_room, last_look}
+use Rattle.ss_records.proofs.Setless.{owns_none}
 use Rattle.ss_records.proofs.ties.owns_members.Goals as goal
 use Rattle.ss_records.proofs.ties.owns_members.Goals.{then-is_owner+else-owns_in, else-is_owner}
 
@@ -47,3 +48,9 @@ returns-then-owns_in-clause-cells c = c.owns_in.ensures.cells ∙ c.loop-s.invar
 
 pub returns-then-owns_in-clause-touches : goal.returns-then-owns_in-clause-touches
 returns-then-owns_in-clause-touches c = last_look _ _ _ _ _ _ _ _ _ c.loop-s.invariant.touches c.loop-s-test.true c.names-s-end.ensures c.requires.kept.small.sets c.owns_in.ensures.touches
+
+pub owns_none-requires : goal.owns_none-requires
+owns_none-requires c = let e = c.requires.entry in subst (λ k. k < length c.args.layout.now.classes) c.requires.class (c.requires.kept.classes e.0 c.args.place (inl e.1))
+
+pub returns-then-owns_none-clause-value : goal.returns-then-owns_none-clause-value
+returns-then-owns_none-clause-value c = sym (owns_none c.args.layout.now.sets 0 c.args.class c.args.number c.args.notes.now.lists (c.owns_none.ensures c.if-owns_none.true))
