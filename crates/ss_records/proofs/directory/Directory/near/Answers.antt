@@ -1,4 +1,4 @@
-use Rattle.std.proofs.Common.{◌≡◌, Some, slice_get, sym, subst}
+use Rattle.std.proofs.Common.{◌≡◌, Some, slice_get, subst}
 use Rattle.std.specs.Prelude.{IfSome}
 use Rattle.ss_records.specs.Pages.{Listed}
 use Rattle.ss_records.proofs.Paging.{near_current, near_earlier}

@@ -1,4 +1,4 @@
-use Rattle.std.proofs.Common.{◌≡◌, [], ◌∷◌, length, None, sym, ap, subst, ◌∙◌}
+use Rattle.std.proofs.Common.{◌≡◌, [], length, None, sym, ap, subst, ◌∙◌}
 use Rattle.std.specs.Prelude.{replicate}
 use Rattle.std.proofs.lemmas.Result.{IfOk-at_ok, MatchResult-at_ok}
 use Rattle.ss_base.specs.declared.layout.Layout.{Layout}
