@@ -20,11 +20,15 @@ abbrev pub is_tied : List Tie → Bool
 is_tied [] = false
 is_tied (t ∷ ts) = true
 
--- what tells most entries apart
+-- what tells most entries of one time apart
 abbrev pub head_of : Entry → Head
-head_of e = record { time = e.key.time; rank = e.key.rank; number = e.number; tied = is_tied e.key.ties }
+head_of e = record { rank = e.key.rank; number = e.number; tied = is_tied e.key.ties }
 
--- that of each of these entries, in their order
+-- the times of entries, in their order
+abbrev pub times_of : List Entry → List ℤ
+times_of es = map (λ e. e.key.time) es
+
+-- what tells each of these entries from most others of its time, in their order
 abbrev pub heads_of : List Entry → List Head
 heads_of es = map head_of es
 
@@ -38,13 +42,14 @@ pub record IsPaired (slots places : List ℕ) : Type 0 where
   pub there : LeadsBack slots places
   pub back : LeadsBack places slots
 
--- `notices` and `entries` say by slot what stands there, `slots` and `heads` by place which slot stands there and what tells
--- its entry from most others, and `places` by slot in which place it stands
-pub record IsPlaced (notices : List ℤ) (entries : List Entry) (slots places : List ℕ) (heads : List Head) : Type 0 where
+-- `notices` and `entries` say by slot what stands there, `slots`, `times` and `heads` by place which slot stands there, at what
+-- time its entry comes and what tells that from most others of the time, and `places` by slot in which place it stands
+pub record IsPlaced (notices : List ℤ) (entries : List Entry) (slots places : List ℕ) (times : List ℤ) (heads : List Head) : Type 0 where
   pub distinct : IsDistinct int_eq notices
   pub named : notices ≡ notices_of entries
   pub long : length slots ≡ length entries
   pub paired : IsPaired slots places
+  pub timed : times ≡ times_of (by_place no_entry entries slots)
   pub told : heads ≡ heads_of (by_place no_entry entries slots)
 
 -- the places by slot, once the slots in the places a and b have changed places

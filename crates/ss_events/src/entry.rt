@@ -103,10 +103,9 @@ impl Model for Entry {
     ghost view = { λ e. record { key = e.key; number = e.number; notice = e.notice } };
 }
 
-// What tells most entries apart: the time, the rank, the order of scheduling, and whether there are ties between them.
+// What tells most entries of one time apart: the rank, the order of scheduling, and whether there are ties between them.
 #[derive(Clone, Copy)]
 struct Head {
-    time: i64,
     rank: usize,
     number: u64,
     tied: bool,
@@ -123,12 +122,11 @@ fn is_tied(ties: &[Tie]) -> bool
 }
 
 impl Entry {
-    // What tells it from most others.
+    // What tells it from most others of its time.
     fn head(&self) -> Head
         ensures { result ≡ head_of self.now }
     {
         Head {
-            time: self.key.time(),
             rank: self.key.rank(),
             number: self.number,
             tied: is_tied(self.key.ties()),

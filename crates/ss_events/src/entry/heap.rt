@@ -93,6 +93,10 @@ impl Heap {
         ensures counted { self.new ≡ record self.old { comparisons = self.old.comparisons + 1 } }
     {
         self.comparisons += 1;
+        let (early, late) = (self.entries.time(a), self.entries.time(b));
+        if early != late {
+            return early < late;
+        }
         match told_by_heads(self.entries.head(a), self.entries.head(b)) {
             Some(before) => before,
             None => comes_before(self.entries.get(a), self.entries.get(b)),

@@ -59,14 +59,11 @@ pub(super) fn comes_before(a: &Entry, b: &Entry) -> bool
         .is_lt()
 }
 
-// Whether an entry comes out before another, where their heads tell it: only ties between them hide that.
+// Whether an entry comes out before another of the same time, where their heads tell it: only ties between them hide that.
 #[inline(always)]
 pub(super) fn told_by_heads(early: &Head, late: &Head) -> Option<bool>
-    ensures { IfSome result (λ before. (e f : EntrySeen) → early.now ≡ head_of e → late.now ≡ head_of f → before ≡ comes_before e f) }
+    ensures { IfSome result (λ before. (e f : EntrySeen) → e.key.time ≡ f.key.time → early.now ≡ head_of e → late.now ≡ head_of f → before ≡ comes_before e f) }
 {
-    if early.time != late.time {
-        return Some(early.time < late.time);
-    }
     if early.rank != late.rank {
         return Some(early.rank < late.rank);
     }

@@ -19,8 +19,9 @@ pub struct Places {
     // By slot: the notice, and its entry.
     notices: IndexSet<i64>,
     entries: Vec<Entry>,
-    // By place: which slot stands there, and what tells its entry from most others.
+    // By place: which slot stands there, at what time its entry comes, and what tells that from most others of the time.
     slots: Vec<usize>,
+    times: Vec<i64>,
     heads: Vec<Head>,
     // By slot: in which place it stands.
     places: Vec<usize>,
@@ -35,7 +36,7 @@ impl Model for Places {
 
     ghost view = { λ p. by_place no_entry p.entries.items p.slots.items };
 
-    ghost invariant = { λ p. IsPlaced p.notices.keys p.entries.items p.slots.items p.places.items p.heads.items };
+    ghost invariant = { λ p. IsPlaced p.notices.keys p.entries.items p.slots.items p.places.items p.times.items p.heads.items };
 }
 
 impl Places {
@@ -46,6 +47,7 @@ impl Places {
             notices: IndexSet::new(alloc),
             entries: Vec::new(alloc),
             slots: Vec::new(alloc),
+            times: Vec::new(alloc),
             heads: Vec::new(alloc),
             places: Vec::new(alloc),
         }
@@ -67,7 +69,16 @@ impl Places {
         Some(self.places[slot])
     }
 
-    /// What tells the entry in a place from most others.
+    /// The time of the entry in a place.
+    #[inline(always)]
+    pub fn time(&self, place: usize) -> i64
+        requires { place < length self.now }
+        ensures { (d : Entry) → result ≡ (slice_index_or self.now place d).key.time }
+    {
+        self.times[place]
+    }
+
+    /// What tells the entry in a place from most others of its time.
     #[inline(always)]
     pub(super) fn head(&self, place: usize) -> &Head
         requires { place < length self.now }
@@ -95,6 +106,7 @@ impl Places {
         make_room(
             &mut self.entries,
             &mut self.slots,
+            &mut self.times,
             &mut self.heads,
             &mut self.places,
         )?;
@@ -102,6 +114,7 @@ impl Places {
         self.slots.push_reserved(next);
         self.heads.push_reserved(entry.head());
         self.places.push_reserved(next);
+        self.times.push_reserved(entry.key.time());
         self.entries.push_reserved(entry);
         Ok(())
     }
@@ -114,6 +127,7 @@ impl Places {
         ensures { self.new ≡ swap self.old a b }
     {
         self.heads.swap(a, b);
+        self.times.swap(a, b);
         exchange(&mut self.slots, &mut self.places, a, b);
     }
 
@@ -130,6 +144,7 @@ impl Places {
         let _ = self.slots.pop();
         let _ = self.places.pop();
         let _ = self.heads.swap_remove(at);
+        let _ = self.times.swap_remove(at);
         let _ = self.notices.swap_remove_index(slot);
         self.entries.swap_remove(slot)
     }
@@ -140,20 +155,24 @@ impl Places {
 fn make_room(
     entries: &mut Vec<Entry>,
     slots: &mut Vec<usize>,
+    times: &mut Vec<i64>,
     heads: &mut Vec<Head>,
     places: &mut Vec<usize>,
 ) -> Result<(), AllocError>
     ensures entries { entries.new.items ≡ entries.old.items }
     ensures slots { slots.new.items ≡ slots.old.items }
+    ensures times { times.new.items ≡ times.old.items }
     ensures heads { heads.new.items ≡ heads.old.items }
     ensures places { places.new.items ≡ places.old.items }
     ensures entries_room { OnOk result (vec_len entries.new < vec_capacity entries.new) }
     ensures slots_room { OnOk result (vec_len slots.new < vec_capacity slots.new) }
+    ensures times_room { OnOk result (vec_len times.new < vec_capacity times.new) }
     ensures heads_room { OnOk result (vec_len heads.new < vec_capacity heads.new) }
     ensures places_room { OnOk result (vec_len places.new < vec_capacity places.new) }
 {
     entries.reserve(1)?;
     slots.reserve(1)?;
+    times.reserve(1)?;
     heads.reserve(1)?;
     places.reserve(1)
 }

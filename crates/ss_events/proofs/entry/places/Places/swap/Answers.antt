@@ -20,16 +20,16 @@ invariant_of-self c =
     let ys = c.self.inside.places.items in
     let long = length-by_place no_entry c.self.inside.entries.items xs in
     let seen = ap length c.self.view_is in
-    placed-swapped c.self.inside.notices.keys c.self.inside.entries.items xs ys c.self.inside.heads.items c.self.invariant c.args.a c.args.b
+    placed-swapped c.self.inside.notices.keys c.self.inside.entries.items xs ys c.self.inside.times.items c.self.inside.heads.items c.self.invariant c.args.a c.args.b
     (omega (arith, c.requires.a_within, long, seen)) (omega (arith, c.requires.b_within, long, seen))
     (with_items c.self.inside.slots c.exchange.new.slots).items
     (with_items c.self.inside.places c.exchange.new.places).items
-    c.swap.new.self.items
+    c.swap-2.new.self.items c.swap.new.self.items
     (slots (goal.at.invariant_of-self c).After-exchange)
     (written c.self.inside.places c.exchange.new.places (exchanged xs ys c.args.a c.args.b)
     (c.exchange.ensures.places ∙ (λ i. exchanged (c.deref_mut.ensures.value i) (c.deref_mut-2.ensures.value i) c.args.a c.args.b))
     (length-exchanged xs ys c.args.a c.args.b ∙ sym c.self.inside.places.ok.0))
-    c.swap.ensures.items
+    c.swap-2.ensures.items c.swap.ensures.items
 
 pub returns : goal.returns
 returns c =
