@@ -1,10 +1,14 @@
 -- How pending entries stand in slots, and the slots in places.
-use Rattle.std.specs.Prelude.{◌≡◌, ℕ, ◌<◌, ℤ, pos, Bool, true, false, List, [], ◌∷◌, map, length, slice_index, slice_index_or, slice_set}
+use Rattle.std.specs.Prelude.{◌≡◌, ◌⊎◌, ℕ, ◌<◌, ◌≤◌, ℤ, pos, Bool, true, false, List, [], ◌∷◌, map, length, take, slice_index, slice_index_or, slice_set, nat_lt, bit_and, Option, Some, None, if◌then◌else◌}
+use Rattle.std.specs.Int.{w64, cast_unsigned}
+use Rattle.std.specs.Map.{lookup}
+use Rattle.std.specs.Option.{unwrap_or}
 use Rattle.std.specs.Ordering.{int_eq}
 use Rattle.std.specs.List.{IsDistinct}
 use Rattle.ss_events.specs.declared.key.Tie.{Tie}
 use Rattle.ss_events.specs.declared.entry.Entry.{Entry}
 use Rattle.ss_events.specs.declared.entry.Head.{Head}
+use Rattle.ss_events.specs.declared.entry.directory.Directory.{Directory}
 use Rattle.ss_events.specs.HeapEntries.{notices_of}
 
 -- what stands in each place, where `slots` says by place in which slot it stands; `d` is read of no slot that is there
@@ -42,15 +46,54 @@ pub record IsPaired (slots places : List ℕ) : Type 0 where
   pub there : LeadsBack slots places
   pub back : LeadsBack places slots
 
--- `notices` and `entries` say by slot what stands there, `slots`, `times` and `heads` by place which slot stands there, at what
--- time its entry comes and what tells that from most others of the time, and `places` by slot in which place it stands
-pub record IsPlaced (notices : List ℤ) (entries : List Entry) (slots places : List ℕ) (times : List ℤ) (heads : List Head) : Type 0 where
-  pub distinct : IsDistinct int_eq notices
-  pub named : notices ≡ notices_of entries
+-- the greatest number, which no slot has
+abbrev pub no_slot : ℕ
+no_slot = 18446744073709551615
+
+-- the number of the cell of a notice
+abbrev pub cell_of : Directory → ℤ → ℕ
+cell_of d notice = bit_and (cast_unsigned w64 notice) d.mask
+
+-- the slot that the cell of a notice names
+abbrev pub first_guess : Directory → ℤ → ℕ
+first_guess d notice = slice_index_or d.cells.items (cell_of d notice) no_slot
+
+-- the slot that is named for a notice whose cell names another
+abbrev pub second_guess : Directory → ℤ → ℕ
+second_guess d notice = unwrap_or (lookup (int_eq notice) d.others.entries) no_slot
+
+-- the slot is one of the two that are named for the notice
+abbrev pub Leads : Directory → ℤ → ℕ → Type 0
+Leads d notice slot = (first_guess d notice ≡ slot) ⊎ (second_guess d notice ≡ slot)
+
+-- there are all of these slots among so many
+abbrev pub AreWithin : List ℕ → ℕ → Type 0
+AreWithin slots n = (k : ℕ) → k < length slots → slice_index slots k < n
+
+-- each of these slots is one of the two that are named for the notice of its entry
+abbrev pub AreLed : Directory → List Entry → List ℕ → Type 0
+AreLed d entries slots = (k : ℕ) → k < length slots → Leads d (slice_index_or entries (slice_index slots k) no_entry).notice (slice_index slots k)
+
+-- the place of a slot, if it is one of those in use and its entry has the notice
+abbrev pub place_of : List Entry → List ℕ → ℕ → ℕ → ℤ → Option ℕ
+place_of entries places standing slot notice =
+    if nat_lt slot (length places) then
+    (if nat_lt (slice_index places slot) standing then
+    (if int_eq (slice_index_or entries slot no_entry).notice notice then Some (slice_index places slot) else None)
+    else None)
+    else None
+
+-- `entries` say by slot what stands there, `times` and `heads` by place at what time its entry comes and what tells that from
+-- most others of the time, `slots` by place which slot stands there, with the free ones behind, and `places` where each slot is
+-- among these. No two entries by place have one notice, and the directory leads to each
+pub record IsPlaced (entries : List Entry) (slots places : List ℕ) (times : List ℤ) (heads : List Head) (directory : Directory) : Type 0 where
   pub long : length slots ≡ length entries
   pub paired : IsPaired slots places
-  pub timed : times ≡ times_of (by_place no_entry entries slots)
-  pub told : heads ≡ heads_of (by_place no_entry entries slots)
+  pub within : length times ≤ length slots
+  pub timed : times ≡ times_of (by_place no_entry entries (take (length times) slots))
+  pub told : heads ≡ heads_of (by_place no_entry entries (take (length times) slots))
+  pub distinct : IsDistinct int_eq (notices_of (by_place no_entry entries (take (length times) slots)))
+  pub led : AreLed directory entries (take (length times) slots)
 
 -- the places by slot, once the slots in the places a and b have changed places
 abbrev pub exchanged : List ℕ → List ℕ → ℕ → ℕ → List ℕ

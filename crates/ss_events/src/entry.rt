@@ -4,8 +4,9 @@
 //! entry is put into a place only by `Heap`, which counts it.
 ghost use Rattle.std.specs.Prelude.{◌≡◌, IfOk, IsTrue, ◌↔◌, int_lt, map};
 ghost use Rattle.ss_events.specs.PendingList.{FitsClass};
-ghost use Rattle.ss_events.specs.Slots.{is_tied, head_of};
+ghost use Rattle.ss_events.specs.Slots.{is_tied, head_of, no_entry};
 
+mod directory;
 mod heap;
 mod order;
 mod places;
@@ -122,6 +123,18 @@ fn is_tied(ties: &[Tie]) -> bool
 }
 
 impl Entry {
+    // What stands where no entry does: it has no ties.
+    #[inline(always)]
+    fn none(alloc: Global) -> Entry
+        ensures { result ≡ no_entry }
+    {
+        Entry {
+            key: Key::with_ties(0, 0, Vec::new(alloc)),
+            number: 0,
+            notice: 0,
+        }
+    }
+
     // What tells it from most others of its time.
     fn head(&self) -> Head
         ensures { result ≡ head_of self.now }

@@ -1,42 +1,45 @@
 // Entries in places: none of them moves while it changes places.
-ghost use Rattle.std.specs.Prelude.{false, ◌≡◌, ◌<◌, ◌++◌, ◌∷◌, [], length, swap, slice_index_or, vec_len, vec_capacity, OnOk, OnErr, position, is_some};
+ghost use Rattle.std.specs.Prelude.{false, ◌≡◌, ◌<◌, ◌≤◌, ◌++◌, ◌∷◌, [], length, swap, slice_index, slice_index_or, nat_lt, vec_len, vec_capacity, if◌then◌else◌, IfOk, OnOk, OnErr, position, is_some};
 ghost use Rattle.std.specs.Ordering.{int_eq};
-ghost use Rattle.std.specs.List.{swap_remove, list_any};
+ghost use Rattle.std.specs.List.{swap_remove, list_any, IsDistinct};
 ghost use Rattle.ss_events.specs.declared.entry.Entry.{Entry};
 ghost use Rattle.ss_events.specs.HeapEntries.{notices_of};
-ghost use Rattle.ss_events.specs.Slots.{head_of, IsPaired, exchanged};
+ghost use Rattle.ss_events.specs.Slots.{head_of, by_place, no_entry, place_of, IsPaired, AreWithin, AreLed, exchanged};
 
+use super::directory::Directory;
 use super::{Entry, Head};
-use indexmap::IndexSet;
 use std::alloc::{AllocError, Global};
 use std::marker::Model;
+use std::mem;
 
 /// Entries in places from 0 on, with the place of each notice. A contract sees the list of the entries by place.
 ///
-/// An entry keeps its slot while it changes places. A set finds the slot of a notice.
+/// An entry keeps its slot from when it comes until it goes, while it changes places. The slot is then free, and the next
+/// entry that comes takes it. A directory says in which slots to look for a notice.
 #[derive(Drop)]
 pub struct Places {
-    // By slot: the notice, and its entry.
-    notices: IndexSet<i64>,
+    // By slot: its entry, which has no ties where the slot is free.
     entries: Vec<Entry>,
-    // By place: which slot stands there, at what time its entry comes, and what tells that from most others of the time.
-    slots: Vec<usize>,
+    // By place: at what time its entry comes, and what tells that from most others of the time.
     times: Vec<i64>,
     heads: Vec<Head>,
-    // By slot: in which place it stands.
+    // By place: which slot stands there. The slots that are free stand behind all places.
+    slots: Vec<usize>,
+    // By slot: where among those it stands.
     places: Vec<usize>,
+    directory: Directory,
 }
 
 impl Model for Places {
-    ghost use Rattle.std.specs.Prelude.{List};
+    ghost use Rattle.std.specs.Prelude.{List, length, take};
     ghost use Rattle.ss_events.specs.declared.entry.Entry.{Entry};
     ghost use Rattle.ss_events.specs.Slots.{by_place, no_entry, IsPlaced};
 
     ghost Value = { List Entry };
 
-    ghost view = { λ p. by_place no_entry p.entries.items p.slots.items };
+    ghost view = { λ p. by_place no_entry p.entries.items (take (length p.times.items) p.slots.items) };
 
-    ghost invariant = { λ p. IsPlaced p.notices.keys p.entries.items p.slots.items p.places.items p.times.items p.heads.items };
+    ghost invariant = { λ p. IsPlaced p.entries.items p.slots.items p.places.items p.times.items p.heads.items p.directory };
 }
 
 impl Places {
@@ -44,12 +47,12 @@ impl Places {
         ensures { result ≡ [] }
     {
         Places {
-            notices: IndexSet::new(alloc),
             entries: Vec::new(alloc),
-            slots: Vec::new(alloc),
             times: Vec::new(alloc),
             heads: Vec::new(alloc),
+            slots: Vec::new(alloc),
             places: Vec::new(alloc),
+            directory: Directory::new(alloc),
         }
     }
 
@@ -57,7 +60,7 @@ impl Places {
     pub fn len(&self) -> usize
         ensures { result ≡ length self.now }
     {
-        self.slots.len()
+        self.times.len()
     }
 
     /// The place of the entry of a notice.
@@ -65,8 +68,14 @@ impl Places {
         ensures place { result ≡ position (int_eq notice) (notices_of self.now) }
         ensures found { is_some result ≡ list_any (int_eq notice) (notices_of self.now) }
     {
-        let slot = self.notices.get_index_of(&notice)?;
-        Some(self.places[slot])
+        let first = self.directory.first_guess(notice);
+        let standing = self.times.len();
+        let found = place_of(&self.entries, &self.places, standing, first, notice);
+        if found.is_some() {
+            return found;
+        }
+        let second = self.directory.second_guess(notice);
+        place_of(&self.entries, &self.places, standing, second, notice)
     }
 
     /// The time of the entry in a place.
@@ -102,7 +111,7 @@ impl Places {
         ensures ok { OnOk result (self.new ≡ self.old ++ entry ∷ []) }
         ensures err { OnErr result (self.new ≡ self.old) }
     {
-        let next = self.slots.len();
+        let next = self.times.len();
         make_room(
             &mut self.entries,
             &mut self.slots,
@@ -110,12 +119,12 @@ impl Places {
             &mut self.heads,
             &mut self.places,
         )?;
-        self.notices.insert(entry.notice)?;
-        self.slots.push_reserved(next);
+        make_cells(&mut self.directory, &self.entries, &self.slots[..next])?;
+        let slot = next_slot(&mut self.entries, &mut self.slots, &mut self.places, next);
+        self.directory.note(entry.notice, slot)?;
         self.heads.push_reserved(entry.head());
-        self.places.push_reserved(next);
         self.times.push_reserved(entry.key.time());
-        self.entries.push_reserved(entry);
+        self.entries[slot] = entry;
         Ok(())
     }
 
@@ -137,16 +146,38 @@ impl Places {
         ensures there { result ≡ slice_index_or self.old at result }
         ensures rest { self.new ≡ swap_remove self.old at result }
     {
-        let last = self.slots.len() - 1;
+        let last = self.times.len() - 1;
         let slot = self.slots[at];
         exchange(&mut self.slots, &mut self.places, at, last);
-        exchange(&mut self.places, &mut self.slots, slot, last);
-        let _ = self.slots.pop();
-        let _ = self.places.pop();
         let _ = self.heads.swap_remove(at);
         let _ = self.times.swap_remove(at);
-        let _ = self.notices.swap_remove_index(slot);
-        self.entries.swap_remove(slot)
+        let none = Entry::none(*self.entries.allocator());
+        let entry = mem::replace(&mut self.entries[slot], none);
+        self.directory.forget(entry.notice, slot);
+        entry
+    }
+}
+
+// The place of a slot, if an entry of the notice stands in it.
+#[inline(always)]
+fn place_of(
+    entries: &[Entry],
+    places: &[usize],
+    standing: usize,
+    slot: usize,
+    notice: i64,
+) -> Option<usize>
+    requires { length places.now ≡ length entries.now }
+    ensures { result ≡ place_of entries.now places.now standing slot notice }
+{
+    if slot >= places.len() || places[slot] >= standing {
+        return None;
+    }
+    let entry = &entries[slot];
+    if entry.notice == notice {
+        Some(places[slot])
+    } else {
+        None
     }
 }
 
@@ -175,6 +206,67 @@ fn make_room(
     times.reserve(1)?;
     heads.reserve(1)?;
     places.reserve(1)
+}
+
+// The slot behind so many, which are taken: the one that was freed last, or a new one where none is free.
+#[inline(always)]
+fn next_slot(
+    entries: &mut Vec<Entry>,
+    slots: &mut Vec<usize>,
+    places: &mut Vec<usize>,
+    standing: usize,
+) -> usize
+    requires entries_room { vec_len entries.old < vec_capacity entries.old }
+    requires slots_room { vec_len slots.old < vec_capacity slots.old }
+    requires places_room { vec_len places.old < vec_capacity places.old }
+    requires within { standing ≤ vec_len slots.old }
+    ensures slot { result ≡ slice_index slots.new.items standing }
+    ensures entries { entries.new.items ≡ (if nat_lt standing (vec_len slots.old) then entries.old.items else entries.old.items ++ no_entry ∷ []) }
+    ensures slots { slots.new.items ≡ (if nat_lt standing (vec_len slots.old) then slots.old.items else slots.old.items ++ standing ∷ []) }
+    ensures places { places.new.items ≡ (if nat_lt standing (vec_len slots.old) then places.old.items else places.old.items ++ standing ∷ []) }
+{
+    if standing < slots.len() {
+        return slots[standing];
+    }
+    entries.push_reserved(Entry::none(*entries.allocator()));
+    slots.push_reserved(standing);
+    places.push_reserved(standing);
+    standing
+}
+
+// Makes a directory of more cells, unless there are more than two for each of these slots.
+#[inline(always)]
+fn make_cells(
+    directory: &mut Directory,
+    entries: &Vec<Entry>,
+    slots: &[usize],
+) -> Result<(), AllocError>
+    requires within { AreWithin slots.now (vec_len entries.now) }
+    requires distinct { IsDistinct int_eq (notices_of (by_place no_entry entries.now.items slots.now)) }
+    requires led { AreLed directory.old entries.now.items slots.now }
+    ensures { AreLed directory.new entries.now.items slots.now }
+{
+    if slots.len() < directory.cells() / 2 {
+        return Ok(());
+    }
+    *directory = noted(entries, slots, directory.cells().saturating_mul(2))?;
+    Ok(())
+}
+
+// A directory of so many cells that leads to each of these slots.
+#[inline(never)]
+fn noted(entries: &Vec<Entry>, slots: &[usize], cells: usize) -> Result<Directory, AllocError>
+    requires within { AreWithin slots.now (vec_len entries.now) }
+    requires distinct { IsDistinct int_eq (notices_of (by_place no_entry entries.now.items slots.now)) }
+    ensures { IfOk result (λ d. AreLed d entries.now.items slots.now) }
+{
+    let mut directory = Directory::of_cells(*entries.allocator(), cells)?;
+    for k in 0..slots.len() {
+        let slot = slots[k];
+        let entry = &entries[slot];
+        directory.note(entry.notice, slot)?;
+    }
+    Ok(directory)
 }
 
 // Lets the slots in two places change places, and tells each of the two its new place.

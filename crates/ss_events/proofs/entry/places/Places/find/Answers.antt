@@ -1,41 +1,49 @@
-use Rattle.std.proofs.Common.{◌≡◌, ◌∙◌, false, int_eq, is_some, to_z-of_z, Some, sym, ap}
-use Rattle.std.specs.List.{position, list_any}
-use Rattle.std.proofs.lemmas.List.{get_or_default}
+use Rattle.std.proofs.Common.{◌≡◌, ◌∙◌, length, int_eq, to_z-of_z, sym, ap}
 use Rattle.ss_events.specs.HeapEntries.{notices_of}
-use Rattle.ss_events.proofs.Standing.{any_seen, seen_nowhere, seen_at, slot_there}
+use Rattle.ss_events.specs.Slots.{place_of, first_guess, second_guess}
+use Rattle.std.specs.List.{position, list_any}
+use Rattle.ss_events.proofs.Standing.{told_first, told_second}
 use Rattle.ss_events.proofs.entry.places.Places.find.Goals as goal
 
-none : (c : goal.After-from_residual) → false ≡ list_any (int_eq c.args.notice) c.self.inside.notices.keys
-none c = c.in_err-slot.ensures.found ∙ (λ i. list_any (int_eq (to_z-of_z c.ranges.notice i)) c.self.inside.notices.keys)
-
-pub returns-in_err-slot-clause-place : goal.returns-in_err-slot-clause-place
-returns-in_err-slot-clause-place c =
-    c.from_residual.ensures
-    ∙ sym (seen_nowhere c.self.inside.notices.keys c.self.inside.entries.items c.self.inside.slots.items c.self.inside.places.items c.self.inside.times.items c.self.inside.heads.items c.self.invariant (int_eq c.args.notice) (sym (none c)))
+pub returns-then-is_some-clause-place : goal.returns-then-is_some-clause-place
+returns-then-is_some-clause-place c =
+    let first : c.place_of-found.result ≡ place_of c.self.inside.entries.items c.self.inside.places.items (length c.self.inside.times.items) (first_guess c.self.inside.directory c.args.notice) c.args.notice = c.place_of-found.ensures
+    ∙ (λ i. place_of (c.deref.ensures.value i) (c.deref-2.ensures.value i) ((c.len-standing.ensures ∙ c.self.inside.times.ok.0) i) (c.first_guess-first.ensures i) (to_z-of_z c.ranges.notice i))
+    ∙ (λ i. place_of c.self.inside.entries.items c.self.inside.places.items (length c.self.inside.times.items) (first_guess c.self.inside.directory (to_z-of_z c.ranges.notice i)) c.args.notice) in
+    (told_first c.self.inside.entries.items c.self.inside.slots.items c.self.inside.places.items c.self.inside.times.items c.self.inside.heads.items c.self.inside.directory c.self.invariant
+    c.args.notice c.place_of-found.result first (sym c.is_some.ensures ∙ c.if-is_some.true)).0
     ∙ ap (λ l. position (int_eq c.args.notice) (notices_of l)) c.self.view_is
 
-pub returns-in_err-slot-clause-found : goal.returns-in_err-slot-clause-found
-returns-in_err-slot-clause-found c =
-    ap is_some c.from_residual.ensures ∙ none c
-    ∙ any_seen c.self.inside.notices.keys c.self.inside.entries.items c.self.inside.slots.items c.self.inside.places.items c.self.inside.times.items c.self.inside.heads.items c.self.invariant (int_eq c.args.notice)
+pub returns-then-is_some-clause-found : goal.returns-then-is_some-clause-found
+returns-then-is_some-clause-found c =
+    let first : c.place_of-found.result ≡ place_of c.self.inside.entries.items c.self.inside.places.items (length c.self.inside.times.items) (first_guess c.self.inside.directory c.args.notice) c.args.notice = c.place_of-found.ensures
+    ∙ (λ i. place_of (c.deref.ensures.value i) (c.deref-2.ensures.value i) ((c.len-standing.ensures ∙ c.self.inside.times.ok.0) i) (c.first_guess-first.ensures i) (to_z-of_z c.ranges.notice i))
+    ∙ (λ i. place_of c.self.inside.entries.items c.self.inside.places.items (length c.self.inside.times.items) (first_guess c.self.inside.directory (to_z-of_z c.ranges.notice i)) c.args.notice) in
+    (told_first c.self.inside.entries.items c.self.inside.slots.items c.self.inside.places.items c.self.inside.times.items c.self.inside.heads.items c.self.inside.directory c.self.invariant
+    c.args.notice c.place_of-found.result first (sym c.is_some.ensures ∙ c.if-is_some.true)).1
     ∙ ap (λ l. list_any (int_eq c.args.notice) (notices_of l)) c.self.view_is
+
+-- what the first slot that is named told
+first : (c : goal.After-place_of) → c.place_of-found.result ≡ place_of c.self.inside.entries.items c.self.inside.places.items (length c.self.inside.times.items) (first_guess c.self.inside.directory c.args.notice) c.args.notice
+first c = c.place_of-found.ensures
+    ∙ (λ i. place_of (c.deref.ensures.value i) (c.deref-2.ensures.value i) ((c.len-standing.ensures ∙ c.self.inside.times.ok.0) i) (c.first_guess-first.ensures i) (to_z-of_z c.ranges.notice i))
+    ∙ (λ i. place_of c.self.inside.entries.items c.self.inside.places.items (length c.self.inside.times.items) (first_guess c.self.inside.directory (to_z-of_z c.ranges.notice i)) c.args.notice)
+
+-- and the second
+second : (c : goal.After-place_of) → c.place_of.result ≡ place_of c.self.inside.entries.items c.self.inside.places.items (length c.self.inside.times.items) (second_guess c.self.inside.directory c.args.notice) c.args.notice
+second c =
+    c.place_of.ensures
+    ∙ (λ i. place_of (c.deref-3.ensures.value i) (c.deref-4.ensures.value i) ((c.len-standing.ensures ∙ c.self.inside.times.ok.0) i) (c.second_guess-second.ensures i) (to_z-of_z c.ranges.notice i))
+    ∙ (λ i. place_of c.self.inside.entries.items c.self.inside.places.items (length c.self.inside.times.items) (second_guess c.self.inside.directory (to_z-of_z c.ranges.notice i)) c.args.notice)
 
 pub returns-clause-place : goal.returns-clause-place
 returns-clause-place c =
-    let ks = c.self.inside.notices.keys in
-    let es = c.self.inside.entries.items in
-    let xs = c.self.inside.slots.items in
-    let ys = c.self.inside.places.items in
-    let qs = c.self.inside.times.items in
-    let ts = c.self.inside.heads.items in
-    let slot = c.in_ok-slot.slot in
-    let found : position (int_eq c.args.notice) ks ≡ Some slot = sym (c.in_ok-slot.ensures.index ∙ (λ i. position (int_eq (to_z-of_z c.ranges.notice i)) ks)) in
-    ap Some (c.index.ensures ∙ get_or_default ys slot c.index.result.now 0 (slot_there ks es xs ys qs ts c.self.invariant c.args.notice slot found))
-    ∙ sym (seen_at ks es xs ys qs ts c.self.invariant c.args.notice slot found)
+    (told_second c.self.inside.entries.items c.self.inside.slots.items c.self.inside.places.items c.self.inside.times.items c.self.inside.heads.items c.self.inside.directory c.self.invariant
+    c.args.notice c.place_of-found.result c.place_of.result (first c) (sym c.is_some.ensures ∙ c.if-is_some.false) (second c)).0
     ∙ ap (λ l. position (int_eq c.args.notice) (notices_of l)) c.self.view_is
 
 pub returns-clause-found : goal.returns-clause-found
 returns-clause-found c =
-    c.in_ok-slot.ensures.found ∙ (λ i. list_any (int_eq (to_z-of_z c.ranges.notice i)) c.self.inside.notices.keys)
-    ∙ any_seen c.self.inside.notices.keys c.self.inside.entries.items c.self.inside.slots.items c.self.inside.places.items c.self.inside.times.items c.self.inside.heads.items c.self.invariant (int_eq c.args.notice)
+    (told_second c.self.inside.entries.items c.self.inside.slots.items c.self.inside.places.items c.self.inside.times.items c.self.inside.heads.items c.self.inside.directory c.self.invariant
+    c.args.notice c.place_of-found.result c.place_of.result (first c) (sym c.is_some.ensures ∙ c.if-is_some.false) (second c)).1
     ∙ ap (λ l. list_any (int_eq c.args.notice) (notices_of l)) c.self.view_is

@@ -1,59 +1,116 @@
-use Rattle.std.proofs.Common.{rules, ◌≡◌, ◌∙◌, false, [], ◌∷◌, ◌++◌, int_eq, to_z, of_z, w64, to_z-of_z, length, ap, if◌then◌else◌}
+use Rattle.std.proofs.Common.{rules, to_z, of_z, w64, to_z-of_z, ◌≡◌, ◌≢◌, ℕ, ℤ, ◌+◌, ◌<◌, ◌≤◌, ◌∙◌, cond, ltb, false, [], ◌∷◌, ◌++◌, length, take, get_or, set, int_eq, subst, sym, ap, refl, arith}
 use Rattle.std.specs.List.{list_any}
-use Rattle.indexmap.specs.IndexSet.{insert_key}
+use Rattle.ss_events.specs.declared.entry.Entry.{Entry}
 use Rattle.ss_events.specs.HeapEntries.{notices_of}
-use Rattle.ss_events.specs.Slots.{head_of}
-use Rattle.ss_events.proofs.Standing.{any_seen, placed-pushed, seen-pushed}
+use Rattle.ss_events.specs.Slots.{by_place, no_entry, no_slot, head_of, Leads, AreLed, IsPlaced}
+use Rattle.ss_events.proofs.Standing.{placed-led, placed-more, placed-noted, placed-pushed, seen-pushed, slot_in}
 use Rattle.ss_events.proofs.entry.places.Places.push.Goals as goal
+use Rattle.ss_events.proofs.entry.places.Places.push.Goals.{After-note, After-drop-index_mut}
+
+-- how many places there are
+standing : (c : After-note) → c.len-next.result ≡ length c.make_room.new.times.items
+standing c = c.len-next.ensures ∙ c.self.inside.times.ok.0 ∙ sym (ap length c.in_ok-make_room.ensures.times)
+
+-- once there is room
+roomy : (c : After-note) → IsPlaced c.make_room.new.entries.items c.make_room.new.slots.items c.make_room.new.places.items c.make_room.new.times.items c.make_room.new.heads.items c.self.inside.directory
+roomy c =
+    let r = c.in_ok-make_room.ensures in
+    let d = c.self.inside.directory in
+    subst (λ l. IsPlaced l c.make_room.new.slots.items c.make_room.new.places.items c.make_room.new.times.items c.make_room.new.heads.items d) (sym r.entries)
+    (subst (λ l. IsPlaced c.self.inside.entries.items l c.make_room.new.places.items c.make_room.new.times.items c.make_room.new.heads.items d) (sym r.slots)
+    (subst (λ l. IsPlaced c.self.inside.entries.items c.self.inside.slots.items l c.make_room.new.times.items c.make_room.new.heads.items d) (sym r.places)
+    (subst (λ l. IsPlaced c.self.inside.entries.items c.self.inside.slots.items c.self.inside.places.items l c.make_room.new.heads.items d) (sym r.times)
+    (subst (λ l. IsPlaced c.self.inside.entries.items c.self.inside.slots.items c.self.inside.places.items c.self.inside.times.items l d) (sym r.heads) c.self.invariant))))
+
+-- once there are cells
+celled : (c : After-note) → IsPlaced c.make_room.new.entries.items c.make_room.new.slots.items c.make_room.new.places.items c.make_room.new.times.items c.make_room.new.heads.items c.make_cells.new.directory
+celled c =
+    placed-led c.make_room.new.entries.items c.make_room.new.slots.items c.make_room.new.places.items c.make_room.new.times.items c.make_room.new.heads.items c.self.inside.directory (roomy c) c.make_cells.new.directory
+    (subst (AreLed c.make_cells.new.directory c.make_room.new.entries.items) ((λ i. take (standing c i) (c.deref.ensures.value i))) c.make_cells.ensures)
+
+-- once there is a free slot
+slotted : (c : After-note)
+    → (take (length c.make_room.new.times.items) c.next_slot-slot.new.slots.items ≡ take (length c.make_room.new.times.items) c.make_room.new.slots.items)
+    × (by_place no_entry c.next_slot-slot.new.entries.items (take (length c.make_room.new.times.items) c.make_room.new.slots.items) ≡ by_place no_entry c.make_room.new.entries.items (take (length c.make_room.new.times.items) c.make_room.new.slots.items))
+    × (c.len-next.result < length c.next_slot-slot.new.slots.items)
+    × IsPlaced c.next_slot-slot.new.entries.items c.next_slot-slot.new.slots.items c.next_slot-slot.new.places.items c.make_room.new.times.items c.make_room.new.heads.items c.make_cells.new.directory
+slotted c =
+    let long = c.make_room.new.slots.ok.0 in
+    let n = c.len-next.result in
+    placed-more c.make_room.new.entries.items c.make_room.new.slots.items c.make_room.new.places.items c.make_room.new.times.items c.make_room.new.heads.items c.make_cells.new.directory (celled c)
+    c.next_slot-slot.new.entries.items c.next_slot-slot.new.slots.items c.next_slot-slot.new.places.items n (standing c)
+    (c.next_slot-slot.ensures.entries ∙ ap (λ m. cond (ltb n m) c.make_room.new.entries.items (c.make_room.new.entries.items ++ no_entry ∷ [])) long)
+    (c.next_slot-slot.ensures.slots ∙ ap (λ m. cond (ltb n m) c.make_room.new.slots.items (c.make_room.new.slots.items ++ n ∷ [])) long)
+    (c.next_slot-slot.ensures.places ∙ ap (λ m. cond (ltb n m) c.make_room.new.places.items (c.make_room.new.places.items ++ n ∷ [])) long)
+
+-- what is seen
+seen : (c : After-note) → by_place no_entry c.next_slot-slot.new.entries.items (take (length c.make_room.new.times.items) c.next_slot-slot.new.slots.items) ≡ c.args.self.now
+seen c =
+    let r = c.in_ok-make_room.ensures in
+    ap (by_place no_entry c.next_slot-slot.new.entries.items) (slotted c).0 ∙ (slotted c).1
+    ∙ (λ i. by_place no_entry (r.entries i) (take (length (r.times i)) (r.slots i))) ∙ c.self.view_is
+
+fresh : (c : After-note) → list_any (int_eq c.args.entry.notice) (notices_of (by_place no_entry c.next_slot-slot.new.entries.items (take (length c.make_room.new.times.items) c.next_slot-slot.new.slots.items))) ≡ false
+fresh c = ap (λ l. list_any (int_eq c.args.entry.notice) (notices_of l)) (seen c) ∙ c.requires
+
+few : (c : After-note) → length c.next_slot-slot.new.entries.items ≤ no_slot
+few c = omega (arith, c.next_slot-slot.new.entries.ok.0, c.next_slot-slot.new.entries.ok.1, c.next_slot-slot.new.entries.small)
 
 -- its notice
-its_notice : (c : goal.After-push_reserved-5) → to_z w64 (of_z w64 c.entry.inside.notice) ≡ c.args.entry.notice
+its_notice : (c : After-note) → to_z w64 (of_z w64 c.entry.inside.notice) ≡ c.args.entry.notice
 its_notice c =
     let same : to_z w64 (of_z w64 c.entry.inside.notice) ≡ c.entry.inside.notice = search rules in
-    same ∙ ap (λ e. e.notice) c.entry.view_is
+    same ∙ ap (λ (x : Entry). x.notice) c.entry.view_is
 
--- it has the next slot
-keys : (c : goal.After-push_reserved-5) → c.insert.new.self.keys ≡ c.self.inside.notices.keys ++ c.args.entry.notice ∷ []
-keys c =
-    let ks = c.self.inside.notices.keys in
-    let fresh : list_any (int_eq c.args.entry.notice) ks ≡ false
-    = any_seen ks c.self.inside.entries.items c.self.inside.slots.items c.self.inside.places.items c.self.inside.times.items c.self.inside.heads.items c.self.invariant (int_eq c.args.entry.notice)
-    ∙ ap (λ l. list_any (int_eq c.args.entry.notice) (notices_of l)) c.self.view_is ∙ c.requires in
-    let put : c.insert.new.self.keys ≡ insert_key int_eq ks (to_z w64 (of_z w64 c.entry.inside.notice)) = c.in_ok-insert.ensures.keys in
-    put
-    ∙ (λ i. insert_key int_eq ks (its_notice c i))
-    ∙ ap (λ b. if b then ks else ks ++ c.args.entry.notice ∷ []) fresh
+others : (c : After-note) → (m : ℤ) (t : ℕ) → m ≢ c.args.entry.notice → t ≢ no_slot → Leads c.make_cells.new.directory m t → Leads c.note.new.self m t
+others c m t other apart led = c.note.ensures.others m t (λ is. other (is ∙ its_notice c)) apart led
 
--- its slot is the number of entries before
-next : (c : goal.After-push_reserved-5) → c.len-next.result ≡ length c.self.inside.slots.items
-next c = c.len-next.ensures ∙ c.self.inside.slots.ok.0
+pub invariant_of-self-in_err-note : goal.invariant_of-self-in_err-note
+invariant_of-self-in_err-note c =
+    let e = (goal.at.invariant_of-self-in_err-note c).After-note in
+    placed-noted c.next_slot-slot.new.entries.items c.next_slot-slot.new.slots.items c.next_slot-slot.new.places.items c.make_room.new.times.items c.make_room.new.heads.items c.make_cells.new.directory (slotted e).3 c.note.new.self c.args.entry.notice (fresh e) (few e) (others e)
 
-slots : (c : goal.After-push_reserved-5) → c.push_reserved.new.self.items ≡ c.self.inside.slots.items ++ c.len-next.result ∷ []
-slots c = c.push_reserved.ensures.items ∙ ap (λ l. l ++ c.len-next.result ∷ []) c.in_ok-make_room.ensures.slots
+pub returns-in_err-note-clause-err : goal.returns-in_err-note-clause-err
+returns-in_err-note-clause-err c =
+    let is = seen (goal.at.returns-in_err-note-clause-err c).After-note in
+    search (is, rules)
 
-entries : (c : goal.After-push_reserved-5) → c.push_reserved-5.new.self.items ≡ c.self.inside.entries.items ++ c.args.entry ∷ []
-entries c = c.push_reserved-5.ensures.items ∙ ap (λ l. l ++ c.args.entry ∷ []) c.in_ok-make_room.ensures.entries
+-- the slot
+slot : (c : After-note) → c.next_slot-slot.result ≡ get_or c.next_slot-slot.new.slots.items (length c.make_room.new.times.items) 0
+slot c = c.next_slot-slot.ensures.slot ∙ ap (λ n. get_or c.next_slot-slot.new.slots.items n 0) (standing c)
 
-heads : (c : goal.After-push_reserved-5) → c.push_reserved-2.new.self.items ≡ c.self.inside.heads.items ++ head_of c.args.entry ∷ []
-heads c =
-    c.push_reserved-2.ensures.items ∙ (λ i. c.in_ok-make_room.ensures.heads i ++ c.head.ensures i ∷ [])
+free : (c : After-note) → length c.make_room.new.times.items < length c.next_slot-slot.new.slots.items
+free c = omega (arith, standing c, (slotted c).2)
 
-times : (c : goal.After-push_reserved-5) → c.push_reserved-4.new.self.items ≡ c.self.inside.times.items ++ c.args.entry.key.time ∷ []
+pub index_mut-requires : goal.index_mut-requires
+index_mut-requires c =
+    let e = (goal.at.index_mut-requires c).After-note in
+    omega (
+      arith,
+      slot e,
+      slot_in c.next_slot-slot.new.entries.items c.next_slot-slot.new.slots.items c.next_slot-slot.new.places.items c.make_room.new.times.items c.make_room.new.heads.items c.make_cells.new.directory (slotted e).3 (length c.make_room.new.times.items) (free e),
+      c.next_slot-slot.new.entries.ok.0,
+    )
+
+heads : (c : After-drop-index_mut) → c.push_reserved.new.self.items ≡ c.make_room.new.heads.items ++ head_of c.args.entry ∷ []
+heads c = c.push_reserved.ensures.items ∙ ap (λ x. c.make_room.new.heads.items ++ x ∷ []) c.head.ensures
+
+times : (c : After-drop-index_mut) → c.push_reserved-2.new.self.items ≡ c.make_room.new.times.items ++ c.args.entry.key.time ∷ []
 times c =
     let same : to_z w64 (of_z w64 c.time.result) ≡ c.time.result = to_z-of_z {w = w64} {z = c.time.result} (record { sfits = c.time.type_inv }) in
-    c.push_reserved-4.ensures.items ∙ (λ i. c.in_ok-make_room.ensures.times i ++ (same ∙ c.time.ensures ∙ ap (λ e. e.key.time) c.entry.view_is) i ∷ [])
+    c.push_reserved-2.ensures.items ∙ ap (λ x. c.make_room.new.times.items ++ x ∷ []) (same ∙ c.time.ensures ∙ ap (λ (x : Entry). x.key.time) c.entry.view_is)
 
 pub invariant_of-self-2 : goal.invariant_of-self-2
 invariant_of-self-2 c =
-    placed-pushed c.self.inside.notices.keys c.self.inside.entries.items c.self.inside.slots.items c.self.inside.places.items c.self.inside.times.items c.self.inside.heads.items c.self.invariant
-    c.args.entry c.len-next.result (next c)
-    c.insert.new.self.keys c.push_reserved-5.new.self.items c.push_reserved.new.self.items c.push_reserved-3.new.self.items c.push_reserved-4.new.self.items c.push_reserved-2.new.self.items
-    c.in_ok-insert.ensures.unique (keys c) (entries c) (slots c)
-    (c.push_reserved-3.ensures.items ∙ ap (λ l. l ++ c.len-next.result ∷ []) c.in_ok-make_room.ensures.places)
-    (times c) (heads c)
+    let e = (goal.at.invariant_of-self-2 c).After-note in
+    placed-pushed c.next_slot-slot.new.entries.items c.next_slot-slot.new.slots.items c.next_slot-slot.new.places.items c.make_room.new.times.items c.make_room.new.heads.items c.make_cells.new.directory (slotted e).3
+    c.next_slot-slot.result (free e) (slot e) (set c.next_slot-slot.new.entries.items c.next_slot-slot.result c.args.entry) c.push_reserved-2.new.self.items c.args.entry refl (times c)
+    c.push_reserved.new.self.items c.note.new.self (heads c) (fresh e) (few e)
+    (subst (λ m. Leads c.note.new.self m c.next_slot-slot.result) (its_notice e) c.in_ok-note.ensures.noted) (others e)
 
 pub returns-clause-ok : goal.returns-clause-ok
 returns-clause-ok c =
-    seen-pushed c.self.inside.notices.keys c.self.inside.entries.items c.self.inside.slots.items c.self.inside.places.items c.self.inside.times.items c.self.inside.heads.items c.self.invariant
-    c.args.entry c.len-next.result (next c) c.push_reserved-5.new.self.items c.push_reserved.new.self.items (entries c) (slots c)
-    ∙ ap (λ l. l ++ c.args.entry ∷ []) c.self.view_is
+    let e = (goal.at.returns-clause-ok c).After-note in
+    seen-pushed c.next_slot-slot.new.entries.items c.next_slot-slot.new.slots.items c.next_slot-slot.new.places.items c.make_room.new.times.items c.make_room.new.heads.items c.make_cells.new.directory (slotted e).3
+    c.next_slot-slot.result (free e) (slot e) (set c.next_slot-slot.new.entries.items c.next_slot-slot.result c.args.entry) c.push_reserved-2.new.self.items c.args.entry refl (times c)
+    ∙ ap (λ l. l ++ c.args.entry ∷ []) (seen e)

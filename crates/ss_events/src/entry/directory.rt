@@ -1,0 +1,106 @@
+// Where the slot of a notice is looked for.
+ghost use Rattle.std.specs.Prelude.{◌≡◌, ◌≢◌, ℕ, ℤ, OnOk};
+ghost use Rattle.ss_events.specs.Slots.{Leads, no_slot, cell_of, first_guess, second_guess};
+
+use indexmap::IndexMap;
+use std::alloc::{AllocError, Global};
+
+// What stands in a cell that names no slot.
+const FREE: usize = usize::MAX;
+
+// The least number of cells.
+const FEWEST_CELLS: usize = 16;
+
+/// Names two slots for a notice, in one of which it stands if it stands anywhere. Who looks for it has to see whether it
+/// does.
+///
+/// A notice has a cell, whose number is its last binary digits: notices with numbers in turn have cells of their own.
+/// Where another notice has taken the cell, a map names the slot.
+#[derive(Drop)]
+pub struct Directory {
+    cells: Vec<usize>,
+    // The last digits, all set.
+    mask: usize,
+    others: IndexMap<i64, usize>,
+}
+
+impl Directory {
+    /// A directory without cells.
+    pub fn new(alloc: Global) -> Directory {
+        Directory {
+            cells: Vec::new(alloc),
+            mask: 0,
+            others: IndexMap::new(alloc),
+        }
+    }
+
+    /// A directory of so many cells, all of them free.
+    pub fn of_cells(alloc: Global, count: usize) -> Result<Directory, AllocError> {
+        let count = count.max(FEWEST_CELLS);
+        Ok(Directory {
+            cells: Vec::from_elem(alloc, FREE, count)?,
+            mask: count - 1,
+            others: IndexMap::new(alloc),
+        })
+    }
+
+    /// How many cells there are.
+    #[inline(always)]
+    pub fn cells(&self) -> usize {
+        self.cells.len()
+    }
+
+    // The number of the cell of a notice.
+    #[inline(always)]
+    fn cell(&self, notice: i64) -> usize
+        ensures { result ≡ cell_of self.now notice }
+    {
+        notice.cast_unsigned() as usize & self.mask
+    }
+
+    /// The slot that the cell of a notice names, or a number past all slots.
+    #[inline(always)]
+    pub fn first_guess(&self, notice: i64) -> usize
+        ensures { result ≡ first_guess self.now notice }
+    {
+        let cell = self.cell(notice);
+        if cell < self.cells.len() {
+            return self.cells[cell];
+        }
+        FREE
+    }
+
+    /// The slot that the map names, or a number past all slots.
+    pub fn second_guess(&self, notice: i64) -> usize
+        ensures { result ≡ second_guess self.now notice }
+    {
+        self.others.get(&notice).copied().unwrap_or(FREE)
+    }
+
+    /// Notes in which slot a notice stands that is new here.
+    pub fn note(&mut self, notice: i64, slot: usize) -> Result<(), AllocError>
+        ensures noted { OnOk result (Leads self.new notice slot) }
+        ensures others { (n : ℤ) → (s : ℕ) → n ≢ notice → s ≢ no_slot → Leads self.old n s → Leads self.new n s }
+    {
+        let cell = self.cell(notice);
+        if cell < self.cells.len() && self.cells[cell] == FREE {
+            self.cells[cell] = slot;
+            return Ok(());
+        }
+        self.others.insert(notice, slot)?;
+        Ok(())
+    }
+
+    /// Forgets a notice that stood in a slot, without memory.
+    #[inline(always)]
+    pub fn forget(&mut self, notice: i64, slot: usize)
+        ensures others { (n : ℤ) → (s : ℕ) → n ≢ notice → s ≢ slot → Leads self.old n s → Leads self.new n s }
+    {
+        let cell = self.cell(notice);
+        if cell < self.cells.len() && self.cells[cell] == slot {
+            self.cells[cell] = FREE;
+            return;
+        }
+        let _ = self.others.swap_remove(&notice);
+    }
+}
