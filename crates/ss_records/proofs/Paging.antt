@@ -422,6 +422,17 @@ module _ (ps : Pages) (cur : Page) (start issued : ℕ) (P : Paged ps cur start 
     pub near_earlier : i < start → (p : Page) → page_of ps (i / 256) ≡ Some p → slice_get p (i % 256) ≡ Some e → IfSome e (λ p. slice_get (upto (entry ps cur start) issued) i ≡ Some (Some p))
     near_earlier a p w g = by_entry e (read_earlier i (long (omega (arith, a, P.low))) a p w e g)
 
+  -- where a page is not held, none of its numbers is living
+  pub not_held : (q : ℕ) → q < start / 256 → page_of ps q ≡ None → (i : ℕ) → i / 256 ≡ q → in_page (slice_get (upto (entry ps cur start) issued) i) ≡ None
+  not_held q a w i e = ap in_page (read_none i (omega (arith, before, P.low, upto_length (entry ps cur start) issued)) before (ap (page_of ps) e ∙ w)) where
+    before : i < start
+    before = omega (arith, a, e, quot i, rem i, quot start)
+
+pub get_beyond : {A : Type 0} (xs : List A) (i : ℕ) → length xs ≤ i → slice_get xs i ≡ None
+get_beyond [] i h = refl
+get_beyond (x ∷ xs) zero h = absurd (omega (arith, h))
+get_beyond (x ∷ xs) (suc i) h = get_beyond xs i (omega (arith, h))
+
 each_living : (es : Pages) → ((i q : ℕ) (p : Page) → slice_get es i ≡ Some (q, p) → 1 ≤ living p) → length es ≤ sum_by living (values_of es)
 each_living [] h = omega arith
 each_living (e ∷ es) h = omega (arith, each_living es (λ i q p g. h (suc i) q p g), h 0 e.0 e.1 refl, sum_by-cons living e.1 (values_of es))

@@ -38,6 +38,7 @@ pub(crate) fn fill_links(
     ensures filled { Filled blocks.old.cells blocks.new.cells place.at from to (links_to target.at) }
     ensures touches { (blocks.new.touches + from ≡ blocks.old.touches + to) × (blocks.new.total + from ≡ blocks.old.total + to) }
 {
+    blocks.expect((to - from) as u64);
     for k in from..to {
         blocks.set_link(place, k, target);
     }
@@ -58,6 +59,7 @@ pub(crate) fn fill_owned(
     ensures filled { Filled blocks.old.cells blocks.new.cells place.at from (from + 3 * count) (owned_from end.at from) }
     ensures touches { (blocks.new.touches ≡ blocks.old.touches + 3 * count) × (blocks.new.total ≡ blocks.old.total + 3 * count) }
 {
+    blocks.expect(3 * count as u64);
     for i in 0..count {
         let k = from + 3 * i;
         blocks.set_link(place, k, end);

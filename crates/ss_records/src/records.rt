@@ -11,6 +11,7 @@ ghost use Rattle.ss_records.specs.Parts.{IsKept, state, Found, FoundNotice};
 
 use crate::directory::Directory;
 use crate::notes::Notes;
+use crate::page::PAGE;
 use crate::plan::Plan;
 use crate::row::{self, Row};
 use crate::shape::{CLASS, value_start};
@@ -591,14 +592,19 @@ fn give_all_back(
     ensures system { words_at blocks.new.cells system.at ≡ words_at blocks.old.cells system.at }
     ensures count { length blocks.new.cells ≡ 1 }
 {
-    for i in 0..directory.len() {
-        match directory.get(i) {
-            Some(place) => {
-                let class = blocks.number(place, CLASS) as usize;
-                let words = layout.block_words(Owner::Class(class));
-                blocks.give_back(alloc, place, words);
+    for stretch in 0..directory.stretches() {
+        if directory.holds(stretch) {
+            let first = stretch * PAGE;
+            for i in first..first + PAGE {
+                match directory.place_of(i) {
+                    Some(place) => {
+                        let class = blocks.number(place, CLASS) as usize;
+                        let words = layout.block_words(Owner::Class(class));
+                        blocks.give_back(alloc, place, words);
+                    }
+                    None => {}
+                }
             }
-            None => {}
         }
     }
     give_rows_back(blocks, alloc, layout, permanents, system);
