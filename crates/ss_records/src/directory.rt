@@ -114,11 +114,9 @@ impl Directory {
     pub(crate) fn near(&self, i: usize) -> Option<Address>
         ensures { IfSome result (λ p. slice_get self.now.places i ≡ Some (Some p)) }
     {
-        if i >= self.start {
-            if i >= self.issued {
-                return None;
-            }
-            return self.current.get(i - self.start);
+        let k = i.wrapping_sub(self.start);
+        if k < PAGE {
+            return self.current.get(k);
         }
         match self.earlier.near(i / PAGE) {
             Some(page) => page.get(i % PAGE),

@@ -220,12 +220,11 @@ impl Records {
     // The block of a creation number, where it is found without a search.
     #[inline(always)]
     fn near_numbered(&self, r: i64) -> Option<Address>
+        requires kept { IsKept self.now }
         ensures { IfSome result (λ p. numbered_place self.now.directory.places r ≡ Ok p) }
     {
-        if r < 1 {
-            return None;
-        }
-        self.directory.near(r as usize - 1)
+        let i = r.cast_unsigned().wrapping_sub(1);
+        self.directory.near(i as usize)
     }
 
     /// The block of a notice of any class.
