@@ -13,6 +13,7 @@ use Rattle.ss_records.specs.Reading.{class_of, record_of, record_at, records_at}
 use Rattle.ss_records.specs.Kept.{Kept, Small, RowsHeld, row_in, state_of}
 use Rattle.ss_records.specs.Places.{Numbers, Made, Directory, lying, IsMade, Lists, living, made_count}
 use Rattle.ss_records.specs.Laid.{LaidSystem}
+use Rattle.ss_records.specs.Pages.{in_page}
 use Rattle.ss_records.proofs.Puts.{words_new, words_without}
 use Rattle.ss_records.proofs.Count.{blocks_without}
 use Rattle.ss_records.proofs.Creates.{length-blanks}
@@ -129,6 +130,38 @@ rows_held l cs bs sys d ms K same count = record {
   counted = count;
 }
 
+-- what is left where the blocks of the numbers below i were given back
+pub record Left (cs bs : Cells) (sys : Ptr) (d : Directory) (i : ℕ) : Type 0 where
+  pub kept : (j : ℕ) (p : Address) → i ≤ j → slice_get d.numbers j ≡ Some (Some p) → words_at bs p.at ≡ words_at cs p.at
+  pub made : (j : ℕ) (p : Address) → IsMade d.classes j p → words_at bs p.at ≡ words_at cs p.at
+  pub system : words_at bs sys ≡ words_at cs sys
+  pub count : length bs ≡ living (drop i d.numbers) + made_count d.classes + 1
+
+-- numbers that are not living have no block
+pub living_past : (d : Numbers) (n i : ℕ) → ((j : ℕ) → i ≤ j → j < i + n → in_page (slice_get d j) ≡ None) → living (drop i d) ≡ living (drop (i + n) d)
+living_past d zero i h = let e : i + zero ≡ i = omega arith in rw e refl
+living_past d (suc n) i h =
+    let e : i + suc n ≡ i + n + 1 = omega arith in
+    rw e (living_past d n i (λ j a b. h j a (omega (arith, b))) ∙ one d (i + n) (h (i + n) (omega arith) (omega arith))) where
+      one : (ds : Numbers) (k : ℕ) → in_page (slice_get ds k) ≡ None → living (drop k ds) ≡ living (drop (k + 1) ds)
+      one [] zero z = refl
+      one [] (suc k) z = let q : suc k + 1 ≡ suc (k + 1) = omega arith in rw q refl
+      one (None ∷ zs) zero z = refl
+      one (Some p ∷ zs) zero z = cc
+      one (y ∷ zs) (suc k) z = let q : suc k + 1 ≡ suc (k + 1) = omega arith in rw q (one zs k z)
+
+pub is_there : (o : Option (Option Address)) (p : Address) → Some p ≡ in_page o → o ≡ Some (Some p)
+is_there None p e = cc
+is_there (Some q) p e = ap Some (sym e)
+
+pub left_past : (cs bs : Cells) (sys : Ptr) (d : Directory) (i n m : ℕ) → i + n ≡ m → ((j : ℕ) → i ≤ j → j < m → in_page (slice_get d.numbers j) ≡ None) → Left cs bs sys d i → Left cs bs sys d m
+left_past cs bs sys d i n m e none h = record {
+  kept = λ j q a g. h.kept j q (omega (arith, a, e)) g;
+  made = h.made;
+  system = h.system;
+  count = h.count ∙ ap (λ k. k + made_count d.classes + 1) (living_past d.numbers n i (λ j a b. none j a (omega (arith, b, e))) ∙ ap (λ k. living (drop k d.numbers)) e);
+}
+
 -- one more block of a number is given back
 module _ (l : Layout) (cs bs : Cells) (sys : Ptr) (d : Directory) (ms : List Members) (K : Kept l cs sys d ms) (i : ℕ) (p : Address) (g : slice_get d.numbers i ≡ Some (Some p)) (kept : (j : ℕ) (q : Address) → i ≤ j → slice_get d.numbers j ≡ Some (Some q) → words_at bs q.at ≡ words_at cs q.at) where
   pub still_here : words_at bs p.at ≡ words_at cs p.at
@@ -147,3 +180,6 @@ module _ (l : Layout) (cs bs : Cells) (sys : Ptr) (d : Directory) (ms : List Mem
 
   pub count_rest : length bs ≡ living (drop i d.numbers) + made_count d.classes + 1 → length (without bs p.at) ≡ living (drop (i + 1) d.numbers) + made_count d.classes + 1
   count_rest h = omega (arith, h, living_step d.numbers i p g, blocks_without bs p.at (subst (λ us. 0 < length us) (sym still_here) (omega (arith, (K.formed i p (inl g)).size))))
+
+  pub left_given : Left cs bs sys d i → Left cs (without bs p.at) sys d (i + 1)
+  left_given h = record { kept = kept_rest; made = kept_made h.made; system = kept_system h.system; count = count_rest h.count }

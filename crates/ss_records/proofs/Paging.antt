@@ -1,5 +1,5 @@
 -- Pages: what a number leads to once one is noted, let go of, or the current page turns.
-use Rattle.std.proofs.Common.{◌≡◌, ℕ, zero, suc, ◌+◌, ◌-◌, ◌*◌, ◌/◌, ◌%◌, ◌<◌, ◌≤◌, Bool, true, false, cond, List, [], ◌∷◌, ◌++◌, length, slice_get, slice_set, replicate, Option, Some, None, refl, sym, ap, subst, ◌∙◌, arith}
+use Rattle.std.proofs.Common.{◌≡◌, ℕ, zero, suc, ◌+◌, ◌-◌, ◌*◌, ◌/◌, ◌%◌, ◌^◌, ◌<◌, ◌≤◌, Bool, true, false, cond, List, [], ◌∷◌, ◌++◌, length, slice_get, slice_set, replicate, Option, Some, None, refl, sym, ap, subst, ◌∙◌, arith}
 use Rattle.std.specs.Prelude.{nat_le, nat_eq, IfSome}
 use Rattle.std.specs.Ordering.{nat_cmp, is_eq}
 use Rattle.std.specs.Cmp.{nat_cmp_is}
@@ -421,6 +421,40 @@ module _ (ps : Pages) (cur : Page) (start issued : ℕ) (P : Paged ps cur start 
 
     pub near_earlier : i < start → (p : Page) → page_of ps (i / 256) ≡ Some p → slice_get p (i % 256) ≡ Some e → IfSome e (λ p. slice_get (upto (entry ps cur start) issued) i ≡ Some (Some p))
     near_earlier a p w g = by_entry e (read_earlier i (long (omega (arith, a, P.low))) a p w e g)
+
+    near_issued : start ≤ i → slice_get cur (i - start) ≡ Some e → IfSome e (λ p. slice_get (upto (entry ps cur start) issued) i ≡ Some (Some p))
+    near_issued a g = by_part issued i none (λ b. near_current a b g) where
+      none : issued ≤ i → IfSome e (λ p. slice_get (upto (entry ps cur start) issued) i ≡ Some (Some p))
+      none b = let is : e ≡ None = sym (ap in_page g) ∙ P.rest (i - start) (omega (arith, a, b)) in rw is tt
+
+    -- by how far a number is from the start, as 64 bits
+    module _ (low : start < 2 ^ 64) (fits : i < 2 ^ 64) where
+      abbrev far : ℕ
+      far = (i + (2 ^ 64 - start)) % 2 ^ 64
+
+      pub near_within : far < 256 → slice_get cur far ≡ Some e → IfSome e (λ p. slice_get (upto (entry ps cur start) issued) i ≡ Some (Some p))
+      near_within a g = near_issued from (subst (λ k. slice_get cur k ≡ Some e) is g) where
+        from : start ≤ i
+        from = omega (arith, a, low, fits, P.whole)
+
+        is : far ≡ i - start
+        is = omega (arith, from, low, fits)
+
+      pub near_beyond : 256 ≤ far → (p : Page) → page_of ps (i / 256) ≡ Some p → slice_get p (i % 256) ≡ Some e → IfSome e (λ p. slice_get (upto (entry ps cur start) issued) i ≡ Some (Some p))
+      near_beyond a p w g = by_part start i (λ b. absurd (clash b)) (λ b. near_earlier b p w g) where
+        clash : start ≤ i → ⊥
+        clash b = let h = (P.pages (i / 256) p w).2 in omega (arith, a, b, low, fits, h, quot i, rem i)
+
+  -- where a page is not held, none of its numbers is living
+  pub not_held : (q : ℕ) → q < start / 256 → page_of ps q ≡ None → (i : ℕ) → i / 256 ≡ q → in_page (slice_get (upto (entry ps cur start) issued) i) ≡ None
+  not_held q a w i e = ap in_page (read_none i (omega (arith, before, P.low, upto_length (entry ps cur start) issued)) before (ap (page_of ps) e ∙ w)) where
+    before : i < start
+    before = omega (arith, a, e, quot i, rem i, quot start)
+
+pub get_beyond : {A : Type 0} (xs : List A) (i : ℕ) → length xs ≤ i → slice_get xs i ≡ None
+get_beyond [] i h = refl
+get_beyond (x ∷ xs) zero h = absurd (omega (arith, h))
+get_beyond (x ∷ xs) (suc i) h = get_beyond xs i (omega (arith, h))
 
 each_living : (es : Pages) → ((i q : ℕ) (p : Page) → slice_get es i ≡ Some (q, p) → 1 ≤ living p) → length es ≤ sum_by living (values_of es)
 each_living [] h = omega arith

@@ -1,7 +1,8 @@
 // Where the block of each creation number lies, in pages.
-ghost use Rattle.std.specs.Prelude.{◌≡◌, ◌+◌, ◌^◌, ◌<◌, ◌≤◌, ◌++◌, [], ◌∷◌, length, nat_eq, Some, None, IfSome, slice_get, slice_set, MatchResult, ⊤};
+ghost use Rattle.std.specs.Prelude.{◌≡◌, ℕ, ◌+◌, ◌*◌, ◌/◌, ◌^◌, ◌<◌, ◌≤◌, ◌++◌, [], ◌∷◌, length, nat_eq, false, Some, None, IfSome, slice_get, slice_set, MatchResult, ⊤};
 ghost use Rattle.ss_records.specs.declared.store.Address.{Address};
 ghost use Rattle.ss_records.specs.Places.{living};
+ghost use Rattle.ss_records.specs.Pages.{in_page};
 
 use crate::page::{PAGE, Page};
 use crate::pages::PageMap;
@@ -61,6 +62,38 @@ impl Directory {
         self.earlier.len() + 1
     }
 
+    /// How many stretches of a page's numbers hold all numbers.
+    pub(crate) fn stretches(&self) -> usize
+        ensures all { length self.now.places ≤ result * 256 }
+        ensures few { result * 256 ≤ length self.now.places + 256 }
+    {
+        self.issued / PAGE + 1
+    }
+
+    /// Whether the page of a stretch is held: where it is not, no number of it is living.
+    #[inline(never)]
+    pub(crate) fn holds(&self, stretch: usize) -> bool
+        ensures { result ≡ false → (i : ℕ) → i / 256 ≡ stretch → in_page (slice_get self.now.places i) ≡ None }
+    {
+        if stretch >= self.start / PAGE {
+            return true;
+        }
+        match self.earlier.get(stretch) {
+            Some(_) => true,
+            None => false,
+        }
+    }
+
+    /// The place of a number, none also where it was not issued.
+    pub(crate) fn place_of(&self, i: usize) -> Option<Address>
+        ensures { result ≡ in_page (slice_get self.now.places i) }
+    {
+        if i >= self.issued {
+            return None;
+        }
+        self.get(i)
+    }
+
     /// The entry i, from 0 on.
     #[inline(always)]
     pub(crate) fn get(&self, i: usize) -> Option<Address>
@@ -81,11 +114,9 @@ impl Directory {
     pub(crate) fn near(&self, i: usize) -> Option<Address>
         ensures { IfSome result (λ p. slice_get self.now.places i ≡ Some (Some p)) }
     {
-        if i >= self.start {
-            if i >= self.issued {
-                return None;
-            }
-            return self.current.get(i - self.start);
+        let k = i.wrapping_sub(self.start);
+        if k < PAGE {
+            return self.current.get(k);
         }
         match self.earlier.near(i / PAGE) {
             Some(page) => page.get(i % PAGE),

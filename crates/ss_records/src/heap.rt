@@ -115,7 +115,7 @@ impl Heap {
     }
 
     /// The whole number that an attribute is, where there is no fault.
-    #[inline(never)]
+    #[inline(always)]
     pub fn whole(&self, class: usize, field: usize, r: i64) -> Option<i64>
         requires class { class < length self.now.state.layout.classes }
         requires mode { slice_get (modes_of self.now.state.layout class) field ≡ Some Mode.Integer }
@@ -125,7 +125,7 @@ impl Heap {
     }
 
     /// Sets an attribute of whole numbers, and says whether it did: not where there is a fault.
-    #[inline(never)]
+    #[inline(always)]
     pub fn set_whole(&mut self, class: usize, field: usize, r: i64, n: i64) -> bool
         requires class { class < length self.old.state.layout.classes }
         requires mode { slice_get (modes_of self.old.state.layout class) field ≡ Some Mode.Integer }

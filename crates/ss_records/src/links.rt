@@ -31,20 +31,19 @@ impl Blocks {
         }
     }
 
-    // Lets a link lead elsewhere: a touch. Words keep their kinds.
+    // Lets a link lead elsewhere: a touch, which was expected. Words keep their kinds.
     fn relink(&mut self, place: Address, k: usize, to: Address)
         requires word { IsLink (word_at self.old.cells place.at k) }
-        requires room { self.old.touches + 1 < 2 ^ 64 }
         ensures cells { self.new.cells ≡ put_word self.old.cells place.at k (link to.at) }
         ensures links { (q : Ptr) (j : ℕ) → IsLink (word_at self.old.cells q j) → IsLink (word_at self.new.cells q j) }
         ensures counters { (q : Ptr) (j : ℕ) → IsCounter (word_at self.old.cells q j) → IsCounter (word_at self.new.cells q j) }
-        ensures touches { (self.new.touches ≡ self.old.touches + 1) × (self.new.total ≡ self.old.total + 1) }
+        ensures touches { (self.new.touches ≡ self.old.touches) × (self.new.total ≡ self.old.total + 1) }
     {
         self.set_link(place, k, to);
     }
 
     // Lets the word k of the owner lead elsewhere where the neighbour is the end, else the word j of the
-    // neighbour: a touch.
+    // neighbour: a touch, which was expected.
     fn hook(
         &mut self,
         ends: bool,
@@ -56,11 +55,10 @@ impl Blocks {
     )
         requires owner { IsLink (word_at self.old.cells owner.at k) }
         requires neighbour { ends ≡ false → IsLink (word_at self.old.cells neighbour.at j) }
-        requires room { self.old.touches + 1 < 2 ^ 64 }
         ensures cells { self.new.cells ≡ hooked ends self.old.cells owner.at k neighbour.at j to.at }
         ensures links { (q : Ptr) (j : ℕ) → IsLink (word_at self.old.cells q j) → IsLink (word_at self.new.cells q j) }
         ensures counters { (q : Ptr) (j : ℕ) → IsCounter (word_at self.old.cells q j) → IsCounter (word_at self.new.cells q j) }
-        ensures touches { (self.new.touches ≡ self.old.touches + 1) × (self.new.total ≡ self.old.total + 1) }
+        ensures touches { (self.new.touches ≡ self.old.touches) × (self.new.total ≡ self.old.total + 1) }
     {
         if ends {
             self.relink(owner, k, to);
@@ -93,6 +91,7 @@ impl Blocks {
         ensures cells { self.new.cells ≡ linked_in (slots_at member set) self.old.cells owner.at before.at is_first x.at after.at is_last count }
         ensures touches { (self.new.touches ≡ self.old.touches + 6) × (self.new.total ≡ self.old.total + 6) }
     {
+        self.expect(6);
         self.relink(x, member, after);
         self.relink(x, member + 1, before);
         self.relink(x, member + 2, owner);
@@ -125,6 +124,7 @@ impl Blocks {
         ensures cells { self.new.cells ≡ unlinked_in (slots_at member set) self.old.cells owner.at before.at is_first x.at after.at is_last count }
         ensures touches { (self.new.touches ≡ self.old.touches + 6) × (self.new.total ≡ self.old.total + 6) }
     {
+        self.expect(6);
         self.hook(is_first, owner, set, before, member, after);
         self.hook(is_last, owner, set + 1, after, member + 1, before);
         self.relink(x, member, x);

@@ -13,10 +13,12 @@ use std::marker::Model;
 use std::mem;
 
 /// Pages, each with a number, in rising order. A contract sees the list of both. Mostly few numbers are missing between
-/// the first and the last, so where one stands is guessed from these two before it is searched.
+/// the first and the last, so where one stands is guessed before it is searched: from how many numbers are missing before
+/// the last, and from the first.
 #[derive(Drop)]
 pub(crate) struct PageMap {
     entries: Vec<(usize, Page)>,
+    missing: usize,
 }
 
 impl Model for PageMap {
@@ -39,6 +41,7 @@ impl PageMap {
     {
         PageMap {
             entries: Vec::new(alloc),
+            missing: 0,
         }
     }
 
@@ -103,12 +106,7 @@ impl PageMap {
     // Where a number stands if none is missing from it on. It is a guess.
     #[inline(always)]
     fn from_last(&self, number: usize) -> usize {
-        match self.entries.last() {
-            Some(last) => number
-                .wrapping_sub(last.0)
-                .wrapping_add(self.entries.len() - 1),
-            None => 0,
-        }
+        number.wrapping_sub(self.missing)
     }
 
     // Where a number stands if none is missing up to it. It is a guess.
@@ -155,6 +153,7 @@ impl PageMap {
     {
         self.entries.reserve(1)?;
         let full = mem::replace(page, next);
+        self.missing = number.wrapping_sub(self.entries.len());
         self.entries.push_reserved((number, full));
         Ok(())
     }
@@ -184,7 +183,16 @@ impl PageMap {
         if let Some(at) = self.place(number) {
             self.entries.remove(at);
             shrink(&mut self.entries);
+            self.missing = missing_before_last(&self.entries);
         }
+    }
+}
+
+// How many numbers are missing before the last page.
+fn missing_before_last(entries: &[(usize, Page)]) -> usize {
+    match entries.last() {
+        Some(last) => last.0.wrapping_sub(entries.len() - 1),
+        None => 0,
     }
 }
 

@@ -11,6 +11,7 @@ ghost use Rattle.ss_records.specs.Parts.{IsKept, state, Found, FoundNotice};
 
 use crate::directory::Directory;
 use crate::notes::Notes;
+use crate::page::PAGE;
 use crate::plan::Plan;
 use crate::row::{self, Row};
 use crate::shape::{CLASS, value_start};
@@ -219,12 +220,11 @@ impl Records {
     // The block of a creation number, where it is found without a search.
     #[inline(always)]
     fn near_numbered(&self, r: i64) -> Option<Address>
+        requires kept { IsKept self.now }
         ensures { IfSome result (λ p. numbered_place self.now.directory.places r ≡ Ok p) }
     {
-        if r < 1 {
-            return None;
-        }
-        self.directory.near(r as usize - 1)
+        let i = r.cast_unsigned().wrapping_sub(1);
+        self.directory.near(i as usize)
     }
 
     /// The block of a notice of any class.
@@ -591,14 +591,19 @@ fn give_all_back(
     ensures system { words_at blocks.new.cells system.at ≡ words_at blocks.old.cells system.at }
     ensures count { length blocks.new.cells ≡ 1 }
 {
-    for i in 0..directory.len() {
-        match directory.get(i) {
-            Some(place) => {
-                let class = blocks.number(place, CLASS) as usize;
-                let words = layout.block_words(Owner::Class(class));
-                blocks.give_back(alloc, place, words);
+    for stretch in 0..directory.stretches() {
+        if directory.holds(stretch) {
+            let first = stretch * PAGE;
+            for i in first..first + PAGE {
+                match directory.place_of(i) {
+                    Some(place) => {
+                        let class = blocks.number(place, CLASS) as usize;
+                        let words = layout.block_words(Owner::Class(class));
+                        blocks.give_back(alloc, place, words);
+                    }
+                    None => {}
+                }
             }
-            None => {}
         }
     }
     give_rows_back(blocks, alloc, layout, permanents, system);

@@ -207,6 +207,15 @@ impl Blocks {
         self.touches = 0;
     }
 
+    /// Counts so many touches, before the writes that they are.
+    pub(crate) fn expect(&mut self, count: u64)
+        requires { self.old.touches + count < 2 ^ 64 }
+        ensures cells { self.new.cells ≡ self.old.cells }
+        ensures touches { (self.new.touches ≡ self.old.touches + count) × (self.new.total ≡ self.old.total) }
+    {
+        self.touches += count;
+    }
+
     /// A new block of so many words.
     pub(crate) fn place(&mut self, alloc: &Global, words: usize) -> Result<Address, AllocError>
         requires size { (0 < words) × (words * 8 < 2 ^ 63) }
@@ -260,15 +269,13 @@ impl Blocks {
         self.store.count(place, k)
     }
 
-    /// Writes a count of members: one touch.
+    /// Writes a count of members: one touch, which was expected.
     #[tactic(auto, using(crate::proofs::Count::blocks_put))]
     pub(crate) fn set_count(&mut self, place: Address, k: usize, value: u64)
-        requires word { (k < length (words_at self.old.cells place.at)) × MayBeCounter (word_at self.old.cells place.at k) }
-        requires room { self.old.touches + 1 < 2 ^ 64 }
+        requires { (k < length (words_at self.old.cells place.at)) × MayBeCounter (word_at self.old.cells place.at k) }
         ensures cells { self.new.cells ≡ put_word self.old.cells place.at k (counter value) }
-        ensures touches { (self.new.touches ≡ self.old.touches + 1) × (self.new.total ≡ self.old.total + 1) }
+        ensures touches { (self.new.touches ≡ self.old.touches) × (self.new.total ≡ self.old.total + 1) }
     {
-        self.touches += 1;
         self.store.set_count(place, k, value);
     }
 
@@ -284,15 +291,13 @@ impl Blocks {
         self.store.link(place, k)
     }
 
-    /// Lets a link lead elsewhere: one touch.
+    /// Lets a link lead elsewhere: one touch, which was expected.
     #[tactic(auto, using(crate::proofs::Count::blocks_put))]
     pub(crate) fn set_link(&mut self, place: Address, k: usize, to: Address)
-        requires word { (k < length (words_at self.old.cells place.at)) × MayBeLink (word_at self.old.cells place.at k) }
-        requires room { self.old.touches + 1 < 2 ^ 64 }
+        requires { (k < length (words_at self.old.cells place.at)) × MayBeLink (word_at self.old.cells place.at k) }
         ensures cells { self.new.cells ≡ put_word self.old.cells place.at k (link to.at) }
-        ensures touches { (self.new.touches ≡ self.old.touches + 1) × (self.new.total ≡ self.old.total + 1) }
+        ensures touches { (self.new.touches ≡ self.old.touches) × (self.new.total ≡ self.old.total + 1) }
     {
-        self.touches += 1;
         self.store.set_link(place, k, to);
     }
 }

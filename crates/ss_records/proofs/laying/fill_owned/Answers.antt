@@ -1,13 +1,25 @@
-use Rattle.std.proofs.Common.{arith}
-use Rattle.ss_records.proofs.Fills.{filled_owned, may_second, may_third}
+use Rattle.std.proofs.Common.{◌≡◌, ◌+◌, ◌*◌, arith}
+use Rattle.ss_records.proofs.Fills.{filled_none, filled_owned, may_second, may_third}
 use Rattle.ss_records.proofs.laying.fill_owned.Goals as goal
 
-pub set_link-requires-in-loop-i-clause-word : goal.set_link-requires-in-loop-i-clause-word
-set_link-requires-in-loop-i-clause-word c =
+pub loop-i-init : goal.loop-i-init
+loop-i-init c =
+    let e : c.args.from + 3 * 0 ≡ c.args.from = omega arith in record {
+      filled = rw (c.expect.ensures.cells, e) (filled_none c.args.blocks.now.cells c.args.place.at c.args.from _);
+      touches = (omega (arith, c.expect.ensures.touches.0), omega (arith, c.expect.ensures.touches.1));
+    }
+
+pub returns-clause-touches : goal.returns-clause-touches
+returns-clause-touches c =
+    let h = c.loop-i.invariant in
+    (h.touches.0, omega (arith, h.touches.1, c.loop-i-test.false, c.loop-i.auto.i-end))
+
+pub set_link-requires-in-loop-i : goal.set_link-requires-in-loop-i
+set_link-requires-in-loop-i c =
     rw c.set_link.ensures.cells (may_second c.args.blocks.now.cells c.loop-i.blocks.cells c.args.place.at c.args.from c.args.count c.loop-i.i _ c.loop-i.invariant.filled c.requires.room c.requires.blank c.loop-i-test.true _)
 
-pub set_count-requires-clause-word : goal.set_count-requires-clause-word
-set_count-requires-clause-word c =
+pub set_count-requires : goal.set_count-requires
+set_count-requires c =
     rw (c.set_link-in-loop-i.ensures.cells, c.set_link.ensures.cells) (may_third c.args.blocks.now.cells c.loop-i.blocks.cells c.args.place.at c.args.from c.args.count c.loop-i.i _ c.loop-i.invariant.filled c.requires.room c.requires.blank c.loop-i-test.true _ _)
 
 pub loop-i-preserved : goal.loop-i-preserved

@@ -1,8 +1,8 @@
 use Rattle.ss_records.proofs.WordKinds.{may_link, still_link, still_counter}
 use Rattle.ss_records.proofs.store.Blocks.relink.Goals as goal
 
-pub set_link-requires-clause-word : goal.set_link-requires-clause-word
-set_link-requires-clause-word c = may_link c.args.self.now.cells c.args.place.at c.args.k c.requires.word
+pub set_link-requires : goal.set_link-requires
+set_link-requires c = may_link c.args.self.now.cells c.args.place.at c.args.k c.requires.word
 
 pub returns-clause-links : goal.returns-clause-links
 returns-clause-links c = rw c.set_link.ensures.cells (still_link c.args.self.now.cells c.args.place.at c.args.k c.args.to.at c.requires.word)
