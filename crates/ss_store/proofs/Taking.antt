@@ -16,7 +16,12 @@ use Rattle.ss_meaning.specs.Values.{Trouble as Meant, if_ok, turned}
 use Rattle.ss_meaning.specs.Store.{Notices, Store}
 use Rattle.ss_meaning.specs.Entities.{attribute}
 use Rattle.ss_meaning.specs.Events.{ranked_from, ranked_as, attributes}
+use Rattle.ss_population.specs.declared.trouble.Trouble.TheVariants.{Fault, Misfit}
+use Rattle.ss_population.specs.declared.trouble.Unmade.{Unmade}
+use Rattle.ss_population.specs.declared.trouble.Unmade.TheVariants as unmade
+use Rattle.ss_population.specs.Told.{meant}
 use Rattle.ss_store.specs.declared.coming.Event.{Event}
+use Rattle.ss_store.specs.Scheduled.{Finds}
 use Rattle.ss_classes.specs.Ranks.{ranked_at}
 use Rattle.ss_store.specs.Events.{ranked_meant, ties_in, ties_at, is_notice_kind, is_there, is_of, first_of, First, Told}
 use Rattle.ss_store.specs.Seen.{Seen, with_seen}
@@ -157,3 +162,10 @@ module _ (class field : ℕ) (x : Value) (s : Store) (vs : List Value) where
       ap (λ k. turned {B = List Value} (λ us. vs ++ us) (attributes class field k x s)) e
       ∙ ap (λ r. turned {B = List Value} (λ us. vs ++ us) (if_ok r (λ v. turned (λ us. v ∷ us) (attributes class (field + 1) j x s)))) h
       ∙ put_behind v (attributes class (field + 1) j x s)
+
+-- no value is found, or memory for it is wanting
+module _ (class field count : ℕ) (x : Value) (e : Seen) (vs : List Value) (k j : ℕ) (more : k ≡ suc j) (before : (s : Store) → attributes class 0 count x (with_seen s e) ≡ turned (λ us. vs ++ us) (attributes class field k x (with_seen s e))) where
+  pub unread : (u : Unmade) → Finds {A = Value} (attribute class field x) e (Err u) → Finds {A = List Value} (attributes class 0 count x) e (Err u)
+  unread (unmade.Fault kind) h = λ s. before s ∙ not_read class field x (with_seen s e) vs k j (meant (Fault kind)) more (h s)
+  unread unmade.Misfit h = λ s. before s ∙ not_read class field x (with_seen s e) vs k j (meant Misfit) more (h s)
+  unread unmade.Memory h = tt

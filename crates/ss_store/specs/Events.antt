@@ -1,5 +1,5 @@
 -- How an event begins.
-use Rattle.std.specs.Prelude.{◌≡◌, ℕ, ◌+◌, Bool, true, false, ◌&&◌, List, [], ◌∷◌, ℤ, Option, Some, None, Result, Ok, Err, slice_get, if◌then◌else◌}
+use Rattle.std.specs.Prelude.{◌≡◌, ℕ, ◌+◌, Bool, true, false, ◌&&◌, List, [], ◌∷◌, ◌++◌, ℤ, Option, Some, None, Result, Ok, Err, slice_get, if◌then◌else◌}
 use Rattle.ss_base.specs.declared.value.Value.{Value}
 use Rattle.ss_base.specs.declared.value.Value.TheVariants.{Whole}
 use Rattle.ss_base.specs.declared.fault.FaultKind.{FaultKind}
@@ -9,7 +9,7 @@ use Rattle.ss_base.specs.declared.layout.RankKey.{RankKey}
 use Rattle.ss_records.specs.State.{State, known_in, notice}
 use Rattle.ss_events.specs.PendingList.{after_next}
 use Rattle.ss_program.specs.declared.expression.Variable.TheVariants.{Global}
-use Rattle.ss_meaning.specs.Values.{turned}
+use Rattle.ss_meaning.specs.Values.{Trouble as Meant, turned}
 use Rattle.ss_meaning.specs.Store.{Notices, Store}
 use Rattle.ss_meaning.specs.Places.{assigned_variable}
 use Rattle.ss_meaning.specs.Events.{Ranked, Coming, Beginning, ranked_as, next_event, begun, saved_or_gone}
@@ -21,6 +21,7 @@ use Rattle.ss_population.specs.declared.trouble.Unmade.{Unmade}
 use Rattle.ss_population.specs.declared.trouble.Unmade.TheVariants as unmade
 use Rattle.ss_population.specs.Told.{told}
 use Rattle.ss_classes.specs.Layouts.{kind_at}
+use Rattle.ss_store.specs.Scheduled.{Finds}
 use Rattle.ss_store.specs.Seen.{Seen, with_seen}
 
 -- ## What comes next
@@ -88,6 +89,16 @@ Told e n (Some c) = ((s : Store) → ranked_as (notice e.heap n) (with_seen s e)
 
 abbrev pub beginning : (rank : ℕ) → List Value → Store → Beginning
 beginning rank vs s = record { rank = rank; given = vs; store = s }
+
+-- a value stands behind others, or memory for it is wanting
+abbrev pub IsPut : Value → (old new : List Value) → Result (Unit {0}) Unmade → Type 0
+IsPut v old new (Ok u) = new ≡ old ++ v ∷ []
+IsPut v old new (Err t) = t ≡ unmade.Memory
+
+-- an operation looks, and the value that it finds stands behind others
+abbrev pub Adds : (Store → Result Value Meant) → Seen → (old new : List Value) → Result (Unit {0}) Unmade → Type 0
+Adds f e old new (Ok u) = (v : Value) × (new ≡ old ++ v ∷ []) × ((s : Store) → f (with_seen s e) ≡ Ok v)
+Adds f e old new (Err t) = Finds {A = Value} f e (Err t)
 
 -- what becomes of the notice
 abbrev pub Lets : Event → (old new : Seen) → Result Fate Unmade → Type 0

@@ -11,7 +11,7 @@ use Rattle.ss_program.specs.declared.statement.End.{End}
 use Rattle.ss_meaning.specs.Histories.{noted}
 use Rattle.ss_meaning.specs.Values.{Trouble as Meant, if_ok, turned, due, where_fit, unless_fault}
 use Rattle.ss_meaning.specs.Store.{Store}
-use Rattle.ss_meaning.specs.Sets.{Filing as MeantFiling, ByRule, Foremost, Hindmost, Ahead, Behind, recounted, set_at, member, owner_number, end_removed, from_or_after}
+use Rattle.ss_meaning.specs.Sets.{Filing as MeantFiling, ByRule, Foremost, Hindmost, Ahead, Behind, recounted, set_at, member, owner_number, filed_by, end_removed, from_or_after}
 use Rattle.ss_store.specs.declared.filing.Filing.{Filing}
 use Rattle.ss_store.specs.declared.filing.Filing.TheVariants.{ByDiscipline, First, Last, Before, After}
 use Rattle.ss_population.specs.declared.known.Known.{Known}
@@ -28,6 +28,10 @@ filing_meant First = Foremost
 filing_meant Last = Hindmost
 filing_meant (Before y) = Ahead y
 filing_meant (After y) = Behind y
+
+-- what is filed goes last in a set
+abbrev pub GoesLast : MeantFiling → (set : ℕ) → Seen → Type 0
+GoesLast filing set e = (o x : ℤ) (s : Store) → filed_by filing set o x (with_seen s e) ≡ filed_by Hindmost set o x (with_seen s e)
 
 -- an operation gives other entities, which are those that are seen afterwards, or comes to a trouble and changes nothing
 abbrev pub Resettles : (Store → Result State Meant) → (old new : Seen) → Result (Unit {0}) Trouble → Type 0

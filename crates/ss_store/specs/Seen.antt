@@ -1,5 +1,5 @@
 -- What is seen of a scene, and what is said of an operation on it.
-use Rattle.std.specs.Prelude.{◌≡◌, ℕ, slice_get, List, ℤ, pos, Option, Result, Ok, Err}
+use Rattle.std.specs.Prelude.{◌≡◌, ℕ, slice_get, List, ℤ, pos, Option, Some, None, Result, Ok, Err}
 use Rattle.ss_base.specs.declared.fault.FaultKind.{FaultKind}
 use Rattle.ss_base.specs.declared.fault.FaultKind.TheVariants.{CreatedTwice, Overflow}
 use Rattle.ss_base.specs.declared.fault.Refused.{Refused}
@@ -27,6 +27,9 @@ use Rattle.ss_population.specs.declared.trouble.Trouble.{Trouble}
 use Rattle.ss_population.specs.declared.trouble.Trouble.TheVariants.{Fault, Misfit}
 use Rattle.ss_population.specs.declared.trouble.Unmade.{Unmade}
 use Rattle.ss_population.specs.declared.trouble.Unmade.TheVariants as unmade
+use Rattle.ss_store.specs.declared.entities.Made.{Made}
+use Rattle.ss_store.specs.declared.entities.Made.TheVariants as made
+use Rattle.ss_store.specs.declared.entities.Made.TheVariants.{Number, Last, Wanting}
 
 -- what a program says of each set, of each class of notices and of statistics, the entities, the time, the notices that are pending, and the histories of
 -- each statistic
@@ -100,16 +103,24 @@ settled (Ok u) = Ok u
 settled (Err (refusals.Fault kind)) = Err (unmade.Fault kind)
 settled (Err refusals.Memory) = Err unmade.Memory
 
--- a number that a call made, as a value
-abbrev pub as_value : Result ℤ Unmade → Result Value Unmade
-as_value (Ok n) = Ok (Whole n)
-as_value (Err t) = Err t
+-- a new entity by its number, or why there is none, as a value
+abbrev pub as_value : Made → Result Value Unmade
+as_value (Number n) = Ok (Whole n)
+as_value Last = Err (unmade.Fault Overflow)
+as_value made.Misfit = Err unmade.Misfit
+as_value Wanting = Err unmade.Memory
 
 -- what noting a value comes to
 abbrev pub or_unnoted : Result (Unit {0}) Unnoted → Result (Unit {0}) Trouble
 or_unnoted (Ok u) = Ok u
 or_unnoted (Err unnoted.Full) = Err (Fault Overflow)
 or_unnoted (Err unnoted.Misfit) = Err Misfit
+
+-- the same of a value that is noted unless there is a reason
+abbrev pub unless_unnoted : Option Unnoted → Result (Unit {0}) Trouble
+unless_unnoted None = Ok tt
+unless_unnoted (Some unnoted.Full) = Err (Fault Overflow)
+unless_unnoted (Some unnoted.Misfit) = Err Misfit
 
 -- the mode of a field
 abbrev pub mode_at : PlainLayout → ℕ → ℕ → Option Mode

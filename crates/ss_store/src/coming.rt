@@ -3,11 +3,12 @@
 ghost use Rattle.std.specs.Prelude.{◌≡◌, List};
 ghost use Rattle.ss_base.specs.declared.layout.RankKey.{RankKey as KeySeen};
 ghost use Rattle.ss_base.specs.declared.value.Value.TheVariants.{Whole};
+ghost use Rattle.ss_meaning.specs.Entities.{attribute};
 ghost use Rattle.ss_meaning.specs.Events.{is_awaited, attributes};
 ghost use Rattle.ss_meaning.specs.Store.{Store as StoreSeen};
 ghost use Rattle.ss_store.specs.Seen.{with_seen};
 ghost use Rattle.ss_store.specs.Scheduled.{Finds, put_there};
-ghost use Rattle.ss_store.specs.Events.{Comes, Begins, Lets, First, Told, is_of};
+ghost use Rattle.ss_store.specs.Events.{Comes, Begins, Lets, First, Told, Adds, IsPut, is_of};
 
 use crate::scene::Scene;
 use crate::scheduling::lacking;
@@ -112,6 +113,40 @@ impl Scene {
         }
     }
 
+    // The value of an attribute of a notice, by its number, comes behind others.
+    #[inline(always)]
+    fn read_one(
+        &self,
+        class: usize,
+        field: usize,
+        known: Known,
+        values: &mut Vec<Value>,
+    ) -> Result<(), Unmade>
+        ensures { Adds (attribute class field (Whole known.number)) self.now values.old.items values.new.items result }
+    {
+        match self.whole_field(class, field, known) {
+            Some(number) => put(values, Value::Whole(number)),
+            None => self.read_any(class, field, known, values),
+        }
+    }
+
+    // The same where it is no whole number, or there is a fault.
+    #[inline(never)]
+    fn read_any(
+        &self,
+        class: usize,
+        field: usize,
+        known: Known,
+        values: &mut Vec<Value>,
+    ) -> Result<(), Unmade>
+        ensures { Adds (attribute class field (Whole known.number)) self.now values.old.items values.new.items result }
+    {
+        match self.field_value(class, field, known) {
+            Err(trouble) => Err(lacking(trouble)),
+            Ok(value) => put(values, value),
+        }
+    }
+
     // The values of the first attributes of a notice, by its number.
     #[inline(always)]
     fn read(
@@ -125,13 +160,9 @@ impl Scene {
     {
         values.clear();
         for field in 0..count {
-            match self.field_value(class, field, known) {
-                Err(trouble) => return Err(lacking(trouble)),
-                Ok(value) => {
-                    if values.push(value).is_err() {
-                        return Err(Unmade::Memory);
-                    }
-                }
+            match self.read_one(class, field, known, values) {
+                Err(unmade) => return Err(unmade),
+                Ok(()) => {}
             }
         }
         Ok(())
@@ -164,5 +195,16 @@ impl Scene {
             Err(unmade) => Err(unmade),
             Ok(()) => self.let_go(event),
         }
+    }
+}
+
+// A value comes behind others.
+#[inline(always)]
+fn put(values: &mut Vec<Value>, value: Value) -> Result<(), Unmade>
+    ensures { IsPut value values.old.items values.new.items result }
+{
+    match values.push(value) {
+        Ok(()) => Ok(()),
+        Err(_) => Err(Unmade::Memory),
     }
 }

@@ -16,6 +16,17 @@ use ss_classes::{class_kind, field_mode, fits, is_permanent, is_single};
 use ss_population::known::{Known, known_number};
 use ss_population::trouble::{Trouble, Unmade, number_of};
 
+// A new entity by its number, or why there is none.
+#[derive(Clone, Copy)]
+pub(crate) enum Made {
+    Number(i64),
+    // The last number was given.
+    Last,
+    Misfit,
+    // Memory was refused.
+    Wanting,
+}
+
 impl Scene {
     // The kind of a class, where the layout has it.
     #[inline(always)]
@@ -208,26 +219,26 @@ impl Scene {
 
     // The number of a new entity of a class, whose histories start.
     #[inline(never)]
-    fn create_number(&mut self, class: usize) -> Result<i64, Unmade>
+    fn create_number(&mut self, class: usize) -> Made
         ensures { Makes (made_one class) self.old self.new (as_value result) }
     {
         if !self.is_single(class) {
-            return Err(Unmade::Misfit);
+            return Made::Misfit;
         }
         if self
             .timeline
             .reserve(self.population.layout(), class, 1)
             .is_err()
         {
-            return Err(Unmade::Memory);
+            return Made::Wanting;
         }
         match self.population.create(class) {
             Ok(number) => {
                 self.timeline.start(self.population.layout(), class, number);
-                Ok(number)
+                Made::Number(number)
             }
-            Err(Refused::Fault(kind)) => Err(Unmade::Fault(kind)),
-            Err(Refused::Memory) => Err(Unmade::Memory),
+            Err(Refused::Fault(_)) => Made::Last,
+            Err(Refused::Memory) => Made::Wanting,
         }
     }
 
@@ -237,8 +248,10 @@ impl Scene {
         ensures { Makes (made_one class) self.old self.new result }
     {
         match self.create_number(class) {
-            Ok(number) => Ok(Value::Whole(number)),
-            Err(unmade) => Err(unmade),
+            Made::Number(number) => Ok(Value::Whole(number)),
+            Made::Last => Err(Unmade::Fault(FaultKind::Overflow)),
+            Made::Misfit => Err(Unmade::Misfit),
+            Made::Wanting => Err(Unmade::Memory),
         }
     }
 

@@ -1,12 +1,13 @@
 //! Filing members in sets.
 
-ghost use Rattle.std.specs.Prelude.{◌≡◌, ◌<◌, length, IfOk};
-ghost use Rattle.ss_meaning.specs.Sets.{ByRule, Ahead, Behind, filed_by, filed_in};
+ghost use Rattle.std.specs.Prelude.{◌≡◌, ◌<◌, length, true, Some, IfOk, slice_get};
+ghost use Rattle.ss_base.specs.declared.layout.Discipline.TheVariants.{Fifo};
+ghost use Rattle.ss_meaning.specs.Sets.{ByRule, Hindmost, Ahead, Behind, filed_by, filed_in};
 ghost use Rattle.ss_store.specs.Seen.{Notes};
-ghost use Rattle.ss_store.specs.Filed.{Resettles, Rehomes, IsCountable, filing_meant};
+ghost use Rattle.ss_store.specs.Filed.{GoesLast, Resettles, Rehomes, IsCountable, filing_meant};
 
 use crate::scene::Scene;
-use ss_base::Value;
+use ss_base::{Discipline, Value};
 use ss_population::known::{Known, Membership, known_number};
 use ss_population::trouble::{Trouble, or_trouble};
 
@@ -24,6 +25,38 @@ pub enum Filing {
 }
 
 impl Scene {
+    // Whether the discipline of a set is FIFO.
+    #[inline(always)]
+    fn is_fifo(&self, set: usize) -> bool
+        ensures { result ≡ true → slice_get self.now.disciplines set ≡ Some Fifo }
+    {
+        matches!(self.disciplines.get(set), Some(Discipline::Fifo))
+    }
+
+    // Whether a member is filed last in a set.
+    #[inline(always)]
+    fn goes_last(&self, filing: &Filing, set: usize) -> bool
+        ensures { result ≡ true → GoesLast (filing_meant filing.now) set self.now }
+    {
+        match filing {
+            Filing::ByDiscipline => self.is_fifo(set),
+            Filing::Last => true,
+            _ => false,
+        }
+    }
+
+    // Files a member last, by the numbers of the member and of the owner.
+    #[inline(always)]
+    fn file_last(&mut self, set: usize, both: Membership) -> Result<(), Trouble>
+        requires set { set < length self.old.heap.layout.sets }
+        ensures { Resettles (filed_by Hindmost set both.owner.number both.member.number) self.old self.new result }
+    {
+        or_trouble(
+            self.population
+                .file_last(set, both.owner.number, both.member.number),
+        )
+    }
+
     // Files a member by the discipline of the set, by the numbers of the member and of the owner.
     #[inline(always)]
     fn file_by_discipline(&mut self, set: usize, both: Membership) -> Result<(), Trouble>
@@ -72,6 +105,23 @@ impl Scene {
     // Files a member, by the numbers of the member and of the owner.
     #[inline(always)]
     fn place(&mut self, filing: Filing, set: usize, both: Membership) -> Result<(), Trouble>
+        requires set { set < length self.old.heap.layout.sets }
+        ensures { Resettles (filed_by (filing_meant filing) set both.owner.number both.member.number) self.old self.new result }
+    {
+        if self.goes_last(&filing, set) {
+            return self.file_last(set, both);
+        }
+        self.place_anywhere(filing, set, both)
+    }
+
+    // The same wherever it is filed.
+    #[inline(never)]
+    fn place_anywhere(
+        &mut self,
+        filing: Filing,
+        set: usize,
+        both: Membership,
+    ) -> Result<(), Trouble>
         requires set { set < length self.old.heap.layout.sets }
         ensures { Resettles (filed_by (filing_meant filing) set both.owner.number both.member.number) self.old self.new result }
     {

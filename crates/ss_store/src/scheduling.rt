@@ -3,9 +3,12 @@
 ghost use Rattle.std.specs.Prelude.{◌≡◌, Some};
 ghost use Rattle.ss_classes.specs.Ranks.{ranked_at};
 ghost use Rattle.ss_meaning.specs.Events.{time_at, not_past, endowed, prepared, made_notice, ties_of, filed_notice, rescheduled};
-ghost use Rattle.ss_store.specs.Seen.{Looks, Grows};
+ghost use Rattle.ss_meaning.specs.Places.{assigned_attribute};
+ghost use Rattle.ss_store.specs.AtOnce.{Does};
+ghost use Rattle.ss_store.specs.Seen.{Looks, Notes, Grows};
 ghost use Rattle.ss_store.specs.Scheduled.{Leads, Forms, Goes, Finds, put_there, lacking, moment_of, time_after, key_ranked, key_meant, scheduled_known, scheduled_anew};
 
+use crate::at_once::Number;
 use crate::entities::settled;
 use crate::scene::Scene;
 use ss_base::{FaultKind, RankKey, Value, plus};
@@ -55,13 +58,52 @@ impl Scene {
         }
     }
 
+    // Assigns a whole number to an attribute that no statistic is about, and says whether it did.
+    #[inline(always)]
+    fn give_whole(&mut self, class: usize, field: usize, x: &Value, value: &Value) -> bool
+        ensures { Does (assigned_attribute class field x.now value.now) result self.old self.new }
+    {
+        match (x, value) {
+            (Value::Whole(number), Value::Whole(value)) => {
+                let known = Known { number: *number };
+                self.assign_field(class, field, known, Number { value: *value })
+            }
+            _ => false,
+        }
+    }
+
+    // Assigns a value to an attribute of a notice.
+    #[inline(always)]
+    fn give(&mut self, class: usize, field: usize, x: &Value, value: &Value) -> Result<(), Trouble>
+        ensures { Notes (assigned_attribute class field x.now value.now) self.old self.new result }
+    {
+        if self.give_whole(class, field, x, value) {
+            return Ok(());
+        }
+        self.give_any(class, field, x, value)
+    }
+
+    // The same with every care.
+    #[inline(never)]
+    fn give_any(
+        &mut self,
+        class: usize,
+        field: usize,
+        x: &Value,
+        value: &Value,
+    ) -> Result<(), Trouble>
+        ensures { Notes (assigned_attribute class field x.now value.now) self.old self.new result }
+    {
+        self.set_value_of(class, field, *x, *value)
+    }
+
     // Assigns values to the attributes of a notice, from the first on.
     #[inline(always)]
     fn endow(&mut self, class: usize, x: &Value, given: &[Value]) -> Result<(), Trouble>
         ensures { Leads (endowed class 0 x.now given.now) self.old self.new result }
     {
         for field in 0..given.len() {
-            self.set_value_of(class, field, *x, given[field])?;
+            self.give(class, field, x, &given[field])?;
         }
         Ok(())
     }

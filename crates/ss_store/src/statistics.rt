@@ -12,7 +12,7 @@ ghost use Rattle.ss_program.specs.declared.sections.Subject.TheVariants.{OfVaria
 ghost use Rattle.ss_timeline.specs.Figures.{subject_in, variable_in, variable_of, held_by, present_with, renewed_known, reset_of};
 ghost use Rattle.ss_store.specs.AtOnce.{Ignores};
 ghost use Rattle.ss_store.specs.Filed.{IsCountable, CountsWatched, recounted_now};
-ghost use Rattle.ss_store.specs.Seen.{Looks, Changes, ChangesWhere, or_unnoted, with_seen};
+ghost use Rattle.ss_store.specs.Seen.{Looks, Changes, ChangesWhere, or_unnoted, unless_unnoted, with_seen};
 
 use crate::scene::Scene;
 use ss_base::{FaultKind, Value};
@@ -59,6 +59,17 @@ impl Scene {
         or_unnoted(self.timeline.note(subject, known.number, value))
     }
 
+    // The same, answering why it is not noted, if it is not.
+    #[inline(always)]
+    fn try_noting(&mut self, subject: Subject, known: Known, value: Value) -> Option<Unnoted>
+        ensures { Changes (noted subject known.number value) self.old self.new (unless_unnoted result) }
+    {
+        match self.timeline.note(subject, known.number, value) {
+            Ok(()) => None,
+            Err(unnoted) => Some(unnoted),
+        }
+    }
+
     // The same of an attribute.
     #[inline(always)]
     pub(crate) fn note_attribute(
@@ -93,18 +104,21 @@ impl Scene {
         if !self.has_statistics() {
             return Ok(());
         }
-        self.recount_watched(set, owner)
+        match self.recount_watched(set, owner) {
+            None => Ok(()),
+            Some(unnoted) => or_unnoted(Err(unnoted)),
+        }
     }
 
     // The same where there are statistics.
     #[inline(never)]
-    fn recount_watched(&mut self, set: usize, owner: Known) -> Result<(), Trouble>
+    fn recount_watched(&mut self, set: usize, owner: Known) -> Option<Unnoted>
         requires counted { IsCountable self.old.heap set owner.number }
-        ensures { Changes (recounted_now set owner.number) self.old self.new result }
+        ensures { Changes (recounted_now set owner.number) self.old self.new (unless_unnoted result) }
     {
         match self.count_watched(set, owner) {
-            Ok(count) => self.note(Subject::OfCount { set }, owner, count),
-            Err(trouble) => Err(trouble),
+            Ok(count) => self.try_noting(Subject::OfCount { set }, owner, count),
+            Err(_) => Some(Unnoted::Misfit),
         }
     }
 
