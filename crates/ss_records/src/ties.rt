@@ -84,16 +84,18 @@ pub(crate) fn in_a_set(
     ensures cells { blocks.new.cells ≡ blocks.old.cells }
     ensures touches { (blocks.new.touches ≤ blocks.old.touches + 1048576) × (blocks.new.total + blocks.old.touches ≡ blocks.old.total + blocks.new.touches) }
 {
-    if layout.joins_none(class) {
-        return false;
-    }
+    let mut left = layout.link_words(class);
     for s in 0..layout.names() {
+        if left == 0 {
+            return false;
+        }
         if layout.member_class(s) == class {
             if filed_in(
                 blocks, layout, directory, permanents, notes, system, s, place, number,
             ) {
                 return true;
             }
+            left -= 3;
         }
     }
     false
@@ -119,16 +121,18 @@ pub(crate) fn owns_members(
     ensures cells { blocks.new.cells ≡ blocks.old.cells }
     ensures touches { (blocks.new.touches ≤ blocks.old.touches + 1048576) × (blocks.new.total + blocks.old.touches ≡ blocks.old.total + blocks.new.touches) }
 {
-    if layout.owns_none(class) {
-        return false;
-    }
+    let mut left = layout.owned_count(Owner::Class(class));
     for s in 0..layout.names() {
+        if left == 0 {
+            return false;
+        }
         if layout.is_owner(s, class) {
             if owns_in(
                 blocks, layout, directory, permanents, notes, system, s, place, number,
             ) {
                 return true;
             }
+            left -= 1;
         }
     }
     false
