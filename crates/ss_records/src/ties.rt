@@ -85,10 +85,10 @@ pub(crate) fn in_a_set(
     ensures touches { (blocks.new.touches ≤ blocks.old.touches + 1048576) × (blocks.new.total + blocks.old.touches ≡ blocks.old.total + blocks.new.touches) }
 {
     let mut left = layout.link_words(class);
+    if left == 0 {
+        return false;
+    }
     for s in 0..layout.names() {
-        if left == 0 {
-            return false;
-        }
         if layout.member_class(s) == class {
             if filed_in(
                 blocks, layout, directory, permanents, notes, system, s, place, number,
@@ -96,6 +96,9 @@ pub(crate) fn in_a_set(
                 return true;
             }
             left -= 3;
+            if left == 0 {
+                return false;
+            }
         }
     }
     false
@@ -122,10 +125,10 @@ pub(crate) fn owns_members(
     ensures touches { (blocks.new.touches ≤ blocks.old.touches + 1048576) × (blocks.new.total + blocks.old.touches ≡ blocks.old.total + blocks.new.touches) }
 {
     let mut left = layout.owned_count(Owner::Class(class));
+    if left == 0 {
+        return false;
+    }
     for s in 0..layout.names() {
-        if left == 0 {
-            return false;
-        }
         if layout.is_owner(s, class) {
             if owns_in(
                 blocks, layout, directory, permanents, notes, system, s, place, number,
@@ -133,6 +136,9 @@ pub(crate) fn owns_members(
                 return true;
             }
             left -= 1;
+            if left == 0 {
+                return false;
+            }
         }
     }
     false

@@ -1,4 +1,4 @@
-use Rattle.std.proofs.Common.{◌≡◌, ℕ, ◌<◌, drop, length, inl, sym, ap, subst, ◌∙◌, arith}
+use Rattle.std.proofs.Common.{◌≡◌, ℕ, ◌+◌, ◌<◌, drop, length, inl, sym, ap, subst, ◌∙◌, arith}
 use Rattle.ss_records.specs.Kept.{Kept}
 use Rattle.ss_base.specs.declared.layout.Owner.TheVariants.{Class}
 use Rattle.ss_records.specs.Places.{class_at, lying}
@@ -7,7 +7,7 @@ use Rattle.ss_records.proofs.Still.{later_room, last_look}
 use Rattle.ss_records.proofs.Setless.{owns_none, as_owner, counts_one, counts_none}
 use Rattle.ss_records.specs.Shape.{owned_by}
 use Rattle.ss_records.proofs.ties.owns_members.Goals as goal
-use Rattle.ss_records.proofs.ties.owns_members.Goals.{then-is_owner+else-owns_in, else-is_owner}
+use Rattle.ss_records.proofs.ties.owns_members.Goals.{then-is_owner+else-owns_in+else-left-eq0-2, else-is_owner}
 
 class_is : {m n : ℕ} → Class m ≡ Class n → m ≡ n
 class_is e = cc
@@ -25,7 +25,7 @@ pub loop-s-preserved : goal.loop-s-preserved
 loop-s-preserved c =
     let ts = c.args.layout.now.sets in let s = c.loop-s.s in let h = c.loop-s.invariant in let y = get_there ts s (omega (arith, c.loop-s-test.true, c.names-s-end.ensures)) in
     elim c.if-is_owner.branch [
-      | then-is_owner+else-owns_in w ↦ record {
+      | then-is_owner+else-owns_in+else-left-eq0-2 w ↦ record {
         cells = rw w.blocks-is (w.owns_in.ensures.cells ∙ h.cells);
         rest = sym (owns_not ts s c.args.class c.args.number y.0 c.args.notes.now.lists y.1 (sym w.if-owns_in.ensures.value)) ∙ h.rest;
         left = omega (arith, h.left, counts_one (owned_by (Class c.args.class)) ts s y.0 y.1 (sym (as_owner y.0.owner c.args.class) ∙ sym (w.if-is_owner.ensures y.0 y.1)));
@@ -59,6 +59,15 @@ pub owned_count-left-requires : goal.owned_count-left-requires
 owned_count-left-requires c = let e = c.requires.entry in λ k z. subst (λ n. n < length c.args.layout.now.classes) (c.requires.class ∙ class_is z) (c.requires.kept.classes e.0 c.args.place (inl e.1))
 
 pub returns-then-left-eq0-clause-value : goal.returns-then-left-eq0-clause-value
-returns-then-left-eq0-clause-value c =
-    let h = c.loop-s.invariant in
-    sym (owns_none (drop c.loop-s.s c.args.layout.now.sets) c.loop-s.s c.args.class c.args.number c.args.notes.now.lists (sym h.left ∙ c.if-left-eq0.true)) ∙ h.rest
+returns-then-left-eq0-clause-value c = sym (owns_none c.args.layout.now.sets 0 c.args.class c.args.number c.args.notes.now.lists (omega (arith, c.owned_count-left.ensures.value, c.if-left-eq0.true)))
+
+pub overflow_sub-left : goal.overflow_sub-left
+overflow_sub-left c =
+    let ts = c.args.layout.now.sets in let s = c.loop-s.s in let h = c.loop-s.invariant in let y = get_there ts s (omega (arith, c.loop-s-test.true, c.names-s-end.ensures)) in
+    omega (arith, h.left, counts_one (owned_by (Class c.args.class)) ts s y.0 y.1 (sym (as_owner y.0.owner c.args.class) ∙ sym (c.if-is_owner.ensures y.0 y.1)))
+
+pub returns-then-left-eq0-2-clause-value : goal.returns-then-left-eq0-2-clause-value
+returns-then-left-eq0-2-clause-value c =
+    let ts = c.args.layout.now.sets in let s = c.loop-s.s in let h = c.loop-s.invariant in let y = get_there ts s (omega (arith, c.loop-s-test.true, c.names-s-end.ensures)) in
+    sym (owns_none (drop (s + 1) ts) (s + 1) c.args.class c.args.number c.args.notes.now.lists (omega (arith, h.left, c.if-left-eq0-2.true, counts_one (owned_by (Class c.args.class)) ts s y.0 y.1 (sym (as_owner y.0.owner c.args.class) ∙ sym (c.if-is_owner.ensures y.0 y.1)))))
+    ∙ sym (owns_not ts s c.args.class c.args.number y.0 c.args.notes.now.lists y.1 (sym c.if-owns_in.ensures.value)) ∙ h.rest
