@@ -1,9 +1,10 @@
 -- Entities of a class that joins no set, or owns none.
-use Rattle.std.proofs.Common.{◌≡◌, ℕ, ◌+◌, ◌==◌, Bool, true, false, List, [], ◌∷◌, refl, sym, ◌∙◌, arith}
+use Rattle.std.proofs.Common.{◌≡◌, ℕ, ◌+◌, ◌==◌, Bool, drop, slice_get, Some, ap, true, false, List, [], ◌∷◌, refl, sym, ◌∙◌, arith}
 use Rattle.ss_base.specs.declared.layout.Owner.{Owner}
 use Rattle.ss_base.specs.declared.layout.Owner.TheVariants.{System, Class}
 use Rattle.ss_base.specs.declared.layout.SetLayout.{SetLayout}
 use Rattle.ss_states.specs.State.{Members, in_a_set, owns_members, is_owner_class}
+use Rattle.ss_records.proofs.Filed.{drop_at}
 use Rattle.ss_records.specs.Shape.{joins, owned_by, same_owner, count_sets}
 
 none_of : (p : SetLayout → Bool) (t : SetLayout) (ts : List SetLayout) → count_sets p (t ∷ ts) ≡ 0 → (p t ≡ false) × (count_sets p ts ≡ 0)
@@ -18,7 +19,7 @@ in_none (t ∷ ts) s c x ms h =
     let n = none_of (joins c) t ts h in let e : (t.member == c) ≡ false = n.0 in
     rw e (in_none ts (s + 1) c x ms n.1)
 
-as_owner : (o : Owner) (c : ℕ) → is_owner_class o c ≡ same_owner o (Class c)
+pub as_owner : (o : Owner) (c : ℕ) → is_owner_class o c ≡ same_owner o (Class c)
 as_owner System c = refl
 as_owner (Class d) c = refl
 
@@ -27,3 +28,10 @@ owns_none [] s c x ms h = refl
 owns_none (t ∷ ts) s c x ms h =
     let n = none_of (owned_by (Class c)) t ts h in let e : is_owner_class t.owner c ≡ false = as_owner t.owner c ∙ n.0 in
     rw e (owns_none ts (s + 1) c x ms n.1)
+
+module _ (p : SetLayout → Bool) (ts : List SetLayout) (s : ℕ) (t : SetLayout) (g : slice_get ts s ≡ Some t) where
+  pub counts_one : p t ≡ true → count_sets p (drop s ts) ≡ 1 + count_sets p (drop (s + 1) ts)
+  counts_one e = ap (count_sets p) (drop_at ts s t g) ∙ rw e refl
+
+  pub counts_none : p t ≡ false → count_sets p (drop s ts) ≡ count_sets p (drop (s + 1) ts)
+  counts_none e = ap (count_sets p) (drop_at ts s t g) ∙ rw e (omega arith)

@@ -1,5 +1,5 @@
 // Filing and removing.
-ghost use Rattle.std.specs.Prelude.{◌≡◌, ℕ, ◌+◌, ◌<◌, ◌≤◌, List, ◌∷◌, ◌++◌, length, false, true, Result, MatchResult, IsOk, Ok, Err};
+ghost use Rattle.std.specs.Prelude.{◌≡◌, ℕ, ◌+◌, ◌<◌, ◌≤◌, List, ◌∷◌, ◌++◌, length, false, true, Result, MatchResult, IfSome, IsOk, Ok, Err};
 ghost use Rattle.ss_states.specs.State.{State, and_then, is_filed, contains, members_of};
 ghost use Rattle.ss_states.specs.Disciplines.{first_removed, last_removed, member_test};
 ghost use Rattle.ss_states.specs.Sets.{joiner, owner, less, with_list_of, put_in, put_beside, taken_out, filed_first, filed_last, filed_before, filed_after, removed};
@@ -32,12 +32,41 @@ impl Records {
         requires set { s < length self.now.layout.sets }
         ensures found { MatchResult result (λ p. Owns self.now s p.owner × Joins self.now s p.x × (joiner (state self.now) s x ≡ Ok p.x.number) × (owner (state self.now) s o ≡ Ok p.owner.number)) (λ f. (g : ℕ → ℕ → Result State FaultKind) → and_then (joiner (state self.now) s x) (λ n. and_then (owner (state self.now) s o) (g n)) ≡ Err f) }
     {
+        match self.near_pair(s, o, x) {
+            Some(pair) => Ok(pair),
+            None => self.pair_apart(s, o, x),
+        }
+    }
+
+    // The same where it may take a search.
+    #[inline(never)]
+    fn pair_apart(&self, s: usize, o: i64, x: i64) -> Result<Pair, FaultKind>
+        requires kept { IsKept self.now }
+        requires set { s < length self.now.layout.sets }
+        ensures found { MatchResult result (λ p. Owns self.now s p.owner × Joins self.now s p.x × (joiner (state self.now) s x ≡ Ok p.x.number) × (owner (state self.now) s o ≡ Ok p.owner.number)) (λ f. (g : ℕ → ℕ → Result State FaultKind) → and_then (joiner (state self.now) s x) (λ n. and_then (owner (state self.now) s o) (g n)) ≡ Err f) }
+    {
         match self.joiner(s, x) {
             Ok(x) => match self.owner(s, o) {
                 Ok(owner) => Ok(Pair { owner, x }),
                 Err(fault) => Err(fault),
             },
             Err(fault) => Err(fault),
+        }
+    }
+
+    // What x and then o mean, where both are found without a search.
+    #[inline(always)]
+    fn near_pair(&self, s: usize, o: i64, x: i64) -> Option<Pair>
+        requires kept { IsKept self.now }
+        requires set { s < length self.now.layout.sets }
+        ensures { IfSome result (λ p. Owns self.now s p.owner × Joins self.now s p.x × (joiner (state self.now) s x ≡ Ok p.x.number) × (owner (state self.now) s o ≡ Ok p.owner.number)) }
+    {
+        match self.near_joiner(s, x) {
+            Some(x) => match self.near_owner(s, o) {
+                Some(owner) => Some(Pair { owner, x }),
+                None => None,
+            },
+            None => None,
         }
     }
 

@@ -23,40 +23,6 @@ pub(crate) fn fill_numbers(blocks: &mut Blocks, place: Address, from: usize, to:
     }
 }
 
-// How many words of a block may be written one by one, where clearing them by a call takes longer.
-const FEW: usize = 10;
-
-// Zeros as the values of a class.
-fn fill_values(blocks: &mut Blocks, layout: &Plan, place: Address, class: usize)
-    requires class { class < length layout.now.classes }
-    requires room { links_start layout.now class ≤ length (words_at blocks.old.cells place.at) }
-    requires blank { (k : ℕ) → 2 ≤ k → k < links_start layout.now class → word_at blocks.old.cells place.at k ≡ blank }
-    ensures filled { Filled blocks.old.cells blocks.new.cells place.at 2 (links_start layout.now class) zeros }
-    ensures touches { (blocks.new.touches ≡ blocks.old.touches) × (blocks.new.total ≡ blocks.old.total) }
-{
-    let end = layout.links_start(class);
-    if end > FEW {
-        fill_numbers(blocks, place, VALUES, end);
-    } else {
-        fill_few(blocks, layout, place, class);
-    }
-}
-
-// The same, one by one. Where they end is looked up each time, so that no call is made of the loop.
-fn fill_few(blocks: &mut Blocks, layout: &Plan, place: Address, class: usize)
-    requires class { class < length layout.now.classes }
-    requires room { links_start layout.now class ≤ length (words_at blocks.old.cells place.at) }
-    requires blank { (k : ℕ) → 2 ≤ k → k < links_start layout.now class → word_at blocks.old.cells place.at k ≡ blank }
-    ensures filled { Filled blocks.old.cells blocks.new.cells place.at 2 (links_start layout.now class) zeros }
-    ensures touches { (blocks.new.touches ≡ blocks.old.touches) × (blocks.new.total ≡ blocks.old.total) }
-{
-    let mut k = VALUES;
-    'values: while k < layout.links_start(class) {
-        blocks.set_number(place, k, 0);
-        k += 1;
-    }
-}
-
 /// Links that lead to one place: a touch each.
 pub(crate) fn fill_links(
     blocks: &mut Blocks,
@@ -72,9 +38,9 @@ pub(crate) fn fill_links(
     ensures filled { Filled blocks.old.cells blocks.new.cells place.at from to (links_to target.at) }
     ensures touches { (blocks.new.touches + from ≡ blocks.old.touches + to) × (blocks.new.total + from ≡ blocks.old.total + to) }
 {
-    blocks.expect((to - from) as u64);
     for k in from..to {
         blocks.set_link(place, k, target);
+        blocks.expect(1);
     }
 }
 
@@ -93,12 +59,12 @@ pub(crate) fn fill_owned(
     ensures filled { Filled blocks.old.cells blocks.new.cells place.at from (from + 3 * count) (owned_from end.at from) }
     ensures touches { (blocks.new.touches ≡ blocks.old.touches + 3 * count) × (blocks.new.total ≡ blocks.old.total + 3 * count) }
 {
-    blocks.expect(3 * count as u64);
     for i in 0..count {
         let k = from + 3 * i;
         blocks.set_link(place, k, end);
         blocks.set_link(place, k + 1, end);
         blocks.set_count(place, k + 2, 0);
+        blocks.expect(3);
     }
 }
 
@@ -135,7 +101,7 @@ pub(crate) fn lay(
     let owned = layout.owned_start(Owner::Class(class));
     let count = layout.owned_count(Owner::Class(class));
     lay_head(blocks, place, class as u64, number);
-    fill_values(blocks, layout, place, class);
+    fill_numbers(blocks, place, VALUES, links);
     fill_links(blocks, place, links, owned, place);
     fill_owned(blocks, place, owned, count, end);
 }

@@ -31,7 +31,7 @@ impl Blocks {
         }
     }
 
-    // Lets a link lead elsewhere: a touch, which was expected. Words keep their kinds.
+    // Lets a link lead elsewhere: a touch, which is counted beside it. Words keep their kinds.
     fn relink(&mut self, place: Address, k: usize, to: Address)
         requires word { IsLink (word_at self.old.cells place.at k) }
         ensures cells { self.new.cells ≡ put_word self.old.cells place.at k (link to.at) }
@@ -43,7 +43,7 @@ impl Blocks {
     }
 
     // Lets the word k of the owner lead elsewhere where the neighbour is the end, else the word j of the
-    // neighbour: a touch, which was expected.
+    // neighbour: a touch, which is counted beside it.
     fn hook(
         &mut self,
         ends: bool,

@@ -1,5 +1,5 @@
 // Where the words of the blocks stand, worked out once.
-ghost use Rattle.std.specs.Prelude.{◌≡◌, ℕ, ◌+◌, ◌^◌, ◌<◌, ◌≤◌, length, slice_get, true, Some, MatchResult, ⊤};
+ghost use Rattle.std.specs.Prelude.{◌≡◌, ℕ, ◌+◌, ◌*◌, ◌^◌, ◌<◌, ◌≤◌, length, slice_get, Some, MatchResult, ⊤};
 ghost use Rattle.ss_base.specs.declared.layout.SetLayout.{SetLayout};
 ghost use Rattle.ss_states.specs.State.{kind_of, modes_of, is_owner_class};
 ghost use Rattle.ss_records.specs.Shape.{values_end, links_start, owned_start, block_words, joins, owned_by, count_sets};
@@ -147,22 +147,13 @@ impl Plan {
         }
     }
 
-    /// Whether a class joins no set.
+    /// How many words of links a class has: three for each set that it joins.
     #[inline(always)]
-    pub(crate) fn joins_none(&self, class: usize) -> bool
+    pub(crate) fn link_words(&self, class: usize) -> usize
         requires { class < length self.now.classes }
-        ensures { result ≡ true → count_sets (joins class) self.now.sets ≡ 0 }
+        ensures { result ≡ 3 * count_sets (joins class) self.now.sets }
     {
-        self.owned_start(Owner::Class(class)) == self.links_start(class)
-    }
-
-    /// Whether a class owns no set.
-    #[inline(always)]
-    pub(crate) fn owns_none(&self, class: usize) -> bool
-        requires { class < length self.now.classes }
-        ensures { result ≡ true → count_sets (owned_by (Owner.Class class)) self.now.sets ≡ 0 }
-    {
-        self.owned_count(Owner::Class(class)) == 0
+        self.owned_start(Owner::Class(class)) - self.links_start(class)
     }
 
     /// How many words a block of a class has.

@@ -59,6 +59,28 @@ impl Records {
         }
     }
 
+    /// What o means as an owner of a set, where it is found without a search.
+    #[inline(always)]
+    pub(crate) fn near_owner(&self, s: usize, o: i64) -> Option<Entry>
+        requires kept { IsKept self.now }
+        requires set { s < length self.now.layout.sets }
+        ensures { IfSome result (λ e. Owns self.now s e × (owner (state self.now) s o ≡ Ok e.number)) }
+    {
+        match self.layout.owner_class(s) {
+            Owner::System => Some(Entry {
+                place: self.system,
+                number: 0,
+            }),
+            Owner::Class(class) => match self.near(class, o) {
+                Some(place) => Some(Entry {
+                    place,
+                    number: self.blocks.number(place, NUMBER),
+                }),
+                None => None,
+            },
+        }
+    }
+
     /// What x means as one that may be in a set.
     #[inline(always)]
     pub(crate) fn joiner(&self, s: usize, x: i64) -> Result<Entry, FaultKind>
@@ -350,9 +372,9 @@ impl Records {
         }
     }
 
-    // What x means as one that may be in a set, where it is found without a search.
+    /// What x means as one that may be in a set, where it is found without a search.
     #[inline(always)]
-    fn near_joiner(&self, s: usize, x: i64) -> Option<Entry>
+    pub(crate) fn near_joiner(&self, s: usize, x: i64) -> Option<Entry>
         requires kept { IsKept self.now }
         requires set { s < length self.now.layout.sets }
         ensures { IfSome result (λ e. Joins self.now s e × (joiner (state self.now) s x ≡ Ok e.number)) }

@@ -207,7 +207,7 @@ impl Blocks {
         self.touches = 0;
     }
 
-    /// Counts so many touches, before the writes that they are.
+    /// Counts so many touches: those of the writes beside it.
     pub(crate) fn expect(&mut self, count: u64)
         requires { self.old.touches + count < 2 ^ 64 }
         ensures cells { self.new.cells ≡ self.old.cells }
@@ -269,7 +269,7 @@ impl Blocks {
         self.store.count(place, k)
     }
 
-    /// Writes a count of members: one touch, which was expected.
+    /// Writes a count of members: one touch, which is counted beside it.
     #[tactic(auto, using(crate::proofs::Count::blocks_put))]
     pub(crate) fn set_count(&mut self, place: Address, k: usize, value: u64)
         requires { (k < length (words_at self.old.cells place.at)) × MayBeCounter (word_at self.old.cells place.at k) }
@@ -291,7 +291,7 @@ impl Blocks {
         self.store.link(place, k)
     }
 
-    /// Lets a link lead elsewhere: one touch, which was expected.
+    /// Lets a link lead elsewhere: one touch, which is counted beside it.
     #[tactic(auto, using(crate::proofs::Count::blocks_put))]
     pub(crate) fn set_link(&mut self, place: Address, k: usize, to: Address)
         requires { (k < length (words_at self.old.cells place.at)) × MayBeLink (word_at self.old.cells place.at k) }

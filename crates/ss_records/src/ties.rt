@@ -84,7 +84,8 @@ pub(crate) fn in_a_set(
     ensures cells { blocks.new.cells ≡ blocks.old.cells }
     ensures touches { (blocks.new.touches ≤ blocks.old.touches + 1048576) × (blocks.new.total + blocks.old.touches ≡ blocks.old.total + blocks.new.touches) }
 {
-    if layout.joins_none(class) {
+    let mut left = layout.link_words(class);
+    if left == 0 {
         return false;
     }
     for s in 0..layout.names() {
@@ -93,6 +94,10 @@ pub(crate) fn in_a_set(
                 blocks, layout, directory, permanents, notes, system, s, place, number,
             ) {
                 return true;
+            }
+            left -= 3;
+            if left == 0 {
+                return false;
             }
         }
     }
@@ -119,7 +124,8 @@ pub(crate) fn owns_members(
     ensures cells { blocks.new.cells ≡ blocks.old.cells }
     ensures touches { (blocks.new.touches ≤ blocks.old.touches + 1048576) × (blocks.new.total + blocks.old.touches ≡ blocks.old.total + blocks.new.touches) }
 {
-    if layout.owns_none(class) {
+    let mut left = layout.owned_count(Owner::Class(class));
+    if left == 0 {
         return false;
     }
     for s in 0..layout.names() {
@@ -128,6 +134,10 @@ pub(crate) fn owns_members(
                 blocks, layout, directory, permanents, notes, system, s, place, number,
             ) {
                 return true;
+            }
+            left -= 1;
+            if left == 0 {
+                return false;
             }
         }
     }

@@ -1,20 +1,9 @@
 use Rattle.std.proofs.Common.{◌+◌, refl, arith}
-use Rattle.ss_records.proofs.Fills.{filled_none, filled_put}
+use Rattle.ss_records.proofs.Fills.{filled_put}
 use Rattle.ss_records.proofs.laying.fill_links.Goals as goal
-
-pub loop-k-init : goal.loop-k-init
-loop-k-init c = record {
-  filled = rw c.expect.ensures.cells (filled_none c.args.blocks.now.cells c.args.place.at c.args.from _);
-  touches = (omega (arith, c.expect.ensures.touches.0, c.requires.order), omega (arith, c.expect.ensures.touches.1));
-}
-
-pub returns-clause-touches : goal.returns-clause-touches
-returns-clause-touches c =
-    let h = c.loop-k.invariant in
-    (h.touches.0, omega (arith, h.touches.1, c.loop-k-test.false, c.loop-k.auto.k, c.loop-k.auto.k-end, c.requires.order))
 
 pub loop-k-preserved : goal.loop-k-preserved
 loop-k-preserved c = record {
-  filled = rw c.set_link.ensures.cells (filled_put c.args.blocks.now.cells c.loop-k.blocks.cells c.args.place.at c.args.from c.loop-k.k (c.loop-k.k + 1) _ _ c.loop-k.invariant.filled c.loop-k.auto.k (omega (arith, c.loop-k-test.true, c.requires.room)) refl refl);
-  touches = (omega (arith, c.set_link.ensures.touches.0, c.loop-k.invariant.touches.0), omega (arith, c.set_link.ensures.touches.1, c.loop-k.invariant.touches.1));
+  filled = rw (c.expect.ensures.cells, c.set_link.ensures.cells) (filled_put c.args.blocks.now.cells c.loop-k.blocks.cells c.args.place.at c.args.from c.loop-k.k (c.loop-k.k + 1) _ _ c.loop-k.invariant.filled c.loop-k.auto.k (omega (arith, c.loop-k-test.true, c.requires.room)) refl refl);
+  touches = (omega (arith, c.expect.ensures.touches.0, c.set_link.ensures.touches.0, c.loop-k.invariant.touches.0), omega (arith, c.expect.ensures.touches.1, c.set_link.ensures.touches.1, c.loop-k.invariant.touches.1));
 }
