@@ -1,6 +1,7 @@
 -- Operations in several steps.
-use Rattle.std.proofs.Common.{◌≡◌, ℕ, ℤ, false, List, ◌∷◌, ◌++◌, Option, Some, None, Ok, Err, refl, ap, sym, ◌∙◌}
+use Rattle.std.proofs.Common.{◌≡◌, ℕ, ℤ, false, List, [], ◌∷◌, ◌++◌, Option, Some, None, Ok, Err, refl, ap, sym, ◌∙◌}
 use Rattle.std.specs.Prelude.{Result as OkOr}
+use Rattle.std.proofs.lemmas.List.{append_assoc}
 use Rattle.ss_base.specs.declared.value.Value.{Value}
 use Rattle.ss_base.specs.declared.layout.RankKey.{RankKey}
 use Rattle.ss_base.specs.declared.fault.FaultKind.TheVariants.{AlreadyScheduled}
@@ -15,7 +16,7 @@ use Rattle.ss_population.specs.declared.trouble.Trouble.{Trouble}
 use Rattle.ss_population.specs.declared.trouble.Trouble.TheVariants.{Fault, Misfit}
 use Rattle.ss_population.specs.declared.trouble.Unmade.{Unmade}
 use Rattle.ss_population.specs.declared.trouble.Unmade.TheVariants as unmade
-use Rattle.ss_population.specs.Told.{told}
+use Rattle.ss_population.specs.Told.{told, meant}
 use Rattle.ss_store.specs.Seen.{Seen, with_seen, Changes, Grows}
 use Rattle.ss_store.specs.Scheduled.{Leads, Forms, Goes, Finds, put_there, lacking, key_ranked, key_meant, scheduled_known, scheduled_anew}
 
@@ -66,6 +67,24 @@ pub not_frozen : (class : ℕ) (x : Value) (s : Store) (ts : List Tie) (keys : L
 not_frozen class x s ts keys {key} {rest} t e h =
     ap (λ ks. turned {B = List Tie} (λ us. ts ++ us) (ties_of class x s ks)) e
     ∙ ap (λ r. turned {B = List Tie} (λ us. ts ++ us) (if_ok r (λ v. turned (λ us. record { value = v; high = key.high } ∷ us) (ties_of class x s rest)))) h
+
+module _ (class : ℕ) (x : Value) (s : Store) (ts : List Tie) (keys : List RankKey) {key : RankKey} {rest : List RankKey} (next : keys ≡ key ∷ rest) where
+  tie_behind : (t : Tie) (r : OkOr (List Tie) Meant) → turned {B = List Tie} (λ us. ts ++ us) (turned {B = List Tie} (λ us. t ∷ us) r) ≡ turned (λ us. (ts ++ t ∷ []) ++ us) r
+  tie_behind t (Ok us) = ap (λ (us : List Tie). Ok us) (sym (append_assoc ts (t ∷ []) us))
+  tie_behind t (Err u) = refl
+
+  pub frozen_on : (v : Value) → attribute class key.field x s ≡ Ok v → turned {B = List Tie} (λ us. ts ++ us) (ties_of class x s keys) ≡ turned (λ us. (ts ++ record { value = v; high = key.high } ∷ []) ++ us) (ties_of class x s rest)
+  frozen_on v h =
+      ap (λ ks. turned {B = List Tie} (λ us. ts ++ us) (ties_of class x s ks)) next
+      ∙ ap (λ r. turned {B = List Tie} (λ us. ts ++ us) (if_ok r (λ v. turned (λ us. record { value = v; high = key.high } ∷ us) (ties_of class x s rest)))) h
+      ∙ tie_behind (record { value = v; high = key.high }) (ties_of class x s rest)
+
+-- no value is found for the next tie, or memory for it is wanting
+module _ (class : ℕ) (x : Value) (e : Seen) (ts : List Tie) (all keys : List RankKey) {key : RankKey} {rest : List RankKey} (next : keys ≡ key ∷ rest) (before : (s : Store) → ties_of class x (with_seen s e) all ≡ turned (λ us. ts ++ us) (ties_of class x (with_seen s e) keys)) where
+  pub unfrozen : (u : Unmade) → Finds {A = Value} (attribute class key.field x) e (Err u) → Finds {A = List Tie} (λ s. ties_of class x s all) e (Err u)
+  unfrozen (unmade.Fault kind) h = λ s. before s ∙ not_frozen class x (with_seen s e) ts keys (meant (Fault kind)) next (h s)
+  unfrozen unmade.Misfit h = λ s. before s ∙ not_frozen class x (with_seen s e) ts keys (meant Misfit) next (h s)
+  unfrozen unmade.Memory h = tt
 
 -- ## Filing a notice
 

@@ -1,7 +1,8 @@
 -- What scheduling does once the number of the notice is known, and what is said of operations in several steps.
-use Rattle.std.specs.Prelude.{◌≡◌, ℕ, Bool, true, false, List, ℤ, int_lt, Option, Result, Ok, Err}
+use Rattle.std.specs.Prelude.{◌≡◌, ℕ, Bool, true, false, List, [], ◌∷◌, ◌++◌, ℤ, int_lt, Option, Result, Ok, Err}
 use Rattle.ss_base.specs.declared.fault.FaultKind.TheVariants.{PastTime}
 use Rattle.ss_base.specs.declared.value.Value.{Value}
+use Rattle.ss_events.specs.declared.key.Tie.{Tie}
 use Rattle.ss_events.specs.SortKey.{SortKey}
 use Rattle.ss_events.specs.PendingList.{scheduled}
 use Rattle.ss_meaning.specs.Values.{Trouble as Meant, if_ok, turned, due, sure, unless_fault}
@@ -47,6 +48,16 @@ Finds f e (Err unmade.Memory) = Unit {0}
 abbrev pub put_there : {A : Type 0} → A → Result (Unit {0}) Unmade → Result A Unmade
 put_there a (Ok u) = Ok a
 put_there a (Err t) = Err t
+
+-- a tie stands behind others, or memory for it is wanting
+abbrev pub IsTied : Value → (high : Bool) → (old new : List Tie) → Result (Unit {0}) Unmade → Type 0
+IsTied v high old new (Ok u) = new ≡ old ++ record { value = v; high = high } ∷ []
+IsTied v high old new (Err t) = t ≡ unmade.Memory
+
+-- an operation looks, and the value that it finds stands behind other ties
+abbrev pub AddsTie : (Store → Result Value Meant) → (high : Bool) → Seen → (old new : List Tie) → Result (Unit {0}) Unmade → Type 0
+AddsTie f high e old new (Ok u) = (v : Value) × (new ≡ old ++ record { value = v; high = high } ∷ []) × ((s : Store) → f (with_seen s e) ≡ Ok v)
+AddsTie f high e old new (Err t) = Finds {A = Value} f e (Err t)
 
 -- a trouble where memory might have been wanting
 abbrev pub lacking : Trouble → Unmade

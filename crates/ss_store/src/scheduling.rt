@@ -1,12 +1,14 @@
 //! Scheduling: the time of an event, making notices, and filing them among those that are pending.
 
-ghost use Rattle.std.specs.Prelude.{◌≡◌, Some};
+ghost use Rattle.std.specs.Prelude.{◌≡◌, Some, Ok, IfSome};
+ghost use Rattle.ss_base.specs.declared.value.Value.TheVariants.{Whole};
 ghost use Rattle.ss_classes.specs.Ranks.{ranked_at};
+ghost use Rattle.ss_meaning.specs.Entities.{attribute};
 ghost use Rattle.ss_meaning.specs.Events.{time_at, not_past, endowed, prepared, made_notice, ties_of, filed_notice, rescheduled};
 ghost use Rattle.ss_meaning.specs.Places.{assigned_attribute};
 ghost use Rattle.ss_store.specs.AtOnce.{Does};
 ghost use Rattle.ss_store.specs.Seen.{Looks, Notes, Grows};
-ghost use Rattle.ss_store.specs.Scheduled.{Leads, Forms, Goes, Finds, put_there, lacking, moment_of, time_after, key_ranked, key_meant, scheduled_known, scheduled_anew};
+ghost use Rattle.ss_store.specs.Scheduled.{Leads, Forms, Goes, Finds, AddsTie, IsTied, put_there, lacking, moment_of, time_after, key_ranked, key_meant, scheduled_known, scheduled_anew};
 
 use crate::at_once::Number;
 use crate::entities::settled;
@@ -140,6 +142,54 @@ impl Scene {
         }
     }
 
+    // The whole number that an attribute is, where there is no fault.
+    #[inline(always)]
+    fn whole_of(&self, class: usize, field: usize, x: &Value) -> Option<i64>
+        ensures { IfSome result (λ n. Looks (attribute class field x.now) self.now (Ok (Whole n))) }
+    {
+        match x {
+            Value::Whole(number) => {
+                let known = Known { number: *number };
+                self.whole_field(class, field, known)
+            }
+            Value::Text(_) => None,
+        }
+    }
+
+    // The value that an attribute has now, as one more tie.
+    #[inline(always)]
+    fn freeze_one(
+        &self,
+        class: usize,
+        x: &Value,
+        key: RankKey,
+        ties: &mut Vec<Tie>,
+    ) -> Result<(), Unmade>
+        ensures { AddsTie (attribute class key.field x.now) key.high self.now ties.old.items ties.new.items result }
+    {
+        match self.whole_of(class, key.field, x) {
+            Some(number) => put_tie(ties, Value::Whole(number), key.high),
+            None => self.freeze_any(class, x, key, ties),
+        }
+    }
+
+    // The same where it is no whole number, or there is a fault.
+    #[inline(never)]
+    fn freeze_any(
+        &self,
+        class: usize,
+        x: &Value,
+        key: RankKey,
+        ties: &mut Vec<Tie>,
+    ) -> Result<(), Unmade>
+        ensures { AddsTie (attribute class key.field x.now) key.high self.now ties.old.items ties.new.items result }
+    {
+        match self.value_of(class, key.field, *x) {
+            Err(trouble) => Err(lacking(trouble)),
+            Ok(value) => put_tie(ties, value, key.high),
+        }
+    }
+
     // The values that attributes have now, as ties.
     #[inline(always)]
     fn freeze(
@@ -153,19 +203,9 @@ impl Scene {
     {
         ties.clear();
         for key in keys {
-            match self.value_of(class, key.field, *x) {
-                Err(trouble) => return Err(lacking(trouble)),
-                Ok(value) => {
-                    if ties
-                        .push(Tie {
-                            value,
-                            high: key.high,
-                        })
-                        .is_err()
-                    {
-                        return Err(Unmade::Memory);
-                    }
-                }
+            match self.freeze_one(class, x, *key, ties) {
+                Err(unmade) => return Err(unmade),
+                Ok(()) => {}
             }
         }
         Ok(())
@@ -312,5 +352,16 @@ pub(crate) fn lacking(trouble: Trouble) -> Unmade
     match trouble {
         Trouble::Fault(kind) => Unmade::Fault(kind),
         Trouble::Misfit => Unmade::Misfit,
+    }
+}
+
+// A tie comes behind others.
+#[inline(always)]
+fn put_tie(ties: &mut Vec<Tie>, value: Value, high: bool) -> Result<(), Unmade>
+    ensures { IsTied value high ties.old.items ties.new.items result }
+{
+    match ties.push(Tie { value, high }) {
+        Ok(()) => Ok(()),
+        Err(_) => Err(Unmade::Memory),
     }
 }

@@ -1,15 +1,20 @@
-use Rattle.std.proofs.Common.{Err, drop, sym, subst, ◌∙◌}
+use Rattle.std.proofs.Common.{◌+◌, ◌++◌, List, drop, ap, sym, ◌∙◌}
 use Rattle.std.proofs.lemmas.List.{drop_more}
+use Rattle.ss_events.specs.declared.key.Tie.{Tie}
 use Rattle.ss_meaning.specs.Events.{ties_of}
-use Rattle.ss_population.specs.declared.trouble.Unmade.{Unmade}
-use Rattle.ss_population.specs.Told.{meant}
+use Rattle.ss_meaning.specs.Values.{turned}
 use Rattle.ss_store.specs.Seen.{with_seen}
-use Rattle.ss_store.specs.Scheduled.{Finds, put_there}
-use Rattle.ss_store.proofs.Stepping.{finds_not, not_frozen}
+use Rattle.ss_store.proofs.Stepping.{unfrozen, frozen_on}
 use Rattle.ss_store.proofs.scene.Scene.freeze.Goals as goal
 
 pub returns-in-Err : goal.returns-in-Err
 returns-in-Err c =
-    subst (λ (u : Unmade). Finds (λ s. ties_of c.args.class c.args.x.now s c.args.keys.now) c.args.self.now (put_there c.loop-key.ties.items (Err u))) (sym c.lacking.ensures)
-    (finds_not (λ s. ties_of c.args.class c.args.x.now s c.args.keys.now) c.args.self.now c.loop-key.ties.items c.in-Err.trouble
-    (λ s. c.loop-key.invariant s ∙ not_frozen c.args.class c.args.x.now (with_seen s c.args.self.now) c.loop-key.ties.items (drop c.loop-key.key-index c.args.keys.now) (meant c.in-Err.trouble) (drop_more c.args.keys.now c.loop-key.key-index _ c.loop-key-test.true) (c.in-Err.ensures s)))
+    let keys = c.args.keys.now in let at = c.loop-key.key-index in
+    unfrozen c.args.class c.args.x.now c.args.self.now c.loop-key.ties.items keys (drop at keys) (drop_more keys at _ c.loop-key-test.true) (λ s. c.loop-key.invariant s) c.in-Err.unmade c.in-Err.ensures
+
+pub loop-key-preserved : goal.loop-key-preserved
+loop-key-preserved c = λ s.
+    let keys = c.args.keys.now in let at = c.loop-key.key-index in let d = c.in-Ok.ensures in
+    c.loop-key.invariant s
+    ∙ frozen_on c.args.class c.args.x.now (with_seen s c.args.self.now) c.loop-key.ties.items (drop at keys) (drop_more keys at _ c.loop-key-test.true) d.0 (d.2 s)
+    ∙ ap (λ (us : List Tie). turned (λ ts. us ++ ts) (ties_of c.args.class c.args.x.now (with_seen s c.args.self.now) (drop (at + 1) keys))) (sym d.1)
