@@ -4,10 +4,10 @@ ghost use Rattle.std.specs.Ordering.{int_eq};
 ghost use Rattle.std.specs.List.{swap_remove, list_any, IsDistinct};
 ghost use Rattle.ss_events.specs.declared.entry.Entry.{Entry};
 ghost use Rattle.ss_events.specs.HeapEntries.{notices_of};
-ghost use Rattle.ss_events.specs.Slots.{head_of, by_place, no_entry, place_of, IsPaired, AreWithin, AreLed, exchanged};
+ghost use Rattle.ss_events.specs.Slots.{by_place, no_entry, place_of, IsPaired, AreWithin, AreLed, exchanged};
 
+use super::Entry;
 use super::directory::Directory;
-use super::{Entry, Head};
 use std::alloc::{AllocError, Global};
 use std::marker::Model;
 use std::mem;
@@ -20,9 +20,8 @@ use std::mem;
 pub struct Places {
     // By slot: its entry, which has no ties where the slot is free.
     entries: Vec<Entry>,
-    // By place: at what time its entry comes, and what tells that from most others of the time.
+    // By place: at what time its entry comes.
     times: Vec<i64>,
-    heads: Vec<Head>,
     // By place: which slot stands there. The slots that are free stand behind all places.
     slots: Vec<usize>,
     // By slot: where among those it stands.
@@ -39,7 +38,7 @@ impl Model for Places {
 
     ghost view = { λ p. by_place no_entry p.entries.items (take (length p.times.items) p.slots.items) };
 
-    ghost invariant = { λ p. IsPlaced p.entries.items p.slots.items p.places.items p.times.items p.heads.items p.directory };
+    ghost invariant = { λ p. IsPlaced p.entries.items p.slots.items p.places.items p.times.items p.directory };
 }
 
 impl Places {
@@ -49,7 +48,6 @@ impl Places {
         Places {
             entries: Vec::new(alloc),
             times: Vec::new(alloc),
-            heads: Vec::new(alloc),
             slots: Vec::new(alloc),
             places: Vec::new(alloc),
             directory: Directory::new(alloc),
@@ -87,15 +85,6 @@ impl Places {
         self.times[place]
     }
 
-    /// What tells the entry in a place from most others of its time.
-    #[inline(always)]
-    pub(super) fn head(&self, place: usize) -> &Head
-        requires { place < length self.now }
-        ensures { (d : Entry) → result.now ≡ head_of (slice_index_or self.now place d) }
-    {
-        &self.heads[place]
-    }
-
     /// The entry in a place.
     #[inline(always)]
     pub fn get(&self, place: usize) -> &Entry
@@ -116,13 +105,11 @@ impl Places {
             &mut self.entries,
             &mut self.slots,
             &mut self.times,
-            &mut self.heads,
             &mut self.places,
         )?;
         make_cells(&mut self.directory, &self.entries, &self.slots[..next])?;
         let slot = next_slot(&mut self.entries, &mut self.slots, &mut self.places, next);
         self.directory.note(entry.notice, slot)?;
-        self.heads.push_reserved(entry.head());
         self.times.push_reserved(entry.key.time());
         self.entries[slot] = entry;
         Ok(())
@@ -135,7 +122,6 @@ impl Places {
         requires b_within { b < length self.old }
         ensures { self.new ≡ swap self.old a b }
     {
-        self.heads.swap(a, b);
         self.times.swap(a, b);
         exchange(&mut self.slots, &mut self.places, a, b);
     }
@@ -149,7 +135,6 @@ impl Places {
         let last = self.times.len() - 1;
         let slot = self.slots[at];
         exchange(&mut self.slots, &mut self.places, at, last);
-        let _ = self.heads.swap_remove(at);
         let _ = self.times.swap_remove(at);
         let none = Entry::none(*self.entries.allocator());
         let entry = mem::replace(&mut self.entries[slot], none);
@@ -187,24 +172,20 @@ fn make_room(
     entries: &mut Vec<Entry>,
     slots: &mut Vec<usize>,
     times: &mut Vec<i64>,
-    heads: &mut Vec<Head>,
     places: &mut Vec<usize>,
 ) -> Result<(), AllocError>
     ensures entries { entries.new.items ≡ entries.old.items }
     ensures slots { slots.new.items ≡ slots.old.items }
     ensures times { times.new.items ≡ times.old.items }
-    ensures heads { heads.new.items ≡ heads.old.items }
     ensures places { places.new.items ≡ places.old.items }
     ensures entries_room { OnOk result (vec_len entries.new < vec_capacity entries.new) }
     ensures slots_room { OnOk result (vec_len slots.new < vec_capacity slots.new) }
     ensures times_room { OnOk result (vec_len times.new < vec_capacity times.new) }
-    ensures heads_room { OnOk result (vec_len heads.new < vec_capacity heads.new) }
     ensures places_room { OnOk result (vec_len places.new < vec_capacity places.new) }
 {
     entries.reserve(1)?;
     slots.reserve(1)?;
     times.reserve(1)?;
-    heads.reserve(1)?;
     places.reserve(1)
 }
 

@@ -1,8 +1,8 @@
-use Rattle.std.proofs.Common.{rules, to_z, of_z, w64, to_z-of_z, ◌≡◌, ◌≢◌, ℕ, ℤ, ◌+◌, ◌<◌, ◌≤◌, ◌∙◌, cond, ltb, false, [], ◌∷◌, ◌++◌, length, take, get_or, set, int_eq, subst, sym, ap, refl, arith}
+use Rattle.std.proofs.Common.{rules, to_z, of_z, w64, to_z-of_z, ◌≡◌, ◌≢◌, ℕ, ℤ, ◌<◌, ◌≤◌, ◌∙◌, cond, ltb, false, [], ◌∷◌, ◌++◌, length, take, get_or, set, int_eq, subst, sym, ap, refl, arith}
 use Rattle.std.specs.List.{list_any}
 use Rattle.ss_events.specs.declared.entry.Entry.{Entry}
 use Rattle.ss_events.specs.HeapEntries.{notices_of}
-use Rattle.ss_events.specs.Slots.{by_place, no_entry, no_slot, head_of, Leads, AreLed, IsPlaced}
+use Rattle.ss_events.specs.Slots.{by_place, no_entry, no_slot, Leads, AreLed, IsPlaced}
 use Rattle.ss_events.proofs.Standing.{placed-led, placed-more, placed-noted, placed-pushed, seen-pushed, slot_in}
 use Rattle.ss_events.proofs.entry.places.Places.push.Goals as goal
 use Rattle.ss_events.proofs.entry.places.Places.push.Goals.{After-note, After-drop-index_mut}
@@ -12,20 +12,19 @@ standing : (c : After-note) → c.len-next.result ≡ length c.make_room.new.tim
 standing c = c.len-next.ensures ∙ c.self.inside.times.ok.0 ∙ sym (ap length c.in_ok-make_room.ensures.times)
 
 -- once there is room
-roomy : (c : After-note) → IsPlaced c.make_room.new.entries.items c.make_room.new.slots.items c.make_room.new.places.items c.make_room.new.times.items c.make_room.new.heads.items c.self.inside.directory
+roomy : (c : After-note) → IsPlaced c.make_room.new.entries.items c.make_room.new.slots.items c.make_room.new.places.items c.make_room.new.times.items c.self.inside.directory
 roomy c =
     let r = c.in_ok-make_room.ensures in
     let d = c.self.inside.directory in
-    subst (λ l. IsPlaced l c.make_room.new.slots.items c.make_room.new.places.items c.make_room.new.times.items c.make_room.new.heads.items d) (sym r.entries)
-    (subst (λ l. IsPlaced c.self.inside.entries.items l c.make_room.new.places.items c.make_room.new.times.items c.make_room.new.heads.items d) (sym r.slots)
-    (subst (λ l. IsPlaced c.self.inside.entries.items c.self.inside.slots.items l c.make_room.new.times.items c.make_room.new.heads.items d) (sym r.places)
-    (subst (λ l. IsPlaced c.self.inside.entries.items c.self.inside.slots.items c.self.inside.places.items l c.make_room.new.heads.items d) (sym r.times)
-    (subst (λ l. IsPlaced c.self.inside.entries.items c.self.inside.slots.items c.self.inside.places.items c.self.inside.times.items l d) (sym r.heads) c.self.invariant))))
+    subst (λ l. IsPlaced l c.make_room.new.slots.items c.make_room.new.places.items c.make_room.new.times.items d) (sym r.entries)
+    (subst (λ l. IsPlaced c.self.inside.entries.items l c.make_room.new.places.items c.make_room.new.times.items d) (sym r.slots)
+    (subst (λ l. IsPlaced c.self.inside.entries.items c.self.inside.slots.items l c.make_room.new.times.items d) (sym r.places)
+    (subst (λ l. IsPlaced c.self.inside.entries.items c.self.inside.slots.items c.self.inside.places.items l d) (sym r.times) c.self.invariant)))
 
 -- once there are cells
-celled : (c : After-note) → IsPlaced c.make_room.new.entries.items c.make_room.new.slots.items c.make_room.new.places.items c.make_room.new.times.items c.make_room.new.heads.items c.make_cells.new.directory
+celled : (c : After-note) → IsPlaced c.make_room.new.entries.items c.make_room.new.slots.items c.make_room.new.places.items c.make_room.new.times.items c.make_cells.new.directory
 celled c =
-    placed-led c.make_room.new.entries.items c.make_room.new.slots.items c.make_room.new.places.items c.make_room.new.times.items c.make_room.new.heads.items c.self.inside.directory (roomy c) c.make_cells.new.directory
+    placed-led c.make_room.new.entries.items c.make_room.new.slots.items c.make_room.new.places.items c.make_room.new.times.items c.self.inside.directory (roomy c) c.make_cells.new.directory
     (subst (AreLed c.make_cells.new.directory c.make_room.new.entries.items) ((λ i. take (standing c i) (c.deref.ensures.value i))) c.make_cells.ensures)
 
 -- once there is a free slot
@@ -33,11 +32,11 @@ slotted : (c : After-note)
     → (take (length c.make_room.new.times.items) c.next_slot-slot.new.slots.items ≡ take (length c.make_room.new.times.items) c.make_room.new.slots.items)
     × (by_place no_entry c.next_slot-slot.new.entries.items (take (length c.make_room.new.times.items) c.make_room.new.slots.items) ≡ by_place no_entry c.make_room.new.entries.items (take (length c.make_room.new.times.items) c.make_room.new.slots.items))
     × (c.len-next.result < length c.next_slot-slot.new.slots.items)
-    × IsPlaced c.next_slot-slot.new.entries.items c.next_slot-slot.new.slots.items c.next_slot-slot.new.places.items c.make_room.new.times.items c.make_room.new.heads.items c.make_cells.new.directory
+    × IsPlaced c.next_slot-slot.new.entries.items c.next_slot-slot.new.slots.items c.next_slot-slot.new.places.items c.make_room.new.times.items c.make_cells.new.directory
 slotted c =
     let long = c.make_room.new.slots.ok.0 in
     let n = c.len-next.result in
-    placed-more c.make_room.new.entries.items c.make_room.new.slots.items c.make_room.new.places.items c.make_room.new.times.items c.make_room.new.heads.items c.make_cells.new.directory (celled c)
+    placed-more c.make_room.new.entries.items c.make_room.new.slots.items c.make_room.new.places.items c.make_room.new.times.items c.make_cells.new.directory (celled c)
     c.next_slot-slot.new.entries.items c.next_slot-slot.new.slots.items c.next_slot-slot.new.places.items n (standing c)
     (c.next_slot-slot.ensures.entries ∙ ap (λ m. cond (ltb n m) c.make_room.new.entries.items (c.make_room.new.entries.items ++ no_entry ∷ [])) long)
     (c.next_slot-slot.ensures.slots ∙ ap (λ m. cond (ltb n m) c.make_room.new.slots.items (c.make_room.new.slots.items ++ n ∷ [])) long)
@@ -68,7 +67,7 @@ others c m t other apart led = c.note.ensures.others m t (λ is. other (is ∙ i
 pub invariant_of-self-in_err-note : goal.invariant_of-self-in_err-note
 invariant_of-self-in_err-note c =
     let e = (goal.at.invariant_of-self-in_err-note c).After-note in
-    placed-noted c.next_slot-slot.new.entries.items c.next_slot-slot.new.slots.items c.next_slot-slot.new.places.items c.make_room.new.times.items c.make_room.new.heads.items c.make_cells.new.directory (slotted e).3 c.note.new.self c.args.entry.notice (fresh e) (few e) (others e)
+    placed-noted c.next_slot-slot.new.entries.items c.next_slot-slot.new.slots.items c.next_slot-slot.new.places.items c.make_room.new.times.items c.make_cells.new.directory (slotted e).3 c.note.new.self c.args.entry.notice (fresh e) (few e) (others e)
 
 pub returns-in_err-note-clause-err : goal.returns-in_err-note-clause-err
 returns-in_err-note-clause-err c =
@@ -88,29 +87,26 @@ index_mut-requires c =
     omega (
       arith,
       slot e,
-      slot_in c.next_slot-slot.new.entries.items c.next_slot-slot.new.slots.items c.next_slot-slot.new.places.items c.make_room.new.times.items c.make_room.new.heads.items c.make_cells.new.directory (slotted e).3 (length c.make_room.new.times.items) (free e),
+      slot_in c.next_slot-slot.new.entries.items c.next_slot-slot.new.slots.items c.next_slot-slot.new.places.items c.make_room.new.times.items c.make_cells.new.directory (slotted e).3 (length c.make_room.new.times.items) (free e),
       c.next_slot-slot.new.entries.ok.0,
     )
 
-heads : (c : After-drop-index_mut) → c.push_reserved.new.self.items ≡ c.make_room.new.heads.items ++ head_of c.args.entry ∷ []
-heads c = c.push_reserved.ensures.items ∙ ap (λ x. c.make_room.new.heads.items ++ x ∷ []) c.head.ensures
-
-times : (c : After-drop-index_mut) → c.push_reserved-2.new.self.items ≡ c.make_room.new.times.items ++ c.args.entry.key.time ∷ []
+times : (c : After-drop-index_mut) → c.push_reserved.new.self.items ≡ c.make_room.new.times.items ++ c.args.entry.key.time ∷ []
 times c =
     let same : to_z w64 (of_z w64 c.time.result) ≡ c.time.result = to_z-of_z {w = w64} {z = c.time.result} (record { sfits = c.time.type_inv }) in
-    c.push_reserved-2.ensures.items ∙ ap (λ x. c.make_room.new.times.items ++ x ∷ []) (same ∙ c.time.ensures ∙ ap (λ (x : Entry). x.key.time) c.entry.view_is)
+    c.push_reserved.ensures.items ∙ ap (λ x. c.make_room.new.times.items ++ x ∷ []) (same ∙ c.time.ensures ∙ ap (λ (x : Entry). x.key.time) c.entry.view_is)
 
 pub invariant_of-self-2 : goal.invariant_of-self-2
 invariant_of-self-2 c =
     let e = (goal.at.invariant_of-self-2 c).After-note in
-    placed-pushed c.next_slot-slot.new.entries.items c.next_slot-slot.new.slots.items c.next_slot-slot.new.places.items c.make_room.new.times.items c.make_room.new.heads.items c.make_cells.new.directory (slotted e).3
-    c.next_slot-slot.result (free e) (slot e) (set c.next_slot-slot.new.entries.items c.next_slot-slot.result c.args.entry) c.push_reserved-2.new.self.items c.args.entry refl (times c)
-    c.push_reserved.new.self.items c.note.new.self (heads c) (fresh e) (few e)
+    placed-pushed c.next_slot-slot.new.entries.items c.next_slot-slot.new.slots.items c.next_slot-slot.new.places.items c.make_room.new.times.items c.make_cells.new.directory (slotted e).3
+    c.next_slot-slot.result (free e) (slot e) (set c.next_slot-slot.new.entries.items c.next_slot-slot.result c.args.entry) c.push_reserved.new.self.items c.args.entry refl (times c)
+    c.note.new.self (fresh e) (few e)
     (subst (λ m. Leads c.note.new.self m c.next_slot-slot.result) (its_notice e) c.in_ok-note.ensures.noted) (others e)
 
 pub returns-clause-ok : goal.returns-clause-ok
 returns-clause-ok c =
     let e = (goal.at.returns-clause-ok c).After-note in
-    seen-pushed c.next_slot-slot.new.entries.items c.next_slot-slot.new.slots.items c.next_slot-slot.new.places.items c.make_room.new.times.items c.make_room.new.heads.items c.make_cells.new.directory (slotted e).3
-    c.next_slot-slot.result (free e) (slot e) (set c.next_slot-slot.new.entries.items c.next_slot-slot.result c.args.entry) c.push_reserved-2.new.self.items c.args.entry refl (times c)
+    seen-pushed c.next_slot-slot.new.entries.items c.next_slot-slot.new.slots.items c.next_slot-slot.new.places.items c.make_room.new.times.items c.make_cells.new.directory (slotted e).3
+    c.next_slot-slot.result (free e) (slot e) (set c.next_slot-slot.new.entries.items c.next_slot-slot.result c.args.entry) c.push_reserved.new.self.items c.args.entry refl (times c)
     ∙ ap (λ l. l ++ c.args.entry ∷ []) (seen e)
