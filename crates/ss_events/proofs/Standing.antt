@@ -1,5 +1,5 @@
 -- Entries in their places: what each call keeps.
-use Rattle.std.proofs.Common.{◌≡◌, ◌≢◌, ◌⊎◌, ℕ, ◌+◌, ◌<◌, ◌≤◌, ℤ, pos, true, false, cond, ltb, List, [], ◌∷◌, ◌++◌, length, get_or, set, take, swap, position, is_some, Option, Some, None, IfSome, refl, sym, ap, subst, ◌∙◌, ⊎_elim, arith}
+use Rattle.std.proofs.Common.{◌≡◌, ◌≢◌, ℕ, ◌+◌, ◌<◌, ◌≤◌, ℤ, pos, true, false, cond, ltb, List, [], ◌∷◌, ◌++◌, length, get_or, set, take, swap, position, is_some, Option, Some, None, IfSome, refl, sym, ap, subst, ◌∙◌, ⊎_elim, arith}
 use Rattle.std.specs.Ordering.{int_eq}
 use Rattle.std.specs.Cmp.{int_eq_equiv}
 use Rattle.std.specs.List.{list_any, swap_remove, IsDistinct}
@@ -14,10 +14,9 @@ use Rattle.std.proofs.lemmas.Map.Keys.{IsDistinct-IsPermutation, IsDistinct-tail
 use Rattle.indexmap.proofs.ReorderLemmas.{exchange, exchange-within, exchange-twice, get_or-swap, map-swap}
 use Rattle.indexmap.proofs.SetLemmas.{map-swap_remove}
 use Rattle.ss_events.specs.declared.entry.Entry.{Entry}
-use Rattle.ss_events.specs.declared.entry.Head.{Head}
 use Rattle.ss_events.specs.declared.entry.directory.Directory.{Directory}
 use Rattle.ss_events.specs.HeapEntries.{notices_of}
-use Rattle.ss_events.specs.Slots.{by_place, no_entry, no_slot, times_of, head_of, heads_of, first_guess, second_guess, Leads, AreWithin, AreLed, place_of, IsPaired, IsPlaced, exchanged}
+use Rattle.ss_events.specs.Slots.{by_place, no_entry, no_slot, times_of, first_guess, second_guess, Leads, AreWithin, AreLed, place_of, IsPaired, IsPlaced, exchanged}
 use Rattle.ss_events.proofs.Slotted.{length-by_place, longer_pairs, exchange_pairs, exchange-first, swapped_by_place, at_place, removed_by_swap, first_at, first_nowhere, none_passes, each_fails}
 
 -- the notice of the entry in a slot
@@ -100,9 +99,9 @@ led_more d g es zs k k_in distinct within few led noted others j j_in =
 
 -- ---- none
 
-pub placed-none : (es : List Entry) (xs ys : List ℕ) (qs : List ℤ) (ts : List Head) (d : Directory) → es ≡ [] → xs ≡ [] → ys ≡ [] → qs ≡ [] → ts ≡ [] → IsPlaced es xs ys qs ts d
+pub placed-none : (es : List Entry) (xs ys : List ℕ) (qs : List ℤ) (d : Directory) → es ≡ [] → xs ≡ [] → ys ≡ [] → qs ≡ [] → IsPlaced es xs ys qs d
 unfolding IsDistinct
-placed-none es xs ys qs ts d b e f o g =
+placed-none es xs ys qs d b e f o =
     let cut : take (length qs) xs ≡ [] = ap (λ n. take n xs) (ap length o) in
     record {
       long = ap length e ∙ sym (ap length b);
@@ -113,12 +112,11 @@ placed-none es xs ys qs ts d b e f o g =
       };
       within = omega (arith, ap length o);
       timed = o ∙ sym (ap (λ l. times_of (by_place no_entry es l)) cut);
-      told = g ∙ sym (ap (λ l. heads_of (by_place no_entry es l)) cut);
       distinct = subst (λ l. IsDistinct int_eq (notices_of (by_place no_entry es l))) (sym cut) tt;
       led = λ k k_in. absurd (omega (arith, k_in, ap length cut));
     }
 
-module _ (es : List Entry) (xs ys : List ℕ) (qs : List ℤ) (ts : List Head) (d : Directory) (h : IsPlaced es xs ys qs ts d) where
+module _ (es : List Entry) (xs ys : List ℕ) (qs : List ℤ) (d : Directory) (h : IsPlaced es xs ys qs d) where
   -- the slots that stand in the places
   abbrev pub standing : List ℕ
   standing = take (length qs) xs
@@ -135,9 +133,6 @@ module _ (es : List Entry) (xs ys : List ℕ) (qs : List ℤ) (ts : List Head) (
 
   pub slot_at : (k : ℕ) → k < length qs → get_or standing k 0 ≡ get_or xs k 0
   slot_at k lt = get_or-take (length qs) xs k 0 lt
-
-  pub heads_long : length ts ≡ length qs
-  heads_long = ap length h.told ∙ length-map seen head_of ∙ seen_long
 
   pub in_slots : (k : ℕ) → k < length qs → k < length xs
   in_slots k lt = omega (arith, lt, h.within)
@@ -276,13 +271,12 @@ module _ (es : List Entry) (xs ys : List ℕ) (qs : List ℤ) (ts : List Head) (
     pub seen-swapped : by_place no_entry es (take (length rs) us) ≡ swap seen a b
     seen-swapped = ap (by_place no_entry es) swapped_slots ∙ swapped_by_place no_entry es standing a b
 
-    pub placed-swapped : (ws : List Head) → vs ≡ exchanged xs ys a b → ws ≡ swap ts a b → IsPlaced es us vs rs ws d
-    placed-swapped ws f g = record {
+    pub placed-swapped : vs ≡ exchanged xs ys a b → IsPlaced es us vs rs d
+    placed-swapped f = record {
       long = ap length e ∙ length-swap xs a b ∙ h.long;
       paired = subst (λ l. IsPaired l vs) (sym e) (subst (λ l. IsPaired (swap xs a b) l) (sym f) (exchange_pairs xs ys h.paired a b (in_slots a a_in) (in_slots b b_in)));
       within = omega (arith, ap length o, length-swap qs a b, ap length e, length-swap xs a b, h.within);
       timed = o ∙ ap (λ l. swap l a b) h.timed ∙ sym (map-swap (λ (f : Entry). f.key.time) seen a b) ∙ sym (ap times_of seen-swapped);
-      told = g ∙ ap (λ l. swap l a b) h.told ∙ sym (map-swap head_of seen a b) ∙ sym (ap heads_of seen-swapped);
       distinct =
           IsDistinct-IsPermutation int_eq int_eq_equiv.symm (notices_of seen) (notices_of (by_place no_entry es (take (length rs) us)))
           (IsPermutation-swap (notices_of seen) (notices_of (by_place no_entry es (take (length rs) us))) a b
@@ -351,18 +345,15 @@ module _ (es : List Entry) (xs ys : List ℕ) (qs : List ℤ) (ts : List Head) (
         (subst (λ l. IsPermutation seen (e ∷ l)) (sym (seen-removed e)) (IsPermutation-swap_remove seen at e (omega (arith, at_in, seen_long)) is)))
         h.distinct)
 
-    pub placed-removed : (ws : List Head) (g : Directory) → ws ≡ swap_remove ts at (head_of e)
-        → ((m : ℤ) (t : ℕ) → m ≢ e.notice → t ≢ s → Leads d m t → Leads g m t) → IsPlaced fs us vs rs ws g
-    placed-removed ws g w others = record {
+    pub placed-removed : (g : Directory)
+        → ((m : ℤ) (t : ℕ) → m ≢ e.notice → t ≢ s → Leads d m t → Leads g m t) → IsPlaced fs us vs rs g
+    placed-removed g others = record {
       long = ap length c ∙ length-swap xs at n ∙ h.long ∙ sym (length-set es s no_entry) ∙ sym (ap length b);
       paired = subst (λ l. IsPaired l vs) (sym c) (subst (λ l. IsPaired (swap xs at n) l) (sym f) (exchange_pairs xs ys h.paired at n (in_slots at at_in) (in_slots n n_in)));
       within = omega (arith, rs_long, ap length c, length-swap xs at n, h.within, long);
       timed =
           o ∙ ap (λ l. swap_remove l at e.key.time) h.timed
           ∙ sym (map-swap_remove (λ (x : Entry). x.key.time) seen at e some) ∙ sym (ap times_of (seen-removed e));
-      told =
-          w ∙ ap (λ l. swap_remove l at (head_of e)) h.told
-          ∙ sym (map-swap_remove head_of seen at e some) ∙ sym (ap heads_of (seen-removed e));
       distinct = left_distinct;
       led = λ k k_in.
           let lt : k < n = omega (arith, k_in, cut) in
@@ -383,7 +374,7 @@ module _ (es : List Entry) (xs ys : List ℕ) (qs : List ℤ) (ts : List Head) (
   -- one more slot, which is free
   pub placed-more : (fs : List Entry) (us vs : List ℕ) (n : ℕ) → n ≡ length qs
       → fs ≡ cond (ltb n (length xs)) es (es ++ no_entry ∷ []) → us ≡ cond (ltb n (length xs)) xs (xs ++ n ∷ []) → vs ≡ cond (ltb n (length xs)) ys (ys ++ n ∷ [])
-      → (take (length qs) us ≡ standing) × (by_place no_entry fs standing ≡ seen) × (n < length us) × IsPlaced fs us vs qs ts d
+      → (take (length qs) us ≡ standing) × (by_place no_entry fs standing ≡ seen) × (n < length us) × IsPlaced fs us vs qs d
   placed-more fs us vs n is b c f = ⊎_elim
       (λ lt.
       let t = lt-ltb n (length xs) lt in
@@ -393,7 +384,7 @@ module _ (es : List Entry) (xs ys : List ℕ) (qs : List ℤ) (ts : List Head) (
         ap (take (length qs)) c_is,
         ap (λ l. by_place no_entry l standing) b_is,
         subst (λ l. n < length l) (sym c_is) lt,
-        subst (λ l. IsPlaced l us vs qs ts d) (sym b_is) (subst (λ l. IsPlaced es l vs qs ts d) (sym c_is) (subst (λ l. IsPlaced es xs l qs ts d) (sym f_is) h)),
+        subst (λ l. IsPlaced l us vs qs d) (sym b_is) (subst (λ l. IsPlaced es l vs qs d) (sym c_is) (subst (λ l. IsPlaced es xs l qs d) (sym f_is) h)),
       ))
       (λ past.
       let t = le-ltb n (length xs) past in
@@ -407,29 +398,28 @@ module _ (es : List Entry) (xs ys : List ℕ) (qs : List ℤ) (ts : List Head) (
       = (λ k k_in. get_or_append_left es (no_entry ∷ []) no_entry (get_or standing k 0) (are_within k k_in)) in
       let all : by_place no_entry more standing ≡ seen = kept_by_place no_entry es more standing same in
       let both : by_place no_entry more (take (length qs) (xs ++ n ∷ [])) ≡ seen = ap (by_place no_entry more) cut ∙ all in
-      let placed : IsPlaced more (xs ++ n ∷ []) (ys ++ n ∷ []) qs ts d = record {
+      let placed : IsPlaced more (xs ++ n ∷ []) (ys ++ n ∷ []) qs d = record {
         long = length_push xs n ∙ ap (λ m. m + 1) h.long ∙ sym (length_push es no_entry);
         paired = longer_pairs xs ys h.paired n (sym end);
         within = omega (arith, h.within, length_push xs n);
         timed = h.timed ∙ sym (ap times_of both);
-        told = h.told ∙ sym (ap heads_of both);
         distinct = subst (λ l. IsDistinct int_eq (notices_of l)) (sym both) h.distinct;
         led = subst (AreLed d more) (sym cut) (λ k k_in. subst (λ (x : Entry). Leads d x.notice (get_or standing k 0)) (sym (same k k_in)) (h.led k k_in));
       } in (
         ap (take (length qs)) c_is ∙ cut,
         ap (λ l. by_place no_entry l standing) b_is ∙ all,
         omega (arith, end, ap length c_is, length_push xs n),
-        subst (λ l. IsPlaced l us vs qs ts d) (sym b_is) (subst (λ l. IsPlaced more l vs qs ts d) (sym c_is) (subst (λ l. IsPlaced more (xs ++ n ∷ []) l qs ts d) (sym f_is) placed)),
+        subst (λ l. IsPlaced l us vs qs d) (sym b_is) (subst (λ l. IsPlaced more l vs qs d) (sym c_is) (subst (λ l. IsPlaced more (xs ++ n ∷ []) l qs d) (sym f_is) placed)),
       ))
       (cases_lt n (length xs))
 
   -- another directory
-  pub placed-led : (g : Directory) → AreLed g es standing → IsPlaced es xs ys qs ts g
-  placed-led g led = record { long = h.long; paired = h.paired; within = h.within; timed = h.timed; told = h.told; distinct = h.distinct; led = led }
+  pub placed-led : (g : Directory) → AreLed g es standing → IsPlaced es xs ys qs g
+  placed-led g led = record { long = h.long; paired = h.paired; within = h.within; timed = h.timed; distinct = h.distinct; led = led }
 
   -- a directory that was to note another notice
   pub placed-noted : (g : Directory) (n : ℤ) → list_any (int_eq n) (notices_of seen) ≡ false → length es ≤ no_slot
-      → ((m : ℤ) (t : ℕ) → m ≢ n → t ≢ no_slot → Leads d m t → Leads g m t) → IsPlaced es xs ys qs ts g
+      → ((m : ℤ) (t : ℕ) → m ≢ n → t ≢ no_slot → Leads d m t → Leads g m t) → IsPlaced es xs ys qs g
   placed-noted g n fresh few others = placed-led g (λ k k_in.
       let lt : k < length qs = omega (arith, k_in, many) in
       let t = get_or xs k 0 in
@@ -472,14 +462,13 @@ module _ (es : List Entry) (xs ys : List ℕ) (qs : List ℤ) (ts : List Head) (
         ∙ sym (get_or_push seen e w k (seen_long ∙ sym new)))
         (cases_lt k (length qs)))
 
-    pub placed-pushed : (ws : List Head) (g : Directory) → ws ≡ ts ++ head_of e ∷ [] → list_any (int_eq e.notice) (notices_of seen) ≡ false
-        → length es ≤ no_slot → Leads g e.notice s → ((m : ℤ) (t : ℕ) → m ≢ e.notice → t ≢ no_slot → Leads d m t → Leads g m t) → IsPlaced fs xs ys rs ws g
-    placed-pushed ws g w fresh few noted others = record {
+    pub placed-pushed : (g : Directory) → list_any (int_eq e.notice) (notices_of seen) ≡ false
+        → length es ≤ no_slot → Leads g e.notice s → ((m : ℤ) (t : ℕ) → m ≢ e.notice → t ≢ no_slot → Leads d m t → Leads g m t) → IsPlaced fs xs ys rs g
+    placed-pushed g fresh few noted others = record {
       long = h.long ∙ sym (length-set es s e) ∙ sym (ap length b);
       paired = h.paired;
       within = omega (arith, one_more, free);
       timed = o ∙ ap (λ l. l ++ e.key.time ∷ []) h.timed ∙ sym (map_push (λ (x : Entry). x.key.time) seen e) ∙ sym (ap times_of seen-pushed);
-      told = w ∙ ap (λ l. l ++ head_of e ∷ []) h.told ∙ sym (map_push head_of seen e) ∙ sym (ap heads_of seen-pushed);
       distinct = subst (IsDistinct int_eq) (sym (ap notices_of seen-pushed ∙ map_push (λ (x : Entry). x.notice) seen e))
           (IsDistinct-push int_eq_equiv (notices_of seen) e.notice h.distinct fresh);
       led = λ k k_in.

@@ -1,4 +1,4 @@
--- Entries that their heads tell apart.
+-- Entries that are told apart before their ties are compared.
 use Rattle.std.proofs.Common.{◌≡◌, ℕ, ℤ, Bool, true, false, cond, refl, sym, ap, ◌∙◌, List, [], ◌∷◌, arith}
 use Rattle.std.specs.Prelude.{int_lt, nat_lt, ◌==◌}
 use Rattle.std.specs.declared.cmp.Ordering.{Ordering}

@@ -7,7 +7,6 @@ use Rattle.std.specs.Ordering.{int_eq}
 use Rattle.std.specs.List.{IsDistinct}
 use Rattle.ss_events.specs.declared.key.Tie.{Tie}
 use Rattle.ss_events.specs.declared.entry.Entry.{Entry}
-use Rattle.ss_events.specs.declared.entry.Head.{Head}
 use Rattle.ss_events.specs.declared.entry.directory.Directory.{Directory}
 use Rattle.ss_events.specs.HeapEntries.{notices_of}
 
@@ -24,17 +23,9 @@ abbrev pub is_tied : List Tie → Bool
 is_tied [] = false
 is_tied (t ∷ ts) = true
 
--- what tells most entries of one time apart
-abbrev pub head_of : Entry → Head
-head_of e = record { rank = e.key.rank; number = e.number; tied = is_tied e.key.ties }
-
 -- the times of entries, in their order
 abbrev pub times_of : List Entry → List ℤ
 times_of es = map (λ e. e.key.time) es
-
--- what tells each of these entries from most others of its time, in their order
-abbrev pub heads_of : List Entry → List Head
-heads_of es = map head_of es
 
 -- each place of `there` leads to a place from which `back` leads to it
 abbrev pub LeadsBack : List ℕ → List ℕ → Type 0
@@ -83,15 +74,14 @@ place_of entries places standing slot notice =
     else None)
     else None
 
--- `entries` say by slot what stands there, `times` and `heads` by place at what time its entry comes and what tells that from
--- most others of the time, `slots` by place which slot stands there, with the free ones behind, and `places` where each slot is
--- among these. No two entries by place have one notice, and the directory leads to each
-pub record IsPlaced (entries : List Entry) (slots places : List ℕ) (times : List ℤ) (heads : List Head) (directory : Directory) : Type 0 where
+-- `entries` say by slot what stands there, `times` by place at what time its entry comes, `slots` by place which slot stands
+-- there, with the free ones behind, and `places` where each slot is among these. No two entries by place have one notice, and
+-- the directory leads to each
+pub record IsPlaced (entries : List Entry) (slots places : List ℕ) (times : List ℤ) (directory : Directory) : Type 0 where
   pub long : length slots ≡ length entries
   pub paired : IsPaired slots places
   pub within : length times ≤ length slots
   pub timed : times ≡ times_of (by_place no_entry entries (take (length times) slots))
-  pub told : heads ≡ heads_of (by_place no_entry entries (take (length times) slots))
   pub distinct : IsDistinct int_eq (notices_of (by_place no_entry entries (take (length times) slots)))
   pub led : AreLed directory entries (take (length times) slots)
 

@@ -4,7 +4,7 @@
 //! entry is put into a place only by `Heap`, which counts it.
 ghost use Rattle.std.specs.Prelude.{◌≡◌, IfOk, IsTrue, ◌↔◌, int_lt, map};
 ghost use Rattle.ss_events.specs.PendingList.{FitsClass};
-ghost use Rattle.ss_events.specs.Slots.{is_tied, head_of, no_entry};
+ghost use Rattle.ss_events.specs.Slots.{is_tied, no_entry};
 
 mod directory;
 mod heap;
@@ -74,12 +74,14 @@ impl Key {
         self.time
     }
 
+    #[inline(always)]
     fn rank(&self) -> usize
         ensures { result ≡ self.now.rank }
     {
         self.rank
     }
 
+    #[inline(always)]
     fn ties(&self) -> &[Tie]
         ensures { result.now ≡ self.now.ties }
     {
@@ -104,15 +106,8 @@ impl Model for Entry {
     ghost view = { λ e. record { key = e.key; number = e.number; notice = e.notice } };
 }
 
-// What tells most entries of one time apart: the rank, the order of scheduling, and whether there are ties between them.
-#[derive(Clone, Copy)]
-struct Head {
-    rank: usize,
-    number: u64,
-    tied: bool,
-}
-
 // Whether there are ties.
+#[inline(always)]
 fn is_tied(ties: &[Tie]) -> bool
     ensures { result ≡ is_tied ties.now }
 {
@@ -132,17 +127,6 @@ impl Entry {
             key: Key::with_ties(0, 0, Vec::new(alloc)),
             number: 0,
             notice: 0,
-        }
-    }
-
-    // What tells it from most others of its time.
-    fn head(&self) -> Head
-        ensures { result ≡ head_of self.now }
-    {
-        Head {
-            rank: self.key.rank(),
-            number: self.number,
-            tied: is_tied(self.key.ties()),
         }
     }
 

@@ -71,13 +71,26 @@ impl Directory {
     }
 
     /// The slot that the map names, or a number past all slots.
+    #[inline(always)]
     pub fn second_guess(&self, notice: i64) -> usize
+        ensures { result ≡ second_guess self.now notice }
+    {
+        if self.others.is_empty() {
+            return FREE;
+        }
+        self.mapped(notice)
+    }
+
+    // The same of a map that isn't empty.
+    #[inline(never)]
+    fn mapped(&self, notice: i64) -> usize
         ensures { result ≡ second_guess self.now notice }
     {
         self.others.get(&notice).copied().unwrap_or(FREE)
     }
 
     /// Notes in which slot a notice stands that is new here.
+    #[inline(always)]
     pub fn note(&mut self, notice: i64, slot: usize) -> Result<(), AllocError>
         ensures noted { OnOk result (Leads self.new notice slot) }
         ensures others { (n : ℤ) → (s : ℕ) → n ≢ notice → s ≢ no_slot → Leads self.old n s → Leads self.new n s }
@@ -87,6 +100,15 @@ impl Directory {
             self.cells[cell] = slot;
             return Ok(());
         }
+        self.note_in_map(notice, slot)
+    }
+
+    // The same, whatever the notice's cell names.
+    #[inline(never)]
+    fn note_in_map(&mut self, notice: i64, slot: usize) -> Result<(), AllocError>
+        ensures noted { OnOk result (Leads self.new notice slot) }
+        ensures others { (n : ℤ) → (s : ℕ) → n ≢ notice → s ≢ no_slot → Leads self.old n s → Leads self.new n s }
+    {
         self.others.insert(notice, slot)?;
         Ok(())
     }
@@ -101,6 +123,14 @@ impl Directory {
             self.cells[cell] = FREE;
             return;
         }
+        self.forget_in_map(notice);
+    }
+
+    // Forgets what the map names for a notice.
+    #[inline(never)]
+    fn forget_in_map(&mut self, notice: i64)
+        ensures { (n : ℤ) → (s : ℕ) → n ≢ notice → Leads self.old n s → Leads self.new n s }
+    {
         let _ = self.others.swap_remove(&notice);
     }
 }

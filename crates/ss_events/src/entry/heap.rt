@@ -6,7 +6,7 @@ ghost use Rattle.ss_events.specs.declared.entry.Entry.{Entry};
 ghost use Rattle.ss_events.specs.HeapEntries.{notices_of, event_of, Removes};
 ghost use Rattle.ss_events.specs.Order.{comes_before};
 
-use super::order::{comes_before, told_by_heads};
+use super::order::comes_before_at_once;
 use super::places::Places;
 use super::{Entry, Key};
 use std::alloc::{AllocError, Global};
@@ -97,10 +97,7 @@ impl Heap {
         if early != late {
             return early < late;
         }
-        match told_by_heads(self.entries.head(a), self.entries.head(b)) {
-            Some(before) => before,
-            None => comes_before(self.entries.get(a), self.entries.get(b)),
-        }
+        comes_before_at_once(self.entries.get(a), self.entries.get(b))
     }
 
     /// Lets the entries of two places change places. Counts two moves.

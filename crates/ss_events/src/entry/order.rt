@@ -1,11 +1,9 @@
 // How values, ties, keys and entries compare.
-ghost use Rattle.std.specs.Prelude.{◌≡◌, IfSome};
-ghost use Rattle.ss_events.specs.declared.entry.Entry.{Entry as EntrySeen};
+ghost use Rattle.std.specs.Prelude.{◌≡◌};
 ghost use Rattle.ss_events.specs.Order.{tie_order, key_order, entry_order, comes_before};
-ghost use Rattle.ss_events.specs.Slots.{head_of};
 ghost use Rattle.std.specs.Cmp.Lexicographic.{slice_cmp};
 
-use super::{Entry, Head, Key};
+use super::{Entry, Key, is_tied};
 use crate::key::Tie;
 use std::cmp::Ordering;
 
@@ -59,19 +57,20 @@ pub(super) fn comes_before(a: &Entry, b: &Entry) -> bool
         .is_lt()
 }
 
-// Whether an entry comes out before another of the same time, where their heads tell it: only ties between them hide that.
+// The same of two entries of one time. Only ties between them take long to compare.
 #[inline(always)]
-pub(super) fn told_by_heads(early: &Head, late: &Head) -> Option<bool>
-    ensures { IfSome result (λ before. (e f : EntrySeen) → e.key.time ≡ f.key.time → early.now ≡ head_of e → late.now ≡ head_of f → before ≡ comes_before e f) }
+pub(super) fn comes_before_at_once(a: &Entry, b: &Entry) -> bool
+    requires { a.now.key.time ≡ b.now.key.time }
+    ensures { result ≡ comes_before a.now b.now }
 {
-    if early.rank != late.rank {
-        return Some(early.rank < late.rank);
+    if a.key.rank() != b.key.rank() {
+        return a.key.rank() < b.key.rank();
     }
-    if early.tied {
-        return None;
+    if is_tied(a.key.ties()) {
+        return comes_before(a, b);
     }
-    if late.tied {
-        return None;
+    if is_tied(b.key.ties()) {
+        return comes_before(a, b);
     }
-    Some(early.number < late.number)
+    a.number < b.number
 }

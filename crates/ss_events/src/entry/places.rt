@@ -1,13 +1,13 @@
 // Entries in places: none of them moves while it changes places.
-ghost use Rattle.std.specs.Prelude.{false, ◌≡◌, ◌<◌, ◌≤◌, ◌++◌, ◌∷◌, [], length, swap, slice_index, slice_index_or, nat_lt, vec_len, vec_capacity, if◌then◌else◌, IfOk, OnOk, OnErr, position, is_some};
+ghost use Rattle.std.specs.Prelude.{false, ◌≡◌, ◌<◌, ◌≤◌, ◌++◌, ◌∷◌, [], length, swap, slice_index, slice_index_or, nat_lt, vec_len, if◌then◌else◌, IfOk, OnOk, OnErr, position, is_some};
 ghost use Rattle.std.specs.Ordering.{int_eq};
 ghost use Rattle.std.specs.List.{swap_remove, list_any, IsDistinct};
 ghost use Rattle.ss_events.specs.declared.entry.Entry.{Entry};
 ghost use Rattle.ss_events.specs.HeapEntries.{notices_of};
-ghost use Rattle.ss_events.specs.Slots.{head_of, by_place, no_entry, place_of, IsPaired, AreWithin, AreLed, exchanged};
+ghost use Rattle.ss_events.specs.Slots.{by_place, no_entry, place_of, IsPaired, AreWithin, AreLed, exchanged};
 
+use super::Entry;
 use super::directory::Directory;
-use super::{Entry, Head};
 use std::alloc::{AllocError, Global};
 use std::marker::Model;
 use std::mem;
@@ -20,9 +20,8 @@ use std::mem;
 pub struct Places {
     // By slot: its entry, which has no ties where the slot is free.
     entries: Vec<Entry>,
-    // By place: at what time its entry comes, and what tells that from most others of the time.
+    // By place: at what time its entry comes.
     times: Vec<i64>,
-    heads: Vec<Head>,
     // By place: which slot stands there. The slots that are free stand behind all places.
     slots: Vec<usize>,
     // By slot: where among those it stands.
@@ -39,7 +38,7 @@ impl Model for Places {
 
     ghost view = { λ p. by_place no_entry p.entries.items (take (length p.times.items) p.slots.items) };
 
-    ghost invariant = { λ p. IsPlaced p.entries.items p.slots.items p.places.items p.times.items p.heads.items p.directory };
+    ghost invariant = { λ p. IsPlaced p.entries.items p.slots.items p.places.items p.times.items p.directory };
 }
 
 impl Places {
@@ -49,7 +48,6 @@ impl Places {
         Places {
             entries: Vec::new(alloc),
             times: Vec::new(alloc),
-            heads: Vec::new(alloc),
             slots: Vec::new(alloc),
             places: Vec::new(alloc),
             directory: Directory::new(alloc),
@@ -87,15 +85,6 @@ impl Places {
         self.times[place]
     }
 
-    /// What tells the entry in a place from most others of its time.
-    #[inline(always)]
-    pub(super) fn head(&self, place: usize) -> &Head
-        requires { place < length self.now }
-        ensures { (d : Entry) → result.now ≡ head_of (slice_index_or self.now place d) }
-    {
-        &self.heads[place]
-    }
-
     /// The entry in a place.
     #[inline(always)]
     pub fn get(&self, place: usize) -> &Entry
@@ -112,17 +101,10 @@ impl Places {
         ensures err { OnErr result (self.new ≡ self.old) }
     {
         let next = self.times.len();
-        make_room(
-            &mut self.entries,
-            &mut self.slots,
-            &mut self.times,
-            &mut self.heads,
-            &mut self.places,
-        )?;
+        self.times.reserve(1)?;
         make_cells(&mut self.directory, &self.entries, &self.slots[..next])?;
-        let slot = next_slot(&mut self.entries, &mut self.slots, &mut self.places, next);
+        let slot = next_slot(&mut self.entries, &mut self.slots, &mut self.places, next)?;
         self.directory.note(entry.notice, slot)?;
-        self.heads.push_reserved(entry.head());
         self.times.push_reserved(entry.key.time());
         self.entries[slot] = entry;
         Ok(())
@@ -135,7 +117,6 @@ impl Places {
         requires b_within { b < length self.old }
         ensures { self.new ≡ swap self.old a b }
     {
-        self.heads.swap(a, b);
         self.times.swap(a, b);
         exchange(&mut self.slots, &mut self.places, a, b);
     }
@@ -149,7 +130,6 @@ impl Places {
         let last = self.times.len() - 1;
         let slot = self.slots[at];
         exchange(&mut self.slots, &mut self.places, at, last);
-        let _ = self.heads.swap_remove(at);
         let _ = self.times.swap_remove(at);
         let none = Entry::none(*self.entries.allocator());
         let entry = mem::replace(&mut self.entries[slot], none);
@@ -181,33 +161,6 @@ fn place_of(
     }
 }
 
-// Makes room for one more in each of these lists.
-#[inline(always)]
-fn make_room(
-    entries: &mut Vec<Entry>,
-    slots: &mut Vec<usize>,
-    times: &mut Vec<i64>,
-    heads: &mut Vec<Head>,
-    places: &mut Vec<usize>,
-) -> Result<(), AllocError>
-    ensures entries { entries.new.items ≡ entries.old.items }
-    ensures slots { slots.new.items ≡ slots.old.items }
-    ensures times { times.new.items ≡ times.old.items }
-    ensures heads { heads.new.items ≡ heads.old.items }
-    ensures places { places.new.items ≡ places.old.items }
-    ensures entries_room { OnOk result (vec_len entries.new < vec_capacity entries.new) }
-    ensures slots_room { OnOk result (vec_len slots.new < vec_capacity slots.new) }
-    ensures times_room { OnOk result (vec_len times.new < vec_capacity times.new) }
-    ensures heads_room { OnOk result (vec_len heads.new < vec_capacity heads.new) }
-    ensures places_room { OnOk result (vec_len places.new < vec_capacity places.new) }
-{
-    entries.reserve(1)?;
-    slots.reserve(1)?;
-    times.reserve(1)?;
-    heads.reserve(1)?;
-    places.reserve(1)
-}
-
 // The slot behind so many, which are taken: the one that was freed last, or a new one where none is free.
 #[inline(always)]
 fn next_slot(
@@ -215,23 +168,45 @@ fn next_slot(
     slots: &mut Vec<usize>,
     places: &mut Vec<usize>,
     standing: usize,
-) -> usize
-    requires entries_room { vec_len entries.old < vec_capacity entries.old }
-    requires slots_room { vec_len slots.old < vec_capacity slots.old }
-    requires places_room { vec_len places.old < vec_capacity places.old }
+) -> Result<usize, AllocError>
     requires within { standing ≤ vec_len slots.old }
-    ensures slot { result ≡ slice_index slots.new.items standing }
-    ensures entries { entries.new.items ≡ (if nat_lt standing (vec_len slots.old) then entries.old.items else entries.old.items ++ no_entry ∷ []) }
-    ensures slots { slots.new.items ≡ (if nat_lt standing (vec_len slots.old) then slots.old.items else slots.old.items ++ standing ∷ []) }
-    ensures places { places.new.items ≡ (if nat_lt standing (vec_len slots.old) then places.old.items else places.old.items ++ standing ∷ []) }
+    ensures slot { IfOk result (λ slot. slot ≡ slice_index slots.new.items standing) }
+    ensures entries { OnOk result (entries.new.items ≡ (if nat_lt standing (vec_len slots.old) then entries.old.items else entries.old.items ++ no_entry ∷ [])) }
+    ensures slots { OnOk result (slots.new.items ≡ (if nat_lt standing (vec_len slots.old) then slots.old.items else slots.old.items ++ standing ∷ [])) }
+    ensures places { OnOk result (places.new.items ≡ (if nat_lt standing (vec_len slots.old) then places.old.items else places.old.items ++ standing ∷ [])) }
+    ensures err_entries { OnErr result (entries.new.items ≡ entries.old.items) }
+    ensures err_slots { OnErr result (slots.new.items ≡ slots.old.items) }
+    ensures err_places { OnErr result (places.new.items ≡ places.old.items) }
 {
     if standing < slots.len() {
-        return slots[standing];
+        return Ok(slots[standing]);
     }
+    new_slot(entries, slots, places, standing)?;
+    Ok(standing)
+}
+
+// A new slot of this number, behind all others.
+#[inline(never)]
+fn new_slot(
+    entries: &mut Vec<Entry>,
+    slots: &mut Vec<usize>,
+    places: &mut Vec<usize>,
+    number: usize,
+) -> Result<(), AllocError>
+    ensures entries { OnOk result (entries.new.items ≡ entries.old.items ++ no_entry ∷ []) }
+    ensures slots { OnOk result (slots.new.items ≡ slots.old.items ++ number ∷ []) }
+    ensures places { OnOk result (places.new.items ≡ places.old.items ++ number ∷ []) }
+    ensures err_entries { OnErr result (entries.new.items ≡ entries.old.items) }
+    ensures err_slots { OnErr result (slots.new.items ≡ slots.old.items) }
+    ensures err_places { OnErr result (places.new.items ≡ places.old.items) }
+{
+    entries.reserve(1)?;
+    slots.reserve(1)?;
+    places.reserve(1)?;
     entries.push_reserved(Entry::none(*entries.allocator()));
-    slots.push_reserved(standing);
-    places.push_reserved(standing);
-    standing
+    slots.push_reserved(number);
+    places.push_reserved(number);
+    Ok(())
 }
 
 // Makes a directory of more cells, unless there are more than two for each of these slots.
@@ -249,12 +224,26 @@ fn make_cells(
     if slots.len() < directory.cells() / 2 {
         return Ok(());
     }
+    make_twice_the_cells(directory, entries, slots)
+}
+
+// Makes a directory of twice as many cells.
+#[inline(never)]
+fn make_twice_the_cells(
+    directory: &mut Directory,
+    entries: &Vec<Entry>,
+    slots: &[usize],
+) -> Result<(), AllocError>
+    requires within { AreWithin slots.now (vec_len entries.now) }
+    requires distinct { IsDistinct int_eq (notices_of (by_place no_entry entries.now.items slots.now)) }
+    requires led { AreLed directory.old entries.now.items slots.now }
+    ensures { AreLed directory.new entries.now.items slots.now }
+{
     *directory = noted(entries, slots, directory.cells().saturating_mul(2))?;
     Ok(())
 }
 
 // A directory of so many cells that leads to each of these slots.
-#[inline(never)]
 fn noted(entries: &Vec<Entry>, slots: &[usize], cells: usize) -> Result<Directory, AllocError>
     requires within { AreWithin slots.now (vec_len entries.now) }
     requires distinct { IsDistinct int_eq (notices_of (by_place no_entry entries.now.items slots.now)) }

@@ -10,7 +10,7 @@ returns-then-is_some-clause-place c =
     let first : c.place_of-found.result ≡ place_of c.self.inside.entries.items c.self.inside.places.items (length c.self.inside.times.items) (first_guess c.self.inside.directory c.args.notice) c.args.notice = c.place_of-found.ensures
     ∙ (λ i. place_of (c.deref.ensures.value i) (c.deref-2.ensures.value i) ((c.len-standing.ensures ∙ c.self.inside.times.ok.0) i) (c.first_guess-first.ensures i) (to_z-of_z c.ranges.notice i))
     ∙ (λ i. place_of c.self.inside.entries.items c.self.inside.places.items (length c.self.inside.times.items) (first_guess c.self.inside.directory (to_z-of_z c.ranges.notice i)) c.args.notice) in
-    (told_first c.self.inside.entries.items c.self.inside.slots.items c.self.inside.places.items c.self.inside.times.items c.self.inside.heads.items c.self.inside.directory c.self.invariant
+    (told_first c.self.inside.entries.items c.self.inside.slots.items c.self.inside.places.items c.self.inside.times.items c.self.inside.directory c.self.invariant
     c.args.notice c.place_of-found.result first (sym c.is_some.ensures ∙ c.if-is_some.true)).0
     ∙ ap (λ l. position (int_eq c.args.notice) (notices_of l)) c.self.view_is
 
@@ -19,7 +19,7 @@ returns-then-is_some-clause-found c =
     let first : c.place_of-found.result ≡ place_of c.self.inside.entries.items c.self.inside.places.items (length c.self.inside.times.items) (first_guess c.self.inside.directory c.args.notice) c.args.notice = c.place_of-found.ensures
     ∙ (λ i. place_of (c.deref.ensures.value i) (c.deref-2.ensures.value i) ((c.len-standing.ensures ∙ c.self.inside.times.ok.0) i) (c.first_guess-first.ensures i) (to_z-of_z c.ranges.notice i))
     ∙ (λ i. place_of c.self.inside.entries.items c.self.inside.places.items (length c.self.inside.times.items) (first_guess c.self.inside.directory (to_z-of_z c.ranges.notice i)) c.args.notice) in
-    (told_first c.self.inside.entries.items c.self.inside.slots.items c.self.inside.places.items c.self.inside.times.items c.self.inside.heads.items c.self.inside.directory c.self.invariant
+    (told_first c.self.inside.entries.items c.self.inside.slots.items c.self.inside.places.items c.self.inside.times.items c.self.inside.directory c.self.invariant
     c.args.notice c.place_of-found.result first (sym c.is_some.ensures ∙ c.if-is_some.true)).1
     ∙ ap (λ l. list_any (int_eq c.args.notice) (notices_of l)) c.self.view_is
 
@@ -38,12 +38,12 @@ second c =
 
 pub returns-clause-place : goal.returns-clause-place
 returns-clause-place c =
-    (told_second c.self.inside.entries.items c.self.inside.slots.items c.self.inside.places.items c.self.inside.times.items c.self.inside.heads.items c.self.inside.directory c.self.invariant
+    (told_second c.self.inside.entries.items c.self.inside.slots.items c.self.inside.places.items c.self.inside.times.items c.self.inside.directory c.self.invariant
     c.args.notice c.place_of-found.result c.place_of.result (first c) (sym c.is_some.ensures ∙ c.if-is_some.false) (second c)).0
     ∙ ap (λ l. position (int_eq c.args.notice) (notices_of l)) c.self.view_is
 
 pub returns-clause-found : goal.returns-clause-found
 returns-clause-found c =
-    (told_second c.self.inside.entries.items c.self.inside.slots.items c.self.inside.places.items c.self.inside.times.items c.self.inside.heads.items c.self.inside.directory c.self.invariant
+    (told_second c.self.inside.entries.items c.self.inside.slots.items c.self.inside.places.items c.self.inside.times.items c.self.inside.directory c.self.invariant
     c.args.notice c.place_of-found.result c.place_of.result (first c) (sym c.is_some.ensures ∙ c.if-is_some.false) (second c)).1
     ∙ ap (λ l. list_any (int_eq c.args.notice) (notices_of l)) c.self.view_is

@@ -18,7 +18,7 @@ slots c =
 count : (c : After-exchange) → length c.args.self.now ≡ length c.self.inside.times.items
 count c =
     sym (ap length c.self.view_is)
-    ∙ seen_long c.self.inside.entries.items c.self.inside.slots.items c.self.inside.places.items c.self.inside.times.items c.self.inside.heads.items c.self.inside.directory c.self.invariant
+    ∙ seen_long c.self.inside.entries.items c.self.inside.slots.items c.self.inside.places.items c.self.inside.times.items c.self.inside.directory c.self.invariant
 
 a_in : (c : After-exchange) → c.args.a < length c.self.inside.times.items
 a_in c = omega (arith, c.requires.a_within, count c)
@@ -31,20 +31,19 @@ invariant_of-self c =
     let e = (goal.at.invariant_of-self c).After-exchange in
     let xs = c.self.inside.slots.items in
     let ys = c.self.inside.places.items in
-    placed-swapped c.self.inside.entries.items xs ys c.self.inside.times.items c.self.inside.heads.items c.self.inside.directory c.self.invariant c.args.a c.args.b (a_in e) (b_in e)
+    placed-swapped c.self.inside.entries.items xs ys c.self.inside.times.items c.self.inside.directory c.self.invariant c.args.a c.args.b (a_in e) (b_in e)
     (with_items c.self.inside.slots c.exchange.new.slots).items
     (with_items c.self.inside.places c.exchange.new.places).items
-    c.swap-2.new.self.items (slots e) c.swap-2.ensures.items c.swap.new.self.items
+    c.swap.new.self.items (slots e) c.swap.ensures.items
     (written c.self.inside.places c.exchange.new.places (exchanged xs ys c.args.a c.args.b)
     (c.exchange.ensures.places ∙ (λ i. exchanged (c.deref_mut.ensures.value i) (c.deref_mut-2.ensures.value i) c.args.a c.args.b))
     (length-exchanged xs ys c.args.a c.args.b ∙ sym c.self.inside.places.ok.0))
-    c.swap.ensures.items
 
 pub returns : goal.returns
 returns c =
     let e = (goal.at.returns c).After-exchange in
-    seen-swapped c.self.inside.entries.items c.self.inside.slots.items c.self.inside.places.items c.self.inside.times.items c.self.inside.heads.items c.self.inside.directory c.self.invariant c.args.a c.args.b (a_in e) (b_in e)
+    seen-swapped c.self.inside.entries.items c.self.inside.slots.items c.self.inside.places.items c.self.inside.times.items c.self.inside.directory c.self.invariant c.args.a c.args.b (a_in e) (b_in e)
     (with_items c.self.inside.slots c.exchange.new.slots).items
     (with_items c.self.inside.places c.exchange.new.places).items
-    c.swap-2.new.self.items (slots e) c.swap-2.ensures.items
+    c.swap.new.self.items (slots e) c.swap.ensures.items
     ∙ ap (λ l. swap l c.args.a c.args.b) c.self.view_is
