@@ -1,5 +1,5 @@
 // Filing and removing.
-ghost use Rattle.std.specs.Prelude.{◌≡◌, ℕ, ◌+◌, ◌<◌, ◌≤◌, List, ◌∷◌, ◌++◌, length, false, true, Result, MatchResult, IfSome, IsOk, Ok, Err};
+ghost use Rattle.std.specs.Prelude.{◌≡◌, ℕ, ◌+◌, ◌<◌, ◌≤◌, List, ◌∷◌, ◌++◌, length, false, true, ℤ, Result, MatchResult, IfSome, IsOk, Ok, Err};
 ghost use Rattle.ss_states.specs.State.{State, and_then, is_filed, contains, members_of};
 ghost use Rattle.ss_states.specs.Disciplines.{first_removed, last_removed, member_test};
 ghost use Rattle.ss_states.specs.Sets.{joiner, owner, less, with_list_of, put_in, put_beside, taken_out, filed_first, filed_last, filed_before, filed_after, removed};
@@ -209,22 +209,51 @@ impl Records {
         ensures done { MatchResult result (λ _. filed_last (state self.old) s o x ≡ Ok (state self.new)) (λ e. (filed_last (state self.old) s o x ≡ Err e) × (state self.new ≡ state self.old)) }
         ensures touches { (self.new.blocks.touches ≤ 12) × (IsOk result → 4 ≤ self.new.blocks.touches) × (self.new.blocks.total ≡ self.old.blocks.total + self.new.blocks.touches) }
     {
-        match self.pair(s, o, x) {
-            Ok(both) => {
-                let base = self.layout.owner_base(s);
-                let end = Entry {
-                    place: self.system,
-                    number: 0,
-                };
-                if self.is_filed(s, both.x) {
-                    return Err(FaultKind::FiledTwice);
-                }
-                let last = self.blocks.follow(both.owner.place, base + 1);
-                self.link_in(s, both.owner, last, both.x, end);
-                Ok(())
-            }
+        match self.near_pair(s, o, x) {
+            Some(both) => self.put_last(s, both),
+            None => self.file_last_apart(s, o, x),
+        }
+    }
+
+    // The same where it may take a search.
+    #[inline(never)]
+    fn file_last_apart(&mut self, s: usize, o: i64, x: i64) -> Result<(), FaultKind>
+        requires kept { IsKept self.old }
+        requires set { s < length self.old.layout.sets }
+        requires touches { self.old.blocks.touches ≡ 0 }
+        ensures kept { IsKept self.new }
+        ensures done { MatchResult result (λ _. filed_last (state self.old) s o x ≡ Ok (state self.new)) (λ e. (filed_last (state self.old) s o x ≡ Err e) × (state self.new ≡ state self.old)) }
+        ensures touches { (self.new.blocks.touches ≤ 12) × (IsOk result → 4 ≤ self.new.blocks.touches) × (self.new.blocks.total ≡ self.old.blocks.total + self.new.blocks.touches) }
+    {
+        match self.pair_apart(s, o, x) {
+            Ok(both) => self.put_last(s, both),
             Err(fault) => Err(fault),
         }
+    }
+
+    // The same of an owner and a member.
+    #[inline(always)]
+    fn put_last(&mut self, s: usize, both: Pair) -> Result<(), FaultKind>
+        requires kept { IsKept self.old }
+        requires set { s < length self.old.layout.sets }
+        requires owns { Owns self.old s both.owner }
+        requires joins { Joins self.old s both.x }
+        requires touches { self.old.blocks.touches ≡ 0 }
+        ensures kept { IsKept self.new }
+        ensures done { (o x : ℤ) → joiner (state self.old) s x ≡ Ok both.x.number → owner (state self.old) s o ≡ Ok both.owner.number → MatchResult result (λ _. filed_last (state self.old) s o x ≡ Ok (state self.new)) (λ e. (filed_last (state self.old) s o x ≡ Err e) × (state self.new ≡ state self.old)) }
+        ensures touches { (self.new.blocks.touches ≤ 12) × (IsOk result → 4 ≤ self.new.blocks.touches) × (self.new.blocks.total ≡ self.old.blocks.total + self.new.blocks.touches) }
+    {
+        let base = self.layout.owner_base(s);
+        let end = Entry {
+            place: self.system,
+            number: 0,
+        };
+        if self.is_filed(s, both.x) {
+            return Err(FaultKind::FiledTwice);
+        }
+        let last = self.blocks.follow(both.owner.place, base + 1);
+        self.link_in(s, both.owner, last, both.x, end);
+        Ok(())
     }
 
     /// Files x directly before y.
