@@ -65,6 +65,7 @@ impl Kept {
     }
 
     /// Starts the history of an entity.
+    #[inline(never)]
     pub(crate) fn begin(&mut self, entity: i64, now: i64)
         requires now { pos 0 ≤ℤ now }
         requires room { 0 < self.old.room }
@@ -89,6 +90,7 @@ impl Kept {
     }
 
     /// Gives back what is kept of an entity.
+    #[inline(never)]
     pub(crate) fn end(&mut self, entity: i64)
         ensures statistic { self.new.statistic ≡ self.old.statistic }
         ensures column { column_of self.new.rows ≡ ended_in entity (column_of self.old.rows) }
