@@ -282,7 +282,7 @@ impl Heap {
 
     /// The member that follows x in the set of an owner, or in reverse the one that precedes it, 0 where there is none: an
     /// `is_in` and a `next` or `previous` with one look for x. None where x is not in that set, or there is a fault.
-    #[inline(never)]
+    #[inline(always)]
     pub fn onward(&mut self, set: usize, o: i64, x: i64, reverse: bool) -> Option<i64>
         requires set { set < length self.old.state.layout.sets }
         ensures found { IfSome result (λ y. (member_test self.old.state set o x ≡ Ok true) × ((if reverse then previous_in self.old.state set x else next_in self.old.state set x) ≡ Ok y)) }
@@ -317,6 +317,7 @@ impl Heap {
 
     /// Files x as the last member of the set of an owner. Faults: those of x (1 to 5), then those of the owner,
     /// then 6 where x is in some set of this name.
+    #[inline(always)]
     pub fn file_last(&mut self, set: usize, o: i64, x: i64) -> Result<(), FaultKind>
         requires set { set < length self.old.state.layout.sets }
         ensures done { MatchResult result (λ _. filed_last self.old.state set o x ≡ Ok self.new.state) (λ e. (filed_last self.old.state set o x ≡ Err e) × (self.new.state ≡ self.old.state)) }
@@ -361,6 +362,7 @@ impl Heap {
 
     /// Takes the first member out of the set of an owner, and answers it: a `first` and a `remove` with one look for the
     /// owner. Faults: 1 to 5, then 8 where there is none.
+    #[inline(always)]
     pub fn remove_first(&mut self, set: usize, o: i64) -> Result<i64, FaultKind>
         requires set { set < length self.old.state.layout.sets }
         ensures done { MatchResult result (λ x. first_removed self.old.state set o ≡ Ok (x, self.new.state)) (λ e. (first_removed self.old.state set o ≡ Err e) × (self.new.state ≡ self.old.state)) }
