@@ -1,22 +1,24 @@
 -- Entries in their places: what each call keeps.
-use Rattle.std.proofs.Common.{◌≡◌, ◌≢◌, ℕ, ◌+◌, ◌<◌, ◌≤◌, ℤ, pos, true, false, cond, ltb, List, [], ◌∷◌, ◌++◌, length, get_or, set, take, swap, position, is_some, Option, Some, None, IfSome, refl, sym, ap, subst, ◌∙◌, ⊎_elim, arith}
+use Rattle.std.proofs.Common.{suc, map, ◌≡◌, ◌≢◌, ℕ, ◌+◌, ◌<◌, ◌≤◌, ℤ, pos, true, false, cond, ltb, List, [], ◌∷◌, ◌++◌, length, get_or, set, take, swap, position, is_some, Option, Some, None, IfSome, refl, sym, ap, subst, ◌∙◌, ⊎_elim, arith}
 use Rattle.std.specs.Ordering.{int_eq}
 use Rattle.std.specs.Cmp.{int_eq_equiv}
 use Rattle.std.specs.List.{list_any, swap_remove, IsDistinct}
 use Rattle.std.specs.List.Sorted.{IsPermutation}
 use Rattle.std.proofs.lemmas.Bool.{cases_Bool, cases_lt, lt-ltb, le-ltb}
 use Rattle.std.proofs.lemmas.Bool.Decides.{Decides-int_eq}
-use Rattle.std.proofs.lemmas.List.{length-map, length-set, length-take-le, length_push, map_push, get_or-map, get_or-take, get_or-set_same, get_or-set_other, get_or_append_left, get_or_push, same_lists, take-append-le}
+use Rattle.std.proofs.lemmas.List.{map-set, length-map, length-set, length-take-le, length_push, map_push, take-map, get_or-map, get_or-take, get_or-set_same, get_or-set_other, get_or_append_left, get_or_push, same_lists, take-append-le}
 use Rattle.std.proofs.lemmas.List.Edits.{length-swap}
 use Rattle.std.proofs.lemmas.List.Quantifiers.{position-Some}
 use Rattle.std.proofs.lemmas.List.Sorted.{IsPermutation-swap, IsPermutation-swap_remove, IsPermutation-map}
 use Rattle.std.proofs.lemmas.Map.Keys.{IsDistinct-IsPermutation, IsDistinct-tail, IsDistinct-push, apart_from_distinct}
+use Rattle.std.proofs.Math.Seq.{map-set_same, take-suc-set}
 use Rattle.indexmap.proofs.ReorderLemmas.{exchange, exchange-within, exchange-twice, get_or-swap, map-swap}
 use Rattle.indexmap.proofs.SetLemmas.{map-swap_remove}
 use Rattle.ss_events.specs.declared.entry.Entry.{Entry}
 use Rattle.ss_events.specs.declared.entry.directory.Directory.{Directory}
+use Rattle.ss_events.specs.declared.entry.places.Stand.{Stand}
 use Rattle.ss_events.specs.HeapEntries.{notices_of}
-use Rattle.ss_events.specs.Slots.{by_place, no_entry, no_slot, times_of, first_guess, second_guess, Leads, AreWithin, AreLed, place_of, IsPaired, IsPlaced, exchanged}
+use Rattle.ss_events.specs.Slots.{slots_in, times_in, by_place, no_entry, no_slot, times_of, first_guess, second_guess, Leads, AreWithin, AreLed, place_of, IsPaired, IsPlaced, exchanged}
 use Rattle.ss_events.proofs.Slotted.{length-by_place, longer_pairs, exchange_pairs, exchange-first, swapped_by_place, at_place, removed_by_swap, first_at, first_nowhere, none_passes, each_fails}
 
 -- the notice of the entry in a slot
@@ -485,3 +487,78 @@ module _ (es : List Entry) (xs ys : List ℕ) (qs : List ℤ) (d : Directory) (h
           subst (λ u. Leads g (noticed fs u) u) (sym here) (subst (λ (x : Entry). Leads g x.notice s) (sym placed_there) noted))
           (cases_lt k (length qs)));
     }
+
+-- ---- stands
+
+pub times_long : (n : ℕ) (ss : List Stand) → n ≤ length ss → length (times_in n ss) ≡ n
+times_long n ss few = length-take-le n (map (λ (s : Stand). s.time) ss) (omega (arith, few, length-map ss (λ (s : Stand). s.time)))
+
+pub taken_slots : (n : ℕ) (ss : List Stand) → n ≤ length ss → slots_in (take n ss) ≡ take (length (times_in n ss)) (slots_in ss)
+taken_slots n ss few = sym (take-map (λ (s : Stand). s.slot) n ss) ∙ ap (λ m. take m (slots_in ss)) (sym (times_long n ss few))
+
+pub slot_of : (ss : List Stand) (k : ℕ) (z : Stand) → k < length ss → get_or (slots_in ss) k 0 ≡ (get_or ss k z).slot
+slot_of ss k z k_in = get_or-map (λ (s : Stand). s.slot) ss k z 0 k_in
+
+pub time_of : (n : ℕ) (ss : List Stand) (k : ℕ) (z : Stand) → n ≤ length ss → k < n → get_or (times_in n ss) k (pos 0) ≡ (get_or ss k z).time
+time_of n ss k z few lt =
+    get_or-take n (map (λ (s : Stand). s.time) ss) k (pos 0) lt
+    ∙ get_or-map (λ (s : Stand). s.time) ss k z (pos 0) (omega (arith, lt, few))
+
+-- two in each other's place
+pub slots_swapped : (ss : List Stand) (a b : ℕ) → slots_in (swap ss a b) ≡ swap (slots_in ss) a b
+slots_swapped ss a b = map-swap (λ (s : Stand). s.slot) ss a b
+
+pub times_swapped : (n : ℕ) (ss : List Stand) (a b : ℕ) → n ≤ length ss → a < n → b < n → times_in n (swap ss a b) ≡ swap (times_in n ss) a b
+times_swapped n ss a b few a_in b_in =
+    ap (take n) (map-swap (λ (s : Stand). s.time) ss a b)
+    ∙ take-swap n (map (λ (s : Stand). s.time) ss) a b a_in b_in (omega (arith, few, length-map ss (λ (s : Stand). s.time)))
+
+-- one fewer
+pub times_fewer : (n : ℕ) (ss : List Stand) (at : ℕ) (t : ℤ) → n + 1 ≤ length ss → at < n + 1 → times_in n (swap ss at n) ≡ swap_remove (times_in (n + 1) ss) at t
+times_fewer n ss at t few at_in =
+    let ts = map (λ (s : Stand). s.time) ss in
+    let ts_long : length ts ≡ length ss = length-map ss (λ (s : Stand). s.time) in
+    let qs = times_in (n + 1) ss in
+    let long : length qs ≡ n + 1 = times_long (n + 1) ss few in
+    let us = swap ts at n in
+    let us_long : length us ≡ length ss = length-swap ts at n ∙ ts_long in
+    let cut : length (take (n + 1) us) ≡ n + 1 = length-take-le (n + 1) us (omega (arith, us_long, few)) in
+    let shorter : take n us ≡ take n (take (n + 1) us) = same_lists (take n us) (take n (take (n + 1) us))
+    (length-take-le n us (omega (arith, us_long, few)) ∙ sym (length-take-le n (take (n + 1) us) (omega (arith, cut))))
+    (λ k d k_in.
+    let lt : k < n = omega (arith, k_in, length-take-le n us (omega (arith, us_long, few))) in
+    get_or-take n us k d lt ∙ sym (get_or-take (n + 1) us k d (omega (arith, lt))) ∙ sym (get_or-take n (take (n + 1) us) k d lt)) in
+    ap (take n) (map-swap (λ (s : Stand). s.time) ss at n) ∙ shorter
+    ∙ ap (take n) (take-swap (n + 1) ts at n at_in (omega arith) (omega (arith, ts_long, few)))
+    ∙ sym (removed_by_swap qs at n t long (omega (arith, long, at_in)))
+
+-- one more slot, which is free
+pub more_stands : (ss us : List Stand) (n : ℕ) → n ≤ length ss → us ≡ cond (ltb n (length ss)) ss (ss ++ record { time = pos 0; slot = n } ∷ [])
+    → (slots_in us ≡ cond (ltb n (length (slots_in ss))) (slots_in ss) (slots_in ss ++ n ∷ [])) × (times_in n us ≡ times_in n ss)
+more_stands ss us n few is =
+    let long : length (slots_in ss) ≡ length ss = length-map ss (λ (s : Stand). s.slot) in
+    let one : Stand = record { time = pos 0; slot = n } in
+    ⊎_elim
+    (λ lt.
+    let same : us ≡ ss = is ∙ ap (λ z. cond z ss (ss ++ one ∷ [])) (lt-ltb n (length ss) lt) in
+    (ap slots_in same ∙ sym (ap (λ z. cond z (slots_in ss) (slots_in ss ++ n ∷ [])) (lt-ltb n (length (slots_in ss)) (omega (arith, lt, long)))), ap (times_in n) same))
+    (λ past.
+    let more : us ≡ ss ++ one ∷ [] = is ∙ ap (λ z. cond z ss (ss ++ one ∷ [])) (le-ltb n (length ss) past) in
+    (
+      ap slots_in more ∙ map_push (λ (s : Stand). s.slot) ss one
+          ∙ sym (ap (λ z. cond z (slots_in ss) (slots_in ss ++ n ∷ [])) (le-ltb n (length (slots_in ss)) (omega (arith, past, long)))),
+      ap (times_in n) more ∙ ap (take n) (map_push (λ (s : Stand). s.time) ss one)
+          ∙ take-append-le n (map (λ (s : Stand). s.time) ss) (pos 0 ∷ []) (omega (arith, few, length-map ss (λ (s : Stand). s.time))),
+    ))
+    (cases_lt n (length ss))
+
+-- one more that stands in a free slot
+pub slots_kept : (ss : List Stand) (n : ℕ) (y : Stand) → y.slot ≡ get_or (slots_in ss) n 0 → n < length ss → slots_in (set ss n y) ≡ slots_in ss
+slots_kept ss n y is n_in = map-set_same (λ (s : Stand). s.slot) ss n y y (is ∙ slot_of ss n y n_in)
+
+pub times_more : (ss : List Stand) (n : ℕ) (y : Stand) → n < length ss → times_in (n + 1) (set ss n y) ≡ times_in n ss ++ y.time ∷ []
+times_more ss n y n_in =
+    let one : n + 1 ≡ suc n = omega arith in
+    ap (take (n + 1)) (map-set (λ (s : Stand). s.time) ss n y)
+    ∙ ap (λ m. take m (set (map (λ (s : Stand). s.time) ss) n y.time)) one
+    ∙ take-suc-set (map (λ (s : Stand). s.time) ss) n y.time (omega (arith, n_in, length-map ss (λ (s : Stand). s.time)))

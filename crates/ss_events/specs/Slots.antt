@@ -8,6 +8,7 @@ use Rattle.std.specs.List.{IsDistinct}
 use Rattle.ss_events.specs.declared.key.Tie.{Tie}
 use Rattle.ss_events.specs.declared.entry.Entry.{Entry}
 use Rattle.ss_events.specs.declared.entry.directory.Directory.{Directory}
+use Rattle.ss_events.specs.declared.entry.places.Stand.{Stand}
 use Rattle.ss_events.specs.HeapEntries.{notices_of}
 
 -- what stands in each place, where `slots` says by place in which slot it stands; `d` is read of no slot that is there
@@ -26,6 +27,14 @@ is_tied (t ∷ ts) = true
 -- the times of entries, in their order
 abbrev pub times_of : List Entry → List ℤ
 times_of es = map (λ e. e.key.time) es
+
+-- the slots in places, in their order
+abbrev pub slots_in : List Stand → List ℕ
+slots_in stands = map (λ s. s.slot) stands
+
+-- the times of what stands in the first few places
+abbrev pub times_in : ℕ → List Stand → List ℤ
+times_in count stands = take count (map (λ s. s.time) stands)
 
 -- each place of `there` leads to a place from which `back` leads to it
 abbrev pub LeadsBack : List ℕ → List ℕ → Type 0
@@ -84,6 +93,15 @@ pub record IsPlaced (entries : List Entry) (slots places : List ℕ) (times : Li
   pub timed : times ≡ times_of (by_place no_entry entries (take (length times) slots))
   pub distinct : IsDistinct int_eq (notices_of (by_place no_entry entries (take (length times) slots)))
   pub led : AreLed directory entries (take (length times) slots)
+
+-- the same of so many places
+pub record AreStanding (count : ℕ) (entries : List Entry) (stands : List Stand) (places : List ℕ) (directory : Directory) : Type 0 where
+  pub few : count ≤ length stands
+  pub placed : IsPlaced entries (slots_in stands) places (times_in count stands) directory
+
+-- what stands in the first few places
+abbrev pub standing : ℕ → List Entry → List Stand → List Entry
+standing count entries stands = by_place no_entry entries (take (length (times_in count stands)) (slots_in stands))
 
 -- the places by slot, once the slots in the places a and b have changed places
 abbrev pub exchanged : List ℕ → List ℕ → ℕ → ℕ → List ℕ

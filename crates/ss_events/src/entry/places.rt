@@ -1,16 +1,23 @@
 // Entries in places: none of them moves while it changes places.
-ghost use Rattle.std.specs.Prelude.{false, ◌≡◌, ◌<◌, ◌≤◌, ◌++◌, ◌∷◌, [], length, swap, slice_index, slice_index_or, nat_lt, vec_len, if◌then◌else◌, IfOk, OnOk, OnErr, position, is_some};
+ghost use Rattle.std.specs.Prelude.{false, pos, ◌≡◌, ◌<◌, ◌≤◌, ◌++◌, ◌∷◌, [], length, swap, slice_index, slice_index_or, nat_lt, vec_len, if◌then◌else◌, IfOk, OnOk, OnErr, position, is_some};
 ghost use Rattle.std.specs.Ordering.{int_eq};
 ghost use Rattle.std.specs.List.{swap_remove, list_any, IsDistinct};
 ghost use Rattle.ss_events.specs.declared.entry.Entry.{Entry};
 ghost use Rattle.ss_events.specs.HeapEntries.{notices_of};
-ghost use Rattle.ss_events.specs.Slots.{by_place, no_entry, place_of, IsPaired, AreWithin, AreLed, exchanged};
+ghost use Rattle.ss_events.specs.Slots.{slots_in, by_place, no_entry, place_of, IsPaired, AreWithin, AreLed, exchanged};
 
 use super::Entry;
 use super::directory::Directory;
 use std::alloc::{AllocError, Global};
 use std::marker::Model;
 use std::mem;
+
+// What stands in a place: a slot, and at what time its entry comes.
+#[derive(Clone, Copy)]
+struct Stand {
+    time: i64,
+    slot: usize,
+}
 
 /// Entries in places from 0 on, with the place of each notice. A contract sees the list of the entries by place.
 ///
@@ -20,25 +27,25 @@ use std::mem;
 pub struct Places {
     // By slot: its entry, which has no ties where the slot is free.
     entries: Vec<Entry>,
-    // By place: at what time its entry comes.
-    times: Vec<i64>,
-    // By place: which slot stands there. The slots that are free stand behind all places.
-    slots: Vec<usize>,
+    // By place: what stands there. The slots that are free stand behind all places.
+    stands: Vec<Stand>,
+    // How many places there are.
+    count: usize,
     // By slot: where among those it stands.
     places: Vec<usize>,
     directory: Directory,
 }
 
 impl Model for Places {
-    ghost use Rattle.std.specs.Prelude.{List, length, take};
+    ghost use Rattle.std.specs.Prelude.{List};
     ghost use Rattle.ss_events.specs.declared.entry.Entry.{Entry};
-    ghost use Rattle.ss_events.specs.Slots.{by_place, no_entry, IsPlaced};
+    ghost use Rattle.ss_events.specs.Slots.{standing, AreStanding};
 
     ghost Value = { List Entry };
 
-    ghost view = { λ p. by_place no_entry p.entries.items (take (length p.times.items) p.slots.items) };
+    ghost view = { λ p. standing p.count p.entries.items p.stands.items };
 
-    ghost invariant = { λ p. IsPlaced p.entries.items p.slots.items p.places.items p.times.items p.directory };
+    ghost invariant = { λ p. AreStanding p.count p.entries.items p.stands.items p.places.items p.directory };
 }
 
 impl Places {
@@ -47,8 +54,8 @@ impl Places {
     {
         Places {
             entries: Vec::new(alloc),
-            times: Vec::new(alloc),
-            slots: Vec::new(alloc),
+            stands: Vec::new(alloc),
+            count: 0,
             places: Vec::new(alloc),
             directory: Directory::new(alloc),
         }
@@ -58,7 +65,7 @@ impl Places {
     pub fn len(&self) -> usize
         ensures { result ≡ length self.now }
     {
-        self.times.len()
+        self.count
     }
 
     /// The place of the entry of a notice.
@@ -67,13 +74,12 @@ impl Places {
         ensures found { is_some result ≡ list_any (int_eq notice) (notices_of self.now) }
     {
         let first = self.directory.first_guess(notice);
-        let standing = self.times.len();
-        let found = place_of(&self.entries, &self.places, standing, first, notice);
+        let found = place_of(&self.entries, &self.places, self.count, first, notice);
         if found.is_some() {
             return found;
         }
         let second = self.directory.second_guess(notice);
-        place_of(&self.entries, &self.places, standing, second, notice)
+        place_of(&self.entries, &self.places, self.count, second, notice)
     }
 
     /// The time of the entry in a place.
@@ -82,7 +88,7 @@ impl Places {
         requires { place < length self.now }
         ensures { (d : Entry) → result ≡ (slice_index_or self.now place d).key.time }
     {
-        self.times[place]
+        self.stands[place].time
     }
 
     /// The entry in a place.
@@ -91,7 +97,7 @@ impl Places {
         requires { place < length self.now }
         ensures { (d : Entry) → result.now ≡ slice_index_or self.now place d }
     {
-        &self.entries[self.slots[place]]
+        &self.entries[self.stands[place].slot]
     }
 
     /// Puts an entry of a new notice into the next place.
@@ -100,12 +106,13 @@ impl Places {
         ensures ok { OnOk result (self.new ≡ self.old ++ entry ∷ []) }
         ensures err { OnErr result (self.new ≡ self.old) }
     {
-        let next = self.times.len();
-        self.times.reserve(1)?;
-        make_cells(&mut self.directory, &self.entries, &self.slots[..next])?;
-        let slot = next_slot(&mut self.entries, &mut self.slots, &mut self.places, next)?;
+        let next = self.count;
+        make_cells(&mut self.directory, &self.entries, &self.stands[..next])?;
+        let slot = next_slot(&mut self.entries, &mut self.stands, &mut self.places, next)?;
         self.directory.note(entry.notice, slot)?;
-        self.times.push_reserved(entry.key.time());
+        let time = entry.key.time();
+        self.stands[next] = Stand { time, slot };
+        self.count = next + 1;
         self.entries[slot] = entry;
         Ok(())
     }
@@ -117,8 +124,7 @@ impl Places {
         requires b_within { b < length self.old }
         ensures { self.new ≡ swap self.old a b }
     {
-        self.times.swap(a, b);
-        exchange(&mut self.slots, &mut self.places, a, b);
+        exchange(&mut self.stands, &mut self.places, a, b);
     }
 
     /// Takes the entry out of a place, into which the last one moves.
@@ -127,10 +133,10 @@ impl Places {
         ensures there { result ≡ slice_index_or self.old at result }
         ensures rest { self.new ≡ swap_remove self.old at result }
     {
-        let last = self.times.len() - 1;
-        let slot = self.slots[at];
-        exchange(&mut self.slots, &mut self.places, at, last);
-        let _ = self.times.swap_remove(at);
+        let last = self.count - 1;
+        let slot = self.stands[at].slot;
+        exchange(&mut self.stands, &mut self.places, at, last);
+        self.count = last;
         let none = Entry::none(*self.entries.allocator());
         let entry = mem::replace(&mut self.entries[slot], none);
         self.directory.forget(entry.notice, slot);
@@ -165,23 +171,23 @@ fn place_of(
 #[inline(always)]
 fn next_slot(
     entries: &mut Vec<Entry>,
-    slots: &mut Vec<usize>,
+    stands: &mut Vec<Stand>,
     places: &mut Vec<usize>,
     standing: usize,
 ) -> Result<usize, AllocError>
-    requires within { standing ≤ vec_len slots.old }
-    ensures slot { IfOk result (λ slot. slot ≡ slice_index slots.new.items standing) }
-    ensures entries { OnOk result (entries.new.items ≡ (if nat_lt standing (vec_len slots.old) then entries.old.items else entries.old.items ++ no_entry ∷ [])) }
-    ensures slots { OnOk result (slots.new.items ≡ (if nat_lt standing (vec_len slots.old) then slots.old.items else slots.old.items ++ standing ∷ [])) }
-    ensures places { OnOk result (places.new.items ≡ (if nat_lt standing (vec_len slots.old) then places.old.items else places.old.items ++ standing ∷ [])) }
+    requires within { standing ≤ vec_len stands.old }
+    ensures slot { IfOk result (λ slot. slot ≡ slice_index (slots_in stands.new.items) standing) }
+    ensures entries { OnOk result (entries.new.items ≡ (if nat_lt standing (vec_len stands.old) then entries.old.items else entries.old.items ++ no_entry ∷ [])) }
+    ensures stands { OnOk result (stands.new.items ≡ (if nat_lt standing (vec_len stands.old) then stands.old.items else stands.old.items ++ record { time = pos 0; slot = standing } ∷ [])) }
+    ensures places { OnOk result (places.new.items ≡ (if nat_lt standing (vec_len stands.old) then places.old.items else places.old.items ++ standing ∷ [])) }
     ensures err_entries { OnErr result (entries.new.items ≡ entries.old.items) }
-    ensures err_slots { OnErr result (slots.new.items ≡ slots.old.items) }
+    ensures err_stands { OnErr result (stands.new.items ≡ stands.old.items) }
     ensures err_places { OnErr result (places.new.items ≡ places.old.items) }
 {
-    if standing < slots.len() {
-        return Ok(slots[standing]);
+    if standing < stands.len() {
+        return Ok(stands[standing].slot);
     }
-    new_slot(entries, slots, places, standing)?;
+    new_slot(entries, stands, places, standing)?;
     Ok(standing)
 }
 
@@ -189,22 +195,25 @@ fn next_slot(
 #[inline(never)]
 fn new_slot(
     entries: &mut Vec<Entry>,
-    slots: &mut Vec<usize>,
+    stands: &mut Vec<Stand>,
     places: &mut Vec<usize>,
     number: usize,
 ) -> Result<(), AllocError>
     ensures entries { OnOk result (entries.new.items ≡ entries.old.items ++ no_entry ∷ []) }
-    ensures slots { OnOk result (slots.new.items ≡ slots.old.items ++ number ∷ []) }
+    ensures stands { OnOk result (stands.new.items ≡ stands.old.items ++ record { time = pos 0; slot = number } ∷ []) }
     ensures places { OnOk result (places.new.items ≡ places.old.items ++ number ∷ []) }
     ensures err_entries { OnErr result (entries.new.items ≡ entries.old.items) }
-    ensures err_slots { OnErr result (slots.new.items ≡ slots.old.items) }
+    ensures err_stands { OnErr result (stands.new.items ≡ stands.old.items) }
     ensures err_places { OnErr result (places.new.items ≡ places.old.items) }
 {
     entries.reserve(1)?;
-    slots.reserve(1)?;
+    stands.reserve(1)?;
     places.reserve(1)?;
     entries.push_reserved(Entry::none(*entries.allocator()));
-    slots.push_reserved(number);
+    stands.push_reserved(Stand {
+        time: 0,
+        slot: number,
+    });
     places.push_reserved(number);
     Ok(())
 }
@@ -214,17 +223,17 @@ fn new_slot(
 fn make_cells(
     directory: &mut Directory,
     entries: &Vec<Entry>,
-    slots: &[usize],
+    stands: &[Stand],
 ) -> Result<(), AllocError>
-    requires within { AreWithin slots.now (vec_len entries.now) }
-    requires distinct { IsDistinct int_eq (notices_of (by_place no_entry entries.now.items slots.now)) }
-    requires led { AreLed directory.old entries.now.items slots.now }
-    ensures { AreLed directory.new entries.now.items slots.now }
+    requires within { AreWithin (slots_in stands.now) (vec_len entries.now) }
+    requires distinct { IsDistinct int_eq (notices_of (by_place no_entry entries.now.items (slots_in stands.now))) }
+    requires led { AreLed directory.old entries.now.items (slots_in stands.now) }
+    ensures { AreLed directory.new entries.now.items (slots_in stands.now) }
 {
-    if slots.len() < directory.cells() / 2 {
+    if stands.len() < directory.cells() / 2 {
         return Ok(());
     }
-    make_twice_the_cells(directory, entries, slots)
+    make_twice_the_cells(directory, entries, stands)
 }
 
 // Makes a directory of twice as many cells.
@@ -232,26 +241,26 @@ fn make_cells(
 fn make_twice_the_cells(
     directory: &mut Directory,
     entries: &Vec<Entry>,
-    slots: &[usize],
+    stands: &[Stand],
 ) -> Result<(), AllocError>
-    requires within { AreWithin slots.now (vec_len entries.now) }
-    requires distinct { IsDistinct int_eq (notices_of (by_place no_entry entries.now.items slots.now)) }
-    requires led { AreLed directory.old entries.now.items slots.now }
-    ensures { AreLed directory.new entries.now.items slots.now }
+    requires within { AreWithin (slots_in stands.now) (vec_len entries.now) }
+    requires distinct { IsDistinct int_eq (notices_of (by_place no_entry entries.now.items (slots_in stands.now))) }
+    requires led { AreLed directory.old entries.now.items (slots_in stands.now) }
+    ensures { AreLed directory.new entries.now.items (slots_in stands.now) }
 {
-    *directory = noted(entries, slots, directory.cells().saturating_mul(2))?;
+    *directory = noted(entries, stands, directory.cells().saturating_mul(2))?;
     Ok(())
 }
 
 // A directory of so many cells that leads to each of these slots.
-fn noted(entries: &Vec<Entry>, slots: &[usize], cells: usize) -> Result<Directory, AllocError>
-    requires within { AreWithin slots.now (vec_len entries.now) }
-    requires distinct { IsDistinct int_eq (notices_of (by_place no_entry entries.now.items slots.now)) }
-    ensures { IfOk result (λ d. AreLed d entries.now.items slots.now) }
+fn noted(entries: &Vec<Entry>, stands: &[Stand], cells: usize) -> Result<Directory, AllocError>
+    requires within { AreWithin (slots_in stands.now) (vec_len entries.now) }
+    requires distinct { IsDistinct int_eq (notices_of (by_place no_entry entries.now.items (slots_in stands.now))) }
+    ensures { IfOk result (λ d. AreLed d entries.now.items (slots_in stands.now)) }
 {
     let mut directory = Directory::of_cells(*entries.allocator(), cells)?;
-    for k in 0..slots.len() {
-        let slot = slots[k];
+    for k in 0..stands.len() {
+        let slot = stands[k].slot;
         let entry = &entries[slot];
         directory.note(entry.notice, slot)?;
     }
@@ -260,17 +269,17 @@ fn noted(entries: &Vec<Entry>, slots: &[usize], cells: usize) -> Result<Director
 
 // Lets the slots in two places change places, and tells each of the two its new place.
 #[inline(always)]
-fn exchange(slots: &mut [usize], places: &mut [usize], a: usize, b: usize)
-    requires a_within { a < length slots.old }
-    requires b_within { b < length slots.old }
-    requires paired { IsPaired slots.old places.old }
-    ensures slots { slots.new ≡ swap slots.old a b }
-    ensures places { places.new ≡ exchanged slots.old places.old a b }
+fn exchange(stands: &mut [Stand], places: &mut [usize], a: usize, b: usize)
+    requires a_within { a < length stands.old }
+    requires b_within { b < length stands.old }
+    requires paired { IsPaired (slots_in stands.old) places.old }
+    ensures stands { stands.new ≡ swap stands.old a b }
+    ensures places { places.new ≡ exchanged (slots_in stands.old) places.old a b }
 {
-    let first = slots[a];
-    let second = slots[b];
-    slots[a] = second;
-    slots[b] = first;
-    places[second] = a;
-    places[first] = b;
+    let first = stands[a];
+    let second = stands[b];
+    stands[a] = second;
+    stands[b] = first;
+    places[second.slot] = a;
+    places[first.slot] = b;
 }
