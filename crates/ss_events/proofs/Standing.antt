@@ -543,8 +543,7 @@ more_stands ss us n few is =
     let same : us ≡ ss = is ∙ ap (λ z. cond z ss (ss ++ one ∷ [])) (lt-ltb n (length ss) lt) in
     (ap slots_in same ∙ sym (ap (λ z. cond z (slots_in ss) (slots_in ss ++ n ∷ [])) (lt-ltb n (length (slots_in ss)) (omega (arith, lt, long)))), ap (times_in n) same))
     (λ past.
-    let more : us ≡ ss ++ one ∷ [] = is ∙ ap (λ z. cond z ss (ss ++ one ∷ [])) (le-ltb n (length ss) past) in
-    (
+    let more : us ≡ ss ++ one ∷ [] = is ∙ ap (λ z. cond z ss (ss ++ one ∷ [])) (le-ltb n (length ss) past) in (
       ap slots_in more ∙ map_push (λ (s : Stand). s.slot) ss one
           ∙ sym (ap (λ z. cond z (slots_in ss) (slots_in ss ++ n ∷ [])) (le-ltb n (length (slots_in ss)) (omega (arith, past, long)))),
       ap (times_in n) more ∙ ap (take n) (map_push (λ (s : Stand). s.time) ss one)

@@ -1,4 +1,5 @@
 pub mod Values
+mod First
 pub mod Tables
 pub mod Places
 pub mod Columns

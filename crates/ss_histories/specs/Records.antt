@@ -34,6 +34,11 @@ Rows = List (ℤ × History)
 abbrev pub column_of : Rows → Column
 column_of rows x = lookup (int_eq x) rows
 
+-- the entity is the first of those that have a history
+abbrev pub IsFirst : (entity : ℤ) → Rows → Type 0
+IsFirst x [] = ⊥
+IsFirst x (row ∷ rows) = row.0 ≡ x
+
 abbrev pub columns_of : List Rows → List Column
 columns_of rows = map column_of rows
 

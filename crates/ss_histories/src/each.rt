@@ -196,6 +196,7 @@ pub(crate) fn note_all(
     }
 }
 
+#[inline(always)]
 fn same_owner(a: Owner, b: Owner) -> bool
     ensures { result ≡ same_owner a b }
 {
@@ -208,6 +209,7 @@ fn same_owner(a: Owner, b: Owner) -> bool
 }
 
 // Whose the subject of a statistic is.
+#[inline(always)]
 fn home(layout: &Layout, subject: Subject) -> Owner
     ensures { result ≡ home layout.now subject }
 {
@@ -223,6 +225,7 @@ fn home(layout: &Layout, subject: Subject) -> Owner
     }
 }
 
+#[inline(always)]
 fn is_home(layout: &Layout, whose: Owner, statistic: Statistic) -> bool
     ensures { result ≡ is_home layout.now whose statistic }
 {
@@ -258,6 +261,7 @@ fn reserve_one(kept: &mut Kept, layout: &Layout, whose: Owner, count: i64) -> Re
 }
 
 /// Starts the history of an entity in each statistic that is kept of what an owner has.
+#[inline(always)]
 pub(crate) fn begin_each(kept: &mut [Kept], layout: &Layout, whose: Owner, entity: i64, now: i64)
     requires now { pos 0 ≤ℤ now }
     requires room { All (HasRoom layout.now whose (pos 1)) kept.old }
@@ -271,6 +275,7 @@ pub(crate) fn begin_each(kept: &mut [Kept], layout: &Layout, whose: Owner, entit
 }
 
 // The same in one statistic.
+#[inline(always)]
 fn begin_one(kept: &mut Kept, layout: &Layout, whose: Owner, entity: i64, now: i64)
     requires now { pos 0 ≤ℤ now }
     requires room { HasRoom layout.now whose (pos 1) kept.old }
@@ -310,6 +315,7 @@ fn begin_all_one(kept: &mut Kept, layout: &Layout, whose: Owner, count: i64, now
 }
 
 /// Gives back what is kept of an entity in each statistic that is kept of what its class has.
+#[inline(always)]
 pub(crate) fn end_each(kept: &mut [Kept], layout: &Layout, whose: Owner, entity: i64, latest: i64)
     requires until { All (KeptUntil latest) kept.old }
     ensures shown { map shown kept.new ≡ map (ended_shown layout.now whose entity) (map shown kept.old) }
@@ -321,6 +327,7 @@ pub(crate) fn end_each(kept: &mut [Kept], layout: &Layout, whose: Owner, entity:
 }
 
 // The same in one statistic.
+#[inline(always)]
 fn end_one(kept: &mut Kept, layout: &Layout, whose: Owner, entity: i64, latest: i64)
     requires until { KeptUntil latest kept.old }
     ensures shown { shown kept.new ≡ ended_shown layout.now whose entity (shown kept.old) }

@@ -1,13 +1,13 @@
 //! The histories of one statistic.
 
-ghost use Rattle.std.specs.Prelude.{◌≡◌, is_some, ◌+◌, ◌<◌, ◌≤◌, [], pos, ◌≤ℤ◌, OnOk, IfSome};
+ghost use Rattle.std.specs.Prelude.{◌≡◌, true, is_some, ◌+◌, ◌<◌, ◌≤◌, [], pos, ◌≤ℤ◌, OnOk, IfSome};
 ghost use Rattle.std.specs.Ordering.{int_eq};
-ghost use Rattle.std.specs.Option.{option_map};
+ghost use Rattle.std.specs.Option.{option_map, option_copied};
 ghost use Rattle.ss_histories.specs.Each.{refused_in};
 ghost use Rattle.ss_picture.specs.Suited.{IsMean};
 ghost use Rattle.ss_stats.specs.History.{History, mean_of};
 ghost use Rattle.ss_meaning.specs.Histories.{at_start, begun_in, ended_in};
-ghost use Rattle.ss_histories.specs.Records.{column_of, IsUntil, figure_of, noted_column, renewed_column, is_up_to};
+ghost use Rattle.ss_histories.specs.Records.{column_of, IsFirst, IsUntil, figure_of, noted_column, renewed_column, is_up_to};
 
 use crate::unnoted::Unnoted;
 use crate::watched::Watched;
@@ -65,6 +65,7 @@ impl Kept {
     }
 
     /// Starts the history of an entity.
+    #[inline(never)]
     pub(crate) fn begin(&mut self, entity: i64, now: i64)
         requires now { pos 0 ≤ℤ now }
         requires room { 0 < self.old.room }
@@ -89,6 +90,7 @@ impl Kept {
     }
 
     /// Gives back what is kept of an entity.
+    #[inline(never)]
     pub(crate) fn end(&mut self, entity: i64)
         ensures statistic { self.new.statistic ≡ self.old.statistic }
         ensures column { column_of self.new.rows ≡ ended_in entity (column_of self.old.rows) }
@@ -108,7 +110,7 @@ impl Kept {
         requires { IsUntil now (column_of self.now.rows) }
         ensures { result ≡ refused_in (column_of self.now.rows entity) }
     {
-        match self.watched.get(&entity) {
+        match self.of(entity) {
             Some(watched) if watched.is_full(now) => Some(Unnoted::Full),
             Some(_) => None,
             None => Some(Unnoted::Misfit),
@@ -124,9 +126,55 @@ impl Kept {
         self.note_or_refuse(entity, now, value);
     }
 
-    /// The same at once with why the history takes no number; then nothing changes.
+    // The history of an entity, if it has one: without a search, where it is the first.
     #[inline(always)]
-    pub(crate) fn note_or_refuse(&mut self, entity: i64, now: i64, value: i64) -> Option<Unnoted>
+    fn of(&self, entity: i64) -> Option<&Watched>
+        ensures { option_copied result ≡ column_of self.now.rows entity }
+    {
+        if self.is_first(entity) {
+            if let Some((_, watched)) = self.watched.first() {
+                return Some(watched);
+            }
+        }
+        self.watched.get(&entity)
+    }
+
+    // Whether an entity is the first that has a history, as the system is always.
+    #[inline(always)]
+    fn is_first(&self, entity: i64) -> bool
+        ensures { result ≡ true → IsFirst entity self.now.rows }
+    {
+        match self.watched.first() {
+            Some((first, _)) => *first == entity,
+            None => false,
+        }
+    }
+
+    // Notes a value in the history of the entity that is the first to have one, without a search.
+    #[inline(always)]
+    fn note_first(&mut self, entity: i64, now: i64, value: i64) -> Option<Unnoted>
+        requires first { IsFirst entity self.old.rows }
+        requires until { IsUntil now (column_of self.old.rows) }
+        ensures refused { result ≡ refused_in (column_of self.old.rows entity) }
+        ensures statistic { self.new.statistic ≡ self.old.statistic }
+        ensures column { column_of self.new.rows ≡ noted_column entity now value (column_of self.old.rows) }
+        ensures same { IfSome result (λ _. self.new ≡ self.old) }
+    {
+        match self.watched.first_mut() {
+            None => Some(Unnoted::Misfit),
+            Some(watched) => {
+                if watched.note(now, value) {
+                    None
+                } else {
+                    Some(Unnoted::Full)
+                }
+            }
+        }
+    }
+
+    // The same of any entity that has a history.
+    #[inline(always)]
+    fn note_found(&mut self, entity: i64, now: i64, value: i64) -> Option<Unnoted>
         requires { IsUntil now (column_of self.old.rows) }
         ensures refused { result ≡ refused_in (column_of self.old.rows entity) }
         ensures statistic { self.new.statistic ≡ self.old.statistic }
@@ -142,6 +190,22 @@ impl Kept {
                     Some(Unnoted::Full)
                 }
             }
+        }
+    }
+
+    /// The same at once with why the history takes no number; then nothing changes.
+    #[inline(always)]
+    pub(crate) fn note_or_refuse(&mut self, entity: i64, now: i64, value: i64) -> Option<Unnoted>
+        requires { IsUntil now (column_of self.old.rows) }
+        ensures refused { result ≡ refused_in (column_of self.old.rows entity) }
+        ensures statistic { self.new.statistic ≡ self.old.statistic }
+        ensures column { column_of self.new.rows ≡ noted_column entity now value (column_of self.old.rows) }
+        ensures same { IfSome result (λ _. self.new ≡ self.old) }
+    {
+        if self.is_first(entity) {
+            self.note_first(entity, now, value)
+        } else {
+            self.note_found(entity, now, value)
         }
     }
 

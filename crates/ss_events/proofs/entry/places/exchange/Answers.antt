@@ -1,4 +1,4 @@
-use Rattle.std.proofs.Common.{rules, ◌≡◌, ◌<◌, ◌+◌, ◌*◌, pos, length, get_or, List, ℕ, Fits, w64, arith}
+use Rattle.std.proofs.Common.{rules, ◌<◌, pos, length, get_or, List, ℕ, arith}
 use Rattle.std.proofs.lemmas.List.{length-map, length-set}
 use Rattle.std.proofs.lemmas.List.Edits.{swap_is}
 use Rattle.ss_events.specs.declared.entry.places.Stand.{Stand}

@@ -1,6 +1,5 @@
-use Rattle.std.proofs.Common.{◌≡◌, ◌<◌, ◌∙◌, length, take, get_or, sym, ap, subst, arith}
+use Rattle.std.proofs.Common.{◌≡◌, ◌<◌, ◌∙◌, length, get_or, sym, ap, arith}
 use Rattle.std.proofs.lemmas.List.{get_or_default, length-map}
-use Rattle.ss_events.specs.declared.entry.Entry.{Entry}
 use Rattle.ss_events.specs.declared.entry.places.Stand.{Stand}
 use Rattle.ss_events.specs.Slots.{slots_in, times_in, no_entry}
 use Rattle.ss_events.proofs.Standing.{seen_long, slot_in, slot_of, times_long, entry_at}
@@ -30,7 +29,7 @@ slot_there c =
       arith,
       slot c,
       slot_in c.self.inside.entries.items (slots_in c.self.inside.stands.items) c.self.inside.places.items (times_in c.self.inside.count c.self.inside.stands.items) c.self.inside.directory c.self.invariant.placed c.args.place
-      (omega (arith, place_in c, length-map c.self.inside.stands.items (λ (s : Stand). s.slot))),
+          (omega (arith, place_in c, length-map c.self.inside.stands.items (λ (s : Stand). s.slot))),
     )
 
 pub index-requires-2 : goal.index-requires-2

@@ -22,9 +22,9 @@ same_standing n es fs ss us ys vs d e f g h =
 -- another directory that leads to each slot
 led_too : (n : ℕ) (es : List Entry) (ss : List Stand) (ys : List ℕ) (d g : Directory) (l : List Stand) → l ≡ ss → AreLed g es (slots_in (take n l)) → AreStanding n es ss ys d → AreStanding n es ss ys g
 led_too n es ss ys d g l is led h = record {
-    few = h.few;
-    placed = placed-led es (slots_in ss) ys (times_in n ss) d h.placed g (subst (AreLed g es) ((λ i. slots_in (take n (is i))) ∙ taken_slots n ss h.few) led);
-    }
+  few = h.few;
+  placed = placed-led es (slots_in ss) ys (times_in n ss) d h.placed g (subst (AreLed g es) ((λ i. slots_in (take n (is i))) ∙ taken_slots n ss h.few) led);
+}
 
 -- the slots that are handed on
 handed : (c : After-deref) → slots_in (take c.self.inside.count c.deref.result.now) ≡ take (length (times_in c.self.inside.count c.self.inside.stands.items)) (slots_in c.self.inside.stands.items)
@@ -152,7 +152,7 @@ index_mut-requires-2 c =
       arith,
       slot e,
       slot_in c.next_slot.new.entries.items (slots_in c.next_slot.new.stands.items) c.next_slot.new.places.items (times_in c.self.inside.count c.self.inside.stands.items) c.make_cells.new.directory (slotted e).3
-      (length (times_in c.self.inside.count c.self.inside.stands.items)) (free e),
+          (length (times_in c.self.inside.count c.self.inside.stands.items)) (free e),
       c.next_slot.new.entries.ok.0,
     )
 

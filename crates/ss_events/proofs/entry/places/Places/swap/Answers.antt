@@ -1,8 +1,6 @@
-use Rattle.std.proofs.Common.{◌≡◌, ◌<◌, ◌∙◌, ℕ, ℤ, List, length, take, swap, sym, ap, arith}
+use Rattle.std.proofs.Common.{◌≡◌, ◌<◌, ◌∙◌, length, swap, sym, ap, arith}
 use Rattle.std.proofs.lemmas.List.Edits.{length-swap}
 use Rattle.std.specs.Vec.{with_items}
-use Rattle.ss_events.specs.declared.entry.Entry.{Entry}
-use Rattle.ss_events.specs.declared.entry.places.Stand.{Stand}
 use Rattle.ss_events.specs.Slots.{slots_in, times_in, exchanged}
 use Rattle.ss_events.proofs.Slotted.{written, length-exchanged}
 use Rattle.ss_events.proofs.Standing.{placed-swapped, seen-swapped, seen_long, slots_swapped, times_swapped, times_long}

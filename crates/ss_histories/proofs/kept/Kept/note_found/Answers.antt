@@ -8,8 +8,8 @@ use Rattle.ss_histories.specs.Records.{Recorded}
 use Rattle.ss_histories.specs.declared.unnoted.Unnoted.{Unnoted}
 use Rattle.ss_histories.specs.contracts.kept.Kept.{the_view}
 use Rattle.ss_histories.proofs.OnePlace.{same_kept}
-use Rattle.ss_histories.proofs.kept.Kept.note_or_refuse.Goals as goal
-use Rattle.ss_histories.proofs.kept.Kept.note_or_refuse.Goals.{in-None, in-Some+then-note, in-Some+else-note}
+use Rattle.ss_histories.proofs.kept.Kept.note_found.Goals as goal
+use Rattle.ss_histories.proofs.kept.Kept.note_found.Goals.{in-None, in-Some+then-note, in-Some+else-note}
 
 pub note-requires : goal.note-requires
 note-requires c =
