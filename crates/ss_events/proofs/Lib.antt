@@ -5,6 +5,7 @@ pub mod InOrders
 pub mod Agendas
 pub mod Outcomes
 pub mod Leasts
+pub mod Exchanging
 pub mod Slotted
 pub mod Standing
 pub mod Times

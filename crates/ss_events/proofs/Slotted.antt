@@ -7,7 +7,7 @@ use Rattle.std.proofs.lemmas.Bool.Decides.{nat_tests}
 use Rattle.std.proofs.lemmas.List.{length-set, length-map, with_items_is, get_or-set_same, get_or-set_other, get_or_append_left, get_or-map, get_or_default, get_or_push, length_push, take-set}
 use Rattle.std.proofs.lemmas.List.Edits.{length-swap, swap_is}
 use Rattle.std.proofs.lemmas.List.Sums.{position_or_len_is}
-use Rattle.indexmap.proofs.ReorderLemmas.{exchange, exchange-within, exchange-twice, get_or-swap, map-swap}
+use Rattle.ss_events.proofs.Exchanging.{exchange, exchange-within, exchange-twice, get_or-swap, map-swap}
 use Rattle.ss_events.specs.Slots.{by_place, LeadsBack, IsPaired, exchanged}
 
 -- ---- what a call left

@@ -12,8 +12,7 @@ use Rattle.std.proofs.lemmas.List.Quantifiers.{position-Some}
 use Rattle.std.proofs.lemmas.List.Sorted.{IsPermutation-swap, IsPermutation-swap_remove, IsPermutation-map}
 use Rattle.std.proofs.lemmas.Map.Keys.{IsDistinct-IsPermutation, IsDistinct-tail, IsDistinct-push, apart_from_distinct}
 use Rattle.std.proofs.Math.Seq.{map-set_same, take-suc-set}
-use Rattle.indexmap.proofs.ReorderLemmas.{exchange, exchange-within, exchange-twice, get_or-swap, map-swap}
-use Rattle.indexmap.proofs.SetLemmas.{map-swap_remove}
+use Rattle.ss_events.proofs.Exchanging.{exchange, exchange-within, exchange-twice, get_or-swap, map-swap, map-swap_remove}
 use Rattle.ss_events.specs.declared.entry.Entry.{Entry}
 use Rattle.ss_events.specs.declared.entry.directory.Directory.{Directory}
 use Rattle.ss_events.specs.declared.entry.places.Stand.{Stand}

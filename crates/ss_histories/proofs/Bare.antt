@@ -1,8 +1,10 @@
 -- Statistics that keep their histories as they were.
-use Rattle.std.proofs.Common.{◌≡◌, zero, suc, ℤ, List, [], ◌∷◌, map, get_or, All, sym, ap, subst, refl, arith}
+use Rattle.std.proofs.Common.{◌≡◌, zero, suc, ℤ, pos, Bool, true, false, cond, int_eq, List, [], ◌∷◌, map, get_or, All, Option, None, sym, ap, ◌∙◌, subst, refl, arith}
+use Rattle.std.proofs.Math.Path.{fun_ext}
+use Rattle.ss_stats.specs.History.{History}
 use Rattle.ss_program.specs.declared.sections.Statistic.{Statistic}
 use Rattle.ss_meaning.specs.Histories.{no_histories}
-use Rattle.ss_histories.specs.Records.{Recorded, Rows, column_of, columns_of, IsUntil, rows_of, none_in}
+use Rattle.ss_histories.specs.Records.{Recorded, Rows, column_of, columns_of, IsUntil, rows_of, none_yet, none_in}
 use Rattle.ss_histories.specs.Each.{Shown, shown, bare, KeptUntil}
 use Rattle.ss_histories.proofs.Columns.{head_of, tail_of, not_none, joined, none_is}
 
@@ -26,8 +28,14 @@ shown_bare (k ∷ ks) [] e = absurd (not_none _ _ (sym e))
 shown_bare (k ∷ ks) (n ∷ ns) e =
     joined _ _ _ _ (ap pair_of (ap (head_of (bare n)) e)) (shown_bare ks ns (ap tail_of e))
 
-empty_until : (latest : ℤ) (rows : Rows) → rows ≡ [] → IsUntil latest (column_of rows)
-empty_until latest rows e = subst (λ (r : Rows). IsUntil latest (column_of r)) (sym e) (λ x h p. absurd (none_is h p))
+none_there : (x : ℤ) → column_of none_yet x ≡ None
+none_there x = by (int_eq (pos 0) x) None where
+  by : (b : Bool) (o : Option History) → cond b o o ≡ o
+  by true o = refl
+  by false o = refl
+
+empty_until : (latest : ℤ) (rows : Rows) → rows ≡ none_yet → IsUntil latest (column_of rows)
+empty_until latest rows e = subst (λ (r : Rows). IsUntil latest (column_of r)) (sym e) (λ x h p. absurd (none_is h (sym (none_there x) ∙ p)))
 
 pub fresh_until : (latest : ℤ) (ss : List Statistic) (ks : List Recorded) → rows_of ks ≡ map none_in ss → All (KeptUntil latest) ks
 fresh_until latest ss [] e k d h = absurd (omega (arith, h))
@@ -39,4 +47,4 @@ pub none_columns : (rows : List Rows) (ss : List Statistic) → rows ≡ map non
 none_columns [] [] e = refl
 none_columns [] (s ∷ ss) e = absurd (not_none _ _ (sym e))
 none_columns (r ∷ rows) [] e = absurd (not_none _ _ e)
-none_columns (r ∷ rows) (s ∷ ss) e = joined _ _ _ _ (ap column_of (ap (head_of r) e)) (none_columns rows ss (ap tail_of e))
+none_columns (r ∷ rows) (s ∷ ss) e = joined _ _ _ _ (ap column_of (ap (head_of r) e) ∙ fun_ext none_there) (none_columns rows ss (ap tail_of e))

@@ -1,5 +1,6 @@
 pub mod Values
-mod First
+mod Rising
+mod Apart
 pub mod Tables
 pub mod Places
 pub mod Columns

@@ -2,14 +2,10 @@
 use Rattle.std.proofs.Common.{◌≡◌, ℕ, ℤ, List, [], ◌∷◌, length, map, fold, get_or, Ok, Err, Some, None, Result, sym, ap, ◌∙◌, arith}
 use Rattle.std.specs.Prelude.{MatchResult}
 use Rattle.ss_base.specs.declared.value.Value.TheVariants.{Whole}
-use Rattle.ss_program.specs.declared.sections.Statistic.{Statistic}
 use Rattle.ss_histories.specs.declared.unnoted.Unnoted.{Unnoted}
-use Rattle.ss_histories.specs.Records.{Recorded, Rows}
+use Rattle.ss_histories.specs.Records.{Recorded}
 use Rattle.ss_histories.specs.Each.{shown, refused_at, stops_at, first_at, noted_one, noted_by, changed_at}
 use Rattle.ss_histories.proofs.Fullness.{or_none}
-
-pub same_kept : (st : Statistic) (es fs : Rows) (m n : ℕ) → es ≡ fs → m ≡ n → (let a : Recorded = record { statistic = st; rows = es; room = m } in let b : Recorded = record { statistic = st; rows = fs; room = n } in a ≡ b)
-same_kept st es fs m n e h = λ i. record { statistic = st; rows = e i; room = h i }
 
 pub the_one : (ps : List ℕ) (p : ℕ) → length ps ≡ 1 → p ≡ get_or ps 0 0 → ps ≡ p ∷ []
 the_one [] p one at = absurd (omega (arith, one))

@@ -1,5 +1,5 @@
 -- What is kept of the histories of all statistics.
-use Rattle.std.specs.Prelude.{◌≡◌, ⊤, ℕ, Bool, true, false, ◌&&◌, IsTrue, List, [], ◌∷◌, map, ℤ, pos, ◌≤ℤ◌, int_le, Option, Some, None, Result, Ok, Err, if◌then◌else◌}
+use Rattle.std.specs.Prelude.{◌≡◌, ⊤, ℕ, Bool, true, false, ◌&&◌, IsTrue, List, [], ◌∷◌, map, ℤ, pos, ◌≤ℤ◌, int_le, int_lt, Option, Some, None, Result, Ok, Err, if◌then◌else◌}
 use Rattle.std.specs.Ordering.{int_eq}
 use Rattle.std.specs.Map.{lookup}
 use Rattle.ss_base.specs.declared.fault.FaultKind.{FaultKind}
@@ -26,18 +26,29 @@ figure_of Sum now h = sum_of h now
 figure_of Maximum now h = Ok (maximum_of h)
 figure_of Minimum now h = Ok (minimum_of h)
 
--- the histories of a statistic by their entities
-abbrev pub Rows : Type 0
-Rows = List (ℤ × History)
+-- entities with their histories by rising numbers, with one entity more, or with another history of one
+abbrev pub placed_in : (entity : ℤ) → History → List (ℤ × History) → List (ℤ × History)
+placed_in x h [] = (x, h) ∷ []
+placed_in x h (row ∷ rows) =
+    if int_lt x row.0 then (x, h) ∷ row ∷ rows else (if int_eq x row.0 then (x, h) ∷ rows else row ∷ placed_in x h rows)
+
+-- entities with their histories by rising numbers; the first history of an entity counts
+abbrev pub by_number : List (ℤ × History) → List (ℤ × History)
+by_number [] = []
+by_number (row ∷ rows) = placed_in row.0 row.1 (by_number rows)
+
+-- the histories of a statistic: that of the system, which is 0, and those of the other entities
+pub record Rows : Type 0 where
+  pub system : Option History
+  pub others : List (ℤ × History)
+
+-- the history of each entity, as they stand in a list
+abbrev pub found_in : List (ℤ × History) → Column
+found_in others x = lookup (int_eq x) others
 
 -- the history of each entity
 abbrev pub column_of : Rows → Column
-column_of rows x = lookup (int_eq x) rows
-
--- the entity is the first of those that have a history
-abbrev pub IsFirst : (entity : ℤ) → Rows → Type 0
-IsFirst x [] = ⊥
-IsFirst x (row ∷ rows) = row.0 ≡ x
+column_of rows x = if int_eq (pos 0) x then rows.system else found_in rows.others x
 
 abbrev pub columns_of : List Rows → List Column
 columns_of rows = map column_of rows
@@ -96,8 +107,11 @@ abbrev pub is_up_to : (count : ℤ) → (entity : ℤ) → Bool
 is_up_to count x = int_le (pos 1) x && int_le x count
 
 -- none started yet
+abbrev pub none_yet : Rows
+none_yet = record { system = None; others = [] }
+
 abbrev pub none_in : Statistic → Rows
-none_in s = []
+none_in s = none_yet
 
 -- what is asked of a statistic
 abbrev pub figured : Option (Result ℤ FaultKind) → Result Value Trouble

@@ -1,48 +1,55 @@
 //! The histories of one statistic.
 
-ghost use Rattle.std.specs.Prelude.{◌≡◌, true, is_some, ◌+◌, ◌<◌, ◌≤◌, [], pos, ◌≤ℤ◌, OnOk, IfSome};
+ghost use Rattle.std.specs.Prelude.{◌≡◌, Some, is_some, ◌+◌, ◌<◌, ◌≤◌, pos, ◌≤ℤ◌, OnOk, IfSome};
 ghost use Rattle.std.specs.Ordering.{int_eq};
 ghost use Rattle.std.specs.Option.{option_map, option_copied};
 ghost use Rattle.ss_histories.specs.Each.{refused_in};
 ghost use Rattle.ss_picture.specs.Suited.{IsMean};
-ghost use Rattle.ss_stats.specs.History.{History, mean_of};
+ghost use Rattle.std.specs.HashMap.{spare};
+ghost use Rattle.ss_stats.specs.History.{History, mean_of, last_moment, restarted};
 ghost use Rattle.ss_meaning.specs.Histories.{at_start, begun_in, ended_in};
-ghost use Rattle.ss_histories.specs.Records.{column_of, IsFirst, IsUntil, figure_of, noted_column, renewed_column, is_up_to};
+ghost use Rattle.ss_histories.specs.Records.{found_in, column_of, none_yet, IsUntil, figure_of, noted_value, noted_column, renewed_column, is_up_to};
 
 use crate::unnoted::Unnoted;
 use crate::watched::Watched;
-use indexmap::IndexMap;
 use ss_base::FaultKind;
 use ss_program::expression::Fold;
 use ss_program::sections::Statistic;
 use std::alloc::{AllocError, Global};
+use std::collections::HashMap;
 use std::marker::Model;
+
+// The number of the system among entities, of which each other one has a number from 1 on.
+const SYSTEM: i64 = 0;
 
 /// A statistic, and its history of each entity that has one.
 #[derive(Drop)]
 pub(crate) struct Kept {
     statistic: Statistic,
-    watched: IndexMap<i64, Watched>,
+    // That of the system is found without a search.
+    system: Option<Watched>,
+    others: HashMap<i64, Watched>,
 }
 
 impl Model for Kept {
-    ghost use Rattle.indexmap.specs.IndexMap.{spare};
-    ghost use Rattle.ss_histories.specs.Records.{Recorded};
+    ghost use Rattle.std.specs.HashMap.{spare};
+    ghost use Rattle.ss_histories.specs.Records.{Recorded, by_number};
 
     ghost Value = { Recorded };
 
-    ghost view = { λ k. record { statistic = k.statistic; rows = k.watched.entries; room = spare k.watched } };
+    ghost view = { λ k. record { statistic = k.statistic; rows = record { system = k.system; others = by_number k.others.entries }; room = spare k.others } };
 }
 
 impl Kept {
     /// No history.
     pub(crate) fn new(alloc: Global, statistic: Statistic) -> Kept
         ensures statistic { result.statistic ≡ statistic }
-        ensures rows { result.rows ≡ [] }
+        ensures rows { result.rows ≡ none_yet }
     {
         Kept {
             statistic,
-            watched: IndexMap::new(alloc),
+            system: None,
+            others: HashMap::new(alloc),
         }
     }
 
@@ -59,7 +66,7 @@ impl Kept {
         ensures room { OnOk result (count ≤ℤ pos self.new.room) }
     {
         match usize::try_from(count) {
-            Ok(count) => self.watched.reserve(count),
+            Ok(count) => self.others.reserve(count),
             Err(_) => Ok(()),
         }
     }
@@ -74,7 +81,11 @@ impl Kept {
         ensures room { self.old.room ≤ self.new.room + 1 }
     {
         let started = Watched::start(self.statistic.weighting, now);
-        let _ = self.watched.insert(entity, started);
+        if entity == SYSTEM {
+            self.system = Some(started);
+        } else {
+            let _ = self.others.insert(entity, started);
+        }
     }
 
     /// Starts the histories of the entities 1 to a number.
@@ -95,14 +106,18 @@ impl Kept {
         ensures statistic { self.new.statistic ≡ self.old.statistic }
         ensures column { column_of self.new.rows ≡ ended_in entity (column_of self.old.rows) }
     {
-        self.watched.swap_remove(&entity);
+        if entity == SYSTEM {
+            self.system = None;
+        } else {
+            self.others.remove(&entity);
+        }
     }
 
     /// Whether an entity has a history.
     pub(crate) fn has(&self, entity: i64) -> bool
         ensures { result ≡ is_some (column_of self.now.rows entity) }
     {
-        self.watched.get(&entity).is_some()
+        self.of(entity).is_some()
     }
 
     /// Why the history of an entity takes no number.
@@ -126,74 +141,19 @@ impl Kept {
         self.note_or_refuse(entity, now, value);
     }
 
-    // The history of an entity, if it has one: without a search, where it is the first.
+    // The history of an entity, if it has one.
     #[inline(always)]
     fn of(&self, entity: i64) -> Option<&Watched>
         ensures { option_copied result ≡ column_of self.now.rows entity }
     {
-        if self.is_first(entity) {
-            if let Some((_, watched)) = self.watched.first() {
-                return Some(watched);
-            }
-        }
-        self.watched.get(&entity)
-    }
-
-    // Whether an entity is the first that has a history, as the system is always.
-    #[inline(always)]
-    fn is_first(&self, entity: i64) -> bool
-        ensures { result ≡ true → IsFirst entity self.now.rows }
-    {
-        match self.watched.first() {
-            Some((first, _)) => *first == entity,
-            None => false,
+        if entity == SYSTEM {
+            self.system.as_ref()
+        } else {
+            self.others.get(&entity)
         }
     }
 
-    // Notes a value in the history of the entity that is the first to have one, without a search.
-    #[inline(always)]
-    fn note_first(&mut self, entity: i64, now: i64, value: i64) -> Option<Unnoted>
-        requires first { IsFirst entity self.old.rows }
-        requires until { IsUntil now (column_of self.old.rows) }
-        ensures refused { result ≡ refused_in (column_of self.old.rows entity) }
-        ensures statistic { self.new.statistic ≡ self.old.statistic }
-        ensures column { column_of self.new.rows ≡ noted_column entity now value (column_of self.old.rows) }
-        ensures same { IfSome result (λ _. self.new ≡ self.old) }
-    {
-        match self.watched.first_mut() {
-            None => Some(Unnoted::Misfit),
-            Some(watched) => {
-                if watched.note(now, value) {
-                    None
-                } else {
-                    Some(Unnoted::Full)
-                }
-            }
-        }
-    }
-
-    // The same of any entity that has a history.
-    #[inline(always)]
-    fn note_found(&mut self, entity: i64, now: i64, value: i64) -> Option<Unnoted>
-        requires { IsUntil now (column_of self.old.rows) }
-        ensures refused { result ≡ refused_in (column_of self.old.rows entity) }
-        ensures statistic { self.new.statistic ≡ self.old.statistic }
-        ensures column { column_of self.new.rows ≡ noted_column entity now value (column_of self.old.rows) }
-        ensures same { IfSome result (λ _. self.new ≡ self.old) }
-    {
-        match self.watched.get_mut(&entity) {
-            None => Some(Unnoted::Misfit),
-            Some(watched) => {
-                if watched.note(now, value) {
-                    None
-                } else {
-                    Some(Unnoted::Full)
-                }
-            }
-        }
-    }
-
-    /// The same at once with why the history takes no number; then nothing changes.
+    /// Notes a value in the history of an entity, or says why that takes no number; then nothing changes.
     #[inline(always)]
     pub(crate) fn note_or_refuse(&mut self, entity: i64, now: i64, value: i64) -> Option<Unnoted>
         requires { IsUntil now (column_of self.old.rows) }
@@ -202,10 +162,10 @@ impl Kept {
         ensures column { column_of self.new.rows ≡ noted_column entity now value (column_of self.old.rows) }
         ensures same { IfSome result (λ _. self.new ≡ self.old) }
     {
-        if self.is_first(entity) {
-            self.note_first(entity, now, value)
+        if entity == SYSTEM {
+            note_first(&mut self.system, now, value)
         } else {
-            self.note_found(entity, now, value)
+            note_found(&mut self.others, entity, now, value)
         }
     }
 
@@ -214,7 +174,7 @@ impl Kept {
         requires { IsUntil now (column_of self.now.rows) }
         ensures { result ≡ option_map (figure_of fold now) (column_of self.now.rows entity) }
     {
-        match self.watched.get(&entity) {
+        match self.of(entity) {
             Some(watched) => Some(watched.figure(fold, now)),
             None => None,
         }
@@ -226,7 +186,7 @@ impl Kept {
         ensures value { result ≡ option_map (λ (h : History). mean_of h now) (column_of self.now.rows entity) }
         ensures is_mean { IfSome result (λ mean. IsMean mean.0 mean.1) }
     {
-        match self.watched.get(&entity) {
+        match self.of(entity) {
             Some(watched) => Some(watched.mean(now)),
             None => None,
         }
@@ -238,9 +198,78 @@ impl Kept {
         ensures statistic { self.new.statistic ≡ self.old.statistic }
         ensures column { column_of self.new.rows ≡ renewed_column entity now present (column_of self.old.rows) }
     {
-        match self.watched.get_mut(&entity) {
-            Some(watched) => watched.renew(now, present),
-            None => {}
+        if entity == SYSTEM {
+            renew_first(&mut self.system, now, present);
+        } else {
+            renew_found(&mut self.others, entity, now, present);
         }
+    }
+}
+
+// Notes a value in the history of the system, or says why that takes no number; then nothing changes.
+#[inline(always)]
+fn note_first(system: &mut Option<Watched>, now: i64, value: i64) -> Option<Unnoted>
+    requires { (h : History) → system.old ≡ Some h → last_moment h ≤ℤ now }
+    ensures refused { result ≡ refused_in system.old }
+    ensures noted { system.new ≡ option_map (noted_value now value) system.old }
+    ensures same { IfSome result (λ _. system.new ≡ system.old) }
+{
+    match system {
+        None => Some(Unnoted::Misfit),
+        Some(watched) => {
+            if watched.note(now, value) {
+                None
+            } else {
+                Some(Unnoted::Full)
+            }
+        }
+    }
+}
+
+// Notes a value in the history of any other entity, or says why that takes no number; then nothing changes.
+#[inline(always)]
+fn note_found(
+    others: &mut HashMap<i64, Watched>,
+    entity: i64,
+    now: i64,
+    value: i64,
+) -> Option<Unnoted>
+    requires { (h : History) → found_in others.old.entries entity ≡ Some h → last_moment h ≤ℤ now }
+    ensures refused { result ≡ refused_in (found_in others.old.entries entity) }
+    ensures column { found_in others.new.entries ≡ noted_column entity now value (found_in others.old.entries) }
+    ensures spare { spare others.new ≡ spare others.old }
+    ensures same { IfSome result (λ _. others.new.entries ≡ others.old.entries) }
+{
+    match others.get_mut(&entity) {
+        None => Some(Unnoted::Misfit),
+        Some(watched) => {
+            if watched.note(now, value) {
+                None
+            } else {
+                Some(Unnoted::Full)
+            }
+        }
+    }
+}
+
+// Starts the history of the system afresh, if it has one, with the present value.
+fn renew_first(system: &mut Option<Watched>, now: i64, present: i64)
+    requires { (h : History) → system.old ≡ Some h → last_moment h ≤ℤ now }
+    ensures { system.new ≡ option_map (λ (h : History). restarted h now present) system.old }
+{
+    match system {
+        None => {}
+        Some(watched) => watched.renew(now, present),
+    }
+}
+
+// Starts the history of any other entity afresh, if it has one, with the present value.
+fn renew_found(others: &mut HashMap<i64, Watched>, entity: i64, now: i64, present: i64)
+    requires { (h : History) → found_in others.old.entries entity ≡ Some h → last_moment h ≤ℤ now }
+    ensures { found_in others.new.entries ≡ renewed_column entity now present (found_in others.old.entries) }
+{
+    match others.get_mut(&entity) {
+        None => {}
+        Some(watched) => watched.renew(now, present),
     }
 }

@@ -2,8 +2,8 @@
 ghost use Rattle.std.specs.Prelude.{◌≡◌, ◌≢◌, ℕ, ℤ, OnOk};
 ghost use Rattle.ss_events.specs.Slots.{Leads, no_slot, cell_of, first_guess, second_guess};
 
-use indexmap::IndexMap;
 use std::alloc::{AllocError, Global};
+use std::collections::HashMap;
 
 // What stands in a cell that names no slot.
 const FREE: usize = usize::MAX;
@@ -21,7 +21,7 @@ pub struct Directory {
     cells: Vec<usize>,
     // The last digits, all set.
     mask: usize,
-    others: IndexMap<i64, usize>,
+    others: HashMap<i64, usize>,
 }
 
 impl Directory {
@@ -30,7 +30,7 @@ impl Directory {
         Directory {
             cells: Vec::new(alloc),
             mask: 0,
-            others: IndexMap::new(alloc),
+            others: HashMap::new(alloc),
         }
     }
 
@@ -40,7 +40,7 @@ impl Directory {
         Ok(Directory {
             cells: Vec::from_elem(alloc, FREE, count)?,
             mask: count - 1,
-            others: IndexMap::new(alloc),
+            others: HashMap::new(alloc),
         })
     }
 
@@ -131,6 +131,6 @@ impl Directory {
     fn forget_in_map(&mut self, notice: i64)
         ensures { (n : ℤ) → (s : ℕ) → n ≢ notice → Leads self.old n s → Leads self.new n s }
     {
-        let _ = self.others.swap_remove(&notice);
+        let _ = self.others.remove(&notice);
     }
 }

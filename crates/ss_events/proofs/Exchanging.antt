@@ -1,0 +1,45 @@
+-- Two places of a list that are exchanged.
+use Rattle.std.proofs.Common.{◌≡◌, ℕ, ◌-◌, ◌<◌, List, [], ◌∷◌, map, length, get_or, take, set, swap, sym, refl, ap, ◌∙◌, arith, ◌==◌, if◌then◌else◌}
+use Rattle.std.specs.Prelude.{slice_set, slice_index_or}
+use Rattle.std.specs.List.{swap_remove}
+use Rattle.std.proofs.lemmas.List.{map-set, take-map, length-map, get_or-map as get_or-mapped}
+use Rattle.std.proofs.lemmas.List.Edits.{swapped_from_swap}
+use Rattle.std.proofs.lemmas.Bool.Decides.{nat_tests}
+use lib.ListN.{get_or-map}
+use native.Mathlib.Decide.{ℕ_discrete}
+
+-- the index that i is exchanged with, where a and b change places
+abbrev pub exchange : ℕ → ℕ → ℕ → ℕ
+exchange a b i = if i == a then b else (if i == b then a else i)
+
+pub exchange-within : (a b n i : ℕ) → a < n → b < n → i < n → exchange a b i < n
+exchange-within a b n i p q l = grind (arith, nat_tests)
+
+pub exchange-twice : (a b i : ℕ) → exchange a b (exchange a b i) ≡ i
+exchange-twice a b i = grind (arith, nat_tests)
+
+pub get_or-swap : {X : Type 0} (xs : List X) (a b : ℕ) (d : X) → a < length xs → b < length xs → (i : ℕ) → get_or (swap xs a b) i d ≡ get_or xs (exchange a b i) d
+get_or-swap {X} xs a b d p q i =
+    let w = swapped_from_swap xs _ a b d p q refl in
+    let read = λ (n : ℕ) (e : exchange a b i ≡ n). ap (λ k. get_or xs k d) e in
+    elim (ℕ_discrete i a) [
+      | yes e ↦ ap (λ k. get_or (swap xs a b) k d) e ∙ w.0 ∙ sym (read b (grind (arith, nat_tests)))
+      | no n ↦ elim (ℕ_discrete i b) [
+        | yes e ↦ ap (λ k. get_or (swap xs a b) k d) e ∙ w.1 ∙ sym (read a (grind (arith, nat_tests)))
+        | no m ↦ w.2 i n m ∙ sym (read i (grind (arith, nat_tests)))
+      ]
+    ]
+
+module _ {X Y : Type 0} (f : X → Y) where
+  pub map-swap : (xs : List X) (i j : ℕ) → map f (swap xs i j) ≡ swap (map f xs) i j
+  map-swap [] i j = refl
+  map-swap (x ∷ xs) i j =
+      map-set f _ j _ ∙ (λ z. set (map-set f (x ∷ xs) i (get_or (x ∷ xs) j x) z) j (sym (get_or-map f (x ∷ xs) i x) z))
+      ∙ ap (λ y. set (set (map f (x ∷ xs)) i y) j (get_or (map f (x ∷ xs)) i (f x))) (sym (get_or-map f (x ∷ xs) j x))
+
+  pub map-swap_remove : (xs : List X) (i : ℕ) (d : X) → 0 < length xs → map f (swap_remove xs i d) ≡ swap_remove (map f xs) i (f d)
+  map-swap_remove xs i d some =
+      let n = length xs - 1 in
+      let same : length (map f xs) ≡ length xs = length-map xs f in
+      let e = sym (take-map f n (slice_set xs i (slice_index_or xs n d))) ∙ ap (take n) (map-set f xs i _) in
+      e ∙ (λ j. take (ap (λ l. l - 1) (sym same) j) (slice_set (map f xs) i (sym (get_or-mapped f xs n d (f d) (omega arith)) j))) ∙ ap (λ m. take (length (map f xs) - 1) (slice_set (map f xs) i (slice_index_or (map f xs) m (f d)))) (ap (λ l. l - 1) (sym same))
