@@ -7,12 +7,12 @@ ghost use Rattle.ss_declared.specs.TooMany.{past_most, attribute_class, is_past,
 ghost use Rattle.ss_declared.specs.Topics.{line_of};
 ghost use Rattle.ss_breaches.specs.Counts.{count_of, AreCounts, CountsOne};
 
-use indexmap::IndexMap;
 use ss_bytes::{Line, Name};
 use ss_declared::laws::later_lines_grow;
 use ss_declared::{class_lines, set_lines, sooner, sooner_if};
 use ss_sayings::{Said, Saying};
 use std::alloc::{AllocError, Global};
+use std::collections::HashMap;
 
 /// The most classes, sets, and attributes of a class.
 const MOST: usize = 64;
@@ -51,7 +51,7 @@ fn attribute_class(said: &Said) -> Option<Name>
 /// How many attributes each class has, up to 64.
 #[derive(Drop)]
 pub struct Counts {
-    map: IndexMap<Name, usize>,
+    map: HashMap<Name, usize>,
 }
 
 impl Counts {
@@ -59,7 +59,7 @@ impl Counts {
         ensures { result.map.entries ≡ [] }
     {
         Counts {
-            map: IndexMap::new(alloc),
+            map: HashMap::new(alloc),
         }
     }
 

@@ -14,12 +14,12 @@ use Rattle.ss_declared.proofs.Keeping.{same_is}
 use Rattle.ss_declared.proofs.Telling.{first_none, entry_last, item_last, entry_known}
 
 -- the class of a thing of which none is kept
-pub keeps_new : (old new : Classes) (thing : Thing) (class : Option NameBytes) → new.map.entries ≡ old.map.entries ++ (thing, class) ∷ [] → KeepsClass thing class old new
-keeps_new old new thing class is = λ t. ap (lookup (same_thing t)) is ∙ entry_last (same_thing t) old.map.entries thing class
+pub keeps_new : (old new : Classes) (thing : Thing) (class : Option NameBytes) → new.map ≡ old.map ++ (thing, class) ∷ [] → KeepsClass thing class old new
+keeps_new old new thing class is = λ t. ap (lookup (same_thing t)) is ∙ entry_last (same_thing t) old.map thing class
 
 -- the class of a thing of which one is kept
 pub keeps_known : (old : Classes) (thing : Thing) (class known : Option NameBytes) → kept_of old thing ≡ Some known → KeepsClass thing class old old
-keeps_known old thing class known some = λ t. entry_known same_thing same_is old.map.entries thing t class known (same_thing t thing) refl some
+keeps_known old thing class known some = λ t. entry_known same_thing same_is old.map thing t class known (same_thing t thing) refl some
 
 said_first : (o : Option Saying) (same : Bool) (s : Saying) → class_said (option_or o (cond same (Some s) None)) ≡ option_or (class_said o) (cond same (Some (class_in s.said)) None)
 said_first None true s = refl

@@ -62,16 +62,16 @@ clash_last ds d found old h e =
     ap first_line (sym (later_more declared_at is_clash ds d))
 
 -- a name that is declared first
-pub told_new : (old new : Globals) (d : Declaration) → found_in old d.name ≡ None → new.map.entries ≡ old.map.entries ++ (d.name, d.standing) ∷ [] → new.clash ≡ old.clash → (ds : List Declaration) → Tells ds old → Tells (ds ++ d ∷ []) new
+pub told_new : (old new : Globals) (d : Declaration) → found_in old d.name ≡ None → new.map ≡ old.map ++ (d.name, d.standing) ∷ [] → new.clash ≡ old.clash → (ds : List Declaration) → Tells ds old → Tells (ds ++ d ∷ []) new
 told_new old new d none is same ds h = record {
-  standing = λ name. ap (lookup (same_name name)) is ∙ entry_last (same_name name) old.map.entries d.name d.standing ∙ ap (λ o. option_or o (cond (same_name name d.name) (Some d.standing) None)) (h.standing name) ∙ sym (standing_last ds d name);
+  standing = λ name. ap (lookup (same_name name)) is ∙ entry_last (same_name name) old.map d.name d.standing ∙ ap (λ o. option_or o (cond (same_name name d.name) (Some d.standing) None)) (h.standing name) ∙ sym (standing_last ds d name);
   clash = same ∙ clash_last ds d old.clash None h.clash (sym none ∙ h.standing d.name);
 }
 
 -- a name that is declared again
-pub told_again : (old new : Globals) (d : Declaration) (known : Standing) → found_in old d.name ≡ Some known → new.map.entries ≡ old.map.entries → new.clash ≡ soonest old.clash (line_if (is_another (Some known) d.standing) d.line) → (ds : List Declaration) → Tells ds old → Tells (ds ++ d ∷ []) new
+pub told_again : (old new : Globals) (d : Declaration) (known : Standing) → found_in old d.name ≡ Some known → new.map ≡ old.map → new.clash ≡ soonest old.clash (line_if (is_another (Some known) d.standing) d.line) → (ds : List Declaration) → Tells ds old → Tells (ds ++ d ∷ []) new
 told_again old new d known some same is ds h = record {
-  standing = λ name. ap (lookup (same_name name)) same ∙ entry_known same_name (λ a b. (bytes_decides a b).0) old.map.entries d.name name d.standing known (same_name name d.name) refl some ∙ ap (λ o. option_or o (cond (same_name name d.name) (Some d.standing) None)) (h.standing name) ∙ sym (standing_last ds d name);
+  standing = λ name. ap (lookup (same_name name)) same ∙ entry_known same_name (λ a b. (bytes_decides a b).0) old.map d.name name d.standing known (same_name name d.name) refl some ∙ ap (λ o. option_or o (cond (same_name name d.name) (Some d.standing) None)) (h.standing name) ∙ sym (standing_last ds d name);
   clash = is ∙ clash_last ds d old.clash (Some known) h.clash (sym some ∙ h.standing d.name);
 }
 

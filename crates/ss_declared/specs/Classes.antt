@@ -11,7 +11,7 @@ use Rattle.ss_declared.specs.Topics.{Thing, same_thing, is_said_by, class_in}
 
 -- what is kept of a thing
 abbrev pub kept_of : Classes → Thing → Option (Option NameBytes)
-kept_of c thing = lookup (same_thing thing) c.map.entries
+kept_of c thing = lookup (same_thing thing) c.map
 
 -- a class that is kept
 abbrev pub class_kept : Option (Option NameBytes) → Option NameBytes

@@ -11,7 +11,7 @@ use Rattle.ss_declared.specs.Twice.{clashes}
 
 -- what is found of a name
 abbrev pub found_in : Globals → NameBytes → Option Standing
-found_in g name = lookup (same_name name) g.map.entries
+found_in g name = lookup (same_name name) g.map
 
 -- what is kept is what each name stands for by some declarations, and the first line where they clash
 pub record Tells (ds : List Declaration) (g : Globals) : Type 0 where

@@ -5,23 +5,23 @@ ghost use Rattle.ss_sayings.specs.declared.saying.Saying.{Saying};
 ghost use Rattle.ss_declared.specs.Classes.{kept_of, class_kept, AreClasses, KeepsClass};
 
 use crate::topic::{Thing, Topic, class_in, is_about, thing_of};
-use indexmap::IndexMap;
 use ss_bytes::Name;
+use ss_firsts::Table;
 use ss_sayings::Saying;
 use std::alloc::{AllocError, Global};
 
 /// The class of each of some things.
 #[derive(Drop)]
 pub struct Classes {
-    map: IndexMap<Thing, Option<Name>>,
+    map: Table<Thing, Option<Name>>,
 }
 
 impl Classes {
     fn new(alloc: Global) -> Classes
-        ensures { result.map.entries ≡ [] }
+        ensures { result.map ≡ [] }
     {
         Classes {
-            map: IndexMap::new(alloc),
+            map: Table::new(alloc),
         }
     }
 
@@ -47,7 +47,7 @@ impl Classes {
     {
         match self.find(&thing) {
             None => {
-                self.map.insert(thing, class)?;
+                self.map.insert_new(thing, class)?;
             }
             Some(_) => {}
         }

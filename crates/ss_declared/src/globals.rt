@@ -13,9 +13,8 @@ ghost use Rattle.ss_declared.specs.Globals.{Tells, Adds, found_in};
 use crate::lines::sooner_if;
 use crate::things::{Things, things_said};
 use crate::topic::Topic;
-use indexmap::IndexMap;
 use ss_bytes::{Line, Name};
-use ss_firsts::Spelling;
+use ss_firsts::{Spelling, Table};
 use ss_sayings::{Said, Saying};
 use ss_tree::preamble::ClassKind;
 use std::alloc::{AllocError, Global};
@@ -63,7 +62,7 @@ pub fn may_hide(standing: Option<Standing>) -> bool
 /// where one is declared as another thing.
 #[derive(Drop)]
 pub struct Globals {
-    map: IndexMap<Spelling, Standing>,
+    map: Table<Spelling, Standing>,
     clash: Option<Line>,
 }
 
@@ -72,7 +71,7 @@ impl Globals {
         ensures { Tells [] result }
     {
         Globals {
-            map: IndexMap::new(alloc),
+            map: Table::new(alloc),
             clash: None,
         }
     }
@@ -103,7 +102,7 @@ impl Globals {
     {
         match self.find(name) {
             None => {
-                self.map.insert(name, standing)?;
+                self.map.insert_new(name, standing)?;
             }
             Some(first) => {
                 self.clash = sooner_if(self.clash, is_another(Some(first), standing), line);

@@ -12,10 +12,10 @@ ghost use Rattle.ss_declared.specs.RankKey.{is_foreign, is_misranked, rank_key};
 use crate::classes::{Classes, classes_said};
 use crate::lines::sooner_if;
 use crate::topic::{Topic, thing_of};
-use indexmap::IndexMap;
 use ss_bytes::{Line, Name};
 use ss_sayings::{Said, Saying};
 use std::alloc::{AllocError, Global};
+use std::collections::HashMap;
 
 /// The classes of the members of the sets that a DEFINE names.
 #[derive(Clone, Copy)]
@@ -55,7 +55,7 @@ fn is_foreign_to(members: &Option<Members>, key: &Option<Name>) -> bool
 /// The classes of the members of the sets of each DEFINE, by its number in the preamble.
 #[derive(Drop)]
 pub struct Ranks {
-    map: IndexMap<usize, Members>,
+    map: HashMap<usize, Members>,
 }
 
 impl Ranks {
@@ -63,7 +63,7 @@ impl Ranks {
         ensures { result.map.entries ≡ [] }
     {
         Ranks {
-            map: IndexMap::new(alloc),
+            map: HashMap::new(alloc),
         }
     }
 

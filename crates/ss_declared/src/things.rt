@@ -6,7 +6,7 @@ ghost use Rattle.ss_declared.specs.Topics.{thing_of};
 ghost use Rattle.ss_declared.specs.Things.{has_thing, with_thing, AreSaid};
 
 use crate::topic::{Thing, Topic, is_about, thing_of};
-use indexmap::IndexSet;
+use ss_firsts::Keys;
 use ss_sayings::Saying;
 use std::alloc::{AllocError, Global};
 use std::marker::Model;
@@ -14,7 +14,7 @@ use std::marker::Model;
 /// Things, each once. A contract sees their list.
 #[derive(Drop)]
 pub struct Things {
-    set: IndexSet<Thing>,
+    set: Keys<Thing>,
 }
 
 impl Model for Things {
@@ -23,7 +23,7 @@ impl Model for Things {
 
     ghost Value = { List Thing };
 
-    ghost view = { λ t. t.set.keys };
+    ghost view = { λ t. t.set };
 }
 
 impl Things {
@@ -32,7 +32,7 @@ impl Things {
         ensures { result ≡ [] }
     {
         Things {
-            set: IndexSet::new(alloc),
+            set: Keys::new(alloc),
         }
     }
 
@@ -46,8 +46,7 @@ impl Things {
     fn add(&mut self, thing: Thing) -> Result<(), AllocError>
         ensures { OnOk result (self.new ≡ with_thing self.old thing) }
     {
-        self.set.insert(thing)?;
-        Ok(())
+        self.set.insert_new(thing)
     }
 
     /// Adds what a saying is of, where it is about this.

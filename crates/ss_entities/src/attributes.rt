@@ -8,9 +8,8 @@ ghost use Rattle.ss_entities.specs.Rows.{row_of};
 ghost use Rattle.ss_sayings.specs.Sayings.{NameBytes};
 
 use crate::entry::{Attribute, Class};
-use indexmap::IndexMap;
 use ss_bytes::Name;
-use ss_firsts::is_told;
+use ss_firsts::{Table, is_told};
 use ss_sayings::{Said, Saying};
 use ss_tree::preamble::Mode;
 use std::alloc::{AllocError, Global};
@@ -19,7 +18,7 @@ use std::marker::Model;
 /// The attributes, and those of each class. A contract sees a record of both.
 #[derive(Drop)]
 pub struct Attributes {
-    entries: IndexMap<Name, Attribute>,
+    entries: Table<Name, Attribute>,
     fields: Vec<Vec<Name>>,
 }
 
@@ -30,7 +29,7 @@ impl Model for Attributes {
 
     ghost Value = { AttributesSeen };
 
-    ghost view = { λ a. record { entries = a.entries.entries; fields = map row_of a.fields.items } };
+    ghost view = { λ a. record { entries = a.entries; fields = map row_of a.fields.items } };
 }
 
 // Rows for so many classes, each without attributes.
@@ -72,16 +71,16 @@ fn row_len(rows: &[Vec<Name>], class: usize) -> usize
 }
 
 // The mode of an attribute: that of its DEFINE, or else that of NORMALLY.
-fn mode_of(usual: Option<Mode>, defined: &IndexMap<Name, Mode>, name: &Name) -> Option<Mode>
-    ensures { result ≡ mode_of usual defined.now.entries name.now }
+fn mode_of(usual: Option<Mode>, defined: &Table<Name, Mode>, name: &Name) -> Option<Mode>
+    ensures { result ≡ mode_of usual defined.now name.now }
 {
     defined.get(name).copied().or(usual)
 }
 
 impl Attributes {
     /// The attributes by their names.
-    pub fn entries(&self) -> &IndexMap<Name, Attribute>
-        ensures { result.now.entries ≡ self.now.entries }
+    pub fn entries(&self) -> &Table<Name, Attribute>
+        ensures { result.now ≡ self.now.entries }
     {
         &self.entries
     }
@@ -97,7 +96,7 @@ impl Attributes {
     pub fn place(&self, name: &Name) -> Option<usize>
         ensures { result ≡ place_in self.now.entries name.now }
     {
-        self.entries.get_index_of(name)
+        self.entries.place(name)
     }
 
     // None of so many classes.
@@ -106,7 +105,7 @@ impl Attributes {
     {
         let fields = no_fields(alloc, count)?;
         Ok(Attributes {
-            entries: IndexMap::new(alloc),
+            entries: Table::new(alloc),
             fields,
         })
     }
@@ -115,12 +114,12 @@ impl Attributes {
     fn add(
         &mut self,
         usual: Option<Mode>,
-        defined: &IndexMap<Name, Mode>,
+        defined: &Table<Name, Mode>,
         name: Name,
         class: usize,
     ) -> Result<(), AllocError>
         requires { class < length self.old.fields }
-        ensures { (owned : List (NameBytes × ℕ)) → AreAttributes usual defined.now.entries (length self.old.fields) owned self.old → OnOk result (AreAttributes usual defined.now.entries (length self.old.fields) (with_first owned (name, class)) self.new) }
+        ensures { (owned : List (NameBytes × ℕ)) → AreAttributes usual defined.now (length self.old.fields) owned self.old → OnOk result (AreAttributes usual defined.now (length self.old.fields) (with_first owned (name, class)) self.new) }
     {
         if is_told(&self.entries, &name) {
             return Ok(());
@@ -130,7 +129,7 @@ impl Attributes {
             field: row_len(&self.fields, class),
             mode: mode_of(usual, defined, &name),
         };
-        self.entries.insert(name, attribute)?;
+        self.entries.insert_new(name, attribute)?;
         add_field(&mut self.fields, class, name)
     }
 }
@@ -138,16 +137,16 @@ impl Attributes {
 // Adds an attribute, where its class is one of these.
 fn add_attribute(
     attributes: &mut Attributes,
-    classes: &IndexMap<Name, Class>,
+    classes: &Table<Name, Class>,
     usual: Option<Mode>,
-    defined: &IndexMap<Name, Mode>,
+    defined: &Table<Name, Mode>,
     name: Name,
     class: &Name,
 ) -> Result<(), AllocError>
-    requires { length attributes.old.fields ≡ length classes.now.entries }
-    ensures { (owned : List (NameBytes × ℕ)) → AreAttributes usual defined.now.entries (length attributes.old.fields) owned attributes.old → OnOk result (AreAttributes usual defined.now.entries (length attributes.old.fields) (fold with_first owned (entry_if name (place_in classes.now.entries class.now))) attributes.new) }
+    requires { length attributes.old.fields ≡ length classes.now }
+    ensures { (owned : List (NameBytes × ℕ)) → AreAttributes usual defined.now (length attributes.old.fields) owned attributes.old → OnOk result (AreAttributes usual defined.now (length attributes.old.fields) (fold with_first owned (entry_if name (place_in classes.now class.now))) attributes.new) }
 {
-    match classes.get_index_of(class) {
+    match classes.place(class) {
         Some(number) => attributes.add(usual, defined, name, number),
         None => Ok(()),
     }
@@ -156,13 +155,13 @@ fn add_attribute(
 // Adds an attribute that a saying declares.
 fn note_attribute(
     attributes: &mut Attributes,
-    classes: &IndexMap<Name, Class>,
+    classes: &Table<Name, Class>,
     usual: Option<Mode>,
-    defined: &IndexMap<Name, Mode>,
+    defined: &Table<Name, Mode>,
     saying: &Saying,
 ) -> Result<(), AllocError>
-    requires { length attributes.old.fields ≡ length classes.now.entries }
-    ensures { (owned : List (NameBytes × ℕ)) → AreAttributes usual defined.now.entries (length attributes.old.fields) owned attributes.old → OnOk result (AreAttributes usual defined.now.entries (length attributes.old.fields) (fold with_first owned (attribute_by classes.now.entries saying.now)) attributes.new) }
+    requires { length attributes.old.fields ≡ length classes.now }
+    ensures { (owned : List (NameBytes × ℕ)) → AreAttributes usual defined.now (length attributes.old.fields) owned attributes.old → OnOk result (AreAttributes usual defined.now (length attributes.old.fields) (fold with_first owned (attribute_by classes.now saying.now)) attributes.new) }
 {
     match &saying.said {
         Said::Attribute { class } => match &saying.name {
@@ -176,14 +175,14 @@ fn note_attribute(
 /// The attributes of these classes, where NORMALLY gives the usual mode and DEFINE those that are defined.
 pub fn attributes_of(
     alloc: Global,
-    classes: &IndexMap<Name, Class>,
+    classes: &Table<Name, Class>,
     usual: Option<Mode>,
-    defined: &IndexMap<Name, Mode>,
+    defined: &Table<Name, Mode>,
     sayings: &[Saying],
 ) -> Result<Attributes, AllocError>
-    ensures { IfOk result (AreAttributes usual defined.now.entries (length classes.now.entries) (firsts (flat_map (attribute_by classes.now.entries) sayings.now))) }
+    ensures { IfOk result (AreAttributes usual defined.now (length classes.now) (firsts (flat_map (attribute_by classes.now) sayings.now))) }
 {
-    let mut attributes = Attributes::none(alloc, classes.len())?;
+    let mut attributes = Attributes::none(alloc, classes.as_slice().len())?;
     for saying in sayings {
         note_attribute(&mut attributes, classes, usual, defined, saying)?;
     }

@@ -7,9 +7,8 @@ ghost use Rattle.ss_firsts.specs.Firsts.{firsts};
 
 use crate::entry::Class;
 use crate::telling::{Telling, firsts_told};
-use indexmap::IndexMap;
 use ss_bytes::Name;
-use ss_firsts::insert_first;
+use ss_firsts::{Table, insert_first};
 use ss_sayings::{Said, Saying};
 use ss_tree::preamble::Mode;
 use std::alloc::{AllocError, Global};
@@ -47,7 +46,7 @@ impl Telling for DefinedModes {
 
     // Keeps the mode that a DEFINE gives a name.
     fn note(
-        entries: &mut IndexMap<Name, Mode>,
+        entries: &mut Table<Name, Mode>,
         known: &(),
         saying: &Saying,
     ) -> Result<(), AllocError> {
@@ -62,8 +61,8 @@ impl Telling for DefinedModes {
 }
 
 /// Each name that a DEFINE gives a mode, with the first.
-pub fn defined_modes(alloc: Global, sayings: &[Saying]) -> Result<IndexMap<Name, Mode>, AllocError>
-    ensures { IfOk result (λ entries. entries.entries ≡ firsts (flat_map (defined_by) sayings.now)) }
+pub fn defined_modes(alloc: Global, sayings: &[Saying]) -> Result<Table<Name, Mode>, AllocError>
+    ensures { IfOk result (λ entries. entries ≡ firsts (flat_map (defined_by) sayings.now)) }
 {
     firsts_told::<DefinedModes>(alloc, &(), sayings)
 }
@@ -80,7 +79,7 @@ impl Telling for Classes {
 
     // Keeps a class.
     fn note(
-        entries: &mut IndexMap<Name, Class>,
+        entries: &mut Table<Name, Class>,
         known: &(),
         saying: &Saying,
     ) -> Result<(), AllocError> {
@@ -101,8 +100,8 @@ impl Telling for Classes {
 }
 
 /// The classes, in the order of the text.
-pub fn classes_of(alloc: Global, sayings: &[Saying]) -> Result<IndexMap<Name, Class>, AllocError>
-    ensures { IfOk result (λ entries. entries.entries ≡ firsts (flat_map (class_by) sayings.now)) }
+pub fn classes_of(alloc: Global, sayings: &[Saying]) -> Result<Table<Name, Class>, AllocError>
+    ensures { IfOk result (λ entries. entries ≡ firsts (flat_map (class_by) sayings.now)) }
 {
     firsts_told::<Classes>(alloc, &(), sayings)
 }

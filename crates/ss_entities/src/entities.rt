@@ -8,25 +8,25 @@ ghost use Rattle.ss_entities.specs.Entities.{AreAttributes, attribute_by, attrib
 use crate::attributes::{Attributes, attributes_of};
 use crate::classes::{classes_of, defined_modes, usual_mode};
 use crate::entry::Class;
-use indexmap::IndexMap;
 use ss_bytes::Name;
+use ss_firsts::Table;
 use ss_sayings::Saying;
 use std::alloc::{AllocError, Global};
 
 /// The classes and their attributes.
 #[derive(Drop)]
 pub struct Entities {
-    pub classes: IndexMap<Name, Class>,
+    pub classes: Table<Name, Class>,
     pub attributes: Attributes,
 }
 
 // The attributes of these classes.
 fn attributes_in(
     alloc: Global,
-    classes: &IndexMap<Name, Class>,
+    classes: &Table<Name, Class>,
     sayings: &[Saying],
 ) -> Result<Attributes, AllocError>
-    ensures { IfOk result (AreAttributes (usual_mode sayings.now) (defined_modes sayings.now) (length classes.now.entries) (firsts (flat_map (attribute_by classes.now.entries) sayings.now))) }
+    ensures { IfOk result (AreAttributes (usual_mode sayings.now) (defined_modes sayings.now) (length classes.now) (firsts (flat_map (attribute_by classes.now) sayings.now))) }
 {
     let defined = defined_modes(alloc, sayings)?;
     attributes_of(alloc, classes, usual_mode(sayings), &defined, sayings)
@@ -37,7 +37,7 @@ fn attributes_in(
 /// # Errors
 /// `AllocError` where memory is refused.
 pub fn entities_of(alloc: Global, sayings: &[Saying]) -> Result<Entities, AllocError>
-    ensures classes { IfOk result (λ e. e.classes.entries ≡ classes sayings.now) }
+    ensures classes { IfOk result (λ e. e.classes ≡ classes sayings.now) }
     ensures attributes { IfOk result (λ e. e.attributes.entries ≡ attributes sayings.now) }
     ensures fields { IfOk result (λ e. e.attributes.fields ≡ fields sayings.now) }
 {

@@ -9,8 +9,8 @@ use crate::keys::{RankedBy, TiedBy, rank_keys_of, tie_keys_of};
 use crate::making::beside;
 use crate::ranks::ranks_of;
 use crate::sections::events_of;
-use indexmap::IndexMap;
 use ss_bytes::Name;
+use ss_firsts::Table;
 use ss_sayings::Saying;
 use std::alloc::{AllocError, Global};
 use std::marker::Model;
@@ -19,8 +19,8 @@ use std::marker::Model;
 /// sets and of ties. A contract sees a record of lists.
 #[derive(Drop)]
 pub struct Notices {
-    pub events: IndexMap<Name, Event>,
-    pub ranks: IndexMap<Name, usize>,
+    pub events: Table<Name, Event>,
+    pub ranks: Table<Name, usize>,
     pub rank_keys: Vec<RankedBy>,
     pub tie_keys: Vec<TiedBy>,
 }
@@ -30,16 +30,16 @@ impl Model for Notices {
 
     ghost Value = { NoticesSeen };
 
-    ghost view = { λ n. record { events = n.events.entries; ranks = n.ranks.entries; rank_keys = n.rank_keys.items; tie_keys = n.tie_keys.items } };
+    ghost view = { λ n. record { events = n.events; ranks = n.ranks; rank_keys = n.rank_keys.items; tie_keys = n.tie_keys.items } };
 }
 
 /// What some sayings tell of notices and keys, where these are their classes.
 pub fn notices_of(
     alloc: Global,
-    classes: &IndexMap<Name, Class>,
+    classes: &Table<Name, Class>,
     sayings: &[Saying],
 ) -> Result<Notices, AllocError>
-    requires { classes.now.entries ≡ classes_said sayings.now }
+    requires { classes.now ≡ classes_said sayings.now }
     ensures { IfOk result (λ n. n ≡ notices sayings.now) }
 {
     let events = events_of(alloc, sayings)?;

@@ -7,9 +7,8 @@ ghost use Rattle.ss_entities.specs.Variables.{declared_by, is_notice_kind, is_no
 
 use crate::entry::Class;
 use crate::telling::{Telling, firsts_told, more_told};
-use indexmap::IndexMap;
 use ss_bytes::Name;
-use ss_firsts::insert_if;
+use ss_firsts::{Table, insert_if};
 use ss_sayings::{Said, Saying};
 use ss_tree::preamble::ClassKind;
 use std::alloc::{AllocError, Global};
@@ -26,8 +25,8 @@ fn is_notice_kind(kind: ClassKind) -> bool
 }
 
 // Whether a name is that of a class of notices.
-fn is_notice(classes: &IndexMap<Name, Class>, name: &Name) -> bool
-    ensures { result ≡ is_notice_class (told_of classes.now.entries name.now) }
+fn is_notice(classes: &Table<Name, Class>, name: &Name) -> bool
+    ensures { result ≡ is_notice_class (told_of classes.now name.now) }
 {
     match classes.get(name).copied() {
         None => false,
@@ -37,14 +36,14 @@ fn is_notice(classes: &IndexMap<Name, Class>, name: &Name) -> bool
 
 // Keeps a class of notices with its number.
 fn insert_notice(
-    entries: &mut IndexMap<Name, usize>,
-    classes: &IndexMap<Name, Class>,
+    entries: &mut Table<Name, usize>,
+    classes: &Table<Name, Class>,
     name: &Name,
 ) -> Result<(), AllocError>
-    ensures { OnOk result (entries.new.entries ≡ fold with_first entries.old.entries (notice classes.now.entries name.now)) }
+    ensures { OnOk result (entries.new ≡ fold with_first entries.old (notice classes.now name.now)) }
 {
     if is_notice(classes, name) {
-        insert_if(entries, *name, classes.get_index_of(name))
+        insert_if(entries, *name, classes.place(name))
     } else {
         Ok(())
     }
@@ -56,14 +55,14 @@ struct Priorities;
 impl Telling for Priorities {
     type Told = usize;
 
-    type Known = IndexMap<Name, Class>;
+    type Known = Table<Name, Class>;
 
-    ghost tells = { λ classes. priority_by classes.entries };
+    ghost tells = { λ classes. priority_by classes };
 
     // Keeps a class of notices that PRIORITY ORDER names.
     fn note(
-        entries: &mut IndexMap<Name, usize>,
-        classes: &IndexMap<Name, Class>,
+        entries: &mut Table<Name, usize>,
+        classes: &Table<Name, Class>,
         saying: &Saying,
     ) -> Result<(), AllocError> {
         match &saying.said {
@@ -82,14 +81,14 @@ struct Declared;
 impl Telling for Declared {
     type Told = usize;
 
-    type Known = IndexMap<Name, Class>;
+    type Known = Table<Name, Class>;
 
-    ghost tells = { λ classes. declared_by classes.entries };
+    ghost tells = { λ classes. declared_by classes };
 
     // Keeps a class of notices that is declared.
     fn note(
-        entries: &mut IndexMap<Name, usize>,
-        classes: &IndexMap<Name, Class>,
+        entries: &mut Table<Name, usize>,
+        classes: &Table<Name, Class>,
         saying: &Saying,
     ) -> Result<(), AllocError> {
         match &saying.said {
@@ -106,10 +105,10 @@ impl Telling for Declared {
 /// declared.
 pub fn ranks_of(
     alloc: Global,
-    classes: &IndexMap<Name, Class>,
+    classes: &Table<Name, Class>,
     sayings: &[Saying],
-) -> Result<IndexMap<Name, usize>, AllocError>
-    ensures { IfOk result (λ entries. entries.entries ≡ ranks_among classes.now.entries sayings.now) }
+) -> Result<Table<Name, usize>, AllocError>
+    ensures { IfOk result (λ entries. entries ≡ ranks_among classes.now sayings.now) }
 {
     let first = firsts_told::<Priorities>(alloc, classes, sayings)?;
     more_told::<Declared>(first, classes, sayings)

@@ -7,9 +7,8 @@ ghost use Rattle.ss_entities.specs.Variables.{event_by, routine_by};
 
 use crate::entry::{Event, Routine};
 use crate::telling::{Telling, firsts_told};
-use indexmap::IndexMap;
 use ss_bytes::Name;
-use ss_firsts::insert_first;
+use ss_firsts::{Table, insert_first};
 use ss_sayings::{Said, Saying};
 use std::alloc::{AllocError, Global};
 
@@ -25,7 +24,7 @@ impl Telling for Routines {
 
     // Keeps a routine.
     fn note(
-        entries: &mut IndexMap<Name, Routine>,
+        entries: &mut Table<Name, Routine>,
         known: &(),
         saying: &Saying,
     ) -> Result<(), AllocError> {
@@ -51,8 +50,8 @@ impl Telling for Routines {
 }
 
 /// The routines, in the order of the text.
-pub fn routines_of(alloc: Global, sayings: &[Saying]) -> Result<IndexMap<Name, Routine>, AllocError>
-    ensures { IfOk result (λ entries. entries.entries ≡ firsts (flat_map (routine_by) sayings.now)) }
+pub fn routines_of(alloc: Global, sayings: &[Saying]) -> Result<Table<Name, Routine>, AllocError>
+    ensures { IfOk result (λ entries. entries ≡ firsts (flat_map (routine_by) sayings.now)) }
 {
     firsts_told::<Routines>(alloc, &(), sayings)
 }
@@ -69,7 +68,7 @@ impl Telling for Events {
 
     // Keeps an EVENT section.
     fn note(
-        entries: &mut IndexMap<Name, Event>,
+        entries: &mut Table<Name, Event>,
         known: &(),
         saying: &Saying,
     ) -> Result<(), AllocError> {
@@ -95,8 +94,8 @@ impl Telling for Events {
 }
 
 /// The EVENT sections, by the names that they have.
-pub fn events_of(alloc: Global, sayings: &[Saying]) -> Result<IndexMap<Name, Event>, AllocError>
-    ensures { IfOk result (λ entries. entries.entries ≡ firsts (flat_map (event_by) sayings.now)) }
+pub fn events_of(alloc: Global, sayings: &[Saying]) -> Result<Table<Name, Event>, AllocError>
+    ensures { IfOk result (λ entries. entries ≡ firsts (flat_map (event_by) sayings.now)) }
 {
     firsts_told::<Events>(alloc, &(), sayings)
 }

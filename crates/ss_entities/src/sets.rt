@@ -7,10 +7,9 @@ ghost use Rattle.ss_firsts.specs.Firsts.{each_once, firsts, with_name, with_name
 
 use crate::entry::{Class, Ordering, Set};
 use crate::telling::{Telling, firsts_told};
-use indexmap::{IndexMap, IndexSet};
 use ss_base::Owner;
 use ss_bytes::Name;
-use ss_firsts::{insert_first, insert_if};
+use ss_firsts::{Keys, Table, insert_first, insert_if};
 use ss_sayings::{Said, Saying};
 use std::alloc::{AllocError, Global};
 
@@ -20,14 +19,14 @@ struct Owners;
 impl Telling for Owners {
     type Told = Owner;
 
-    type Known = IndexMap<Name, Class>;
+    type Known = Table<Name, Class>;
 
-    ghost tells = { λ classes. owner_by classes.entries };
+    ghost tells = { λ classes. owner_by classes };
 
     // Keeps the owner of a set.
     fn note(
-        entries: &mut IndexMap<Name, Owner>,
-        classes: &IndexMap<Name, Class>,
+        entries: &mut Table<Name, Owner>,
+        classes: &Table<Name, Class>,
         saying: &Saying,
     ) -> Result<(), AllocError> {
         match &saying.said {
@@ -36,11 +35,7 @@ impl Telling for Owners {
                 None => Ok(()),
             },
             Said::OwnedSet { class } => match &saying.name {
-                Some(name) => insert_if(
-                    entries,
-                    *name,
-                    classes.get_index_of(class).map(Owner::Class),
-                ),
+                Some(name) => insert_if(entries, *name, classes.place(class).map(Owner::Class)),
                 None => Ok(()),
             },
             _ => Ok(()),
@@ -51,10 +46,10 @@ impl Telling for Owners {
 /// Each set that has an owner, with the first.
 pub fn owners_of(
     alloc: Global,
-    classes: &IndexMap<Name, Class>,
+    classes: &Table<Name, Class>,
     sayings: &[Saying],
-) -> Result<IndexMap<Name, Owner>, AllocError>
-    ensures { IfOk result (λ entries. entries.entries ≡ firsts (flat_map (owner_by classes.now.entries) sayings.now)) }
+) -> Result<Table<Name, Owner>, AllocError>
+    ensures { IfOk result (λ entries. entries ≡ firsts (flat_map (owner_by classes.now) sayings.now)) }
 {
     firsts_told::<Owners>(alloc, classes, sayings)
 }
@@ -65,19 +60,19 @@ struct Members;
 impl Telling for Members {
     type Told = usize;
 
-    type Known = IndexMap<Name, Class>;
+    type Known = Table<Name, Class>;
 
-    ghost tells = { λ classes. member_by classes.entries };
+    ghost tells = { λ classes. member_by classes };
 
     // Keeps the class of the members of a set.
     fn note(
-        entries: &mut IndexMap<Name, usize>,
-        classes: &IndexMap<Name, Class>,
+        entries: &mut Table<Name, usize>,
+        classes: &Table<Name, Class>,
         saying: &Saying,
     ) -> Result<(), AllocError> {
         match &saying.said {
             Said::MemberSet { class } => match &saying.name {
-                Some(name) => insert_if(entries, *name, classes.get_index_of(class)),
+                Some(name) => insert_if(entries, *name, classes.place(class)),
                 None => Ok(()),
             },
             _ => Ok(()),
@@ -88,10 +83,10 @@ impl Telling for Members {
 /// Each set that has members, with the number of their class.
 pub fn members_of(
     alloc: Global,
-    classes: &IndexMap<Name, Class>,
+    classes: &Table<Name, Class>,
     sayings: &[Saying],
-) -> Result<IndexMap<Name, usize>, AllocError>
-    ensures { IfOk result (λ entries. entries.entries ≡ firsts (flat_map (member_by classes.now.entries) sayings.now)) }
+) -> Result<Table<Name, usize>, AllocError>
+    ensures { IfOk result (λ entries. entries ≡ firsts (flat_map (member_by classes.now) sayings.now)) }
 {
     firsts_told::<Members>(alloc, classes, sayings)
 }
@@ -108,7 +103,7 @@ impl Telling for Orderings {
 
     // Keeps how a DEFINE orders a set.
     fn note(
-        entries: &mut IndexMap<Name, Ordering>,
+        entries: &mut Table<Name, Ordering>,
         known: &(),
         saying: &Saying,
     ) -> Result<(), AllocError> {
@@ -129,22 +124,19 @@ impl Telling for Orderings {
 }
 
 /// Each name that a DEFINE orders as a set, with the first.
-pub fn orderings_of(
-    alloc: Global,
-    sayings: &[Saying],
-) -> Result<IndexMap<Name, Ordering>, AllocError>
-    ensures { IfOk result (λ entries. entries.entries ≡ firsts (flat_map (ordering_by) sayings.now)) }
+pub fn orderings_of(alloc: Global, sayings: &[Saying]) -> Result<Table<Name, Ordering>, AllocError>
+    ensures { IfOk result (λ entries. entries ≡ firsts (flat_map (ordering_by) sayings.now)) }
 {
     firsts_told::<Orderings>(alloc, &(), sayings)
 }
 
 // Adds a name, unless it is there.
-fn add_name(names: &mut IndexSet<Name>, name: &Option<Name>) -> Result<(), AllocError>
-    ensures { OnOk result (names.new.keys ≡ with_name_if names.old.keys name.now) }
+fn add_name(names: &mut Keys<Name>, name: &Option<Name>) -> Result<(), AllocError>
+    ensures { OnOk result (names.new ≡ with_name_if names.old name.now) }
 {
     match name {
         Some(name) => {
-            names.insert_full(*name)?;
+            names.insert_new(*name)?;
             Ok(())
         }
         None => Ok(()),
@@ -152,8 +144,8 @@ fn add_name(names: &mut IndexSet<Name>, name: &Option<Name>) -> Result<(), Alloc
 }
 
 // Adds a set that is owned or belonged to.
-fn note_set(names: &mut IndexSet<Name>, saying: &Saying) -> Result<(), AllocError>
-    ensures { OnOk result (names.new.keys ≡ fold with_name names.old.keys (set_by saying.now)) }
+fn note_set(names: &mut Keys<Name>, saying: &Saying) -> Result<(), AllocError>
+    ensures { OnOk result (names.new ≡ fold with_name names.old (set_by saying.now)) }
 {
     match &saying.said {
         Said::SystemSet => add_name(names, &saying.name),
@@ -164,10 +156,10 @@ fn note_set(names: &mut IndexSet<Name>, saying: &Saying) -> Result<(), AllocErro
 }
 
 /// The sets, in the order of the text.
-pub fn set_names(alloc: Global, sayings: &[Saying]) -> Result<IndexSet<Name>, AllocError>
-    ensures { IfOk result (λ names. names.keys ≡ each_once (flat_map set_by sayings.now)) }
+pub fn set_names(alloc: Global, sayings: &[Saying]) -> Result<Keys<Name>, AllocError>
+    ensures { IfOk result (λ names. names ≡ each_once (flat_map set_by sayings.now)) }
 {
-    let mut names = IndexSet::new(alloc);
+    let mut names = Keys::new(alloc);
     for saying in sayings {
         note_set(&mut names, saying)?;
     }
@@ -176,12 +168,12 @@ pub fn set_names(alloc: Global, sayings: &[Saying]) -> Result<IndexSet<Name>, Al
 
 // What is told of a set.
 fn set_of(
-    owners: &IndexMap<Name, Owner>,
-    members: &IndexMap<Name, usize>,
-    orderings: &IndexMap<Name, Ordering>,
+    owners: &Table<Name, Owner>,
+    members: &Table<Name, usize>,
+    orderings: &Table<Name, Ordering>,
     name: &Name,
 ) -> Set
-    ensures { result ≡ set_of owners.now.entries members.now.entries orderings.now.entries name.now }
+    ensures { result ≡ set_of owners.now members.now orderings.now name.now }
 {
     Set {
         owner: owners.get(name).copied(),
@@ -193,12 +185,12 @@ fn set_of(
 /// What is told of each of these sets.
 pub fn sets_of(
     alloc: Global,
-    owners: &IndexMap<Name, Owner>,
-    members: &IndexMap<Name, usize>,
-    orderings: &IndexMap<Name, Ordering>,
+    owners: &Table<Name, Owner>,
+    members: &Table<Name, usize>,
+    orderings: &Table<Name, Ordering>,
     names: &[Name],
 ) -> Result<Vec<Set>, AllocError>
-    ensures { IfOk result (λ sets. sets.items ≡ map (set_of owners.now.entries members.now.entries orderings.now.entries) names.now) }
+    ensures { IfOk result (λ sets. sets.items ≡ map (set_of owners.now members.now orderings.now) names.now) }
 {
     let mut sets = Vec::new(alloc);
     for name in names {
@@ -210,12 +202,12 @@ pub fn sets_of(
 // The sets of these names, where this is told of their owners and members.
 fn ordered_sets(
     alloc: Global,
-    owners: &IndexMap<Name, Owner>,
-    members: &IndexMap<Name, usize>,
-    names: &IndexSet<Name>,
+    owners: &Table<Name, Owner>,
+    members: &Table<Name, usize>,
+    names: &Keys<Name>,
     sayings: &[Saying],
 ) -> Result<Vec<Set>, AllocError>
-    ensures { IfOk result (λ out. out.items ≡ map (set_of owners.now.entries members.now.entries (orderings_said sayings.now)) names.now.keys) }
+    ensures { IfOk result (λ out. out.items ≡ map (set_of owners.now members.now (orderings_said sayings.now)) names.now) }
 {
     let orderings = orderings_of(alloc, sayings)?;
     sets_of(alloc, owners, members, &orderings, names.as_slice())
@@ -224,12 +216,12 @@ fn ordered_sets(
 // The sets of these names, where this is told of their owners.
 fn owned_sets(
     alloc: Global,
-    classes: &IndexMap<Name, Class>,
-    owners: &IndexMap<Name, Owner>,
-    names: &IndexSet<Name>,
+    classes: &Table<Name, Class>,
+    owners: &Table<Name, Owner>,
+    names: &Keys<Name>,
     sayings: &[Saying],
 ) -> Result<Vec<Set>, AllocError>
-    ensures { IfOk result (λ out. out.items ≡ map (set_of owners.now.entries (firsts (flat_map (member_by classes.now.entries) sayings.now)) (orderings_said sayings.now)) names.now.keys) }
+    ensures { IfOk result (λ out. out.items ≡ map (set_of owners.now (firsts (flat_map (member_by classes.now) sayings.now)) (orderings_said sayings.now)) names.now) }
 {
     let members = members_of(alloc, classes, sayings)?;
     ordered_sets(alloc, owners, &members, names, sayings)
@@ -238,12 +230,12 @@ fn owned_sets(
 /// The sets of these names, where these are the classes.
 pub fn sets_in(
     alloc: Global,
-    classes: &IndexMap<Name, Class>,
-    names: &IndexSet<Name>,
+    classes: &Table<Name, Class>,
+    names: &Keys<Name>,
     sayings: &[Saying],
 ) -> Result<Vec<Set>, AllocError>
-    requires classes { classes.now.entries ≡ classes_said sayings.now }
-    requires names { names.now.keys ≡ set_names_said sayings.now }
+    requires classes { classes.now ≡ classes_said sayings.now }
+    requires names { names.now ≡ set_names_said sayings.now }
     ensures { IfOk result (λ out. out.items ≡ sets_said sayings.now) }
 {
     let owners = owners_of(alloc, classes, sayings)?;

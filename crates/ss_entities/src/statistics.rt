@@ -8,9 +8,8 @@ ghost use Rattle.ss_entities.specs.Statistics.{statistic_by, statistic_of, stati
 use crate::entry::Statistic;
 use crate::making::beside;
 use crate::telling::{Telling, firsts_told};
-use indexmap::IndexMap;
 use ss_bytes::Name;
-use ss_firsts::insert_first;
+use ss_firsts::{Table, insert_first};
 use ss_sayings::{Said, Saying};
 use ss_tree::preamble::{StatisticKind, Weighting};
 use std::alloc::{AllocError, Global};
@@ -27,7 +26,7 @@ impl Telling for Weighings {
 
     // Keeps what a TALLY or an ACCUMULATE is of.
     fn note(
-        entries: &mut IndexMap<Name, Weighting>,
+        entries: &mut Table<Name, Weighting>,
         known: &(),
         saying: &Saying,
     ) -> Result<(), AllocError> {
@@ -42,23 +41,20 @@ impl Telling for Weighings {
 }
 
 /// What TALLY and ACCUMULATE name behind OF, each with how the first of them weighs its values.
-pub fn weighings_of(
-    alloc: Global,
-    sayings: &[Saying],
-) -> Result<IndexMap<Name, Weighting>, AllocError>
-    ensures { IfOk result (λ entries. entries.entries ≡ firsts (flat_map (weighing_by) sayings.now)) }
+pub fn weighings_of(alloc: Global, sayings: &[Saying]) -> Result<Table<Name, Weighting>, AllocError>
+    ensures { IfOk result (λ entries. entries ≡ firsts (flat_map (weighing_by) sayings.now)) }
 {
     firsts_told::<Weighings>(alloc, &(), sayings)
 }
 
 // Keeps a statistic, where its subject has a history.
 fn insert_statistic(
-    entries: &mut IndexMap<Name, Statistic>,
+    entries: &mut Table<Name, Statistic>,
     kind: StatisticKind,
     name: Name,
     history: Option<usize>,
 ) -> Result<(), AllocError>
-    ensures { OnOk result (entries.new.entries ≡ fold with_first entries.old.entries (statistic_of kind name history)) }
+    ensures { OnOk result (entries.new ≡ fold with_first entries.old (statistic_of kind name history)) }
 {
     match history {
         Some(history) => insert_first(entries, name, Statistic { history, kind }),
@@ -72,24 +68,19 @@ struct Statistics;
 impl Telling for Statistics {
     type Told = Statistic;
 
-    type Known = IndexMap<Name, Weighting>;
+    type Known = Table<Name, Weighting>;
 
-    ghost tells = { λ weighings. statistic_by weighings.entries };
+    ghost tells = { λ weighings. statistic_by weighings };
 
     // Keeps a statistic.
     fn note(
-        entries: &mut IndexMap<Name, Statistic>,
-        weighings: &IndexMap<Name, Weighting>,
+        entries: &mut Table<Name, Statistic>,
+        weighings: &Table<Name, Weighting>,
         saying: &Saying,
     ) -> Result<(), AllocError> {
         match &saying.said {
             Said::Statistic { kind, subject, .. } => match &saying.name {
-                Some(name) => insert_statistic(
-                    entries,
-                    *kind,
-                    *name,
-                    weighings.get_index_of(subject),
-                ),
+                Some(name) => insert_statistic(entries, *kind, *name, weighings.place(subject)),
                 None => Ok(()),
             },
             _ => Ok(()),
@@ -100,10 +91,10 @@ impl Telling for Statistics {
 /// The statistics, in the order of the text.
 pub fn statistics_of(
     alloc: Global,
-    weighings: &IndexMap<Name, Weighting>,
+    weighings: &Table<Name, Weighting>,
     sayings: &[Saying],
-) -> Result<IndexMap<Name, Statistic>, AllocError>
-    ensures { IfOk result (λ entries. entries.entries ≡ firsts (flat_map (statistic_by weighings.now.entries) sayings.now)) }
+) -> Result<Table<Name, Statistic>, AllocError>
+    ensures { IfOk result (λ entries. entries ≡ firsts (flat_map (statistic_by weighings.now) sayings.now)) }
 {
     firsts_told::<Statistics>(alloc, weighings, sayings)
 }
@@ -111,8 +102,8 @@ pub fn statistics_of(
 /// What TALLY and ACCUMULATE say: what they are of, and the statistics.
 #[derive(Drop)]
 pub struct Tellings {
-    pub weighings: IndexMap<Name, Weighting>,
-    pub statistics: IndexMap<Name, Statistic>,
+    pub weighings: Table<Name, Weighting>,
+    pub statistics: Table<Name, Statistic>,
 }
 
 /// What TALLY and ACCUMULATE say, where this is said.
@@ -120,8 +111,8 @@ pub struct Tellings {
 /// # Errors
 /// `AllocError` where memory is refused.
 pub fn tellings_of(alloc: Global, sayings: &[Saying]) -> Result<Tellings, AllocError>
-    ensures weighings { IfOk result (λ t. t.weighings.entries ≡ weighings sayings.now) }
-    ensures statistics { IfOk result (λ t. t.statistics.entries ≡ statistics sayings.now) }
+    ensures weighings { IfOk result (λ t. t.weighings ≡ weighings sayings.now) }
+    ensures statistics { IfOk result (λ t. t.statistics ≡ statistics sayings.now) }
 {
     let weighings = weighings_of(alloc, sayings)?;
     let statistics = statistics_of(alloc, &weighings, sayings);

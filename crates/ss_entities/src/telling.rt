@@ -6,8 +6,8 @@ ghost use Rattle.ss_firsts.specs.Firsts.{firsts, with_first};
 ghost use Rattle.ss_sayings.specs.Sayings.{NameBytes};
 ghost use Rattle.ss_sayings.specs.declared.saying.Saying.{Saying as SayingSeen};
 
-use indexmap::IndexMap;
 use ss_bytes::Name;
+use ss_firsts::Table;
 use ss_sayings::Saying;
 use std::alloc::{AllocError, Global};
 
@@ -23,20 +23,20 @@ pub trait Telling {
 
     /// Keeps what a saying tells.
     fn note(
-        entries: &mut IndexMap<Name, Self::Told>,
+        entries: &mut Table<Name, Self::Told>,
         known: &Self::Known,
         saying: &Saying,
     ) -> Result<(), AllocError>
-        ensures { OnOk result (entries.new.entries ≡ fold with_first entries.old.entries (tells known.now saying.now)) };
+        ensures { OnOk result (entries.new ≡ fold with_first entries.old (tells known.now saying.now)) };
 }
 
 /// These entries, and the first of what these sayings tell of each other name.
 pub fn more_told<T: Telling>(
-    entries: IndexMap<Name, T::Told>,
+    entries: Table<Name, T::Told>,
     known: &T::Known,
     sayings: &[Saying],
-) -> Result<IndexMap<Name, T::Told>, AllocError>
-    ensures { IfOk result (λ all. all.entries ≡ fold with_first entries.entries (flat_map (T.tells known.now) sayings.now)) }
+) -> Result<Table<Name, T::Told>, AllocError>
+    ensures { IfOk result (λ all. all ≡ fold with_first entries (flat_map (T.tells known.now) sayings.now)) }
 {
     let mut all = entries;
     for saying in sayings {
@@ -50,8 +50,8 @@ pub fn firsts_told<T: Telling>(
     alloc: Global,
     known: &T::Known,
     sayings: &[Saying],
-) -> Result<IndexMap<Name, T::Told>, AllocError>
-    ensures { IfOk result (λ entries. entries.entries ≡ firsts (flat_map (T.tells known.now) sayings.now)) }
+) -> Result<Table<Name, T::Told>, AllocError>
+    ensures { IfOk result (λ entries. entries ≡ firsts (flat_map (T.tells known.now) sayings.now)) }
 {
-    more_told::<T>(IndexMap::new(alloc), known, sayings)
+    more_told::<T>(Table::new(alloc), known, sayings)
 }

@@ -8,20 +8,19 @@ ghost use Rattle.ss_entities.specs.declared.entry.VariableKind.TheVariants.{Defi
 ghost use Rattle.ss_tree.specs.declared.preamble.Mode.TheVariants.{Integer};
 
 use crate::entry::{Attribute, Class, Variable, VariableKind};
-use indexmap::IndexMap;
 use ss_bytes::Name;
-use ss_firsts::{Spelling, insert_spelled, is_told};
+use ss_firsts::{Spelling, Table, insert_spelled, is_told};
 use ss_sayings::{Said, Saying};
 use ss_tree::preamble::{ClassKind, Mode};
 use std::alloc::{AllocError, Global};
 
 // Keeps the variable of a class.
 fn insert_class(
-    entries: &mut IndexMap<Spelling, Variable>,
+    entries: &mut Table<Spelling, Variable>,
     name: &Name,
     class: usize,
 ) -> Result<(), AllocError>
-    ensures { OnOk result (entries.new.entries ≡ with_first entries.old.entries (name.now, record { kind = OfClass class; mode = Integer })) }
+    ensures { OnOk result (entries.new ≡ with_first entries.old (name.now, record { kind = OfClass class; mode = Integer })) }
 {
     let variable = Variable {
         kind: VariableKind::OfClass(class),
@@ -32,11 +31,11 @@ fn insert_class(
 
 // Keeps N. of a class.
 fn insert_count(
-    entries: &mut IndexMap<Spelling, Variable>,
+    entries: &mut Table<Spelling, Variable>,
     name: &Name,
     class: usize,
 ) -> Result<(), AllocError>
-    ensures { OnOk result (entries.new.entries ≡ with_first entries.old.entries (count_name name.now, record { kind = CountOf class; mode = Integer })) }
+    ensures { OnOk result (entries.new ≡ with_first entries.old (count_name name.now, record { kind = CountOf class; mode = Integer })) }
 {
     let variable = Variable {
         kind: VariableKind::CountOf(class),
@@ -47,12 +46,12 @@ fn insert_count(
 
 // Keeps the variables of a class: that of its name, and N. of it where it is permanent.
 fn insert_class_variables(
-    entries: &mut IndexMap<Spelling, Variable>,
+    entries: &mut Table<Spelling, Variable>,
     kind: ClassKind,
     name: &Name,
     class: Option<usize>,
 ) -> Result<(), AllocError>
-    ensures { OnOk result (entries.new.entries ≡ fold with_first entries.old.entries (class_variables kind name.now class)) }
+    ensures { OnOk result (entries.new ≡ fold with_first entries.old (class_variables kind name.now class)) }
 {
     match class {
         None => Ok(()),
@@ -69,12 +68,12 @@ fn insert_class_variables(
 
 // Keeps the variable of a DEFINE, unless it is an attribute.
 fn insert_defined(
-    entries: &mut IndexMap<Spelling, Variable>,
-    attributes: &IndexMap<Name, Attribute>,
+    entries: &mut Table<Spelling, Variable>,
+    attributes: &Table<Name, Attribute>,
     name: &Name,
     mode: Mode,
 ) -> Result<(), AllocError>
-    ensures { OnOk result (entries.new.entries ≡ fold with_first entries.old.entries (if is_some (told_of attributes.now.entries name.now) then [] else (name.now, record { kind = Defined; mode = mode }) ∷ [])) }
+    ensures { OnOk result (entries.new ≡ fold with_first entries.old (if is_some (told_of attributes.now name.now) then [] else (name.now, record { kind = Defined; mode = mode }) ∷ [])) }
 {
     let variable = Variable {
         kind: VariableKind::Defined,
@@ -89,12 +88,12 @@ fn insert_defined(
 
 // Keeps the variables that a saying declares.
 fn note_variable(
-    entries: &mut IndexMap<Spelling, Variable>,
-    classes: &IndexMap<Name, Class>,
-    attributes: &IndexMap<Name, Attribute>,
+    entries: &mut Table<Spelling, Variable>,
+    classes: &Table<Name, Class>,
+    attributes: &Table<Name, Attribute>,
     saying: &Saying,
 ) -> Result<(), AllocError>
-    ensures { OnOk result (entries.new.entries ≡ fold with_first entries.old.entries (variable_by classes.now.entries attributes.now.entries saying.now)) }
+    ensures { OnOk result (entries.new ≡ fold with_first entries.old (variable_by classes.now attributes.now saying.now)) }
 {
     match &saying.said {
         Said::Variable { mode } => match &saying.name {
@@ -102,7 +101,7 @@ fn note_variable(
             None => Ok(()),
         },
         Said::Class { kind } => match &saying.name {
-            Some(name) => insert_class_variables(entries, *kind, name, classes.get_index_of(name)),
+            Some(name) => insert_class_variables(entries, *kind, name, classes.place(name)),
             None => Ok(()),
         },
         _ => Ok(()),
@@ -112,13 +111,13 @@ fn note_variable(
 /// The global variables: those of DEFINE, the variable of each class, and N. of each permanent class.
 pub fn variables_of(
     alloc: Global,
-    classes: &IndexMap<Name, Class>,
-    attributes: &IndexMap<Name, Attribute>,
+    classes: &Table<Name, Class>,
+    attributes: &Table<Name, Attribute>,
     sayings: &[Saying],
-) -> Result<IndexMap<Spelling, Variable>, AllocError>
-    ensures { IfOk result (λ entries. entries.entries ≡ firsts (flat_map (variable_by classes.now.entries attributes.now.entries) sayings.now)) }
+) -> Result<Table<Spelling, Variable>, AllocError>
+    ensures { IfOk result (λ entries. entries ≡ firsts (flat_map (variable_by classes.now attributes.now) sayings.now)) }
 {
-    let mut entries = IndexMap::new(alloc);
+    let mut entries = Table::new(alloc);
     for saying in sayings {
         note_variable(&mut entries, classes, attributes, saying)?;
     }

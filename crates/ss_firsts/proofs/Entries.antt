@@ -1,5 +1,5 @@
 -- Entries by their places and by their names, and the first of each name.
-use Rattle.std.proofs.Common.{◌≡◌, ℕ, zero, suc, ◌+◌, ◌<◌, Bool, true, false, not, cond, nat_lt, List, [], ◌∷◌, ◌++◌, length, Option, Some, None, refl, sym, ap, subst, ◌∙◌, arith}
+use Rattle.std.proofs.Common.{◌≡◌, ℕ, zero, suc, ◌+◌, ◌<◌, Bool, true, false, not, cond, nat_lt, List, [], ◌∷◌, ◌++◌, length, Option, Some, None, is_some, refl, sym, ap, subst, ◌∙◌, arith}
 use Rattle.std.specs.Prelude.{slice_get, option_map}
 use Rattle.std.specs.List.{AllByRecursion as Every, IsDistinct, fold, position_or_len}
 use Rattle.std.specs.Option.{option_or}
@@ -200,3 +200,8 @@ module _ {V : Type 0} where
   -- of each name the first entry is told
   pub told_first : (all : List (List ℕ × V)) (name : List ℕ) → told_of (firsts all) name ≡ told_of all name
   told_first all name = told_folded [] all name
+
+-- an entry more where nothing is told of its name yet
+pub beside_if : {V : Type 0} (es : List (List ℕ × V)) (e : List ℕ × V) (told : Option V) → cond (is_some told) es (es ++ e ∷ []) ≡ entry_beside es e told
+beside_if es e None = refl
+beside_if es e (Some v) = refl

@@ -9,8 +9,8 @@ ghost use Rattle.ss_uses.specs.Seen.{uses_seen};
 ghost use Rattle.ss_uses.specs.Uses.{uses_of};
 ghost use Rattle.ss_scopes.specs.Whole.{locals_of};
 
-use indexmap::IndexSet;
 use ss_bytes::{Line, Name};
+use ss_firsts::Keys;
 use ss_scopes::{Globals, Locals};
 use ss_tree::program::{Program, Section};
 use ss_uses::events::{event_names, has_main};
@@ -54,11 +54,11 @@ fn first_in_program(rule: Rule, sections: &[Section]) -> Option<Line>
 fn first_line<G: Globals>(
     program: &Program,
     globals: &G,
-    events: &IndexSet<Name>,
+    events: &Keys<Name>,
     all: &[SectionUses],
     rule: Rule,
 ) -> Option<Line>
-    ensures { result ≡ first_of (lines_in (G.whole globals.now) (view_program program.now) (lacks_event events.now.keys) (map uses_seen all.now) rule) }
+    ensures { result ≡ first_of (lines_in (G.whole globals.now) (view_program program.now) (lacks_event events.now) (map uses_seen all.now) rule) }
 {
     let here = first_in_program(rule, &program.sections);
     let told = first_in_preamble(globals, events, rule, &program.preamble);
@@ -70,11 +70,11 @@ fn first_line<G: Globals>(
 fn first_broken<G: Globals>(
     program: &Program,
     globals: &G,
-    events: &IndexSet<Name>,
+    events: &Keys<Name>,
     all: &[SectionUses],
     rules: &[Rule],
 ) -> Option<Broken>
-    ensures { result ≡ first_broken (lines_in (G.whole globals.now) (view_program program.now) (lacks_event events.now.keys) (map uses_seen all.now)) rules.now }
+    ensures { result ≡ first_broken (lines_in (G.whole globals.now) (view_program program.now) (lacks_event events.now) (map uses_seen all.now)) rules.now }
 {
     for rule in rules {
         if let Some(line) = first_line(program, globals, events, all, *rule) {

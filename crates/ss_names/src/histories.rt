@@ -6,8 +6,8 @@ ghost use Rattle.ss_names.specs.Histories.{history_of, subject_of};
 
 use crate::meaning::{Derived, History, Meaning, Subject};
 use crate::meanings::Meanings;
-use indexmap::IndexMap;
 use ss_bytes::Name;
+use ss_firsts::Table;
 use ss_tree::preamble::Weighting;
 use std::alloc::{AllocError, Global};
 
@@ -42,12 +42,12 @@ fn history_of(names: &Meanings, name: &Name, weighting: Weighting) -> History
 pub fn histories_of(
     alloc: Global,
     names: &Meanings,
-    weighings: &IndexMap<Name, Weighting>,
+    weighings: &Table<Name, Weighting>,
 ) -> Result<Vec<History>, AllocError>
-    ensures { IfOk result (λ out. out.items ≡ map (history_of names.now) weighings.now.entries) }
+    ensures { IfOk result (λ out. out.items ≡ map (history_of names.now) weighings.now) }
 {
     let mut out = Vec::new(alloc);
-    for (name, weighting) in weighings.iter() {
+    for (name, weighting) in weighings.as_slice() {
         out.push(history_of(names, name, *weighting))?;
     }
     Ok(out)

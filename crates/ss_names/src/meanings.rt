@@ -10,9 +10,8 @@ ghost use Rattle.ss_entities.specs.Variables.{count_name};
 
 use crate::meaning::{Derived, Meaning};
 use crate::numbers::Numbers;
-use indexmap::IndexMap;
 use ss_bytes::Name;
-use ss_firsts::{Spelling, insert_spelled, spelled_at};
+use ss_firsts::{Spelling, Table, insert_spelled, spelled_at};
 use ss_sayings::{Said, Saying};
 use ss_tree::preamble::ClassKind;
 use std::alloc::{AllocError, Global};
@@ -34,7 +33,7 @@ fn letter_of(derived: Derived) -> u8
 /// The names that are declared, each with what it stands for. A contract sees the list of the pairs.
 #[derive(Drop)]
 pub struct Meanings {
-    map: IndexMap<Spelling, Meaning>,
+    map: Table<Spelling, Meaning>,
 }
 
 impl Model for Meanings {
@@ -46,9 +45,9 @@ impl Model for Meanings {
 
     ghost Value = { List (NameBytes × Meaning) };
 
-    ghost view = { λ m. m.map.entries };
+    ghost view = { λ m. m.map };
 
-    ghost invariant = { λ m. are_short (keys_of m.map.entries) ≡ true };
+    ghost invariant = { λ m. are_short (keys_of m.map) ≡ true };
 }
 
 impl Meanings {
@@ -57,7 +56,7 @@ impl Meanings {
         ensures { result ≡ [] }
     {
         Meanings {
-            map: IndexMap::new(alloc),
+            map: Table::new(alloc),
         }
     }
 
@@ -170,7 +169,7 @@ impl Meanings {
     {
         let map = &self.map;
         match Spelling::of(spelling) {
-            Some(spelling) => map.get_index_of(&spelling),
+            Some(spelling) => map.place(&spelling),
             None => None,
         }
     }
@@ -187,7 +186,7 @@ impl Meanings {
         requires { place < length self.now }
         ensures { slice_get (keys_of self.now) place ≡ Some result.now }
     {
-        match self.map.get_index(place) {
+        match self.map.as_slice().get(place) {
             Some((name, _)) => name.bytes(),
             None => &[],
         }
@@ -204,7 +203,7 @@ impl Meanings {
     pub fn len(&self) -> usize
         ensures { result ≡ length self.now }
     {
-        self.map.len()
+        self.map.as_slice().len()
     }
 }
 

@@ -13,13 +13,12 @@ use crate::histories::histories_of;
 use crate::meaning::{History, Meaning};
 use crate::meanings::{Meanings, meanings_of};
 use crate::numbers::{Numbers, numbers_of};
-use indexmap::IndexMap;
 use ss_bytes::Name;
 use ss_entities::{
     Attribute, Class, Event, Notices, RankedBy, Routine, Set, Statistic, TiedBy, Variable, beside,
     notices_of, sets_in, usual_mode,
 };
-use ss_firsts::{key_at, spelled_at, value_at};
+use ss_firsts::{Table, key_at, spelled_at, value_at};
 use ss_sayings::Saying;
 use ss_tree::preamble::Mode;
 use std::alloc::{AllocError, Global};
@@ -85,10 +84,10 @@ struct Told {
 // What is told of notices, where these are the classes.
 fn notices_in(
     alloc: Global,
-    classes: &IndexMap<Name, Class>,
+    classes: &Table<Name, Class>,
     sayings: &[Saying],
 ) -> Result<Box<Notices>, AllocError>
-    requires { classes.now.entries ≡ classes_said sayings.now }
+    requires { classes.now ≡ classes_said sayings.now }
     ensures { IfOk result (λ n. n.value ≡ notices_said sayings.now) }
 {
     Ok(Box::new(alloc, notices_of(alloc, classes, sayings)?)?)
@@ -203,7 +202,7 @@ impl Names {
     pub fn classes(&self) -> usize
         ensures { result ≡ length self.now.classes }
     {
-        self.lists.numbers.entities.classes.len()
+        self.lists.numbers.entities.classes.as_slice().len()
     }
 
     /// The class of this number.
@@ -263,7 +262,8 @@ impl Names {
             .numbers
             .others
             .set_names
-            .get_index(number)
+            .as_slice()
+            .get(number)
             .copied()
     }
 
@@ -272,7 +272,7 @@ impl Names {
     pub fn variables(&self) -> usize
         ensures { result ≡ length self.now.variables }
     {
-        self.lists.numbers.variables.len()
+        self.lists.numbers.variables.as_slice().len()
     }
 
     /// The global variable of this number.
@@ -286,7 +286,7 @@ impl Names {
     pub fn routines(&self) -> usize
         ensures { result ≡ length self.now.routines }
     {
-        self.lists.numbers.others.routines.len()
+        self.lists.numbers.others.routines.as_slice().len()
     }
 
     /// The routine of this number.
@@ -307,7 +307,7 @@ impl Names {
     pub fn ranks(&self) -> usize
         ensures { result ≡ length self.now.ranks }
     {
-        self.lists.notices.ranks.len()
+        self.lists.notices.ranks.as_slice().len()
     }
 
     /// The number of the class of notices that has this place in the order of rank: those of PRIORITY ORDER
@@ -322,14 +322,20 @@ impl Names {
     pub fn rank(&self, class: &Name) -> Option<usize>
         ensures { result ≡ place_in self.now.ranks class.now }
     {
-        self.lists.notices.ranks.get_index_of(class)
+        self.lists.notices.ranks.place(class)
     }
 
     /// How many statistics there are.
     pub fn statistics(&self) -> usize
         ensures { result ≡ length self.now.statistics }
     {
-        self.lists.numbers.others.tellings.statistics.len()
+        self.lists
+            .numbers
+            .others
+            .tellings
+            .statistics
+            .as_slice()
+            .len()
     }
 
     /// The statistic of this number.
@@ -357,12 +363,7 @@ impl Names {
     pub fn history_of(&self, name: &Name) -> Option<usize>
         ensures { result ≡ place_in self.now.weighings name.now }
     {
-        self.lists
-            .numbers
-            .others
-            .tellings
-            .weighings
-            .get_index_of(name)
+        self.lists.numbers.others.tellings.weighings.place(name)
     }
 
     /// The keys of ranked sets, in the order of the text, each with the number of its DEFINE.

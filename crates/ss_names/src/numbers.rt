@@ -9,13 +9,12 @@ ghost use Rattle.ss_names.specs.declared.meaning.Meaning.TheVariants as meanings
 ghost use Rattle.ss_names.specs.Meanings.{class_name_meaning, count_meaning, numbered, variable_meaning};
 
 use crate::meaning::Meaning;
-use indexmap::{IndexMap, IndexSet};
 use ss_bytes::Name;
 use ss_entities::{
     Entities, Routine, Tellings, Variable, beside, entities_of, routines_of, set_names,
     tellings_of, variables_of,
 };
-use ss_firsts::Spelling;
+use ss_firsts::{Keys, Spelling, Table};
 use ss_sayings::Saying;
 use std::alloc::{AllocError, Global};
 use std::marker::Model;
@@ -23,8 +22,8 @@ use std::marker::Model;
 /// What is numbered without a look at classes and attributes.
 #[derive(Drop)]
 pub struct Others {
-    pub set_names: IndexSet<Name>,
-    pub routines: IndexMap<Name, Routine>,
+    pub set_names: Keys<Name>,
+    pub routines: Table<Name, Routine>,
     pub tellings: Tellings,
 }
 
@@ -33,7 +32,7 @@ pub struct Others {
 pub struct Numbers {
     pub entities: Box<Entities>,
     pub others: Box<Others>,
-    pub variables: IndexMap<Spelling, Variable>,
+    pub variables: Table<Spelling, Variable>,
 }
 
 impl Model for Numbers {
@@ -41,7 +40,7 @@ impl Model for Numbers {
 
     ghost Value = { Numbered };
 
-    ghost view = { λ n. record { classes = n.entities.value.classes.entries; attributes = n.entities.value.attributes.entries; fields = n.entities.value.attributes.fields; set_names = n.others.value.set_names.keys; variables = n.variables.entries; statistics = n.others.value.tellings.statistics.entries; routines = n.others.value.routines.entries; weighings = n.others.value.tellings.weighings.entries } };
+    ghost view = { λ n. record { classes = n.entities.value.classes; attributes = n.entities.value.attributes.entries; fields = n.entities.value.attributes.fields; set_names = n.others.value.set_names; variables = n.variables; statistics = n.others.value.tellings.statistics; routines = n.others.value.routines; weighings = n.others.value.tellings.weighings } };
 }
 
 impl Numbers {
@@ -49,9 +48,9 @@ impl Numbers {
     pub fn class(&self, name: &Name) -> Option<Meaning>
         ensures { result ≡ class_name_meaning self.now name.now }
     {
-        match self.entities.classes.get_index_of(name) {
+        match self.entities.classes.place(name) {
             None => None,
-            Some(class) => match self.variables.get_index_of(&Spelling::of_name(name)) {
+            Some(class) => match self.variables.place(&Spelling::of_name(name)) {
                 None => None,
                 Some(variable) => Some(Meaning::Class { class, variable }),
             },
@@ -62,9 +61,9 @@ impl Numbers {
     pub fn count(&self, name: &Name) -> Option<Meaning>
         ensures { result ≡ count_meaning self.now name.now }
     {
-        match self.entities.classes.get_index_of(name) {
+        match self.entities.classes.place(name) {
             None => None,
-            Some(class) => match self.variables.get_index_of(&Spelling::derived(b'N', name)) {
+            Some(class) => match self.variables.place(&Spelling::derived(b'N', name)) {
                 None => None,
                 Some(variable) => Some(Meaning::Count { class, variable }),
             },
@@ -82,7 +81,7 @@ impl Numbers {
     pub fn set(&self, name: &Name) -> Option<usize>
         ensures { result ≡ place_among self.now.set_names name.now }
     {
-        self.others.set_names.get_index_of(name)
+        self.others.set_names.place(name)
     }
 
     /// What the name of a global variable stands for, unless it is an attribute.
@@ -91,7 +90,7 @@ impl Numbers {
     {
         match self.entities.attributes.place(name) {
             Some(_) => None,
-            None => match self.variables.get_index_of(&Spelling::of_name(name)) {
+            None => match self.variables.place(&Spelling::of_name(name)) {
                 None => None,
                 Some(variable) => Some(Meaning::Variable(variable)),
             },
@@ -105,7 +104,7 @@ impl Numbers {
         self.others
             .tellings
             .statistics
-            .get_index_of(name)
+            .place(name)
             .map(Meaning::Statistic)
     }
 
@@ -113,19 +112,16 @@ impl Numbers {
     pub fn routine(&self, name: &Name) -> Option<Meaning>
         ensures { result ≡ option_map meanings.Routine (place_in self.now.routines name.now) }
     {
-        self.others
-            .routines
-            .get_index_of(name)
-            .map(Meaning::Routine)
+        self.others.routines.place(name).map(Meaning::Routine)
     }
 }
 
 // What some sayings number without a look at classes and attributes.
 fn others_of(alloc: Global, sayings: &[Saying]) -> Result<Box<Others>, AllocError>
-    ensures set_names { IfOk result (λ o. o.value.set_names.keys ≡ set_names_said sayings.now) }
-    ensures routines { IfOk result (λ o. o.value.routines.entries ≡ routines sayings.now) }
-    ensures statistics { IfOk result (λ o. o.value.tellings.statistics.entries ≡ statistics sayings.now) }
-    ensures weighings { IfOk result (λ o. o.value.tellings.weighings.entries ≡ weighings sayings.now) }
+    ensures set_names { IfOk result (λ o. o.value.set_names ≡ set_names_said sayings.now) }
+    ensures routines { IfOk result (λ o. o.value.routines ≡ routines sayings.now) }
+    ensures statistics { IfOk result (λ o. o.value.tellings.statistics ≡ statistics sayings.now) }
+    ensures weighings { IfOk result (λ o. o.value.tellings.weighings ≡ weighings sayings.now) }
 {
     let set_names = set_names(alloc, sayings)?;
     let (set_names, routines) = beside(set_names, routines_of(alloc, sayings))?;

@@ -11,9 +11,8 @@ ghost use Rattle.ss_scopes.specs.Whole.{is_global, locals_of};
 
 use crate::globals::Globals;
 use crate::modes::{mode_in, modes_of};
-use indexmap::IndexMap;
 use ss_bytes::Name;
-use ss_firsts::{insert_first, is_told, key_at};
+use ss_firsts::{Table, insert_first, is_told, key_at};
 use ss_tree::preamble::Mode;
 use ss_tree::program::Section;
 use ss_walk::{Mention, Mentioned, Role};
@@ -25,7 +24,7 @@ use std::marker::Model;
 /// A contract sees the list of their names with their modes.
 #[derive(Drop)]
 pub struct Locals {
-    entries: IndexMap<Name, Option<Mode>>,
+    entries: Table<Name, Option<Mode>>,
 }
 
 impl Model for Locals {
@@ -34,7 +33,7 @@ impl Model for Locals {
 
     ghost Value = { List (List ℕ × Option Mode) };
 
-    ghost view = { λ l. l.entries.entries };
+    ghost view = { λ l. l.entries };
 }
 
 // Whether the head of a section or a DEFINE names a local variable in this role.
@@ -69,13 +68,13 @@ fn is_local_at<G: Globals>(globals: &G, mention: &Mention, name: Name) -> bool
 
 // Adds the local variable that is mentioned, where one is.
 fn add_mentioned<G: Globals>(
-    entries: &mut IndexMap<Name, Option<Mode>>,
+    entries: &mut Table<Name, Option<Mode>>,
     globals: &G,
-    modes: &IndexMap<Name, Option<Mode>>,
+    modes: &Table<Name, Option<Mode>>,
     usual: Option<Mode>,
     mention: &Mention,
 ) -> Result<(), AllocError>
-    ensures { OnOk result (entries.new.entries ≡ fold with_first entries.old.entries (map (moded_in usual modes.now.entries) (local_mentioned (is_global (G.whole globals.now).meanings) mention.now))) }
+    ensures { OnOk result (entries.new ≡ fold with_first entries.old (map (moded_in usual modes.now) (local_mentioned (is_global (G.whole globals.now).meanings) mention.now))) }
 {
     match mention.what {
         Mentioned::Name(name) => {
@@ -117,21 +116,21 @@ impl Locals {
     pub fn len(&self) -> usize
         ensures { result ≡ length self.now }
     {
-        self.entries.len()
+        self.entries.as_slice().len()
     }
 
     /// Whether there is none.
     pub fn is_empty(&self) -> bool
         ensures { result ≡ (length self.now == 0) }
     {
-        self.entries.is_empty()
+        self.entries.as_slice().is_empty()
     }
 
     /// The number of a local variable. None where the name isn't one.
     pub fn number(&self, name: Name) -> Option<usize>
         ensures { result ≡ number_of self.now name }
     {
-        self.entries.get_index_of(&name)
+        self.entries.place(&name)
     }
 
     /// The mode of a local variable, which is None where nothing gives it one. None where the name isn't
@@ -154,13 +153,13 @@ impl Locals {
 fn collect<G: Globals>(
     alloc: Global,
     globals: &G,
-    modes: &IndexMap<Name, Option<Mode>>,
+    modes: &Table<Name, Option<Mode>>,
     usual: Option<Mode>,
     mentions: &[Mention],
-) -> Result<IndexMap<Name, Option<Mode>>, AllocError>
-    ensures { IfOk result (λ found. found.entries ≡ firsts (map (moded_in usual modes.now.entries) (flat_map (local_mentioned (is_global (G.whole globals.now).meanings)) mentions.now))) }
+) -> Result<Table<Name, Option<Mode>>, AllocError>
+    ensures { IfOk result (λ found. found ≡ firsts (map (moded_in usual modes.now) (flat_map (local_mentioned (is_global (G.whole globals.now).meanings)) mentions.now))) }
 {
-    let mut entries = IndexMap::new(alloc);
+    let mut entries = Table::new(alloc);
     for mention in mentions {
         add_mentioned(&mut entries, globals, modes, usual, mention)?;
     }

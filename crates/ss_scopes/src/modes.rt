@@ -7,20 +7,19 @@ ghost use Rattle.std.specs.Map.{lookup};
 ghost use Rattle.ss_firsts.specs.Firsts.{firsts, same_name, with_first};
 ghost use Rattle.ss_scopes.specs.Locals.{all_defined, defined, or_usual};
 
-use indexmap::IndexMap;
 use ss_bytes::Name;
-use ss_firsts::insert_first;
+use ss_firsts::{Table, insert_first};
 use ss_tree::preamble::Mode;
 use ss_tree::program::LocalDefinition;
 use std::alloc::{AllocError, Global};
 
 // Adds the names that a DEFINE gives a mode.
 fn add_defined(
-    entries: &mut IndexMap<Name, Option<Mode>>,
+    entries: &mut Table<Name, Option<Mode>>,
     mode: Mode,
     names: &[Name],
 ) -> Result<(), AllocError>
-    ensures { OnOk result (entries.new.entries ≡ fold with_first entries.old.entries (map (defined mode) names.now)) }
+    ensures { OnOk result (entries.new ≡ fold with_first entries.old (map (defined mode) names.now)) }
 {
     for name in names {
         insert_first(entries, *name, Some(mode))?;
@@ -32,10 +31,10 @@ fn add_defined(
 pub(crate) fn modes_of(
     alloc: Global,
     definitions: &[LocalDefinition],
-) -> Result<IndexMap<Name, Option<Mode>>, AllocError>
-    ensures { IfOk result (λ modes. modes.entries ≡ firsts (all_defined (map view_definition definitions.now))) }
+) -> Result<Table<Name, Option<Mode>>, AllocError>
+    ensures { IfOk result (λ modes. modes ≡ firsts (all_defined (map view_definition definitions.now))) }
 {
-    let mut modes = IndexMap::new(alloc);
+    let mut modes = Table::new(alloc);
     for definition in definitions {
         add_defined(&mut modes, definition.mode, &definition.names)?;
     }
@@ -44,11 +43,11 @@ pub(crate) fn modes_of(
 
 // The mode of a name: the first that DEFINEs give it, or else the usual one.
 pub(crate) fn mode_in(
-    modes: &IndexMap<Name, Option<Mode>>,
+    modes: &Table<Name, Option<Mode>>,
     usual: Option<Mode>,
     name: Name,
 ) -> Option<Mode>
-    ensures { result ≡ or_usual usual (lookup (same_name name) modes.now.entries) }
+    ensures { result ≡ or_usual usual (lookup (same_name name) modes.now) }
 {
     match modes.get(&name) {
         Some(mode) => *mode,

@@ -9,8 +9,8 @@ ghost use Rattle.ss_scopes.specs.Signatures.{given_to, heading_of, signature, yi
 
 use crate::heading::Heading;
 use crate::modes::{mode_in, modes_of};
-use indexmap::IndexMap;
 use ss_bytes::Name;
+use ss_firsts::Table;
 use ss_tree::preamble::Mode;
 use ss_tree::program::{Section, SectionKind};
 use std::alloc::{AllocError, Global};
@@ -72,11 +72,11 @@ fn yielded_by(kind: &SectionKind) -> &[Name]
 // The modes of some names.
 fn modes_among(
     alloc: Global,
-    modes: &IndexMap<Name, Option<Mode>>,
+    modes: &Table<Name, Option<Mode>>,
     usual: Option<Mode>,
     names: &[Name],
 ) -> Result<Vec<Option<Mode>>, AllocError>
-    ensures { IfOk result (λ found. found.items ≡ map (λ name. or_usual usual (lookup (same_name name) modes.now.entries)) names.now) }
+    ensures { IfOk result (λ found. found.items ≡ map (λ name. or_usual usual (lookup (same_name name) modes.now)) names.now) }
 {
     let mut found = Vec::new(alloc);
     for name in names {

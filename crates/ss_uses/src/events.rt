@@ -10,9 +10,9 @@ ghost use Rattle.ss_uses.specs.Seen.{uses_seen};
 
 use crate::lines::line_if;
 use crate::uses::{SectionUses, is_main};
-use indexmap::IndexSet;
 use ss_base::Line;
 use ss_bytes::Name;
+use ss_firsts::Keys;
 use ss_tree::preamble::ClassKind;
 use ss_tree::program::{Section, SectionKind};
 use ss_walk::{Mention, Role};
@@ -30,14 +30,11 @@ pub fn has_main(sections: &[Section]) -> bool
 }
 
 // Adds the name of an EVENT section.
-fn add_event(events: &mut IndexSet<Name>, section: &Section) -> Result<(), AllocError>
-    ensures { IfOk result (λ _. events.new.keys ≡ with_names events.old.keys (event_in (view_section section.now))) }
+fn add_event(events: &mut Keys<Name>, section: &Section) -> Result<(), AllocError>
+    ensures { IfOk result (λ _. events.new ≡ with_names events.old (event_in (view_section section.now))) }
 {
     match &section.kind {
-        SectionKind::Event { name, .. } => match events.insert(*name) {
-            Ok(_) => Ok(()),
-            Err(_) => Err(AllocError),
-        },
+        SectionKind::Event { name, .. } => events.insert_new(*name),
         SectionKind::Main | SectionKind::Routine { .. } => Ok(()),
     }
 }
@@ -46,10 +43,10 @@ fn add_event(events: &mut IndexSet<Name>, section: &Section) -> Result<(), Alloc
 ///
 /// # Errors
 /// `AllocError` where memory is refused.
-pub fn event_names(alloc: Global, sections: &[Section]) -> Result<IndexSet<Name>, AllocError>
-    ensures { IfOk result (λ events. events.keys ≡ with_names [] (event_names (map view_section sections.now))) }
+pub fn event_names(alloc: Global, sections: &[Section]) -> Result<Keys<Name>, AllocError>
+    ensures { IfOk result (λ events. events ≡ with_names [] (event_names (map view_section sections.now))) }
 {
-    let mut events = IndexSet::new(alloc);
+    let mut events = Keys::new(alloc);
     for section in sections {
         add_event(&mut events, section)?;
     }
@@ -57,15 +54,15 @@ pub fn event_names(alloc: Global, sections: &[Section]) -> Result<IndexSet<Name>
 }
 
 // The line of a class of notices that has no EVENT section.
-fn eventless(events: &IndexSet<Name>, line: Line, class: Name) -> Option<Line>
-    ensures { result ≡ first_of (eventless line (lacks_event events.now.keys) class) }
+fn eventless(events: &Keys<Name>, line: Line, class: Name) -> Option<Line>
+    ensures { result ≡ first_of (eventless line (lacks_event events.now) class) }
 {
     line_if(!events.contains(&class), line)
 }
 
 // The same of some classes.
-pub(crate) fn first_eventless(events: &IndexSet<Name>, line: Line, classes: &[Name]) -> Option<Line>
-    ensures { result ≡ first_of (flat_map (eventless line (lacks_event events.now.keys)) classes.now) }
+pub(crate) fn first_eventless(events: &Keys<Name>, line: Line, classes: &[Name]) -> Option<Line>
+    ensures { result ≡ first_of (flat_map (eventless line (lacks_event events.now)) classes.now) }
 {
     let mut found = None;
     for class in classes {
@@ -76,12 +73,12 @@ pub(crate) fn first_eventless(events: &IndexSet<Name>, line: Line, classes: &[Na
 
 // The same of a class of a kind.
 pub(crate) fn eventless_of(
-    events: &IndexSet<Name>,
+    events: &Keys<Name>,
     line: Line,
     kind: ClassKind,
     class: Name,
 ) -> Option<Line>
-    ensures { result ≡ first_of (eventless_of kind line (lacks_event events.now.keys) class) }
+    ensures { result ≡ first_of (eventless_of kind line (lacks_event events.now) class) }
 {
     match kind {
         ClassKind::EventNotice => eventless(events, line, class),

@@ -14,15 +14,15 @@ use crate::lines::line_if;
 use crate::modes::{differ, global_mode};
 use crate::rule::Rule;
 use crate::unknown::tells_of_known;
-use indexmap::IndexSet;
 use ss_base::{Line, Mode};
 use ss_bytes::Name;
+use ss_firsts::Keys;
 use ss_scopes::Globals;
 use ss_tree::preamble::PreambleStatement;
 
 // The line of a statement that declares a class of notices without an EVENT section.
-fn declares_eventless(events: &IndexSet<Name>, statement: &PreambleStatement) -> Option<Line>
-    ensures { result ≡ first_of (declares_eventless (lacks_event events.now.keys) (view_preamble statement.now)) }
+fn declares_eventless(events: &Keys<Name>, statement: &PreambleStatement) -> Option<Line>
+    ensures { result ≡ first_of (declares_eventless (lacks_event events.now) (view_preamble statement.now)) }
 {
     match statement {
         PreambleStatement::EventNotices { line, included } => {
@@ -66,11 +66,11 @@ fn tells_of_text<G: Globals>(globals: &G, statement: &PreambleStatement) -> Opti
 // The first line in which a statement breaks a rule.
 fn first_in_statement<G: Globals>(
     globals: &G,
-    events: &IndexSet<Name>,
+    events: &Keys<Name>,
     rule: Rule,
     statement: &PreambleStatement,
 ) -> Option<Line>
-    ensures { result ≡ first_of (in_preamble rule (G.whole globals.now) (lacks_event events.now.keys) (view_preamble statement.now)) }
+    ensures { result ≡ first_of (in_preamble rule (G.whole globals.now) (lacks_event events.now) (view_preamble statement.now)) }
 {
     match rule {
         Rule::NoEventRoutine => declares_eventless(events, statement),
@@ -83,11 +83,11 @@ fn first_in_statement<G: Globals>(
 /// The first line in which a preamble breaks a rule, where EVENT sections have these names; None where it keeps it.
 pub fn first_in_preamble<G: Globals>(
     globals: &G,
-    events: &IndexSet<Name>,
+    events: &Keys<Name>,
     rule: Rule,
     preamble: &[PreambleStatement],
 ) -> Option<Line>
-    ensures { result ≡ first_of (flat_map (in_preamble rule (G.whole globals.now) (lacks_event events.now.keys)) (map view_preamble preamble.now)) }
+    ensures { result ≡ first_of (flat_map (in_preamble rule (G.whole globals.now) (lacks_event events.now)) (map view_preamble preamble.now)) }
 {
     let mut found = None;
     for statement in preamble {

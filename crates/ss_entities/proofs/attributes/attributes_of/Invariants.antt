@@ -5,4 +5,4 @@ use Rattle.ss_firsts.specs.Firsts.{firsts}
 use Rattle.ss_entities.proofs.attributes.attributes_of.Given as goal
 
 abbrev pub invariant-loop-saying : goal.invariant-loop-saying
-invariant-loop-saying l = AreAttributes l.usual l.defined.entries (length l.classes.entries) (firsts (flat_map (attribute_by l.classes.entries) (take l.saying-index l.sayings))) l.attributes
+invariant-loop-saying l = AreAttributes l.usual l.defined (length l.classes) (firsts (flat_map (attribute_by l.classes) (take l.saying-index l.sayings))) l.attributes

@@ -5,4 +5,4 @@ use Rattle.ss_firsts.specs.Firsts.{each_once}
 use Rattle.ss_entities.proofs.sets.set_names.Given as goal
 
 abbrev pub invariant-loop-saying : goal.invariant-loop-saying
-invariant-loop-saying l = l.names.keys ≡ each_once (flat_map set_by (take l.saying-index l.sayings))
+invariant-loop-saying l = l.names ≡ each_once (flat_map set_by (take l.saying-index l.sayings))

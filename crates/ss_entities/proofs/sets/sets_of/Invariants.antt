@@ -3,4 +3,4 @@ use Rattle.ss_entities.specs.Entities.{set_of}
 use Rattle.ss_entities.proofs.sets.sets_of.Given as goal
 
 abbrev pub invariant-loop-name : goal.invariant-loop-name
-invariant-loop-name l = l.sets.items ≡ map (set_of l.owners.entries l.members.entries l.orderings.entries) (take l.name-index l.names)
+invariant-loop-name l = l.sets.items ≡ map (set_of l.owners l.members l.orderings) (take l.name-index l.names)

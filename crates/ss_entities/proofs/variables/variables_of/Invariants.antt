@@ -5,4 +5,4 @@ use Rattle.ss_entities.specs.Variables.{variable_by}
 use Rattle.ss_entities.proofs.variables.variables_of.Given as goal
 
 abbrev pub invariant-loop-saying : goal.invariant-loop-saying
-invariant-loop-saying l = l.entries.entries ≡ firsts (flat_map (variable_by l.classes.entries l.attributes.entries) (take l.saying-index l.sayings))
+invariant-loop-saying l = l.entries ≡ firsts (flat_map (variable_by l.classes l.attributes) (take l.saying-index l.sayings))

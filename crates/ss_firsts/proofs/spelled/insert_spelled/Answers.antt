@@ -1,12 +1,10 @@
-use Rattle.std.proofs.Common.{◌≡◌, nat_eq, None, sym, ap, ◌∙◌}
-use Rattle.std.specs.Option.{option_copied}
-use Rattle.std.specs.Cmp.Lexicographic.{pointwise}
-use Rattle.indexmap.proofs.CallerLemmas.{insert_entry-new}
-use Rattle.ss_firsts.specs.Firsts.{entry_beside, told_of}
+use Rattle.std.proofs.Common.{◌∙◌}
+use Rattle.std.proofs.lemmas.Result.{on_ok_weaker}
+use Rattle.ss_firsts.specs.Firsts.{told_of}
+use Rattle.ss_firsts.proofs.Entries.{beside_if}
 use Rattle.ss_firsts.proofs.spelled.insert_spelled.Goals as goal
 
-pub returns-in_ok-insert-in-None-clause-ok : goal.returns-in_ok-insert-in-None-clause-ok
-returns-in_ok-insert-in-None-clause-ok g c =
-    let before = c.args.entries.now in
-    let none : told_of before.entries c.args.name ≡ None = sym c.get.ensures.value ∙ ap option_copied c.in-None.is in
-    c.in_ok-insert-in-None.ensures.entries ∙ insert_entry-new (pointwise nat_eq) before c.args.name c.args.value none ∙ ap (entry_beside before.entries (c.args.name, c.args.value)) (sym none)
+pub returns-clause-ok : goal.returns-clause-ok
+returns-clause-ok g c =
+    let es = c.args.entries.now in
+    on_ok_weaker c.insert_new.result (λ e. e ∙ beside_if es (c.args.name, c.args.value) (told_of es c.args.name)) c.insert_new.ensures.ok

@@ -7,5 +7,5 @@ use Rattle.ss_misuses.proofs.checking.first_broken.Given as goal
 
 abbrev pub invariant-loop-rule : goal.invariant-loop-rule
 invariant-loop-rule g l =
-    first_broken (lines_in (g.G.Globals.whole l.globals) (view_program l.program) (lacks_event l.events.keys) (map uses_seen l.all)) l.rules ≡
-    first_broken (lines_in (g.G.Globals.whole l.globals) (view_program l.program) (lacks_event l.events.keys) (map uses_seen l.all)) (drop l.rule-index l.rules)
+    first_broken (lines_in (g.G.Globals.whole l.globals) (view_program l.program) (lacks_event l.events) (map uses_seen l.all)) l.rules ≡
+    first_broken (lines_in (g.G.Globals.whole l.globals) (view_program l.program) (lacks_event l.events) (map uses_seen l.all)) (drop l.rule-index l.rules)

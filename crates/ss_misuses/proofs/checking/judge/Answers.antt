@@ -16,7 +16,7 @@ pub returns-clause-refusal : goal.returns-clause-refusal
 returns-clause-refusal g c =
     let w = g.G.Globals.whole c.args.globals.now in
     let p = view_program c.args.program.now in
-    let lacks : lacks_event c.in_ok-events.events.keys ≡ lacks_event (event_names p.sections) =
+    let lacks : lacks_event c.in_ok-events.events ≡ lacks_event (event_names p.sections) =
     ap lacks_event (c.in_ok-events.ensures ∙ ap (λ (l : List Section). with_names [] (event_names (map view_section l))) c.deref.ensures.value) ∙
     fun_ext (lacks_once (event_names p.sections)) in
     let uses : map uses_seen c.deref-3.result.now ≡ map (uses_of w) p.sections =

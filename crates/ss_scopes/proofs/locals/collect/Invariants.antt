@@ -6,4 +6,4 @@ use Rattle.ss_scopes.specs.Whole.{is_global}
 use Rattle.ss_scopes.proofs.locals.collect.Given as goal
 
 abbrev pub invariant-loop-mention : goal.invariant-loop-mention
-invariant-loop-mention g l = l.entries.entries ≡ firsts (map (moded_in l.usual l.modes.entries) (flat_map (local_mentioned (is_global (g.G.Globals.whole l.globals).meanings)) (take l.mention-index l.mentions)))
+invariant-loop-mention g l = l.entries ≡ firsts (map (moded_in l.usual l.modes) (flat_map (local_mentioned (is_global (g.G.Globals.whole l.globals).meanings)) (take l.mention-index l.mentions)))

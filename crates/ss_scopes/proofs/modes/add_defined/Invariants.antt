@@ -5,4 +5,4 @@ use Rattle.ss_scopes.specs.Locals.{defined}
 use Rattle.ss_scopes.proofs.modes.add_defined.Given as goal
 
 abbrev pub invariant-loop-name : goal.invariant-loop-name
-invariant-loop-name l = l.entries.entries ≡ fold with_first l.initial.entries.entries (map (defined l.mode) (take l.name-index l.names))
+invariant-loop-name l = l.entries ≡ fold with_first l.initial.entries (map (defined l.mode) (take l.name-index l.names))

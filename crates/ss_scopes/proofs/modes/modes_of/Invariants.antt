@@ -5,4 +5,4 @@ use Rattle.ss_scopes.specs.Locals.{all_defined}
 use Rattle.ss_scopes.proofs.modes.modes_of.Given as goal
 
 abbrev pub invariant-loop-definition : goal.invariant-loop-definition
-invariant-loop-definition l = l.modes.entries ≡ firsts (all_defined (map view_definition (take l.definition-index l.definitions)))
+invariant-loop-definition l = l.modes ≡ firsts (all_defined (map view_definition (take l.definition-index l.definitions)))

@@ -5,4 +5,4 @@ use Rattle.ss_scopes.specs.Locals.{or_usual}
 use Rattle.ss_scopes.proofs.signature.modes_among.Given as goal
 
 abbrev pub invariant-loop-name : goal.invariant-loop-name
-invariant-loop-name l = l.found.items ≡ map (λ name. or_usual l.usual (lookup (same_name name) l.modes.entries)) (take l.name-index l.names)
+invariant-loop-name l = l.found.items ≡ map (λ name. or_usual l.usual (lookup (same_name name) l.modes)) (take l.name-index l.names)

@@ -5,4 +5,4 @@ use Rattle.ss_uses.specs.Once.{with_names}
 use Rattle.ss_uses.proofs.events.event_names.Given as goal
 
 abbrev pub invariant-loop-section : goal.invariant-loop-section
-invariant-loop-section l = l.events.keys ≡ with_names [] (event_names (map view_section (take l.section-index l.sections)))
+invariant-loop-section l = l.events ≡ with_names [] (event_names (map view_section (take l.section-index l.sections)))

@@ -5,4 +5,4 @@ use Rattle.ss_uses.specs.Lines.{first_of}
 use Rattle.ss_uses.proofs.events.first_eventless.Given as goal
 
 abbrev pub invariant-loop-class : goal.invariant-loop-class
-invariant-loop-class l = l.found ≡ first_of (flat_map (eventless l.line (lacks_event l.events.keys)) (take l.class-index l.classes))
+invariant-loop-class l = l.found ≡ first_of (flat_map (eventless l.line (lacks_event l.events)) (take l.class-index l.classes))

@@ -7,4 +7,4 @@ use Rattle.ss_uses.specs.Refusal.{in_preamble}
 use Rattle.ss_uses.proofs.preamble.first_in_preamble.Given as goal
 
 abbrev pub invariant-loop-statement : goal.invariant-loop-statement
-invariant-loop-statement g l = l.found ≡ first_of (flat_map (in_preamble l.rule (g.G.Globals.whole l.globals) (lacks_event l.events.keys)) (map view_preamble (take l.statement-index l.preamble)))
+invariant-loop-statement g l = l.found ≡ first_of (flat_map (in_preamble l.rule (g.G.Globals.whole l.globals) (lacks_event l.events)) (map view_preamble (take l.statement-index l.preamble)))

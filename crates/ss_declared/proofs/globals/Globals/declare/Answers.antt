@@ -1,16 +1,14 @@
-use Rattle.std.proofs.Common.{refl, sym, ap, ◌∙◌}
-use Rattle.indexmap.proofs.CallerLemmas.{insert_entry-new}
+use Rattle.std.proofs.Common.{◌++◌, ◌∷◌, [], cond, is_some, refl, sym, ap, ◌∙◌}
 use Rattle.ss_declared.specs.Declarations.{declaration}
 use Rattle.ss_declared.specs.Lines.{soonest, line_if}
-use Rattle.ss_firsts.specs.Firsts.{same_name}
 use Rattle.ss_declared.proofs.Telling.{told_new, told_again}
 use Rattle.ss_declared.proofs.globals.Globals.declare.Goals as goal
 
-pub returns-in_ok-insert-in-None : goal.returns-in_ok-insert-in-None
-returns-in_ok-insert-in-None c =
+pub returns-in_ok-insert_new-in-None : goal.returns-in_ok-insert_new-in-None
+returns-in_ok-insert_new-in-None c =
     let none = sym c.find.ensures ∙ c.in-None.is in
     told_new c.args.self.now _ (declaration c.args.line c.args.standing c.args.name) none
-    (c.in_ok-insert-in-None.ensures.entries ∙ insert_entry-new same_name c.args.self.now.map c.args.name c.args.standing none) refl
+    (c.in_ok-insert_new-in-None.ensures.ok ∙ ap (λ o. cond (is_some o) c.args.self.now.map (c.args.self.now.map ++ (c.args.name, c.args.standing) ∷ [])) none) refl
 
 pub returns-in-Some : goal.returns-in-Some
 returns-in-Some c =

@@ -16,7 +16,7 @@ pub returns : goal.returns
 returns g c =
     let s = view_section c.args.section.now in
     let local = local_mentioned (is_global (g.G.Globals.whole c.args.globals.now).meanings) in
-    let modes = c.in_ok-modes.modes.entries in
+    let modes = c.in_ok-modes.modes in
     let is : modes ≡ firsts (all_defined s.definitions) =
     c.in_ok-modes.ensures ∙ ap (λ (l : List LocalDefinition). firsts (all_defined (map view_definition l))) c.deref.ensures.value in
     let found = moded_found c.usual.result s.definitions modes is in

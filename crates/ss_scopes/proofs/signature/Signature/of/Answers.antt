@@ -20,7 +20,7 @@ made h h' g g' y y' p q r = cc
 pub returns : goal.returns
 returns c =
     let s = view_section c.args.section.now in
-    let modes = c.in_ok-modes.modes.entries in
+    let modes = c.in_ok-modes.modes in
     let is : modes ≡ firsts (all_defined s.definitions) =
     c.in_ok-modes.ensures ∙ ap (λ (l : List LocalDefinition). firsts (all_defined (map view_definition l))) c.deref.ensures.value in
     let found : (λ (name : NameBytes). or_usual c.args.usual (lookup (same_name name) modes)) ≡ mode_of c.args.usual s.definitions =
