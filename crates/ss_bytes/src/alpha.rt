@@ -7,7 +7,6 @@ ghost use Rattle.ss_bytes.specs.Values.{text_of, is_text_byte, without_end_blank
 ghost use Rattle.ss_bytes.specs.Room.{before_zero};
 
 use std::cmp::Ordering;
-use std::fmt;
 use std::marker::Model;
 
 /// The most characters of a text.
@@ -143,11 +142,5 @@ impl Ord for Alpha {
 
     fn cmp(&self, other: &Alpha) -> Ordering {
         self.bytes().cmp(other.bytes())
-    }
-}
-
-impl fmt::Debug for Alpha {
-    fn fmt<W: fmt::Write>(&self, f: &mut fmt::Formatter<W>) -> fmt::Result {
-        fmt::Debug::fmt(self.bytes(), f)
     }
 }

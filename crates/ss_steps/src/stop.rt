@@ -1,7 +1,7 @@
 use ss_base::{FaultKind, Line};
 
 /// Why a run stands still.
-#[derive(Clone, Copy, PartialEq, Debug)]
+#[derive(Clone, Copy, PartialEq)]
 pub enum Stop {
     /// The program came to its end.
     Ended,

@@ -143,7 +143,7 @@ impl Scene {
 
     /// How many entities a permanent class has: 0 until they are made.
     #[inline(always)]
-    pub fn made_count(&self, class: usize) -> i64
+    pub(crate) fn made_count(&self, class: usize) -> i64
         ensures { (s : StoreSeen) → pos (made_count class (with_seen s self.now)) ≡ result }
     {
         self.population.count(class)
@@ -275,7 +275,7 @@ impl Scene {
 
     /// An entity goes, and its histories end, whether or not it is pending. Faults: 1 to 4, then 9 and 10.
     #[inline(always)]
-    pub fn remove_entity(&mut self, class: usize, x: Value) -> Result<(), Trouble>
+    pub(crate) fn remove_entity(&mut self, class: usize, x: Value) -> Result<(), Trouble>
         ensures { Changes (gone class x) self.old self.new result }
     {
         match known_number(x) {

@@ -26,7 +26,7 @@ pub struct Directory {
 
 impl Directory {
     /// A directory without cells.
-    pub fn new(alloc: Global) -> Directory {
+    pub(crate) fn new(alloc: Global) -> Directory {
         Directory {
             cells: Vec::new(alloc),
             mask: 0,
@@ -35,7 +35,7 @@ impl Directory {
     }
 
     /// A directory of so many cells, all of them free.
-    pub fn of_cells(alloc: Global, count: usize) -> Result<Directory, AllocError> {
+    pub(crate) fn of_cells(alloc: Global, count: usize) -> Result<Directory, AllocError> {
         let count = count.max(FEWEST_CELLS);
         Ok(Directory {
             cells: Vec::from_elem(alloc, FREE, count)?,
@@ -46,7 +46,7 @@ impl Directory {
 
     /// How many cells there are.
     #[inline(always)]
-    pub fn cells(&self) -> usize {
+    pub(crate) fn cells(&self) -> usize {
         self.cells.len()
     }
 
@@ -60,7 +60,7 @@ impl Directory {
 
     /// The slot that the cell of a notice names, or a number past all slots.
     #[inline(always)]
-    pub fn first_guess(&self, notice: i64) -> usize
+    pub(crate) fn first_guess(&self, notice: i64) -> usize
         ensures { result ≡ first_guess self.now notice }
     {
         let cell = self.cell(notice);
@@ -72,7 +72,7 @@ impl Directory {
 
     /// The slot that the map names, or a number past all slots.
     #[inline(always)]
-    pub fn second_guess(&self, notice: i64) -> usize
+    pub(crate) fn second_guess(&self, notice: i64) -> usize
         ensures { result ≡ second_guess self.now notice }
     {
         if self.others.is_empty() {
@@ -91,7 +91,7 @@ impl Directory {
 
     /// Notes in which slot a notice stands that is new here.
     #[inline(always)]
-    pub fn note(&mut self, notice: i64, slot: usize) -> Result<(), AllocError>
+    pub(crate) fn note(&mut self, notice: i64, slot: usize) -> Result<(), AllocError>
         ensures noted { OnOk result (Leads self.new notice slot) }
         ensures others { (n : ℤ) → (s : ℕ) → n ≢ notice → s ≢ no_slot → Leads self.old n s → Leads self.new n s }
     {
@@ -115,7 +115,7 @@ impl Directory {
 
     /// Forgets a notice that stood in a slot, without memory.
     #[inline(always)]
-    pub fn forget(&mut self, notice: i64, slot: usize)
+    pub(crate) fn forget(&mut self, notice: i64, slot: usize)
         ensures others { (n : ℤ) → (s : ℕ) → n ≢ notice → s ≢ slot → Leads self.old n s → Leads self.new n s }
     {
         let cell = self.cell(notice);

@@ -31,7 +31,7 @@ impl Model for Heap {
 }
 
 impl Heap {
-    pub fn new(alloc: Global) -> Heap
+    pub(crate) fn new(alloc: Global) -> Heap
         ensures { result ≡ record { entries = []; comparisons = 0; moves = 0 } }
     {
         Heap {
@@ -41,26 +41,26 @@ impl Heap {
         }
     }
 
-    pub fn len(&self) -> usize
+    pub(crate) fn len(&self) -> usize
         ensures { result ≡ length self.now.entries }
     {
         self.entries.len()
     }
 
-    pub fn comparisons(&self) -> u64
+    pub(crate) fn comparisons(&self) -> u64
         ensures { result ≡ self.now.comparisons }
     {
         self.comparisons
     }
 
-    pub fn moves(&self) -> u64
+    pub(crate) fn moves(&self) -> u64
         ensures { result ≡ self.now.moves }
     {
         self.moves
     }
 
     /// Begins to count anew.
-    pub fn reset_counts(&mut self)
+    pub(crate) fn reset_counts(&mut self)
         ensures { self.new ≡ record self.old { comparisons = 0; moves = 0 } }
     {
         self.comparisons = 0;
@@ -68,7 +68,7 @@ impl Heap {
     }
 
     /// The place of the entry of a notice.
-    pub fn find(&self, notice: i64) -> Option<usize>
+    pub(crate) fn find(&self, notice: i64) -> Option<usize>
         ensures place { result ≡ position (int_eq notice) (notices_of self.now.entries) }
         ensures found { is_some result ≡ list_any (int_eq notice) (notices_of self.now.entries) }
     {
@@ -76,7 +76,7 @@ impl Heap {
     }
 
     /// The time and the notice of the entry in the first place.
-    pub fn first(&self) -> (i64, i64)
+    pub(crate) fn first(&self) -> (i64, i64)
         requires { 0 < length self.now.entries }
         ensures { (d : Entry) → result ≡ event_of (slice_index_or self.now.entries 0 d) }
     {
@@ -85,7 +85,7 @@ impl Heap {
 
     /// Whether the entry at place `a` comes out before that at `b`. Counts a comparison.
     #[inline(always)]
-    pub fn is_before(&mut self, a: usize, b: usize) -> bool
+    pub(crate) fn is_before(&mut self, a: usize, b: usize) -> bool
         requires a_within { a < length self.old.entries }
         requires b_within { b < length self.old.entries }
         requires countable { self.old.comparisons + 1 < 2 ^ 64 }
@@ -102,7 +102,7 @@ impl Heap {
 
     /// Lets the entries of two places change places. Counts two moves.
     #[inline(always)]
-    pub fn swap(&mut self, a: usize, b: usize)
+    pub(crate) fn swap(&mut self, a: usize, b: usize)
         requires a_within { a < length self.old.entries }
         requires b_within { b < length self.old.entries }
         requires countable { self.old.moves + 2 < 2 ^ 64 }
@@ -113,7 +113,7 @@ impl Heap {
     }
 
     /// Puts an entry of a notice into the next place. Counts a move.
-    pub fn push(&mut self, key: Key, number: u64, notice: i64) -> Result<(), AllocError>
+    pub(crate) fn push(&mut self, key: Key, number: u64, notice: i64) -> Result<(), AllocError>
         requires fresh { list_any (int_eq notice) (notices_of self.old.entries) ≡ false }
         requires countable { self.old.moves + 1 < 2 ^ 64 }
         ensures ok { OnOk result (self.new ≡ record self.old { entries = self.old.entries ++ record { key = key; number = number; notice = notice } ∷ []; moves = self.old.moves + 1 }) }
@@ -130,7 +130,7 @@ impl Heap {
 
     /// Takes the entry out of a place, into which the last one moves, and answers its time and its notice. Counts that
     /// move.
-    pub fn remove(&mut self, at: usize) -> (i64, i64)
+    pub(crate) fn remove(&mut self, at: usize) -> (i64, i64)
         requires within { at < length self.old.entries }
         requires countable { self.old.moves + 1 < 2 ^ 64 }
         ensures removed { Removes self.old.entries self.new.entries at result }

@@ -49,7 +49,7 @@ impl Model for Places {
 }
 
 impl Places {
-    pub fn new(alloc: Global) -> Places
+    pub(crate) fn new(alloc: Global) -> Places
         ensures { result ≡ [] }
     {
         Places {
@@ -62,14 +62,14 @@ impl Places {
     }
 
     #[inline(always)]
-    pub fn len(&self) -> usize
+    pub(crate) fn len(&self) -> usize
         ensures { result ≡ length self.now }
     {
         self.count
     }
 
     /// The place of the entry of a notice.
-    pub fn find(&self, notice: i64) -> Option<usize>
+    pub(crate) fn find(&self, notice: i64) -> Option<usize>
         ensures place { result ≡ position (int_eq notice) (notices_of self.now) }
         ensures found { is_some result ≡ list_any (int_eq notice) (notices_of self.now) }
     {
@@ -84,7 +84,7 @@ impl Places {
 
     /// The time of the entry in a place.
     #[inline(always)]
-    pub fn time(&self, place: usize) -> i64
+    pub(crate) fn time(&self, place: usize) -> i64
         requires { place < length self.now }
         ensures { (d : Entry) → result ≡ (slice_index_or self.now place d).key.time }
     {
@@ -93,7 +93,7 @@ impl Places {
 
     /// The entry in a place.
     #[inline(always)]
-    pub fn get(&self, place: usize) -> &Entry
+    pub(crate) fn get(&self, place: usize) -> &Entry
         requires { place < length self.now }
         ensures { (d : Entry) → result.now ≡ slice_index_or self.now place d }
     {
@@ -101,7 +101,7 @@ impl Places {
     }
 
     /// Puts an entry of a new notice into the next place.
-    pub fn push(&mut self, entry: Entry) -> Result<(), AllocError>
+    pub(crate) fn push(&mut self, entry: Entry) -> Result<(), AllocError>
         requires { list_any (int_eq entry.notice) (notices_of self.old) ≡ false }
         ensures ok { OnOk result (self.new ≡ self.old ++ entry ∷ []) }
         ensures err { OnErr result (self.new ≡ self.old) }
@@ -119,7 +119,7 @@ impl Places {
 
     /// Lets the entries of two places change places.
     #[inline(always)]
-    pub fn swap(&mut self, a: usize, b: usize)
+    pub(crate) fn swap(&mut self, a: usize, b: usize)
         requires a_within { a < length self.old }
         requires b_within { b < length self.old }
         ensures { self.new ≡ swap self.old a b }
@@ -128,7 +128,7 @@ impl Places {
     }
 
     /// Takes the entry out of a place, into which the last one moves.
-    pub fn remove(&mut self, at: usize) -> Entry
+    pub(crate) fn remove(&mut self, at: usize) -> Entry
         requires { at < length self.old }
         ensures there { result ≡ slice_index_or self.old at result }
         ensures rest { self.new ≡ swap_remove self.old at result }
