@@ -1,3 +1,4 @@
 mod Above
 mod Lasts
 mod Puts
+mod Whole

@@ -1,7 +1,9 @@
 //! The global variables.
 
-ghost use Rattle.std.specs.Prelude.{◌≡◌, ◌≤◌, ◌<◌, ◌-◌, ◌++◌, [], ◌∷◌, false, List, length, take, drop, slice_get, IfOk, MatchOption, Some};
+ghost use Rattle.std.specs.Prelude.{◌≡◌, ◌≤◌, ◌<◌, ◌-◌, ◌++◌, [], ◌∷◌, false, List, length, map, take, drop, slice_get, IfOk, MatchOption, Ok, Some};
+ghost use Rattle.ss_base.specs.declared.layout.Mode.TheVariants.{Integer};
 ghost use Rattle.ss_base.specs.declared.value.Value.{Value as ValueSeen};
+ghost use Rattle.ss_base.specs.declared.value.Value.TheVariants.{Whole};
 ghost use Rattle.ss_meaning.specs.Values.{same_mode};
 ghost use Rattle.ss_meaning.specs.Store.{put_at, firsts};
 ghost use Rattle.ss_base.specs.Layout.{mode_of};
@@ -19,7 +21,9 @@ pub struct Variables {
 
 impl Model for Variables {
     ghost use Rattle.std.specs.Prelude.{List};
+    ghost use Rattle.ss_base.specs.declared.layout.Mode.TheVariants.{Integer};
     ghost use Rattle.ss_base.specs.declared.value.Value.{Value as ValueSeen};
+    ghost use Rattle.ss_base.specs.declared.value.Value.TheVariants.{Whole};
 
     ghost Value = { List ValueSeen };
 
@@ -44,6 +48,24 @@ impl Variables {
         ensures { result ≡ slice_get self.now number }
     {
         value_at(&self.values, number)
+    }
+
+    /// The number that a variable for whole numbers holds.
+    #[inline(always)]
+    pub fn number(&self, number: usize) -> i64
+        requires { slice_get (map mode_of self.now) number ≡ Some Integer }
+        ensures { slice_get self.now number ≡ Some (Whole result) }
+    {
+        number_at(&self.values, number)
+    }
+
+    /// Assigns a number to a variable for whole numbers.
+    #[inline(always)]
+    pub fn set_number(&mut self, number: usize, value: i64)
+        requires { slice_get (map mode_of self.old) number ≡ Some Integer }
+        ensures { put_at self.old number (Whole value) ≡ Ok self.new }
+    {
+        put_number(&mut self.values, number, value);
     }
 
     /// Assigns a value to a variable, and says whether one of its mode is there. If not, nothing changes.
@@ -77,6 +99,28 @@ fn value_at(values: &[Value], number: usize) -> Option<Value>
     values.get(number).copied()
 }
 
+// The whole number with a number, which is there.
+#[inline(always)]
+fn number_at(values: &[Value], number: usize) -> i64
+    requires { slice_get (map mode_of values.now) number ≡ Some Integer }
+    ensures { slice_get values.now number ≡ Some (Whole result) }
+{
+    match values[number] {
+        Value::Whole(value) => value,
+        Value::Text(_) => unreachable!(),
+    }
+}
+
+// Changes a whole number, which is there, to another.
+#[inline(always)]
+#[tactic(auto, using(crate::proofs::Whole::whole_put))]
+fn put_number(values: &mut [Value], number: usize, value: i64)
+    requires { slice_get (map mode_of values.old) number ≡ Some Integer }
+    ensures { put_at values.old number (Whole value) ≡ Ok values.new }
+{
+    values[number] = Value::Whole(value);
+}
+
 // Changes one of these values to another of its mode, and says whether it is there.
 #[inline(always)]
 fn put(values: &mut [Value], number: usize, value: Value) -> bool
@@ -102,6 +146,26 @@ pub fn value_above(values: &[Value], base: usize, number: usize) -> Option<Value
         return None;
     };
     value_at(values, place)
+}
+
+/// The whole number with a number, counted from another number on, which is there.
+#[inline(always)]
+pub fn number_above(values: &[Value], base: usize, number: usize) -> i64
+    requires { slice_get (map mode_of (drop base values.now)) number ≡ Some Integer }
+    ensures { slice_get (drop base values.now) number ≡ Some (Whole result) }
+{
+    number_at(values, base + number)
+}
+
+/// Changes a whole number among the values from a number on, which is there, to another.
+#[inline(always)]
+pub fn put_number_above(values: &mut [Value], base: usize, number: usize, value: i64)
+    requires base { base ≤ length values.old }
+    requires there { slice_get (map mode_of (drop base values.old)) number ≡ Some Integer }
+    ensures below { take base values.new ≡ take base values.old }
+    ensures here { put_at (drop base values.old) number (Whole value) ≡ Ok (drop base values.new) }
+{
+    put_number(values, base + number, value);
 }
 
 /// The value that lies below so many others, of those from a number on, if it is there.

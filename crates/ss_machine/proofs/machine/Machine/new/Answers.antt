@@ -1,5 +1,6 @@
 use Rattle.std.proofs.Common.{◌≡◌, [], IfOk, List, refl, subst}
 use Rattle.ss_joins.specs.declared.fused.Micro.{Micro}
+use Rattle.ss_numbers.specs.Fitting.{IsFitted}
 use Rattle.ss_fused.specs.Fused.{AreFused}
 use Rattle.ss_working.specs.declared.working.Working.{Working}
 use Rattle.ss_working.specs.Holding.{frames_of}
@@ -12,8 +13,9 @@ invariant_of-result c =
     let e = c.in_ok-code.ensures in
     let p = c.first_parts-parts.ensures in
     let fused = subst (λ r. IfOk r (λ (parts : List Micro × Working). AreFused c.args.code.instructions parts.0)) e.1 p.fused in
+    let fitted = subst (λ r. IfOk r (λ (parts : List Micro × Working). IsFitted c.args.code parts.0 parts.1)) e.1 p.fitted in
     let frames = subst (λ r. IfOk r (λ (parts : List Micro × Working). frames_of parts.1 ≡ [])) e.1 p.frames in
-    first_ready c.args.code c.in_ok-code.code c.in_ok-code.fused c.in_ok-code.working e.0 fused frames
+    first_ready c.args.code c.in_ok-code.code c.in_ok-code.fused c.in_ok-code.working e.0 fused fitted frames
 
 pub returns : goal.returns
 returns c =

@@ -1,7 +1,8 @@
-use Rattle.std.proofs.Common.{◌-◌, sym, ap, subst, inr, arith}
+use Rattle.std.proofs.Common.{rules, ◌≡◌, ◌-◌, None, sym, ap, subst, inr, ◌∙◌, arith}
 use Rattle.ss_steps.specs.Start.{Continues}
 use Rattle.ss_machine.specs.Held.{Held}
 use Rattle.ss_steps.specs.Runs.{Ran}
+use Rattle.ss_machine.proofs.First.{kept_none}
 use Rattle.ss_machine.proofs.machine.Machine.run.Goals as goal
 
 pub returns-clause-continues : goal.returns-clause-continues
@@ -36,3 +37,19 @@ returns-clause-used g c =
     let same = ap (λ (v : Held). v.used) c.self.view_is in
     let e = c.run-halt.ensures.used in
     (omega (arith, same, e.0), omega (arith, same, e.1, c.saturating_add-last.ensures))
+
+pub run-halt-requires-clause-fitted : goal.run-halt-requires-clause-fitted
+run-halt-requires-clause-fitted g c =
+    let none : c.self.inside.stopped ≡ None = search rules in
+    c.self.invariant.fitted none
+
+pub invariant_of-self : goal.invariant_of-self
+invariant_of-self g c =
+    let e = c.run-halt.ensures in
+    let stop = c.run-halt.result.stop in
+    record {
+      made = e.made;
+      fused = c.self.invariant.fused;
+      fitted = λ q. e.fitted (kept_none stop (sym c.kept-self-inside.ensures ∙ q));
+      left = λ q. e.left (kept_none stop (sym c.kept-self-inside.ensures ∙ q));
+    }

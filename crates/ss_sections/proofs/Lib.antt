@@ -1,0 +1,5 @@
+pub mod Only
+pub mod Stores
+pub mod Moved
+pub mod Acts
+pub mod Runs

@@ -1,0 +1,4 @@
+pub mod Sections
+pub mod Numbers
+pub mod Parted
+pub mod Laws
