@@ -5,7 +5,6 @@ ghost use Rattle.ss_machine_code.specs.Machine.{Code as CodeSeen, act};
 ghost use Rattle.ss_working.specs.Holding.{core_of, Told};
 
 use ss_machine_code::instruction::Instruction;
-use ss_stack::given::yielded;
 use ss_working::working::{Outcome, Working};
 use std::alloc::AllocError;
 
@@ -16,11 +15,15 @@ pub fn leave(working: &mut Working) -> Result<Outcome, AllocError>
     let Some(frame) = working.frames.pop() else {
         return Ok(Outcome::Ends);
     };
-    let Some(values) = yielded(working.locals.values(), frame.first, frame.count) else {
+    working.given.clear();
+    if !working
+        .locals
+        .yielded(frame.first, frame.count, &mut working.given)?
+    {
         return Ok(Outcome::Missing);
-    };
+    }
     working.operands.leave(frame.operands);
-    working.operands.push_all(values)?;
+    working.operands.push_all(&working.given)?;
     working.locals.leave(frame.locals);
     working.place = frame.back;
     Ok(Outcome::Went)

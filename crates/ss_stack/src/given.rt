@@ -1,9 +1,9 @@
-//! Values that a call is given, and those that it yields.
+//! Values that a call is given.
 
-ghost use Rattle.std.specs.Prelude.{◌≡◌, ◌&&◌, Some, None, MatchOption};
+ghost use Rattle.std.specs.Prelude.{◌≡◌, ◌&&◌};
 ghost use Rattle.ss_base.specs.Layout.{mode_of};
 ghost use Rattle.ss_meaning.specs.Values.{same_mode};
-ghost use Rattle.ss_meaning.specs.Store.{taken, yielded};
+ghost use Rattle.ss_meaning.specs.Store.{taken};
 ghost use Rattle.ss_stack.specs.Frames.{if_taken};
 
 use ss_base::{Mode, Value};
@@ -41,19 +41,4 @@ fn is_of(value: &Value, mode: Mode) -> bool
         (Value::Whole(_), Mode::Alpha) => false,
         (Value::Text(_), Mode::Integer) => false,
     }
-}
-
-/// So many of these values from a number on, if they are there.
-pub fn yielded(values: &[Value], first: usize, count: usize) -> Option<&[Value]>
-    ensures { MatchOption result (yielded first count values.now ≡ None) (λ them. yielded first count values.now ≡ Some them.now) }
-{
-    if first > values.len() {
-        return None;
-    }
-    let (_, behind) = values.split_at(first);
-    if count > behind.len() {
-        return None;
-    }
-    let (them, _) = behind.split_at(count);
-    Some(them)
 }

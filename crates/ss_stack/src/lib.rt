@@ -6,6 +6,7 @@ pub mod frame;
 pub mod frames;
 pub mod given;
 pub mod in_place;
+pub mod locals;
 pub mod numbers;
 pub mod operands;
 pub mod spot;

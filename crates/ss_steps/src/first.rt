@@ -9,18 +9,18 @@ use ss_base::copied_disciplines;
 use ss_code::code::Code;
 use ss_notices::copied_notices;
 use ss_stack::frames::Frames;
+use ss_stack::locals::Locals;
 use ss_stack::operands::Operands;
-use ss_stack::stack::Stack;
 use ss_store::scene::Scene;
 use ss_variables::variables::Variables;
 use ss_working::working::Working;
 use std::alloc::{AllocError, Global};
 
 // Local variables of MAIN as they are at first. The error comes where memory was refused.
-fn first_locals(alloc: Global, code: &Code) -> Result<Stack, AllocError>
+fn first_locals(alloc: Global, code: &Code) -> Result<Locals, AllocError>
     ensures { IfOk result (λ locals. locals ≡ record { below = []; here = firsts code.now.locals }) }
 {
-    let mut locals = Stack::new(alloc);
+    let mut locals = Locals::new(alloc);
     locals.fill(&[], code.locals())?;
     Ok(locals)
 }

@@ -2,3 +2,4 @@ mod Above
 mod Lasts
 mod Puts
 mod Whole
+mod Banked

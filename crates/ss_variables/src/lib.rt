@@ -1,4 +1,5 @@
 //! Variables by their numbers.
 #![tactic(auto)]
 
+mod banks;
 pub mod variables;

@@ -1,6 +1,6 @@
 //! The global variables.
 
-ghost use Rattle.std.specs.Prelude.{◌≡◌, ◌≤◌, ◌<◌, ◌-◌, ◌++◌, [], ◌∷◌, false, List, length, map, take, drop, slice_get, IfOk, MatchOption, Ok, Some};
+ghost use Rattle.std.specs.Prelude.{◌≡◌, ◌≤◌, ◌<◌, ◌-◌, ◌++◌, [], ◌∷◌, false, List, length, map, take, drop, slice_get, IfOk, OnOk, OnErr, MatchOption, Ok, Some};
 ghost use Rattle.ss_base.specs.declared.layout.Mode.TheVariants.{Integer};
 ghost use Rattle.ss_base.specs.declared.value.Value.{Value as ValueSeen};
 ghost use Rattle.ss_base.specs.declared.value.Value.TheVariants.{Whole};
@@ -9,25 +9,33 @@ ghost use Rattle.ss_meaning.specs.Store.{put_at, firsts};
 ghost use Rattle.ss_base.specs.Layout.{mode_of};
 ghost use Rattle.ss_variables.specs.Told.{put_told};
 
+use crate::banks::{
+    number_above_in, number_in, parted, push_in, put_number_in, put_text_in, set_number_above_in,
+    set_number_in, value_in,
+};
 use ss_base::{Mode, Value};
+use ss_bytes::Alpha;
 use std::alloc::{AllocError, Global};
 use std::marker::Model;
 
-/// What variables hold, by their numbers from 0. A contract sees the list of their values.
+/// What variables hold, by their numbers from 0: whole numbers in words of their own, and texts beside them. A contract sees the
+/// list of their values.
 #[derive(Drop)]
 pub struct Variables {
-    values: Vec<Value>,
+    numbers: Vec<i64>,
+    texts: Vec<Option<Alpha>>,
 }
 
 impl Model for Variables {
-    ghost use Rattle.std.specs.Prelude.{List};
-    ghost use Rattle.ss_base.specs.declared.layout.Mode.TheVariants.{Integer};
+    ghost use Rattle.std.specs.Prelude.{◌≡◌, List, length};
     ghost use Rattle.ss_base.specs.declared.value.Value.{Value as ValueSeen};
-    ghost use Rattle.ss_base.specs.declared.value.Value.TheVariants.{Whole};
+    ghost use Rattle.ss_variables.specs.Banks.{valued};
 
     ghost Value = { List ValueSeen };
 
-    ghost view = { λ s. s.values.items };
+    ghost view = { λ s. valued s.numbers.items s.texts.items };
+
+    ghost invariant = { λ s. length s.texts.items ≡ length s.numbers.items };
 }
 
 impl Variables {
@@ -35,11 +43,12 @@ impl Variables {
     pub fn of(alloc: Global, modes: &[Mode]) -> Result<Variables, AllocError>
         ensures { IfOk result (λ variables. variables ≡ firsts modes.now) }
     {
-        let mut values = Vec::new(alloc);
+        let mut numbers = Vec::new(alloc);
+        let mut texts = Vec::new(alloc);
         for mode in modes {
-            values.push(mode.first_value())?;
+            push_in(&mut numbers, &mut texts, mode.first_value())?;
         }
-        Ok(Variables { values })
+        Ok(Variables { numbers, texts })
     }
 
     /// What a variable holds, if it is there.
@@ -47,7 +56,7 @@ impl Variables {
     pub fn get(&self, number: usize) -> Option<Value>
         ensures { result ≡ slice_get self.now number }
     {
-        value_at(&self.values, number)
+        value_in(&self.numbers, &self.texts, number)
     }
 
     /// The number that a variable for whole numbers holds.
@@ -56,7 +65,7 @@ impl Variables {
         requires { slice_get (map mode_of self.now) number ≡ Some Integer }
         ensures { slice_get self.now number ≡ Some (Whole result) }
     {
-        number_at(&self.values, number)
+        number_in(&self.numbers, &self.texts, number)
     }
 
     /// Assigns a number to a variable for whole numbers.
@@ -65,7 +74,94 @@ impl Variables {
         requires { slice_get (map mode_of self.old) number ≡ Some Integer }
         ensures { put_at self.old number (Whole value) ≡ Ok self.new }
     {
-        put_number(&mut self.values, number, value);
+        set_number_in(&mut self.numbers, &self.texts, number, value);
+    }
+
+    /// No variable.
+    pub fn new(alloc: Global) -> Variables
+        ensures { result ≡ [] }
+    {
+        Variables {
+            numbers: Vec::new(alloc),
+            texts: Vec::new(alloc),
+        }
+    }
+
+    /// How many there are.
+    #[inline(always)]
+    pub fn len(&self) -> usize
+        ensures { result ≡ length self.now }
+    {
+        self.numbers.len()
+    }
+
+    /// One more, which holds a value. The error comes where memory was refused, and then nothing changes.
+    pub fn push(&mut self, value: Value) -> Result<(), AllocError>
+        ensures ok { OnOk result (self.new ≡ self.old ++ value ∷ []) }
+        ensures err { OnErr result (self.new ≡ self.old) }
+    {
+        self.numbers.reserve(1)?;
+        self.texts.reserve(1)?;
+        let word = parted(value);
+        self.numbers.push_reserved(word.number);
+        self.texts.push_reserved(word.text);
+        Ok(())
+    }
+
+    /// Keeps the first so many.
+    pub fn truncate(&mut self, count: usize)
+        ensures { self.new ≡ take count self.old }
+    {
+        self.numbers.truncate(count);
+        self.texts.truncate(count);
+    }
+
+    /// What a variable holds, counted from another number on, if it is there.
+    #[inline(always)]
+    pub fn get_above(&self, base: usize, number: usize) -> Option<Value>
+        ensures { result ≡ slice_get (drop base self.now) number }
+    {
+        let _short = self.len();
+        let Some(place) = base.checked_add(number) else {
+            return None;
+        };
+        self.get(place)
+    }
+
+    /// The number of a variable for whole numbers, counted from another number on.
+    #[inline(always)]
+    pub fn number_above(&self, base: usize, number: usize) -> i64
+        requires { slice_get (map mode_of (drop base self.now)) number ≡ Some Integer }
+        ensures { slice_get (drop base self.now) number ≡ Some (Whole result) }
+    {
+        number_above_in(&self.numbers, &self.texts, base, number)
+    }
+
+    /// Assigns a number to a variable for whole numbers, counted from another number on.
+    #[inline(always)]
+    pub fn set_number_above(&mut self, base: usize, number: usize, value: i64)
+        requires base { base ≤ length self.old }
+        requires there { slice_get (map mode_of (drop base self.old)) number ≡ Some Integer }
+        ensures below { take base self.new ≡ take base self.old }
+        ensures here { put_at (drop base self.old) number (Whole value) ≡ Ok (drop base self.new) }
+    {
+        set_number_above_in(&mut self.numbers, &self.texts, base, number, value);
+    }
+
+    /// Assigns a value to a variable, counted from another number on, and says whether one of its mode is there. If not, nothing
+    /// changes.
+    #[inline(always)]
+    pub fn set_above(&mut self, base: usize, number: usize, value: Value) -> bool
+        requires { base ≤ length self.old }
+        ensures below { take base self.new ≡ take base self.old }
+        ensures here { put_at (drop base self.old) number value ≡ put_told result (drop base self.new) }
+        ensures kept { result ≡ false → self.new ≡ self.old }
+    {
+        let _short = self.len();
+        let Some(place) = base.checked_add(number) else {
+            return false;
+        };
+        self.set(place, value)
     }
 
     /// Assigns a value to a variable, and says whether one of its mode is there. If not, nothing changes.
@@ -74,98 +170,11 @@ impl Variables {
         ensures set { put_at self.old number value ≡ put_told result self.new }
         ensures kept { result ≡ false → self.new ≡ self.old }
     {
-        put(&mut self.values, number, value)
+        match value {
+            Value::Whole(whole) => put_number_in(&mut self.numbers, &self.texts, number, whole),
+            Value::Text(text) => put_text_in(&self.numbers, &mut self.texts, number, text),
+        }
     }
-}
-
-// Whether two values are of one mode.
-#[inline(always)]
-fn is_alike(x: &Value, y: &Value) -> bool
-    ensures { result ≡ same_mode (mode_of x.now) (mode_of y.now) }
-{
-    match (x, y) {
-        (Value::Whole(_), Value::Whole(_)) => true,
-        (Value::Text(_), Value::Text(_)) => true,
-        (Value::Whole(_), Value::Text(_)) => false,
-        (Value::Text(_), Value::Whole(_)) => false,
-    }
-}
-
-// The value with a number, if it is there.
-#[inline(always)]
-fn value_at(values: &[Value], number: usize) -> Option<Value>
-    ensures { result ≡ slice_get values.now number }
-{
-    values.get(number).copied()
-}
-
-// The whole number with a number, which is there.
-#[inline(always)]
-fn number_at(values: &[Value], number: usize) -> i64
-    requires { slice_get (map mode_of values.now) number ≡ Some Integer }
-    ensures { slice_get values.now number ≡ Some (Whole result) }
-{
-    match values[number] {
-        Value::Whole(value) => value,
-        Value::Text(_) => unreachable!(),
-    }
-}
-
-// Changes a whole number, which is there, to another.
-#[inline(always)]
-#[tactic(auto, using(crate::proofs::Whole::whole_put))]
-fn put_number(values: &mut [Value], number: usize, value: i64)
-    requires { slice_get (map mode_of values.old) number ≡ Some Integer }
-    ensures { put_at values.old number (Whole value) ≡ Ok values.new }
-{
-    values[number] = Value::Whole(value);
-}
-
-// Changes one of these values to another of its mode, and says whether it is there.
-#[inline(always)]
-fn put(values: &mut [Value], number: usize, value: Value) -> bool
-    ensures set { put_at values.old number value ≡ put_told result values.new }
-    ensures kept { result ≡ false → values.new ≡ values.old }
-{
-    let Some(old) = value_at(values, number) else {
-        return false;
-    };
-    if !is_alike(&value, &old) {
-        return false;
-    }
-    values[number] = value;
-    true
-}
-
-/// The value with a number, counted from another number on, if it is there.
-#[inline(always)]
-pub fn value_above(values: &[Value], base: usize, number: usize) -> Option<Value>
-    ensures { result ≡ slice_get (drop base values.now) number }
-{
-    let Some(place) = base.checked_add(number) else {
-        return None;
-    };
-    value_at(values, place)
-}
-
-/// The whole number with a number, counted from another number on, which is there.
-#[inline(always)]
-pub fn number_above(values: &[Value], base: usize, number: usize) -> i64
-    requires { slice_get (map mode_of (drop base values.now)) number ≡ Some Integer }
-    ensures { slice_get (drop base values.now) number ≡ Some (Whole result) }
-{
-    number_at(values, base + number)
-}
-
-/// Changes a whole number among the values from a number on, which is there, to another.
-#[inline(always)]
-pub fn put_number_above(values: &mut [Value], base: usize, number: usize, value: i64)
-    requires base { base ≤ length values.old }
-    requires there { slice_get (map mode_of (drop base values.old)) number ≡ Some Integer }
-    ensures below { take base values.new ≡ take base values.old }
-    ensures here { put_at (drop base values.old) number (Whole value) ≡ Ok (drop base values.new) }
-{
-    put_number(values, base + number, value);
 }
 
 /// The value that lies below so many others, of those from a number on, if it is there.
@@ -178,20 +187,6 @@ pub fn value_under(values: &[Value], base: usize, count: usize) -> Option<Value>
         return None;
     }
     Some(values[values.len() - 1 - count])
-}
-
-/// Changes one of the values from a number on to another of its mode, and says whether it is there. If not, nothing changes.
-#[inline(always)]
-pub fn put_above(values: &mut [Value], base: usize, number: usize, value: Value) -> bool
-    requires { base ≤ length values.old }
-    ensures below { take base values.new ≡ take base values.old }
-    ensures here { put_at (drop base values.old) number value ≡ put_told result (drop base values.new) }
-    ensures kept { result ≡ false → values.new ≡ values.old }
-{
-    let Some(place) = base.checked_add(number) else {
-        return false;
-    };
-    put(values, place, value)
 }
 
 /// Puts a value in place of the last of the values from a number on, of which there is one.

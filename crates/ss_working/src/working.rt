@@ -11,9 +11,9 @@ use ss_machine_code::instruction::Instruction;
 use ss_program::condition::Relation;
 use ss_program::expression::{Operator, Sign, Variable};
 use ss_stack::frames::Frames;
+use ss_stack::locals::Locals;
 use ss_stack::numbers::{absolute, calculated, related, signed};
 use ss_stack::operands::Operands;
-use ss_stack::stack::Stack;
 use ss_store::scene::Scene;
 use ss_variables::variables::Variables;
 use std::alloc::{AllocError, Global};
@@ -27,7 +27,7 @@ pub struct Working {
     pub operands: Operands,
     pub frames: Frames,
     pub globals: Variables,
-    pub locals: Stack,
+    pub locals: Locals,
     pub scene: Scene,
     pub alloc: Global,
     pub given: Vec<Value>,

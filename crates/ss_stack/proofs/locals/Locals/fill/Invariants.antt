@@ -1,6 +1,6 @@
 use Rattle.std.proofs.Common.{◌≡◌, ◌++◌, take}
 use Rattle.ss_meaning.specs.Store.{firsts}
-use Rattle.ss_stack.proofs.stack.Stack.fill.Given as goal
+use Rattle.ss_stack.proofs.locals.Locals.fill.Given as goal
 
 abbrev pub invariant-loop-value : goal.invariant-loop-value
 invariant-loop-value l =

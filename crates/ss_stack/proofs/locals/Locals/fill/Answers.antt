@@ -2,7 +2,7 @@ use Rattle.std.proofs.Common.{◌++◌, arith, sym, ap, ◌∙◌}
 use Rattle.std.proofs.lemmas.List.{append-nil}
 use Rattle.ss_meaning.specs.Store.{firsts}
 use Rattle.ss_stack.proofs.Wholes.{take_whole}
-use Rattle.ss_stack.proofs.stack.Stack.fill.Goals as goal
+use Rattle.ss_stack.proofs.locals.Locals.fill.Goals as goal
 
 pub loop-mode-init : goal.loop-mode-init
 loop-mode-init c =

@@ -1,0 +1,13 @@
+-- Values of which the numbers stand in one list and the texts in another, at their places; where that has none, a number is meant.
+use Rattle.std.specs.Prelude.{ℕ, ℤ, List, [], ◌∷◌, Option, Some, None}
+use Rattle.ss_base.specs.declared.value.Value.{Value}
+use Rattle.ss_base.specs.declared.value.Value.TheVariants.{Whole, Text}
+
+abbrev pub value_of : ℤ → Option (List ℕ) → Value
+value_of n None = Whole n
+value_of n (Some t) = Text t
+
+abbrev pub valued : List ℤ → List (Option (List ℕ)) → List Value
+valued [] ts = []
+valued (n ∷ ns) [] = Whole n ∷ valued ns []
+valued (n ∷ ns) (t ∷ ts) = value_of n t ∷ valued ns ts
