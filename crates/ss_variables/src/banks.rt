@@ -1,5 +1,5 @@
 // Numbers and texts in two vectors of one length.
-ghost use Rattle.std.specs.Prelude.{◌≡◌, ◌≤◌, ◌<◌, ◌^◌, ◌++◌, [], ◌∷◌, false, length, take, drop, slice_get, slice_set, map, Ok, Some, OnOk};
+ghost use Rattle.std.specs.Prelude.{◌≡◌, ◌≤◌, ◌<◌, ◌^◌, false, length, take, drop, slice_get, slice_set, map, Ok, Some};
 ghost use Rattle.ss_base.specs.Layout.{mode_of};
 ghost use Rattle.ss_base.specs.declared.layout.Mode.TheVariants.{Integer};
 ghost use Rattle.ss_base.specs.declared.value.Value.TheVariants.{Whole, Text};
@@ -9,7 +9,6 @@ ghost use Rattle.ss_variables.specs.Banks.{value_of, valued};
 
 use ss_base::Value;
 use ss_bytes::Alpha;
-use std::alloc::AllocError;
 
 // The word with a number.
 #[inline(always)]
@@ -116,29 +115,6 @@ pub(crate) fn put_text_in(
             true
         }
     }
-}
-
-/// One more variable, which holds a value. The error comes where memory was refused.
-pub(crate) fn push_in(
-    numbers: &mut Vec<i64>,
-    texts: &mut Vec<Option<Alpha>>,
-    value: Value,
-) -> Result<(), AllocError>
-    requires { length texts.old.items ≡ length numbers.old.items }
-    ensures same { OnOk result (length texts.new.items ≡ length numbers.new.items) }
-    ensures values { OnOk result (valued numbers.new.items texts.new.items ≡ valued numbers.old.items texts.old.items ++ value ∷ []) }
-{
-    match value {
-        Value::Whole(number) => {
-            numbers.push(number)?;
-            texts.push(None)?;
-        }
-        Value::Text(text) => {
-            numbers.push(0)?;
-            texts.push(Some(text))?;
-        }
-    }
-    Ok(())
 }
 
 /// The number of a variable for whole numbers, counted from another number on.

@@ -10,7 +10,7 @@ ghost use Rattle.ss_base.specs.Layout.{mode_of};
 ghost use Rattle.ss_variables.specs.Told.{put_told};
 
 use crate::banks::{
-    number_above_in, number_in, parted, push_in, put_number_in, put_text_in, set_number_above_in,
+    number_above_in, number_in, parted, put_number_in, put_text_in, set_number_above_in,
     set_number_in, value_in,
 };
 use ss_base::{Mode, Value};
@@ -43,12 +43,11 @@ impl Variables {
     pub fn of(alloc: Global, modes: &[Mode]) -> Result<Variables, AllocError>
         ensures { IfOk result (λ variables. variables ≡ firsts modes.now) }
     {
-        let mut numbers = Vec::new(alloc);
-        let mut texts = Vec::new(alloc);
+        let mut variables = Variables::new(alloc);
         for mode in modes {
-            push_in(&mut numbers, &mut texts, mode.first_value())?;
+            variables.push(mode.first_value())?;
         }
-        Ok(Variables { numbers, texts })
+        Ok(variables)
     }
 
     /// What a variable holds, if it is there.
