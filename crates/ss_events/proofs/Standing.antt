@@ -14,10 +14,11 @@ use Rattle.std.proofs.lemmas.Map.Keys.{IsDistinct-IsPermutation, IsDistinct-tail
 use Rattle.std.proofs.Math.Seq.{map-set_same, take-suc-set}
 use Rattle.ss_events.proofs.Exchanging.{exchange, exchange-within, exchange-twice, get_or-swap, map-swap, map-swap_remove}
 use Rattle.ss_events.specs.declared.entry.Entry.{Entry}
+use Rattle.ss_events.specs.declared.entry.Mark.{Mark}
 use Rattle.ss_events.specs.declared.entry.directory.Directory.{Directory}
 use Rattle.ss_events.specs.declared.entry.places.Stand.{Stand}
 use Rattle.ss_events.specs.HeapEntries.{notices_of}
-use Rattle.ss_events.specs.Slots.{slots_in, times_in, by_place, no_entry, no_slot, times_of, first_guess, second_guess, Leads, AreWithin, AreLed, place_of, IsPaired, IsPlaced, exchanged}
+use Rattle.ss_events.specs.Slots.{slots_in, marks_in, by_place, no_entry, no_mark, no_slot, mark_of, marks_of, first_guess, second_guess, Leads, AreWithin, AreLed, place_of, IsPaired, IsPlaced, exchanged}
 use Rattle.ss_events.proofs.Slotted.{length-by_place, longer_pairs, exchange_pairs, exchange-first, swapped_by_place, at_place, removed_by_swap, first_at, first_nowhere, none_passes, each_fails}
 
 -- the notice of the entry in a slot
@@ -100,7 +101,7 @@ led_more d g es zs k k_in distinct within few led noted others j j_in =
 
 -- ---- none
 
-pub placed-none : (es : List Entry) (xs ys : List ℕ) (qs : List ℤ) (d : Directory) → es ≡ [] → xs ≡ [] → ys ≡ [] → qs ≡ [] → IsPlaced es xs ys qs d
+pub placed-none : (es : List Entry) (xs ys : List ℕ) (qs : List Mark) (d : Directory) → es ≡ [] → xs ≡ [] → ys ≡ [] → qs ≡ [] → IsPlaced es xs ys qs d
 unfolding IsDistinct
 placed-none es xs ys qs d b e f o =
     let cut : take (length qs) xs ≡ [] = ap (λ n. take n xs) (ap length o) in
@@ -112,12 +113,12 @@ placed-none es xs ys qs d b e f o =
         back = λ k k_in. absurd (omega (arith, k_in, ap length f));
       };
       within = omega (arith, ap length o);
-      timed = o ∙ sym (ap (λ l. times_of (by_place no_entry es l)) cut);
+      marked = o ∙ sym (ap (λ l. marks_of (by_place no_entry es l)) cut);
       distinct = subst (λ l. IsDistinct int_eq (notices_of (by_place no_entry es l))) (sym cut) tt;
       led = λ k k_in. absurd (omega (arith, k_in, ap length cut));
     }
 
-module _ (es : List Entry) (xs ys : List ℕ) (qs : List ℤ) (d : Directory) (h : IsPlaced es xs ys qs d) where
+module _ (es : List Entry) (xs ys : List ℕ) (qs : List Mark) (d : Directory) (h : IsPlaced es xs ys qs d) where
   -- the slots that stand in the places
   abbrev pub standing : List ℕ
   standing = take (length qs) xs
@@ -265,7 +266,7 @@ module _ (es : List Entry) (xs ys : List ℕ) (qs : List ℤ) (d : Directory) (h
 
   -- ---- two entries in each other's place
 
-  module _ (a b : ℕ) (a_in : a < length qs) (b_in : b < length qs) (us vs : List ℕ) (rs : List ℤ) (e : us ≡ swap xs a b) (o : rs ≡ swap qs a b) where
+  module _ (a b : ℕ) (a_in : a < length qs) (b_in : b < length qs) (us vs : List ℕ) (rs : List Mark) (e : us ≡ swap xs a b) (o : rs ≡ swap qs a b) where
     swapped_slots : take (length rs) us ≡ swap standing a b
     swapped_slots = (λ i. take (ap length o i) (e i)) ∙ ap (λ n. take n (swap xs a b)) (length-swap qs a b) ∙ take-swap (length qs) xs a b a_in b_in h.within
 
@@ -277,7 +278,7 @@ module _ (es : List Entry) (xs ys : List ℕ) (qs : List ℤ) (d : Directory) (h
       long = ap length e ∙ length-swap xs a b ∙ h.long;
       paired = subst (λ l. IsPaired l vs) (sym e) (subst (λ l. IsPaired (swap xs a b) l) (sym f) (exchange_pairs xs ys h.paired a b (in_slots a a_in) (in_slots b b_in)));
       within = omega (arith, ap length o, length-swap qs a b, ap length e, length-swap xs a b, h.within);
-      timed = o ∙ ap (λ l. swap l a b) h.timed ∙ sym (map-swap (λ (f : Entry). f.key.time) seen a b) ∙ sym (ap times_of seen-swapped);
+      marked = o ∙ ap (λ l. swap l a b) h.marked ∙ sym (map-swap mark_of seen a b) ∙ sym (ap marks_of seen-swapped);
       distinct =
           IsDistinct-IsPermutation int_eq int_eq_equiv.symm (notices_of seen) (notices_of (by_place no_entry es (take (length rs) us)))
           (IsPermutation-swap (notices_of seen) (notices_of (by_place no_entry es (take (length rs) us))) a b
@@ -289,8 +290,8 @@ module _ (es : List Entry) (xs ys : List ℕ) (qs : List ℤ) (d : Directory) (h
 
   -- ---- one entry fewer
 
-  module _ (at n s : ℕ) (long : length qs ≡ n + 1) (at_in : at < length qs) (slot : s ≡ get_or xs at 0) (fs : List Entry) (us vs : List ℕ) (rs : List ℤ) (e : Entry)
-      (b : fs ≡ set es s no_entry) (c : us ≡ swap xs at n) (f : vs ≡ exchanged xs ys at n) (o : rs ≡ swap_remove qs at e.key.time) (it : e ≡ get_or es s no_entry) where
+  module _ (at n s : ℕ) (long : length qs ≡ n + 1) (at_in : at < length qs) (slot : s ≡ get_or xs at 0) (fs : List Entry) (us vs : List ℕ) (rs : List Mark) (e : Entry)
+      (b : fs ≡ set es s no_entry) (c : us ≡ swap xs at n) (f : vs ≡ exchanged xs ys at n) (o : rs ≡ swap_remove qs at (mark_of e)) (it : e ≡ get_or es s no_entry) where
     n_in : n < length qs
     n_in = omega (arith, long)
 
@@ -298,7 +299,7 @@ module _ (es : List Entry) (xs ys : List ℕ) (qs : List ℤ) (d : Directory) (h
     some = omega (arith, long, seen_long)
 
     rs_long : length rs ≡ n
-    rs_long = ap length o ∙ ap length (removed_by_swap qs at n e.key.time long at_in) ∙ length-take-le n (swap qs at n) (omega (arith, length-swap qs at n, long))
+    rs_long = ap length o ∙ ap length (removed_by_swap qs at n (mark_of e) long at_in) ∙ length-take-le n (swap qs at n) (omega (arith, length-swap qs at n, long))
 
     cut : length (take (length rs) us) ≡ n
     cut = length-take-le (length rs) us (omega (arith, rs_long, ap length c, length-swap xs at n, h.within, long)) ∙ rs_long
@@ -352,9 +353,9 @@ module _ (es : List Entry) (xs ys : List ℕ) (qs : List ℤ) (d : Directory) (h
       long = ap length c ∙ length-swap xs at n ∙ h.long ∙ sym (length-set es s no_entry) ∙ sym (ap length b);
       paired = subst (λ l. IsPaired l vs) (sym c) (subst (λ l. IsPaired (swap xs at n) l) (sym f) (exchange_pairs xs ys h.paired at n (in_slots at at_in) (in_slots n n_in)));
       within = omega (arith, rs_long, ap length c, length-swap xs at n, h.within, long);
-      timed =
-          o ∙ ap (λ l. swap_remove l at e.key.time) h.timed
-          ∙ sym (map-swap_remove (λ (x : Entry). x.key.time) seen at e some) ∙ sym (ap times_of (seen-removed e));
+      marked =
+          o ∙ ap (λ l. swap_remove l at (mark_of e)) h.marked
+          ∙ sym (map-swap_remove mark_of seen at e some) ∙ sym (ap marks_of (seen-removed e));
       distinct = left_distinct;
       led = λ k k_in.
           let lt : k < n = omega (arith, k_in, cut) in
@@ -403,7 +404,7 @@ module _ (es : List Entry) (xs ys : List ℕ) (qs : List ℤ) (d : Directory) (h
         long = length_push xs n ∙ ap (λ m. m + 1) h.long ∙ sym (length_push es no_entry);
         paired = longer_pairs xs ys h.paired n (sym end);
         within = omega (arith, h.within, length_push xs n);
-        timed = h.timed ∙ sym (ap times_of both);
+        marked = h.marked ∙ sym (ap marks_of both);
         distinct = subst (λ l. IsDistinct int_eq (notices_of l)) (sym both) h.distinct;
         led = subst (AreLed d more) (sym cut) (λ k k_in. subst (λ (x : Entry). Leads d x.notice (get_or standing k 0)) (sym (same k k_in)) (h.led k k_in));
       } in (
@@ -416,7 +417,7 @@ module _ (es : List Entry) (xs ys : List ℕ) (qs : List ℤ) (d : Directory) (h
 
   -- another directory
   pub placed-led : (g : Directory) → AreLed g es standing → IsPlaced es xs ys qs g
-  placed-led g led = record { long = h.long; paired = h.paired; within = h.within; timed = h.timed; distinct = h.distinct; led = led }
+  placed-led g led = record { long = h.long; paired = h.paired; within = h.within; marked = h.marked; distinct = h.distinct; led = led }
 
   -- a directory that was to note another notice
   pub placed-noted : (g : Directory) (n : ℤ) → list_any (int_eq n) (notices_of seen) ≡ false → length es ≤ no_slot
@@ -429,10 +430,10 @@ module _ (es : List Entry) (xs ys : List ℕ) (qs : List ℤ) (d : Directory) (h
       (others (noticed es t) t (λ is. two n (noticed es t) other (sym is)) (λ is. omega (arith, is, few, slot_in k (in_slots k lt))) (led_here k lt)))
 
   -- an entry in the first free slot
-  module _ (s : ℕ) (free : length qs < length xs) (slot : s ≡ get_or xs (length qs) 0) (fs : List Entry) (rs : List ℤ) (e : Entry)
-      (b : fs ≡ set es s e) (o : rs ≡ qs ++ e.key.time ∷ []) where
+  module _ (s : ℕ) (free : length qs < length xs) (slot : s ≡ get_or xs (length qs) 0) (fs : List Entry) (rs : List Mark) (e : Entry)
+      (b : fs ≡ set es s e) (o : rs ≡ qs ++ mark_of e ∷ []) where
     one_more : length rs ≡ length qs + 1
-    one_more = ap length o ∙ length_push qs e.key.time
+    one_more = ap length o ∙ length_push qs (mark_of e)
 
     cut_more : length (take (length rs) xs) ≡ length qs + 1
     cut_more = length-take-le (length rs) xs (omega (arith, one_more, free)) ∙ one_more
@@ -469,7 +470,7 @@ module _ (es : List Entry) (xs ys : List ℕ) (qs : List ℤ) (d : Directory) (h
       long = h.long ∙ sym (length-set es s e) ∙ sym (ap length b);
       paired = h.paired;
       within = omega (arith, one_more, free);
-      timed = o ∙ ap (λ l. l ++ e.key.time ∷ []) h.timed ∙ sym (map_push (λ (x : Entry). x.key.time) seen e) ∙ sym (ap times_of seen-pushed);
+      marked = o ∙ ap (λ l. l ++ mark_of e ∷ []) h.marked ∙ sym (map_push mark_of seen e) ∙ sym (ap marks_of seen-pushed);
       distinct = subst (IsDistinct int_eq) (sym (ap notices_of seen-pushed ∙ map_push (λ (x : Entry). x.notice) seen e))
           (IsDistinct-push int_eq_equiv (notices_of seen) e.notice h.distinct fresh);
       led = λ k k_in.
@@ -489,36 +490,36 @@ module _ (es : List Entry) (xs ys : List ℕ) (qs : List ℤ) (d : Directory) (h
 
 -- ---- stands
 
-pub times_long : (n : ℕ) (ss : List Stand) → n ≤ length ss → length (times_in n ss) ≡ n
-times_long n ss few = length-take-le n (map (λ (s : Stand). s.time) ss) (omega (arith, few, length-map ss (λ (s : Stand). s.time)))
+pub marks_long : (n : ℕ) (ss : List Stand) → n ≤ length ss → length (marks_in n ss) ≡ n
+marks_long n ss few = length-take-le n (map (λ (s : Stand). s.mark) ss) (omega (arith, few, length-map ss (λ (s : Stand). s.mark)))
 
-pub taken_slots : (n : ℕ) (ss : List Stand) → n ≤ length ss → slots_in (take n ss) ≡ take (length (times_in n ss)) (slots_in ss)
-taken_slots n ss few = sym (take-map (λ (s : Stand). s.slot) n ss) ∙ ap (λ m. take m (slots_in ss)) (sym (times_long n ss few))
+pub taken_slots : (n : ℕ) (ss : List Stand) → n ≤ length ss → slots_in (take n ss) ≡ take (length (marks_in n ss)) (slots_in ss)
+taken_slots n ss few = sym (take-map (λ (s : Stand). s.slot) n ss) ∙ ap (λ m. take m (slots_in ss)) (sym (marks_long n ss few))
 
 pub slot_of : (ss : List Stand) (k : ℕ) (z : Stand) → k < length ss → get_or (slots_in ss) k 0 ≡ (get_or ss k z).slot
 slot_of ss k z k_in = get_or-map (λ (s : Stand). s.slot) ss k z 0 k_in
 
-pub time_of : (n : ℕ) (ss : List Stand) (k : ℕ) (z : Stand) → n ≤ length ss → k < n → get_or (times_in n ss) k (pos 0) ≡ (get_or ss k z).time
-time_of n ss k z few lt =
-    get_or-take n (map (λ (s : Stand). s.time) ss) k (pos 0) lt
-    ∙ get_or-map (λ (s : Stand). s.time) ss k z (pos 0) (omega (arith, lt, few))
+pub mark_at : (n : ℕ) (ss : List Stand) (k : ℕ) (z : Stand) → n ≤ length ss → k < n → get_or (marks_in n ss) k no_mark ≡ (get_or ss k z).mark
+mark_at n ss k z few lt =
+    get_or-take n (map (λ (s : Stand). s.mark) ss) k no_mark lt
+    ∙ get_or-map (λ (s : Stand). s.mark) ss k z no_mark (omega (arith, lt, few))
 
 -- two in each other's place
 pub slots_swapped : (ss : List Stand) (a b : ℕ) → slots_in (swap ss a b) ≡ swap (slots_in ss) a b
 slots_swapped ss a b = map-swap (λ (s : Stand). s.slot) ss a b
 
-pub times_swapped : (n : ℕ) (ss : List Stand) (a b : ℕ) → n ≤ length ss → a < n → b < n → times_in n (swap ss a b) ≡ swap (times_in n ss) a b
-times_swapped n ss a b few a_in b_in =
-    ap (take n) (map-swap (λ (s : Stand). s.time) ss a b)
-    ∙ take-swap n (map (λ (s : Stand). s.time) ss) a b a_in b_in (omega (arith, few, length-map ss (λ (s : Stand). s.time)))
+pub marks_swapped : (n : ℕ) (ss : List Stand) (a b : ℕ) → n ≤ length ss → a < n → b < n → marks_in n (swap ss a b) ≡ swap (marks_in n ss) a b
+marks_swapped n ss a b few a_in b_in =
+    ap (take n) (map-swap (λ (s : Stand). s.mark) ss a b)
+    ∙ take-swap n (map (λ (s : Stand). s.mark) ss) a b a_in b_in (omega (arith, few, length-map ss (λ (s : Stand). s.mark)))
 
 -- one fewer
-pub times_fewer : (n : ℕ) (ss : List Stand) (at : ℕ) (t : ℤ) → n + 1 ≤ length ss → at < n + 1 → times_in n (swap ss at n) ≡ swap_remove (times_in (n + 1) ss) at t
-times_fewer n ss at t few at_in =
-    let ts = map (λ (s : Stand). s.time) ss in
-    let ts_long : length ts ≡ length ss = length-map ss (λ (s : Stand). s.time) in
-    let qs = times_in (n + 1) ss in
-    let long : length qs ≡ n + 1 = times_long (n + 1) ss few in
+pub marks_fewer : (n : ℕ) (ss : List Stand) (at : ℕ) (t : Mark) → n + 1 ≤ length ss → at < n + 1 → marks_in n (swap ss at n) ≡ swap_remove (marks_in (n + 1) ss) at t
+marks_fewer n ss at t few at_in =
+    let ts = map (λ (s : Stand). s.mark) ss in
+    let ts_long : length ts ≡ length ss = length-map ss (λ (s : Stand). s.mark) in
+    let qs = marks_in (n + 1) ss in
+    let long : length qs ≡ n + 1 = marks_long (n + 1) ss few in
     let us = swap ts at n in
     let us_long : length us ≡ length ss = length-swap ts at n ∙ ts_long in
     let cut : length (take (n + 1) us) ≡ n + 1 = length-take-le (n + 1) us (omega (arith, us_long, few)) in
@@ -527,26 +528,26 @@ times_fewer n ss at t few at_in =
     (λ k d k_in.
     let lt : k < n = omega (arith, k_in, length-take-le n us (omega (arith, us_long, few))) in
     get_or-take n us k d lt ∙ sym (get_or-take (n + 1) us k d (omega (arith, lt))) ∙ sym (get_or-take n (take (n + 1) us) k d lt)) in
-    ap (take n) (map-swap (λ (s : Stand). s.time) ss at n) ∙ shorter
+    ap (take n) (map-swap (λ (s : Stand). s.mark) ss at n) ∙ shorter
     ∙ ap (take n) (take-swap (n + 1) ts at n at_in (omega arith) (omega (arith, ts_long, few)))
     ∙ sym (removed_by_swap qs at n t long (omega (arith, long, at_in)))
 
 -- one more slot, which is free
-pub more_stands : (ss us : List Stand) (n : ℕ) → n ≤ length ss → us ≡ cond (ltb n (length ss)) ss (ss ++ record { time = pos 0; slot = n } ∷ [])
-    → (slots_in us ≡ cond (ltb n (length (slots_in ss))) (slots_in ss) (slots_in ss ++ n ∷ [])) × (times_in n us ≡ times_in n ss)
+pub more_stands : (ss us : List Stand) (n : ℕ) → n ≤ length ss → us ≡ cond (ltb n (length ss)) ss (ss ++ record { mark = no_mark; slot = n } ∷ [])
+    → (slots_in us ≡ cond (ltb n (length (slots_in ss))) (slots_in ss) (slots_in ss ++ n ∷ [])) × (marks_in n us ≡ marks_in n ss)
 more_stands ss us n few is =
     let long : length (slots_in ss) ≡ length ss = length-map ss (λ (s : Stand). s.slot) in
-    let one : Stand = record { time = pos 0; slot = n } in
+    let one : Stand = record { mark = no_mark; slot = n } in
     ⊎_elim
     (λ lt.
     let same : us ≡ ss = is ∙ ap (λ z. cond z ss (ss ++ one ∷ [])) (lt-ltb n (length ss) lt) in
-    (ap slots_in same ∙ sym (ap (λ z. cond z (slots_in ss) (slots_in ss ++ n ∷ [])) (lt-ltb n (length (slots_in ss)) (omega (arith, lt, long)))), ap (times_in n) same))
+    (ap slots_in same ∙ sym (ap (λ z. cond z (slots_in ss) (slots_in ss ++ n ∷ [])) (lt-ltb n (length (slots_in ss)) (omega (arith, lt, long)))), ap (marks_in n) same))
     (λ past.
     let more : us ≡ ss ++ one ∷ [] = is ∙ ap (λ z. cond z ss (ss ++ one ∷ [])) (le-ltb n (length ss) past) in (
       ap slots_in more ∙ map_push (λ (s : Stand). s.slot) ss one
           ∙ sym (ap (λ z. cond z (slots_in ss) (slots_in ss ++ n ∷ [])) (le-ltb n (length (slots_in ss)) (omega (arith, past, long)))),
-      ap (times_in n) more ∙ ap (take n) (map_push (λ (s : Stand). s.time) ss one)
-          ∙ take-append-le n (map (λ (s : Stand). s.time) ss) (pos 0 ∷ []) (omega (arith, few, length-map ss (λ (s : Stand). s.time))),
+      ap (marks_in n) more ∙ ap (take n) (map_push (λ (s : Stand). s.mark) ss one)
+          ∙ take-append-le n (map (λ (s : Stand). s.mark) ss) (no_mark ∷ []) (omega (arith, few, length-map ss (λ (s : Stand). s.mark))),
     ))
     (cases_lt n (length ss))
 
@@ -554,9 +555,9 @@ more_stands ss us n few is =
 pub slots_kept : (ss : List Stand) (n : ℕ) (y : Stand) → y.slot ≡ get_or (slots_in ss) n 0 → n < length ss → slots_in (set ss n y) ≡ slots_in ss
 slots_kept ss n y is n_in = map-set_same (λ (s : Stand). s.slot) ss n y y (is ∙ slot_of ss n y n_in)
 
-pub times_more : (ss : List Stand) (n : ℕ) (y : Stand) → n < length ss → times_in (n + 1) (set ss n y) ≡ times_in n ss ++ y.time ∷ []
-times_more ss n y n_in =
+pub marks_more : (ss : List Stand) (n : ℕ) (y : Stand) → n < length ss → marks_in (n + 1) (set ss n y) ≡ marks_in n ss ++ y.mark ∷ []
+marks_more ss n y n_in =
     let one : n + 1 ≡ suc n = omega arith in
-    ap (take (n + 1)) (map-set (λ (s : Stand). s.time) ss n y)
-    ∙ ap (λ m. take m (set (map (λ (s : Stand). s.time) ss) n y.time)) one
-    ∙ take-suc-set (map (λ (s : Stand). s.time) ss) n y.time (omega (arith, n_in, length-map ss (λ (s : Stand). s.time)))
+    ap (take (n + 1)) (map-set (λ (s : Stand). s.mark) ss n y)
+    ∙ ap (λ m. take m (set (map (λ (s : Stand). s.mark) ss) n y.mark)) one
+    ∙ take-suc-set (map (λ (s : Stand). s.mark) ss) n y.mark (omega (arith, n_in, length-map ss (λ (s : Stand). s.mark)))

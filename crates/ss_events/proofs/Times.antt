@@ -1,17 +1,18 @@
 -- Entries that are told apart before their ties are compared.
-use Rattle.std.proofs.Common.{◌≡◌, ℕ, ℤ, Bool, true, false, cond, refl, sym, ap, ◌∙◌, List, [], ◌∷◌, arith}
+use Rattle.std.proofs.Common.{◌≡◌, ℕ, ◌+◌, ◌*◌, ◌<◌, ℤ, Bool, true, false, cond, ltb, refl, sym, ap, ◌∙◌, List, [], ◌∷◌, ⊎_elim, arith}
 use Rattle.std.specs.Prelude.{int_lt, nat_lt, ◌==◌}
 use Rattle.std.specs.declared.cmp.Ordering.{Ordering}
 use Rattle.std.specs.declared.cmp.Ordering.TheVariants.{Less, Equal, Greater}
 use Rattle.std.specs.Ordering.{int_cmp, nat_cmp, is_lt, ordering_then}
 use Rattle.std.specs.Cmp.Lexicographic.{slice_cmp}
+use Rattle.std.proofs.lemmas.Bool.{cases_eq, cases_lt, lt-ltb, le-ltb}
 use Rattle.std.proofs.lemmas.Bool.Decides.{nat_tests}
 use Rattle.std.proofs.lemmas.Cmp.{tied_itself, nat_cmp_total, int_cmp_total}
 use Rattle.std.proofs.lemmas.Int.{ints}
 use Rattle.ss_events.specs.declared.key.Tie.{Tie}
 use Rattle.ss_events.specs.declared.entry.Entry.{Entry}
 use Rattle.ss_events.specs.Order.{tie_order, comes_before}
-use Rattle.ss_events.specs.Slots.{is_tied}
+use Rattle.ss_events.specs.Slots.{is_tied, untold, told_ranks, told_numbers, order_of}
 
 by_tests : (b c : Bool) (r s : Ordering) → (b ≡ false → c ≡ false → ⊥) → b ≡ is_lt (ordering_then (ordering_then (cond b Less (cond c Greater Equal)) r) s)
 by_tests true c r s h = refl
@@ -71,3 +72,45 @@ numbers_tell e f a b c d =
     let second = sym (untied f.key.ties d) in
     by_number (nat_lt e.number f.number) (e.number == f.number)
     ∙ (λ i. is_lt (ordering_then (ordering_then (times i) (ordering_then (ranks i) (slice_cmp tie_order (first i) (second i)))) (nat_cmp e.number f.number)))
+
+-- ---- by orders that tell
+
+by_three : (b c d : Bool) (u x : ℕ) → (cond b u (cond c (cond d x u) u) ≡ u → ⊥) → (b ≡ false) × (c ≡ true) × (d ≡ true)
+by_three true c d u x h = absurd (h refl)
+by_three false false d u x h = absurd (h refl)
+by_three false true false u x h = absurd (h refl)
+by_three false true true u x h = (refl, refl, refl)
+
+below : (m n : ℕ) → ltb m n ≡ true → m < n
+below m n e = ⊎_elim (λ lt. lt) (λ past. absurd (let x : ltb m n ≡ false = le-ltb m n past in cc)) (cases_lt m n)
+
+-- what is known of an entry whose order tells something
+told_parts : (e : Entry) → (order_of e ≡ untold → ⊥) → (is_tied e.key.ties ≡ false) × (e.number < told_numbers) × (order_of e ≡ e.key.rank * told_numbers + e.number)
+told_parts e h =
+    let it = by_three (is_tied e.key.ties) (ltb e.key.rank told_ranks) (ltb e.number told_numbers) untold (e.key.rank * told_numbers + e.number) h in (
+      it.0,
+      below e.number told_numbers it.2,
+      (λ i. cond (it.0 i) untold (cond (it.1 i) (cond (it.2 i) (e.key.rank * told_numbers + e.number) untold) untold)),
+    )
+
+of_one_rank : (r s m n : ℕ) → r ≡ s → ltb (r * told_numbers + m) (s * told_numbers + n) ≡ ltb m n
+of_one_rank r s m n e = ⊎_elim
+    (λ lt. lt-ltb (r * told_numbers + m) (s * told_numbers + n) (omega (arith, e, lt)) ∙ sym (lt-ltb m n lt))
+    (λ past. le-ltb (r * told_numbers + m) (s * told_numbers + n) (omega (arith, e, past)) ∙ sym (le-ltb m n past))
+    (cases_lt m n)
+
+of_two_ranks : (r s m n : ℕ) → (r ≡ s → ⊥) → m < told_numbers → n < told_numbers → ltb (r * told_numbers + m) (s * told_numbers + n) ≡ ltb r s
+of_two_ranks r s m n differ m_in n_in = ⊎_elim
+    (λ lt. lt-ltb (r * told_numbers + m) (s * told_numbers + n) (omega (arith, lt, m_in)) ∙ sym (lt-ltb r s lt))
+    (λ past. le-ltb (r * told_numbers + m) (s * told_numbers + n) (omega (arith, past, differ, n_in)) ∙ sym (le-ltb r s past))
+    (cases_lt r s)
+
+-- where the times are the same the orders tell, if they tell anything
+pub orders_tell : (e f : Entry) → e.key.time ≡ f.key.time → (order_of e ≡ untold → ⊥) → (order_of f ≡ untold → ⊥) → nat_lt (order_of e) (order_of f) ≡ comes_before e f
+orders_tell e f same first second =
+    let a = told_parts e first in
+    let b = told_parts f second in
+    (λ i. nat_lt (a.2 i) (b.2 i)) ∙ ⊎_elim
+    (λ is. of_one_rank e.key.rank f.key.rank e.number f.number is ∙ numbers_tell e f same is a.0 b.0)
+    (λ other. of_two_ranks e.key.rank f.key.rank e.number f.number other a.1 b.1 ∙ ranks_tell e f same other)
+    (cases_eq e.key.rank f.key.rank)

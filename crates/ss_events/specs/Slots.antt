@@ -1,5 +1,5 @@
 -- How pending entries stand in slots, and the slots in places.
-use Rattle.std.specs.Prelude.{◌≡◌, ◌⊎◌, ℕ, ◌<◌, ◌≤◌, ℤ, pos, Bool, true, false, List, [], ◌∷◌, map, length, take, slice_index, slice_index_or, slice_set, nat_lt, bit_and, Option, Some, None, if◌then◌else◌}
+use Rattle.std.specs.Prelude.{◌≡◌, ◌⊎◌, ℕ, ◌+◌, ◌*◌, ◌^◌, ◌<◌, ◌≤◌, ℤ, pos, Bool, true, false, List, [], ◌∷◌, map, length, take, slice_index, slice_index_or, slice_set, nat_lt, bit_and, Option, Some, None, if◌then◌else◌}
 use Rattle.std.specs.Int.{w64, cast_unsigned}
 use Rattle.std.specs.Map.{lookup}
 use Rattle.std.specs.Option.{unwrap_or}
@@ -7,6 +7,7 @@ use Rattle.std.specs.Ordering.{int_eq}
 use Rattle.std.specs.List.{IsDistinct}
 use Rattle.ss_events.specs.declared.key.Tie.{Tie}
 use Rattle.ss_events.specs.declared.entry.Entry.{Entry}
+use Rattle.ss_events.specs.declared.entry.Mark.{Mark}
 use Rattle.ss_events.specs.declared.entry.directory.Directory.{Directory}
 use Rattle.ss_events.specs.declared.entry.places.Stand.{Stand}
 use Rattle.ss_events.specs.HeapEntries.{notices_of}
@@ -24,17 +25,44 @@ abbrev pub is_tied : List Tie → Bool
 is_tied [] = false
 is_tied (t ∷ ts) = true
 
--- the times of entries, in their order
-abbrev pub times_of : List Entry → List ℤ
-times_of es = map (λ e. e.key.time) es
+-- an order that tells nothing
+abbrev pub untold : ℕ
+untold = 18446744073709551615
+
+-- the ranks and the numbers of schedulings of which an order tells are below these
+abbrev pub told_ranks : ℕ
+told_ranks = 2 ^ 16
+
+abbrev pub told_numbers : ℕ
+told_numbers = 2 ^ 47
+
+-- in which order an entry comes among others of its time: by the rank, and then by the order of scheduling; nothing is told of
+-- one that has ties, or whose rank or number is too large for that
+abbrev pub order_of : Entry → ℕ
+order_of e =
+    if is_tied e.key.ties then untold
+    else if nat_lt e.key.rank told_ranks then (if nat_lt e.number told_numbers then e.key.rank * told_numbers + e.number else untold)
+    else untold
+
+-- what tells of an entry in which order it comes, without a look at it
+abbrev pub mark_of : Entry → Mark
+mark_of e = record { time = e.key.time; order = order_of e }
+
+-- that of no entry
+abbrev pub no_mark : Mark
+no_mark = record { time = pos 0; order = 0 }
+
+-- the marks of entries, in their order
+abbrev pub marks_of : List Entry → List Mark
+marks_of es = map mark_of es
 
 -- the slots in places, in their order
 abbrev pub slots_in : List Stand → List ℕ
 slots_in stands = map (λ s. s.slot) stands
 
--- the times of what stands in the first few places
-abbrev pub times_in : ℕ → List Stand → List ℤ
-times_in count stands = take count (map (λ s. s.time) stands)
+-- the marks of what stands in the first few places
+abbrev pub marks_in : ℕ → List Stand → List Mark
+marks_in count stands = take count (map (λ s. s.mark) stands)
 
 -- each place of `there` leads to a place from which `back` leads to it
 abbrev pub LeadsBack : List ℕ → List ℕ → Type 0
@@ -83,25 +111,25 @@ place_of entries places standing slot notice =
     else None)
     else None
 
--- `entries` say by slot what stands there, `times` by place at what time its entry comes, `slots` by place which slot stands
+-- `entries` say by slot what stands there, `marks` by place what tells of its entry, `slots` by place which slot stands
 -- there, with the free ones behind, and `places` where each slot is among these. No two entries by place have one notice, and
 -- the directory leads to each
-pub record IsPlaced (entries : List Entry) (slots places : List ℕ) (times : List ℤ) (directory : Directory) : Type 0 where
+pub record IsPlaced (entries : List Entry) (slots places : List ℕ) (marks : List Mark) (directory : Directory) : Type 0 where
   pub long : length slots ≡ length entries
   pub paired : IsPaired slots places
-  pub within : length times ≤ length slots
-  pub timed : times ≡ times_of (by_place no_entry entries (take (length times) slots))
-  pub distinct : IsDistinct int_eq (notices_of (by_place no_entry entries (take (length times) slots)))
-  pub led : AreLed directory entries (take (length times) slots)
+  pub within : length marks ≤ length slots
+  pub marked : marks ≡ marks_of (by_place no_entry entries (take (length marks) slots))
+  pub distinct : IsDistinct int_eq (notices_of (by_place no_entry entries (take (length marks) slots)))
+  pub led : AreLed directory entries (take (length marks) slots)
 
 -- the same of so many places
 pub record AreStanding (count : ℕ) (entries : List Entry) (stands : List Stand) (places : List ℕ) (directory : Directory) : Type 0 where
   pub few : count ≤ length stands
-  pub placed : IsPlaced entries (slots_in stands) places (times_in count stands) directory
+  pub placed : IsPlaced entries (slots_in stands) places (marks_in count stands) directory
 
 -- what stands in the first few places
 abbrev pub standing : ℕ → List Entry → List Stand → List Entry
-standing count entries stands = by_place no_entry entries (take (length (times_in count stands)) (slots_in stands))
+standing count entries stands = by_place no_entry entries (take (length (marks_in count stands)) (slots_in stands))
 
 -- the places by slot, once the slots in the places a and b have changed places
 abbrev pub exchanged : List ℕ → List ℕ → ℕ → ℕ → List ℕ

@@ -4,7 +4,7 @@
 //! entry is put into a place only by `Heap`, which counts it.
 ghost use Rattle.std.specs.Prelude.{◌≡◌, IfOk, IsTrue, ◌↔◌, int_lt, map};
 ghost use Rattle.ss_events.specs.PendingList.{FitsClass};
-ghost use Rattle.ss_events.specs.Slots.{is_tied, no_entry};
+ghost use Rattle.ss_events.specs.Slots.{is_tied, no_entry, no_mark, order_of, mark_of};
 
 mod directory;
 mod heap;
@@ -18,6 +18,14 @@ use std::marker::Model;
 
 /// The most schedulings that an event list takes.
 pub const MOST_SCHEDULINGS: u64 = 4_611_686_018_427_387_903;
+
+// The ranks and the numbers of schedulings of which an order tells are below these.
+const TOLD_RANKS: usize = 65_536;
+
+const TOLD_NUMBERS: u64 = 140_737_488_355_328;
+
+// An order that tells nothing.
+const UNTOLD: u64 = u64::MAX;
 
 /// Where a notice stands among others: its time in units, the rank of its class, and its ties.
 ///
@@ -114,6 +122,45 @@ fn is_tied(ties: &[Tie]) -> bool
     match ties {
         [] => false,
         _ => true,
+    }
+}
+
+// What tells of an entry in which order it comes, without a look at it: its time, and an order among those of one time.
+#[derive(Clone, Copy)]
+struct Mark {
+    time: i64,
+    order: u64,
+}
+
+impl Mark {
+    // That of no entry.
+    #[inline(always)]
+    fn none() -> Mark
+        ensures { result ≡ no_mark }
+    {
+        Mark { time: 0, order: 0 }
+    }
+}
+
+// In which order an entry comes among others of its time: by the rank, and then by the order of scheduling. Nothing is told of
+// one that has ties, or whose rank or number is too large for that.
+#[inline(always)]
+fn order_of(entry: &Entry) -> u64
+    ensures { result ≡ order_of entry.now }
+{
+    if is_tied(entry.key.ties()) || entry.key.rank() >= TOLD_RANKS || entry.number >= TOLD_NUMBERS {
+        return UNTOLD;
+    }
+    entry.key.rank() as u64 * TOLD_NUMBERS + entry.number
+}
+
+#[inline(always)]
+fn mark_of(entry: &Entry) -> Mark
+    ensures { result ≡ mark_of entry.now }
+{
+    Mark {
+        time: entry.key.time(),
+        order: order_of(entry),
     }
 }
 

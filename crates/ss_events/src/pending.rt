@@ -134,9 +134,13 @@ impl Pending {
     }
 
     /// Whether a notice is pending.
+    #[inline(always)]
     pub fn is_scheduled(&self, notice: i64) -> bool
         ensures { result ≡ is_pending notice self.now.list.entries }
     {
+        if self.heap.len() == 0 {
+            return false;
+        }
         self.heap.find(notice).is_some()
     }
 

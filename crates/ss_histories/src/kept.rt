@@ -163,7 +163,7 @@ impl Kept {
         ensures same { IfSome result (λ _. self.new ≡ self.old) }
     {
         if entity == SYSTEM {
-            note_first(&mut self.system, now, value)
+            note_system(&mut self.system, now, value)
         } else {
             note_found(&mut self.others, entity, now, value)
         }
@@ -199,7 +199,7 @@ impl Kept {
         ensures column { column_of self.new.rows ≡ renewed_column entity now present (column_of self.old.rows) }
     {
         if entity == SYSTEM {
-            renew_first(&mut self.system, now, present);
+            renew_system(&mut self.system, now, present);
         } else {
             renew_found(&mut self.others, entity, now, present);
         }
@@ -208,7 +208,7 @@ impl Kept {
 
 // Notes a value in the history of the system, or says why that takes no number; then nothing changes.
 #[inline(always)]
-fn note_first(system: &mut Option<Watched>, now: i64, value: i64) -> Option<Unnoted>
+fn note_system(system: &mut Option<Watched>, now: i64, value: i64) -> Option<Unnoted>
     requires { (h : History) → system.old ≡ Some h → last_moment h ≤ℤ now }
     ensures refused { result ≡ refused_in system.old }
     ensures noted { system.new ≡ option_map (noted_value now value) system.old }
@@ -253,7 +253,7 @@ fn note_found(
 }
 
 // Starts the history of the system afresh, if it has one, with the present value.
-fn renew_first(system: &mut Option<Watched>, now: i64, present: i64)
+fn renew_system(system: &mut Option<Watched>, now: i64, present: i64)
     requires { (h : History) → system.old ≡ Some h → last_moment h ≤ℤ now }
     ensures { system.new ≡ option_map (λ (h : History). restarted h now present) system.old }
 {

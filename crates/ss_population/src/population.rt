@@ -2,6 +2,7 @@
 
 ghost use Rattle.std.specs.Prelude.{◌≡◌, ◌<◌, true, false, length, pos, IfOk, IfSome, MatchResult, None, Some, Ok, Err, replicate, slice_get, slice_set};
 ghost use Rattle.ss_base.specs.Layout.{mode_of};
+ghost use Rattle.ss_records.specs.Added.{Added};
 ghost use Rattle.ss_records.specs.Kept.{IsPermanent};
 ghost use Rattle.ss_records.specs.State.{first_state, is_made, records_in, known_in, value_in, time_in, assigned, timed, created, created_all, destroyed, kind_of, modes_of, RefusedFor};
 ghost use Rattle.ss_records.specs.Sets.{first_in, last_in, count_in, next_in, previous_in, owner_of_member};
@@ -103,6 +104,18 @@ impl Population {
         ensures same { result ≡ false → self.new ≡ self.old }
     {
         self.heap.set_whole(class, field, n, value)
+    }
+
+    /// Adds a number to an attribute of whole numbers, and says whether it did: not where there is a fault or the sum does not
+    /// fit 64 bits, and it may give up elsewhere too.
+    #[inline(always)]
+    pub fn add_whole(&mut self, class: usize, field: usize, n: i64, by: i64) -> bool
+        requires class { class < length self.old.layout.classes }
+        requires mode { slice_get (modes_of self.old.layout class) field ≡ Some Mode.Integer }
+        ensures done { result ≡ true → Added self.old class field n by self.new }
+        ensures same { result ≡ false → self.new ≡ self.old }
+    {
+        self.heap.add_whole(class, field, n, by)
     }
 
     /// TIME.A of a notice. Faults: 1 to 4.

@@ -1,6 +1,7 @@
 pub use Rattle.ss_states.specs.Lists
 pub use Rattle.ss_states.specs.State
 pub use Rattle.ss_states.specs.Sets
+pub mod Added
 pub mod Cells
 pub mod Kept
 pub mod Laid

@@ -3,6 +3,7 @@ ghost use Rattle.ss_base.specs.Layout.{mode_of};
 ghost use Rattle.ss_states.specs.State.{State, first_state, known_in, known_notice_in, kind_of, modes_of, value_in, time_in, created, created_all, destroyed, assigned, timed, RefusedFor, living_numbers, living_records};
 ghost use Rattle.ss_states.specs.Disciplines.{first_removed, last_removed, member_test, owned};
 ghost use Rattle.ss_states.specs.Sets.{member_class, owner, first_in, last_in, count_in, next_in, previous_in, owner_of_member, filed_first, filed_last, filed_before, filed_after, removed, Apart};
+ghost use Rattle.ss_records.specs.Added.{Added};
 ghost use Rattle.ss_records.specs.Kept.{IsPermanent};
 ghost use Rattle.ss_records.specs.Passing.{ranks_past, first_where, before_where};
 
@@ -137,6 +138,20 @@ impl Heap {
         self.records.set_whole(class, field, r, n)
     }
 
+    /// Adds a number to an attribute of whole numbers, and says whether it did: not where there is a fault or the sum does not
+    /// fit 64 bits, and it may give up elsewhere too.
+    #[inline(always)]
+    pub fn add_whole(&mut self, class: usize, field: usize, r: i64, n: i64) -> bool
+        requires class { class < length self.old.state.layout.classes }
+        requires mode { slice_get (modes_of self.old.state.layout class) field ≡ Some Mode.Integer }
+        ensures done { result ≡ true → Added self.old.state class field r n self.new.state }
+        ensures same { result ≡ false → self.new.state ≡ self.old.state }
+        ensures touches { (self.new.touches ≡ 0) × (self.new.total ≡ self.old.total) }
+    {
+        self.records.start();
+        self.records.add_whole(class, field, r, n)
+    }
+
     /// A new entity of a temporary class or a class of notices, with first values, in no set: its creation
     /// number. Faults: 14 after the last creation number. Want of memory is answered only where no fault is due.
     pub fn create(&mut self, class: usize) -> Result<i64, Refused>
@@ -197,6 +212,7 @@ impl Heap {
     }
 
     /// How many members the set of an owner has. Faults: 1 to 5.
+    #[inline(always)]
     pub fn count(&mut self, set: usize, o: i64) -> Result<i64, FaultKind>
         requires set { set < length self.old.state.layout.sets }
         ensures value { result ≡ count_in self.old.state set o }

@@ -8,6 +8,7 @@ ghost use Rattle.ss_records.specs.Shape.{values_end};
 ghost use Rattle.ss_records.specs.Kept.{Kept, Small, numbered_place, indexed_place, row_in, IsPermanent, RowsHeld};
 ghost use Rattle.ss_records.specs.Places.{class_at, lying};
 ghost use Rattle.ss_records.specs.Parts.{IsKept, state, Found, FoundNotice};
+ghost use Rattle.ss_records.specs.Added.{Added};
 
 use crate::directory::Directory;
 use crate::notes::Notes;
@@ -17,7 +18,7 @@ use crate::row::{self, Row};
 use crate::shape::{CLASS, value_start};
 use crate::store::{Address, Blocks};
 use crate::{laying, placing, ties};
-use ss_base::{ClassKind, FaultKind, Layout, Mode, Owner, Refused, Value};
+use ss_base::{ClassKind, FaultKind, Layout, Mode, Owner, Refused, Value, plus};
 use std::alloc::{AllocError, Global};
 
 /// The greatest creation number.
@@ -374,6 +375,30 @@ impl Records {
             }
             Err(_) => false,
         }
+    }
+
+    /// Adds a number to an attribute of whole numbers, and says whether it did: not where the entity is not found without a
+    /// search, nor where the sum does not fit 64 bits.
+    #[inline(always)]
+    pub(crate) fn add_whole(&mut self, class: usize, field: usize, r: i64, n: i64) -> bool
+        requires kept { IsKept self.old }
+        requires class { class < length self.old.layout.classes }
+        requires mode { slice_get (modes_of self.old.layout class) field ≡ Some Mode.Integer }
+        ensures kept { IsKept self.new }
+        ensures done { result ≡ true → Added (state self.old) class field r n (state self.new) }
+        ensures same { result ≡ false → state self.new ≡ state self.old }
+        ensures touches { (self.new.blocks.touches ≡ self.old.blocks.touches) × (self.new.blocks.total ≡ self.old.blocks.total) }
+        ensures blocks { length self.new.blocks.cells ≡ length self.old.blocks.cells }
+    {
+        let Some(place) = self.near(class, r) else {
+            return false;
+        };
+        let k = value_start(field);
+        let Ok(sum) = plus(self.blocks.whole(place, k), n) else {
+            return false;
+        };
+        self.blocks.set_whole(place, k, sum);
+        true
     }
 
     /// The time of a notice.

@@ -154,6 +154,7 @@ impl Records {
     }
 
     /// How many members a set has: a touch.
+    #[inline(always)]
     pub(crate) fn count(&mut self, s: usize, o: i64) -> Result<i64, FaultKind>
         requires kept { IsKept self.old }
         requires set { s < length self.old.layout.sets }

@@ -1,4 +1,5 @@
 pub mod Only
+pub mod Laid
 pub mod Stores
 pub mod Moved
 pub mod Acts

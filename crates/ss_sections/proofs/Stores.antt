@@ -1,4 +1,4 @@
--- Operations on a store leave its variables with values of their modes.
+-- Operations on a store leave its variables with values of their modes, and the layout of its entities.
 use Rattle.std.proofs.Common.{◌≡◌, ℕ, zero, suc, ◌+◌, Bool, true, false, List, [], ◌∷◌, Option, Some, None, Ok, Err, ℤ, pos, refl, ap, ◌∙◌}
 use Rattle.std.specs.Prelude.{Result, map, int_lt, if◌then◌else◌}
 use Rattle.ss_base.specs.declared.fault.FaultKind.TheVariants.{CreatedTwice, Scheduled, AlreadyScheduled, PastTime}
@@ -29,13 +29,14 @@ use Rattle.ss_meaning.specs.Statistics.{subject_of, bearer, present, reset}
 use Rattle.ss_meaning.specs.Statements.{with_input, read_word}
 use Rattle.ss_machine_code.specs.Machine.{changed, visited}
 use Rattle.ss_sections.proofs.Only.{Only, Where, only_then, only_each, only_turned, only_made, only_weaker, only_fit, only_unless}
+use Rattle.ss_sections.proofs.Laid.{laid_due, with_due, assigned_laid, timed_laid, created_laid, all_laid, destroyed_laid, removed_laid, end_laid, filing_laid}
 
--- variables of the same modes
+-- variables of the same modes, and the same layout
 abbrev pub Alike : (s t : Store) → Type 0
-Alike s t = (map mode_of t.globals ≡ map mode_of s.globals) × (map mode_of t.locals ≡ map mode_of s.locals)
+Alike s t = (map mode_of t.globals ≡ map mode_of s.globals) × (map mode_of t.locals ≡ map mode_of s.locals) × (t.scene.heap.layout ≡ s.scene.heap.layout)
 
 pub alike_then : (s t u : Store) → Alike s t → Alike t u → Alike s u
-alike_then s t u p q = (q.0 ∙ p.0, q.1 ∙ p.1)
+alike_then s t u p q = (q.0 ∙ p.0, q.1 ∙ p.1, q.2 ∙ p.2)
 
 -- an operation on a store like this leaves one like it
 on_from : (s t : Store) (r : Result Store Trouble) → Alike s t → Only (Alike t) r → Only (Alike s) r
@@ -64,13 +65,17 @@ put_at_alike (old ∷ vs) (suc k) v =
 
 put_alike : (x : Variable) (v : Value) (s : Store) → Only (Alike s) (put x v s)
 put_alike (Global k) v s =
-    only_turned (Alike s) (λ vs. record s { globals = vs }) (put_at s.globals k v) (put_at_alike s.globals k v) (λ us q. (q, refl))
+    only_turned (Alike s) (λ vs. record s { globals = vs }) (put_at s.globals k v) (put_at_alike s.globals k v) (λ us q. (q, refl, refl))
 put_alike (Local k) v s =
-    only_turned (Alike s) (λ vs. record s { locals = vs }) (put_at s.locals k v) (put_at_alike s.locals k v) (λ us q. (refl, q))
+    only_turned (Alike s) (λ vs. record s { locals = vs }) (put_at s.locals k v) (put_at_alike s.locals k v) (λ us q. (refl, q, refl))
 
 noted_alike : (subject : Subject) (x : ℤ) (v : Value) (s : Store) → Only (Alike s) (noted subject x v s)
 noted_alike subject x v s =
-    only_made (Alike s) (with_histories s) (all_noting subject x s.scene.time v s.scene.setting.statistics s.scene.histories) (λ hs. (refl, refl))
+    only_made (Alike s) (with_histories s) (all_noting subject x s.scene.time v s.scene.setting.statistics s.scene.histories) (λ hs. (refl, refl, refl))
+
+-- with another heap of the same layout
+heaped_alike : (subject : Subject) (x : ℤ) (v : Value) (s : Store) (h : State) → h.layout ≡ s.scene.heap.layout → Only (Alike s) (noted subject x v (with_heap s h))
+heaped_alike subject x v s h p = on_from s (with_heap s h) (noted subject x v (with_heap s h)) (refl, refl, p) (noted_alike subject x v (with_heap s h))
 
 pub assigned_alike : (x : Variable) (v : Value) (s : Store) → Only (Alike s) (assigned_variable x v s)
 assigned_alike (Global k) v s =
@@ -84,8 +89,9 @@ attribute_alike : (class field : ℕ) (x v : Value) (s : Store) → Only (Alike 
 attribute_alike class field x v s =
     only_each (Alike s) (entity class x s) (λ n. where_fit (is_of_mode v (field_at class field s)) (if_ok (due (assigned s.scene.heap class field n v)) (λ h. noted (OfAttribute class field) n v (with_heap s h)))) (λ n.
     only_fit (Alike s) (is_of_mode v (field_at class field s)) (if_ok (due (assigned s.scene.heap class field n v)) (λ h. noted (OfAttribute class field) n v (with_heap s h)))
-    (only_each (Alike s) (due (assigned s.scene.heap class field n v)) (λ h. noted (OfAttribute class field) n v (with_heap s h)) (λ h.
-    noted_alike (OfAttribute class field) n v (with_heap s h))))
+    (only_then (Alike s) (due (assigned s.scene.heap class field n v)) (λ h. noted (OfAttribute class field) n v (with_heap s h))
+    (laid_due s.scene.heap (assigned s.scene.heap class field n v) (assigned_laid s.scene.heap class field n v)) (λ h p.
+    heaped_alike (OfAttribute class field) n v s h p)))
 
 count_alike : (c : Counted) (v : Value) (s : Store) → Only (Alike s) (assigned_count c v s)
 count_alike c v s =
@@ -103,27 +109,27 @@ changed_alike sign p y s =
     only_each (Alike s) (calculated (operator_of sign) x y) (λ v. written p v s) (λ v. written_alike p v s))
 
 pub read_alike : (mode : Mode) (s : Store) → Only (λ (b : Value × Store). Alike s b.1) (read_word mode s)
-read_alike mode s = only_made (λ (b : Value × Store). Alike s b.1) (with_input s) (due (value_given mode s.scene.input)) (λ g. (refl, refl))
+read_alike mode s = only_made (λ (b : Value × Store). Alike s b.1) (with_input s) (due (value_given mode s.scene.input)) (λ g. (refl, refl, refl))
 
 -- ## Entities
 
 pub made_alike : (class : ℕ) (s : Store) → Only (λ (b : Value × Store). Alike s b.1) (made_one class s)
 made_alike class s =
     only_fit (λ (b : Value × Store). Alike s b.1) (is_single (class_at class s)) (turned (with_new class s) (due (created s.scene.heap class)))
-    (only_made (λ (b : Value × Store). Alike s b.1) (with_new class s) (due (created s.scene.heap class)) (λ b. (refl, refl)))
+    (only_turned (λ (b : Value × Store). Alike s b.1) (with_new class s) (due (created s.scene.heap class)) (with_due s.scene.heap (created s.scene.heap class) (created_laid s.scene.heap class)) (λ b p. (refl, refl, p)))
 
 pub all_made_alike : (c : Counted) (s : Store) → Only (Alike s) (made_all c s)
 all_made_alike c s =
     only_each (Alike s) (sure (fetched (Global c.variable) s)) (λ v. if_ok (number_of v) (λ n. where_fit (is_permanent (class_at c.class s)) (turned (with_all c.class s) (due (created_all s.scene.heap c.class n))))) (λ v.
     only_each (Alike s) (number_of v) (λ n. where_fit (is_permanent (class_at c.class s)) (turned (with_all c.class s) (due (created_all s.scene.heap c.class n)))) (λ n.
     only_fit (Alike s) (is_permanent (class_at c.class s)) (turned (with_all c.class s) (due (created_all s.scene.heap c.class n)))
-    (only_made (Alike s) (with_all c.class s) (due (created_all s.scene.heap c.class n)) (λ h. (refl, refl)))))
+    (only_turned (Alike s) (with_all c.class s) (due (created_all s.scene.heap c.class n)) (laid_due s.scene.heap (created_all s.scene.heap c.class n) (all_laid s.scene.heap c.class n)) (λ h p. (refl, refl, p)))))
 
 gone_alike : (class : ℕ) (x : Value) (s : Store) → Only (Alike s) (gone class x s)
 gone_alike class x s =
     only_each (Alike s) (number_of x) (λ n. where_fit (is_single (class_at class s)) (turned (with_none class n s) (due (destroyed s.scene.heap class n)))) (λ n.
     only_fit (Alike s) (is_single (class_at class s)) (turned (with_none class n s) (due (destroyed s.scene.heap class n)))
-    (only_made (Alike s) (with_none class n s) (due (destroyed s.scene.heap class n)) (λ h. (refl, refl))))
+    (only_turned (Alike s) (with_none class n s) (due (destroyed s.scene.heap class n)) (laid_due s.scene.heap (destroyed s.scene.heap class n) (destroyed_laid s.scene.heap class n)) (λ h p. (refl, refl, p))))
 
 pub without_alike : (class : ℕ) (x : Value) (s : Store) → Only (Alike s) (without class x s)
 without_alike class x s =
@@ -132,28 +138,28 @@ without_alike class x s =
 
 -- ## Sets
 
-recounted_alike : (set : ℕ) (o : ℤ) (s : Store) (h : State) → Only (Alike s) (recounted set o s h)
-recounted_alike set o s h =
+recounted_alike : (set : ℕ) (o : ℤ) (s : Store) (h : State) → h.layout ≡ s.scene.heap.layout → Only (Alike s) (recounted set o s h)
+recounted_alike set o s h p =
     only_each (Alike s) (due (count_in h set o)) (λ n. noted (OfCount set) o (Whole n) (with_heap s h)) (λ n.
-    noted_alike (OfCount set) o (Whole n) (with_heap s h))
+    heaped_alike (OfCount set) o (Whole n) s h p)
 
 pub filed_alike : (filing : Filing) (set : ℕ) (x : Value) (o : Option Value) (s : Store) → Only (Alike s) (filed_in filing set x o s)
 filed_alike filing set x o s =
     only_each (Alike s) (member set x s) (λ n. if_ok (owner_number set o s) (λ m. if_ok (filed_by filing set m n s) (recounted set m s))) (λ n.
     only_each (Alike s) (owner_number set o s) (λ m. if_ok (filed_by filing set m n s) (recounted set m s)) (λ m.
-    only_each (Alike s) (filed_by filing set m n s) (recounted set m s) (recounted_alike set m s)))
+    only_then (Alike s) (filed_by filing set m n s) (recounted set m s) (filing_laid filing set m n s) (λ h p. recounted_alike set m s h p)))
 
 pub removed_alike : (set : ℕ) (x : Value) (o : Option Value) (s : Store) → Only (Alike s) (removed_from set x o s)
 removed_alike set x o s =
     only_each (Alike s) (member set x s) (λ n. if_ok (owner_number set o s) (λ m. if_ok (due (removed s.scene.heap set m n)) (recounted set m s))) (λ n.
     only_each (Alike s) (owner_number set o s) (λ m. if_ok (due (removed s.scene.heap set m n)) (recounted set m s)) (λ m.
-    only_each (Alike s) (due (removed s.scene.heap set m n)) (recounted set m s) (recounted_alike set m s)))
+    only_then (Alike s) (due (removed s.scene.heap set m n)) (recounted set m s) (laid_due s.scene.heap (removed s.scene.heap set m n) (removed_laid s.scene.heap set m n)) (λ h p. recounted_alike set m s h p)))
 
 pub end_alike : (end : End) (set : ℕ) (o : Option Value) (s : Store) → Only (λ (b : Value × Store). Alike s b.1) (removed_at end set o s)
 end_alike end set o s =
     only_each (λ (b : Value × Store). Alike s b.1) (owner_number set o s) (λ m. if_ok (due (end_removed end s.scene.heap set m)) (λ r. turned (λ t. (Whole r.0, t)) (recounted set m s r.1))) (λ m.
-    only_each (λ (b : Value × Store). Alike s b.1) (due (end_removed end s.scene.heap set m)) (λ r. turned (λ t. (Whole r.0, t)) (recounted set m s r.1)) (λ r.
-    only_turned (λ (b : Value × Store). Alike s b.1) (λ t. (Whole r.0, t)) (recounted set m s r.1) (recounted_alike set m s r.1) (λ t q. q)))
+    only_then (λ (b : Value × Store). Alike s b.1) (due (end_removed end s.scene.heap set m)) (λ r. turned (λ t. (Whole r.0, t)) (recounted set m s r.1)) (with_due s.scene.heap (end_removed end s.scene.heap set m) (end_laid end s.scene.heap set m)) (λ r p.
+    only_turned (λ (b : Value × Store). Alike s b.1) (λ t. (Whole r.0, t)) (recounted set m s r.1) (recounted_alike set m s r.1 p) (λ t q. q)))
 
 pub visited_alike : (reverse : Bool) (set : ℕ) (p : Spot) (x : ℤ) (s : Store) → Only (λ (b : ℤ × Store). Alike s b.1) (visited reverse set p x s)
 visited_alike reverse set p x s =
@@ -163,7 +169,7 @@ visited_alike reverse set p x s =
 -- ## Notices
 
 endowed_alike : (class field : ℕ) (x : Value) (vs : List Value) (s : Store) → Only (Alike s) (endowed class field x vs s)
-endowed_alike class field x [] s = (refl, refl)
+endowed_alike class field x [] s = (refl, refl, refl)
 endowed_alike class field x (v ∷ vs) s =
     only_then (Alike s) (assigned_attribute class field x v s) (endowed class (field + 1) x vs) (attribute_alike class field x v s) (λ t p.
     on_from s t (endowed class (field + 1) x vs t) p (endowed_alike class (field + 1) x vs t))
@@ -171,7 +177,7 @@ endowed_alike class field x (v ∷ vs) s =
 timed_alike : (x : Value) (time : ℤ) (s : Store) → Only (Alike s) (with_time x time s)
 timed_alike x time s =
     only_each (Alike s) (number_of x) (λ n. turned (with_heap s) (due (timed s.scene.heap n time))) (λ n.
-    only_made (Alike s) (with_heap s) (due (timed s.scene.heap n time)) (λ h. (refl, refl)))
+    only_turned (Alike s) (with_heap s) (due (timed s.scene.heap n time)) (laid_due s.scene.heap (timed s.scene.heap n time) (timed_laid s.scene.heap n time)) (λ h p. (refl, refl, p)))
 
 prepared_alike : (class : ℕ) (x : Value) (given : List Value) (time : ℤ) (s : Store) → Only (Alike s) (prepared class x given time s)
 prepared_alike class x given time s =
@@ -189,7 +195,7 @@ pending_alike class x time s =
     only_each (Alike s) (sure (ranked class s)) (λ r. if_ok (ties_of class x s r.said.ties) (λ ties. unless_fault (int_lt time s.scene.time) PastTime (turned (with_pending s) (due (scheduled (record { time = time; rank = r.rank; ties = ties }) n s.scene.pending))))) (λ r.
     only_each (Alike s) (ties_of class x s r.said.ties) (λ ties. unless_fault (int_lt time s.scene.time) PastTime (turned (with_pending s) (due (scheduled (record { time = time; rank = r.rank; ties = ties }) n s.scene.pending)))) (λ ties.
     only_unless (Alike s) (int_lt time s.scene.time) PastTime (turned (with_pending s) (due (scheduled (record { time = time; rank = r.rank; ties = ties }) n s.scene.pending)))
-    (only_made (Alike s) (with_pending s) (due (scheduled (record { time = time; rank = r.rank; ties = ties }) n s.scene.pending)) (λ p. (refl, refl))))))
+    (only_made (Alike s) (with_pending s) (due (scheduled (record { time = time; rank = r.rank; ties = ties }) n s.scene.pending)) (λ p. (refl, refl, refl))))))
 
 pub again_alike : (class : ℕ) (x : Value) (given : List Value) (time : ℤ) (s : Store) → Only (Alike s) (rescheduled class x given time s)
 again_alike class x given time s =
@@ -201,13 +207,13 @@ again_alike class x given time s =
 pub cancelled_alike : (class : ℕ) (x : Value) (s : Store) → Only (Alike s) (unscheduled class x s)
 cancelled_alike class x s =
     only_each (Alike s) (entity class x s) (λ n. turned (with_pending s) (due (cancelled n s.scene.pending))) (λ n.
-    only_made (Alike s) (with_pending s) (due (cancelled n s.scene.pending)) (λ p. (refl, refl)))
+    only_made (Alike s) (with_pending s) (due (cancelled n s.scene.pending)) (λ p. (refl, refl, refl)))
 
 -- ## Events
 
 coming_alike : (o : Option Ranked) (time x : ℤ) (s : Store) → Where (λ (c : Coming). Alike s c.store) (coming_as o time x s)
 coming_alike None time x s = tt
-coming_alike (Some r) time x s = (refl, refl)
+coming_alike (Some r) time x s = (refl, refl, refl)
 
 next_alike : (o : Option (ℤ × ℤ)) (s : Store) → Where (λ (c : Coming). Alike s c.store) (coming_with o s)
 next_alike None s = tt
@@ -233,4 +239,4 @@ reset_alike j x s =
     only_each (Alike s) (bearer t x s) (λ n. if_ok (present t x s) (λ v. if_ok (number_of v) (λ z. turned (with_histories s) (renewed j n s.scene.time z s.scene.histories)))) (λ n.
     only_each (Alike s) (present t x s) (λ v. if_ok (number_of v) (λ z. turned (with_histories s) (renewed j n s.scene.time z s.scene.histories))) (λ v.
     only_each (Alike s) (number_of v) (λ z. turned (with_histories s) (renewed j n s.scene.time z s.scene.histories)) (λ z.
-    only_made (Alike s) (with_histories s) (renewed j n s.scene.time z s.scene.histories) (λ hs. (refl, refl))))))
+    only_made (Alike s) (with_histories s) (renewed j n s.scene.time z s.scene.histories) (λ hs. (refl, refl, refl))))))

@@ -19,8 +19,8 @@ use ss_variables::variables::Variables;
 use std::alloc::{AllocError, Global};
 
 /// What the machine works on, but for its code: the place of the next instruction, the operands, the calls that are open, what
-/// the variables hold, the scene, where the memory for scheduling comes from, and the values that an event gives its routine,
-/// which are of no meaning between two instructions.
+/// the variables hold, the scene, where the memory for scheduling comes from, and the values that an event gives its routine
+/// or a routine yields, which are of no meaning between two instructions.
 #[derive(Drop)]
 pub struct Working {
     pub place: usize,

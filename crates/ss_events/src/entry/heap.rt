@@ -6,9 +6,9 @@ ghost use Rattle.ss_events.specs.declared.entry.Entry.{Entry};
 ghost use Rattle.ss_events.specs.HeapEntries.{notices_of, event_of, Removes};
 ghost use Rattle.ss_events.specs.Order.{comes_before};
 
-use super::order::comes_before_at_once;
+use super::order::comes_before;
 use super::places::Places;
-use super::{Entry, Key};
+use super::{Entry, Key, UNTOLD};
 use std::alloc::{AllocError, Global};
 use std::marker::Model;
 
@@ -93,11 +93,14 @@ impl Heap {
         ensures counted { self.new ≡ record self.old { comparisons = self.old.comparisons + 1 } }
     {
         self.comparisons += 1;
-        let (early, late) = (self.entries.time(a), self.entries.time(b));
-        if early != late {
-            return early < late;
+        let (early, late) = (self.entries.mark(a), self.entries.mark(b));
+        if early.time != late.time {
+            return early.time < late.time;
         }
-        comes_before_at_once(self.entries.get(a), self.entries.get(b))
+        if early.order == UNTOLD || late.order == UNTOLD {
+            return is_tied_before(&self.entries, a, b);
+        }
+        early.order < late.order
     }
 
     /// Lets the entries of two places change places. Counts two moves.
@@ -142,4 +145,14 @@ impl Heap {
         let entry = self.entries.remove(at);
         entry.event()
     }
+}
+
+// Whether the entry at place `a` comes out before that at `b`, whose marks do not tell.
+#[inline(never)]
+fn is_tied_before(entries: &Places, a: usize, b: usize) -> bool
+    requires a_within { a < length entries.now }
+    requires b_within { b < length entries.now }
+    ensures { (d : Entry) → result ≡ comes_before (slice_index_or entries.now a d) (slice_index_or entries.now b d) }
+{
+    comes_before(entries.get(a), entries.get(b))
 }

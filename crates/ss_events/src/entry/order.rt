@@ -3,7 +3,7 @@ ghost use Rattle.std.specs.Prelude.{◌≡◌};
 ghost use Rattle.ss_events.specs.Order.{tie_order, key_order, entry_order, comes_before};
 ghost use Rattle.std.specs.Cmp.Lexicographic.{slice_cmp};
 
-use super::{Entry, Key, is_tied};
+use super::{Entry, Key};
 use crate::key::Tie;
 use std::cmp::Ordering;
 
@@ -55,22 +55,4 @@ pub(super) fn comes_before(a: &Entry, b: &Entry) -> bool
     key_order(&a.key, &b.key)
         .then_with(|| a.number.cmp(&b.number))
         .is_lt()
-}
-
-// The same of two entries of one time. Only ties between them take long to compare.
-#[inline(always)]
-pub(super) fn comes_before_at_once(a: &Entry, b: &Entry) -> bool
-    requires { a.now.key.time ≡ b.now.key.time }
-    ensures { result ≡ comes_before a.now b.now }
-{
-    if a.key.rank() != b.key.rank() {
-        return a.key.rank() < b.key.rank();
-    }
-    if is_tied(a.key.ties()) {
-        return comes_before(a, b);
-    }
-    if is_tied(b.key.ties()) {
-        return comes_before(a, b);
-    }
-    a.number < b.number
 }

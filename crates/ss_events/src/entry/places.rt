@@ -1,21 +1,21 @@
 // Entries in places: none of them moves while it changes places.
-ghost use Rattle.std.specs.Prelude.{false, pos, ◌≡◌, ◌<◌, ◌≤◌, ◌++◌, ◌∷◌, [], length, swap, slice_index, slice_index_or, nat_lt, vec_len, if◌then◌else◌, IfOk, OnOk, OnErr, position, is_some};
+ghost use Rattle.std.specs.Prelude.{false, ◌≡◌, ◌<◌, ◌≤◌, ◌++◌, ◌∷◌, [], length, swap, slice_index, slice_index_or, nat_lt, vec_len, if◌then◌else◌, IfOk, OnOk, OnErr, position, is_some};
 ghost use Rattle.std.specs.Ordering.{int_eq};
 ghost use Rattle.std.specs.List.{swap_remove, list_any, IsDistinct};
 ghost use Rattle.ss_events.specs.declared.entry.Entry.{Entry};
 ghost use Rattle.ss_events.specs.HeapEntries.{notices_of};
-ghost use Rattle.ss_events.specs.Slots.{slots_in, by_place, no_entry, place_of, IsPaired, AreWithin, AreLed, exchanged};
+ghost use Rattle.ss_events.specs.Slots.{slots_in, by_place, no_entry, no_mark, mark_of, place_of, IsPaired, AreWithin, AreLed, exchanged};
 
-use super::Entry;
 use super::directory::Directory;
+use super::{Entry, Mark, mark_of};
 use std::alloc::{AllocError, Global};
 use std::marker::Model;
 use std::mem;
 
-// What stands in a place: a slot, and at what time its entry comes.
+// What stands in a place: a slot, and what tells in which order its entry comes.
 #[derive(Clone, Copy)]
 struct Stand {
-    time: i64,
+    mark: Mark,
     slot: usize,
 }
 
@@ -82,13 +82,13 @@ impl Places {
         place_of(&self.entries, &self.places, self.count, second, notice)
     }
 
-    /// The time of the entry in a place.
+    /// What tells in which order the entry in a place comes.
     #[inline(always)]
-    pub(crate) fn time(&self, place: usize) -> i64
+    pub(crate) fn mark(&self, place: usize) -> Mark
         requires { place < length self.now }
-        ensures { (d : Entry) → result ≡ (slice_index_or self.now place d).key.time }
+        ensures { (d : Entry) → result ≡ mark_of (slice_index_or self.now place d) }
     {
-        self.stands[place].time
+        self.stands[place].mark
     }
 
     /// The entry in a place.
@@ -110,8 +110,8 @@ impl Places {
         make_cells(&mut self.directory, &self.entries, &self.stands[..next])?;
         let slot = next_slot(&mut self.entries, &mut self.stands, &mut self.places, next)?;
         self.directory.note(entry.notice, slot)?;
-        let time = entry.key.time();
-        self.stands[next] = Stand { time, slot };
+        let mark = mark_of(&entry);
+        self.stands[next] = Stand { mark, slot };
         self.count = next + 1;
         self.entries[slot] = entry;
         Ok(())
@@ -178,7 +178,7 @@ fn next_slot(
     requires within { standing ≤ vec_len stands.old }
     ensures slot { IfOk result (λ slot. slot ≡ slice_index (slots_in stands.new.items) standing) }
     ensures entries { OnOk result (entries.new.items ≡ (if nat_lt standing (vec_len stands.old) then entries.old.items else entries.old.items ++ no_entry ∷ [])) }
-    ensures stands { OnOk result (stands.new.items ≡ (if nat_lt standing (vec_len stands.old) then stands.old.items else stands.old.items ++ record { time = pos 0; slot = standing } ∷ [])) }
+    ensures stands { OnOk result (stands.new.items ≡ (if nat_lt standing (vec_len stands.old) then stands.old.items else stands.old.items ++ record { mark = no_mark; slot = standing } ∷ [])) }
     ensures places { OnOk result (places.new.items ≡ (if nat_lt standing (vec_len stands.old) then places.old.items else places.old.items ++ standing ∷ [])) }
     ensures err_entries { OnErr result (entries.new.items ≡ entries.old.items) }
     ensures err_stands { OnErr result (stands.new.items ≡ stands.old.items) }
@@ -200,7 +200,7 @@ fn new_slot(
     number: usize,
 ) -> Result<(), AllocError>
     ensures entries { OnOk result (entries.new.items ≡ entries.old.items ++ no_entry ∷ []) }
-    ensures stands { OnOk result (stands.new.items ≡ stands.old.items ++ record { time = pos 0; slot = number } ∷ []) }
+    ensures stands { OnOk result (stands.new.items ≡ stands.old.items ++ record { mark = no_mark; slot = number } ∷ []) }
     ensures places { OnOk result (places.new.items ≡ places.old.items ++ number ∷ []) }
     ensures err_entries { OnErr result (entries.new.items ≡ entries.old.items) }
     ensures err_stands { OnErr result (stands.new.items ≡ stands.old.items) }
@@ -211,7 +211,7 @@ fn new_slot(
     places.reserve(1)?;
     entries.push_reserved(Entry::none(*entries.allocator()));
     stands.push_reserved(Stand {
-        time: 0,
+        mark: Mark::none(),
         slot: number,
     });
     places.push_reserved(number);

@@ -1,8 +1,8 @@
-use Rattle.std.proofs.Common.{rules, to_z, of_z, w64, pos, ◌≡◌, ◌<◌, ◌∙◌, length, get_or, subst, sym, ap, arith}
+use Rattle.std.proofs.Common.{rules, to_z, of_z, w64, ◌≡◌, ◌<◌, ◌∙◌, length, get_or, subst, sym, ap, arith}
 use Rattle.std.proofs.lemmas.List.{get_or_default, length-map, take_all}
 use Rattle.ss_events.specs.declared.entry.Entry.{Entry}
 use Rattle.ss_events.specs.declared.entry.places.Stand.{Stand}
-use Rattle.ss_events.specs.Slots.{slots_in, no_entry, Leads, AreLed, AreWithin}
+use Rattle.ss_events.specs.Slots.{slots_in, no_entry, no_mark, Leads, AreLed, AreWithin}
 use Rattle.ss_events.proofs.Standing.{noticed, led_more, slot_of}
 use Rattle.ss_events.proofs.entry.places.noted.Goals as goal
 
@@ -12,7 +12,7 @@ loop-k-preserved c =
     let ss = c.args.stands.now in
     let zs = slots_in ss in
     let k = c.loop-k.k in
-    let z : Stand = record { time = pos 0; slot = 0 } in
+    let z : Stand = record { mark = no_mark; slot = 0 } in
     let slot = (get_or ss k z).slot in
     let g = c.note.new.self in
     let long : length zs ≡ length ss = length-map ss (λ (s : Stand). s.slot) in
@@ -37,7 +37,7 @@ returns c =
 pub index-entry-requires : goal.index-entry-requires
 index-entry-requires c =
     let ss = c.args.stands.now in
-    let z : Stand = record { time = pos 0; slot = 0 } in
+    let z : Stand = record { mark = no_mark; slot = 0 } in
     let k = c.loop-k.k in
     let k_in : k < length (slots_in ss) = omega (arith, c.loop-k-test.true, length-map ss (λ (s : Stand). s.slot)) in
     omega (arith, c.requires.within k k_in, slot_of ss k z (omega (arith, c.loop-k-test.true)), c.args.entries.now.ok.0)

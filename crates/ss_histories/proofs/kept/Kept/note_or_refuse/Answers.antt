@@ -5,8 +5,8 @@ use Rattle.ss_histories.specs.Each.{refused_in}
 use Rattle.ss_histories.proofs.Apart.{other_there, other_noted}
 use Rattle.ss_histories.proofs.kept.Kept.note_or_refuse.Goals as goal
 
-pub note_first-requires : goal.note_first-requires
-note_first-requires c h e =
+pub note_system-requires : goal.note_system-requires
+note_system-requires c h e =
     let n : to_z w64 (of_z w64 c.args.now) ≡ c.args.now = omega (arith, ints) in
     rw n (c.requires (pos 0) h (ap (λ (r : Recorded). column_of r.rows (pos 0)) (sym c.self.view_is) ∙ e))
 

@@ -4,8 +4,8 @@ use Rattle.ss_histories.specs.Records.{Recorded, column_of, renewed_column}
 use Rattle.ss_histories.proofs.Apart.{other_there, other_renewed}
 use Rattle.ss_histories.proofs.kept.Kept.renew.Goals as goal
 
-pub renew_first-requires : goal.renew_first-requires
-renew_first-requires c h e =
+pub renew_system-requires : goal.renew_system-requires
+renew_system-requires c h e =
     let n : to_z w64 (of_z w64 c.args.now) ≡ c.args.now = omega (arith, ints) in
     rw n (c.requires (pos 0) h (ap (λ (r : Recorded). column_of r.rows (pos 0)) (sym c.self.view_is) ∙ e))
 

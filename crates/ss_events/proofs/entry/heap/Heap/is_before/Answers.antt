@@ -1,28 +1,33 @@
-use Rattle.std.proofs.Common.{◌≡◌, ◌∙◌, get_or, ap, sym, to_z, of_z, to_z-of_z, w64}
-use Rattle.std.specs.Prelude.{int_lt}
+use Rattle.std.proofs.Common.{rules, ◌≡◌, ◌∙◌, get_or, ap, sym, to_z, of_z, w64}
+use Rattle.std.specs.Prelude.{int_lt, nat_lt}
 use Rattle.ss_events.specs.declared.entry.Entry.{Entry}
-use Rattle.ss_events.proofs.Times.{times_tell}
+use Rattle.ss_events.specs.declared.entry.Mark.{Mark}
+use Rattle.ss_events.specs.Slots.{mark_of}
+use Rattle.ss_events.proofs.Times.{times_tell, orders_tell}
 use Rattle.ss_events.proofs.entry.heap.Heap.is_before.Goals as goal
 
 pub returns-then-early-late-clause-value : goal.returns-then-early-late-clause-value
 returns-then-early-late-clause-value c = λ d.
-    let t = c.time-early.result in
-    let u = c.time-late.result in
-    let early : to_z w64 (of_z w64 t) ≡ t = to_z-of_z {w = w64} {z = t} (record { sfits = c.time-early.type_inv }) in
-    let late : to_z w64 (of_z w64 u) ≡ u = to_z-of_z {w = w64} {z = u} (record { sfits = c.time-late.type_inv }) in
+    let t = c.mark-early.result.time in
+    let u = c.mark-late.result.time in
+    let early : to_z w64 (of_z w64 t) ≡ t = search rules in
+    let late : to_z w64 (of_z w64 u) ≡ u = search rules in
     (λ i. int_lt (early i) (late i))
     ∙ times_tell (get_or c.args.self.now.entries c.args.a d) (get_or c.args.self.now.entries c.args.b d) t u
-    (c.time-early.ensures d ∙ ap (λ h. (get_or h.entries c.args.a d).key.time) c.self.view_is)
-    (c.time-late.ensures d ∙ ap (λ h. (get_or h.entries c.args.b d).key.time) c.self.view_is)
+    (ap (λ (m : Mark). m.time) (c.mark-early.ensures d) ∙ ap (λ h. (get_or h.entries c.args.a d).key.time) c.self.view_is)
+    (ap (λ (m : Mark). m.time) (c.mark-late.ensures d) ∙ ap (λ h. (get_or h.entries c.args.b d).key.time) c.self.view_is)
     (λ e. c.if-early-late.true (ap (of_z w64) e))
 
-pub comes_before_at_once-requires : goal.comes_before_at_once-requires
-comes_before_at_once-requires c =
-    let t = c.time-early.result in
-    let u = c.time-late.result in
-    let early : to_z w64 (of_z w64 t) ≡ t = to_z-of_z {w = w64} {z = t} (record { sfits = c.time-early.type_inv }) in
-    let late : to_z w64 (of_z w64 u) ≡ u = to_z-of_z {w = w64} {z = u} (record { sfits = c.time-late.type_inv }) in
-    let same : t ≡ u = sym early ∙ ap (to_z w64) c.if-early-late.false ∙ late in
-    let a = c.get.result.now in
-    let b = c.get-2.result.now in
-    ap (λ (x : Entry). x.key.time) (c.get.ensures a) ∙ sym (c.time-early.ensures a) ∙ same ∙ c.time-late.ensures b ∙ ap (λ (x : Entry). x.key.time) (sym (c.get-2.ensures b))
+pub returns-clause-value : goal.returns-clause-value
+returns-clause-value c = λ d.
+    let e = get_or c.args.self.now.entries c.args.a d in
+    let f = get_or c.args.self.now.entries c.args.b d in
+    let t = c.mark-early.result.time in
+    let u = c.mark-late.result.time in
+    let early : to_z w64 (of_z w64 t) ≡ t = search rules in
+    let late : to_z w64 (of_z w64 u) ≡ u = search rules in
+    let first : c.mark-early.result ≡ mark_of e = c.mark-early.ensures d ∙ ap (λ h. mark_of (get_or h.entries c.args.a d)) c.self.view_is in
+    let second : c.mark-late.result ≡ mark_of f = c.mark-late.ensures d ∙ ap (λ h. mark_of (get_or h.entries c.args.b d)) c.self.view_is in
+    let same : e.key.time ≡ f.key.time = sym (ap (λ (m : Mark). m.time) first) ∙ sym early ∙ ap (to_z w64) c.if-early-late.false ∙ late ∙ ap (λ (m : Mark). m.time) second in
+    (λ i. nat_lt (first i).order (second i).order)
+    ∙ orders_tell e f same (λ is. c.if-early.false (ap (λ (m : Mark). m.order) first ∙ is)) (λ is. c.if-late.false (ap (λ (m : Mark). m.order) second ∙ is))

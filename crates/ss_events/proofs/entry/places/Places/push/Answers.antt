@@ -2,17 +2,18 @@ use Rattle.std.proofs.Common.{rules, pos, to_z, of_z, w64, to_z-of_z, ◌≡◌,
 use Rattle.std.specs.List.{list_any, IsDistinct}
 use Rattle.std.proofs.lemmas.List.{length-map, length-set}
 use Rattle.ss_events.specs.declared.entry.Entry.{Entry}
+use Rattle.ss_events.specs.declared.entry.Mark.{Mark}
 use Rattle.ss_events.specs.declared.entry.directory.Directory.{Directory}
 use Rattle.ss_events.specs.declared.entry.places.Stand.{Stand}
 use Rattle.ss_events.specs.HeapEntries.{notices_of}
-use Rattle.ss_events.specs.Slots.{slots_in, times_in, by_place, no_entry, no_slot, Leads, AreLed, AreWithin, IsPlaced, AreStanding}
-use Rattle.ss_events.proofs.Standing.{placed-led, placed-more, placed-noted, placed-pushed, seen-pushed, slot_in, are_within, taken_slots, times_long, times_more, more_stands, slots_kept}
+use Rattle.ss_events.specs.Slots.{slots_in, marks_in, mark_of, by_place, no_entry, no_mark, no_slot, Leads, AreLed, AreWithin, IsPlaced, AreStanding}
+use Rattle.ss_events.proofs.Standing.{placed-led, placed-more, placed-noted, placed-pushed, seen-pushed, slot_in, are_within, taken_slots, marks_long, marks_more, more_stands, slots_kept}
 use Rattle.ss_events.proofs.entry.places.Places.push.Goals as goal
 use Rattle.ss_events.proofs.entry.places.Places.push.Goals.{After-deref, After-note, After-index_mut, After-drop-index_mut}
 
 -- the stand of an entry that comes
-abbrev stand_of : ℤ → ℕ → Stand
-stand_of t s = record { time = t; slot = s }
+abbrev stand_of : Mark → ℕ → Stand
+stand_of m s = record { mark = m; slot = s }
 
 -- the same by other lists
 same_standing : (n : ℕ) (es fs : List Entry) (ss us : List Stand) (ys vs : List ℕ) (d : Directory) → fs ≡ es → us ≡ ss → vs ≡ ys → AreStanding n es ss ys d → AreStanding n fs us vs d
@@ -23,18 +24,18 @@ same_standing n es fs ss us ys vs d e f g h =
 led_too : (n : ℕ) (es : List Entry) (ss : List Stand) (ys : List ℕ) (d g : Directory) (l : List Stand) → l ≡ ss → AreLed g es (slots_in (take n l)) → AreStanding n es ss ys d → AreStanding n es ss ys g
 led_too n es ss ys d g l is led h = record {
   few = h.few;
-  placed = placed-led es (slots_in ss) ys (times_in n ss) d h.placed g (subst (AreLed g es) ((λ i. slots_in (take n (is i))) ∙ taken_slots n ss h.few) led);
+  placed = placed-led es (slots_in ss) ys (marks_in n ss) d h.placed g (subst (AreLed g es) ((λ i. slots_in (take n (is i))) ∙ taken_slots n ss h.few) led);
 }
 
 -- the slots that are handed on
-handed : (c : After-deref) → slots_in (take c.self.inside.count c.deref.result.now) ≡ take (length (times_in c.self.inside.count c.self.inside.stands.items)) (slots_in c.self.inside.stands.items)
+handed : (c : After-deref) → slots_in (take c.self.inside.count c.deref.result.now) ≡ take (length (marks_in c.self.inside.count c.self.inside.stands.items)) (slots_in c.self.inside.stands.items)
 handed c = (λ i. slots_in (take c.self.inside.count (c.deref.ensures.value i))) ∙ taken_slots c.self.inside.count c.self.inside.stands.items c.self.invariant.few
 
 pub make_cells-requires-clause-within : goal.make_cells-requires-clause-within
 make_cells-requires-clause-within c =
     let all : AreWithin (slots_in (take c.self.inside.count c.deref.result.now)) (length c.self.inside.entries.items)
     = subst (λ l. AreWithin l (length c.self.inside.entries.items)) (sym (handed c))
-    (are_within c.self.inside.entries.items (slots_in c.self.inside.stands.items) c.self.inside.places.items (times_in c.self.inside.count c.self.inside.stands.items) c.self.inside.directory c.self.invariant.placed) in
+    (are_within c.self.inside.entries.items (slots_in c.self.inside.stands.items) c.self.inside.places.items (marks_in c.self.inside.count c.self.inside.stands.items) c.self.inside.directory c.self.invariant.placed) in
     λ k k_in. omega (arith, all k k_in, c.self.inside.entries.ok.0)
 
 pub make_cells-requires-clause-distinct : goal.make_cells-requires-clause-distinct
@@ -55,12 +56,12 @@ invariant_of-self-in_err-slot c =
     (led_too c.self.inside.count c.self.inside.entries.items c.self.inside.stands.items c.self.inside.places.items c.self.inside.directory c.make_cells.new.directory c.deref.result.now c.deref.ensures.value c.make_cells.ensures
     c.self.invariant)
 
--- how many times there are
-times : (c : After-note) → length (times_in c.self.inside.count c.self.inside.stands.items) ≡ c.self.inside.count
-times c = times_long c.self.inside.count c.self.inside.stands.items c.self.invariant.few
+-- how many marks there are
+marks : (c : After-note) → length (marks_in c.self.inside.count c.self.inside.stands.items) ≡ c.self.inside.count
+marks c = marks_long c.self.inside.count c.self.inside.stands.items c.self.invariant.few
 
 -- once there are cells
-celled : (c : After-note) → IsPlaced c.self.inside.entries.items (slots_in c.self.inside.stands.items) c.self.inside.places.items (times_in c.self.inside.count c.self.inside.stands.items) c.make_cells.new.directory
+celled : (c : After-note) → IsPlaced c.self.inside.entries.items (slots_in c.self.inside.stands.items) c.self.inside.places.items (marks_in c.self.inside.count c.self.inside.stands.items) c.make_cells.new.directory
 celled c =
     (led_too c.self.inside.count c.self.inside.entries.items c.self.inside.stands.items c.self.inside.places.items c.self.inside.directory c.make_cells.new.directory c.deref.result.now c.deref.ensures.value c.make_cells.ensures
     c.self.invariant).placed
@@ -68,38 +69,38 @@ celled c =
 -- once there is a free slot
 more : (c : After-note)
     → (slots_in c.next_slot.new.stands.items ≡ cond (ltb c.self.inside.count (length (slots_in c.self.inside.stands.items))) (slots_in c.self.inside.stands.items) (slots_in c.self.inside.stands.items ++ c.self.inside.count ∷ []))
-    × (times_in c.self.inside.count c.next_slot.new.stands.items ≡ times_in c.self.inside.count c.self.inside.stands.items)
+    × (marks_in c.self.inside.count c.next_slot.new.stands.items ≡ marks_in c.self.inside.count c.self.inside.stands.items)
 more c =
     let ss = c.self.inside.stands.items in
     let n = c.self.inside.count in
     more_stands ss c.next_slot.new.stands.items n c.self.invariant.few
-    (c.in_ok-slot.ensures.stands ∙ ap (λ m. cond (ltb n m) ss (ss ++ stand_of (pos 0) n ∷ [])) c.self.inside.stands.ok.0)
+    (c.in_ok-slot.ensures.stands ∙ ap (λ m. cond (ltb n m) ss (ss ++ stand_of no_mark n ∷ [])) c.self.inside.stands.ok.0)
 
 slotted : (c : After-note)
-    → (take (length (times_in c.self.inside.count c.self.inside.stands.items)) (slots_in c.next_slot.new.stands.items)
-    ≡ take (length (times_in c.self.inside.count c.self.inside.stands.items)) (slots_in c.self.inside.stands.items))
-    × (by_place no_entry c.next_slot.new.entries.items (take (length (times_in c.self.inside.count c.self.inside.stands.items)) (slots_in c.self.inside.stands.items))
-    ≡ by_place no_entry c.self.inside.entries.items (take (length (times_in c.self.inside.count c.self.inside.stands.items)) (slots_in c.self.inside.stands.items)))
+    → (take (length (marks_in c.self.inside.count c.self.inside.stands.items)) (slots_in c.next_slot.new.stands.items)
+    ≡ take (length (marks_in c.self.inside.count c.self.inside.stands.items)) (slots_in c.self.inside.stands.items))
+    × (by_place no_entry c.next_slot.new.entries.items (take (length (marks_in c.self.inside.count c.self.inside.stands.items)) (slots_in c.self.inside.stands.items))
+    ≡ by_place no_entry c.self.inside.entries.items (take (length (marks_in c.self.inside.count c.self.inside.stands.items)) (slots_in c.self.inside.stands.items)))
     × (c.self.inside.count < length (slots_in c.next_slot.new.stands.items))
-    × IsPlaced c.next_slot.new.entries.items (slots_in c.next_slot.new.stands.items) c.next_slot.new.places.items (times_in c.self.inside.count c.self.inside.stands.items) c.make_cells.new.directory
+    × IsPlaced c.next_slot.new.entries.items (slots_in c.next_slot.new.stands.items) c.next_slot.new.places.items (marks_in c.self.inside.count c.self.inside.stands.items) c.make_cells.new.directory
 slotted c =
     let ss = c.self.inside.stands.items in
     let es = c.self.inside.entries.items in
     let ys = c.self.inside.places.items in
     let n = c.self.inside.count in
     let long = c.self.inside.stands.ok.0 ∙ sym (length-map ss (λ (s : Stand). s.slot)) in
-    placed-more es (slots_in ss) ys (times_in n ss) c.make_cells.new.directory (celled c)
-    c.next_slot.new.entries.items (slots_in c.next_slot.new.stands.items) c.next_slot.new.places.items n (sym (times c))
+    placed-more es (slots_in ss) ys (marks_in n ss) c.make_cells.new.directory (celled c)
+    c.next_slot.new.entries.items (slots_in c.next_slot.new.stands.items) c.next_slot.new.places.items n (sym (marks c))
     (c.in_ok-slot.ensures.entries ∙ ap (λ m. cond (ltb n m) es (es ++ no_entry ∷ [])) long)
     (more c).0
     (c.in_ok-slot.ensures.places ∙ ap (λ m. cond (ltb n m) ys (ys ++ n ∷ [])) long)
 
 -- what is seen
-seen : (c : After-note) → by_place no_entry c.next_slot.new.entries.items (take (length (times_in c.self.inside.count c.self.inside.stands.items)) (slots_in c.next_slot.new.stands.items)) ≡ c.args.self.now
+seen : (c : After-note) → by_place no_entry c.next_slot.new.entries.items (take (length (marks_in c.self.inside.count c.self.inside.stands.items)) (slots_in c.next_slot.new.stands.items)) ≡ c.args.self.now
 seen c = ap (by_place no_entry c.next_slot.new.entries.items) (slotted c).0 ∙ (slotted c).1 ∙ c.self.view_is
 
 fresh : (c : After-note)
-    → list_any (int_eq c.args.entry.notice) (notices_of (by_place no_entry c.next_slot.new.entries.items (take (length (times_in c.self.inside.count c.self.inside.stands.items)) (slots_in c.next_slot.new.stands.items)))) ≡ false
+    → list_any (int_eq c.args.entry.notice) (notices_of (by_place no_entry c.next_slot.new.entries.items (take (length (marks_in c.self.inside.count c.self.inside.stands.items)) (slots_in c.next_slot.new.stands.items)))) ≡ false
 fresh c = ap (λ l. list_any (int_eq c.args.entry.notice) (notices_of l)) (seen c) ∙ c.requires
 
 few : (c : After-note) → length c.next_slot.new.entries.items ≤ no_slot
@@ -122,7 +123,7 @@ pub invariant_of-self-in_err-note : goal.invariant_of-self-in_err-note
 invariant_of-self-in_err-note c =
     let e = (goal.at.invariant_of-self-in_err-note c).After-note in
     let us = slots_in c.next_slot.new.stands.items in
-    let placed = placed-noted c.next_slot.new.entries.items us c.next_slot.new.places.items (times_in c.self.inside.count c.self.inside.stands.items) c.make_cells.new.directory (slotted e).3 c.note.new.self c.args.entry.notice (fresh e) (few e) (others e) in record {
+    let placed = placed-noted c.next_slot.new.entries.items us c.next_slot.new.places.items (marks_in c.self.inside.count c.self.inside.stands.items) c.make_cells.new.directory (slotted e).3 c.note.new.self c.args.entry.notice (fresh e) (few e) (others e) in record {
       few = omega (arith, spare e);
       placed = subst (λ l. IsPlaced c.next_slot.new.entries.items us c.next_slot.new.places.items l c.note.new.self) (sym (more e).1) placed;
     }
@@ -130,15 +131,15 @@ invariant_of-self-in_err-note c =
 pub returns-in_err-note-clause-err : goal.returns-in_err-note-clause-err
 returns-in_err-note-clause-err c =
     let e = (goal.at.returns-in_err-note-clause-err c).After-note in
-    let is = ap (λ (l : List ℤ). by_place no_entry c.next_slot.new.entries.items (take (length l) (slots_in c.next_slot.new.stands.items))) (more e).1 ∙ seen e in
+    let is = ap (λ (l : List Mark). by_place no_entry c.next_slot.new.entries.items (take (length l) (slots_in c.next_slot.new.stands.items))) (more e).1 ∙ seen e in
     search (is, rules)
 
 -- the slot
-slot : (c : After-note) → c.in_ok-slot.slot ≡ get_or (slots_in c.next_slot.new.stands.items) (length (times_in c.self.inside.count c.self.inside.stands.items)) 0
-slot c = c.in_ok-slot.ensures.slot ∙ ap (λ n. get_or (slots_in c.next_slot.new.stands.items) n 0) (sym (times c))
+slot : (c : After-note) → c.in_ok-slot.slot ≡ get_or (slots_in c.next_slot.new.stands.items) (length (marks_in c.self.inside.count c.self.inside.stands.items)) 0
+slot c = c.in_ok-slot.ensures.slot ∙ ap (λ n. get_or (slots_in c.next_slot.new.stands.items) n 0) (sym (marks c))
 
-free : (c : After-note) → length (times_in c.self.inside.count c.self.inside.stands.items) < length (slots_in c.next_slot.new.stands.items)
-free c = omega (arith, times c, (slotted c).2)
+free : (c : After-note) → length (marks_in c.self.inside.count c.self.inside.stands.items) < length (slots_in c.next_slot.new.stands.items)
+free c = omega (arith, marks c, (slotted c).2)
 
 pub index_mut-requires : goal.index_mut-requires
 index_mut-requires c =
@@ -151,31 +152,29 @@ index_mut-requires-2 c =
     omega (
       arith,
       slot e,
-      slot_in c.next_slot.new.entries.items (slots_in c.next_slot.new.stands.items) c.next_slot.new.places.items (times_in c.self.inside.count c.self.inside.stands.items) c.make_cells.new.directory (slotted e).3
-          (length (times_in c.self.inside.count c.self.inside.stands.items)) (free e),
+      slot_in c.next_slot.new.entries.items (slots_in c.next_slot.new.stands.items) c.next_slot.new.places.items (marks_in c.self.inside.count c.self.inside.stands.items) c.make_cells.new.directory (slotted e).3
+          (length (marks_in c.self.inside.count c.self.inside.stands.items)) (free e),
       c.next_slot.new.entries.ok.0,
     )
 
 -- the stands then
 abbrev stood : (c : After-drop-index_mut) → List Stand
-stood c = set c.next_slot.new.stands.items c.self.inside.count (stand_of (to_z w64 (of_z w64 c.time-time.result)) c.in_ok-slot.slot)
+stood c = set c.next_slot.new.stands.items c.self.inside.count (stand_of c.mark_of-mark.result c.in_ok-slot.slot)
 
 slots_then : (c : After-drop-index_mut) (e : After-note)
     → c.in_ok-slot.slot ≡ get_or (slots_in c.next_slot.new.stands.items) c.self.inside.count 0 → c.self.inside.count < length c.next_slot.new.stands.items → slots_in (stood c) ≡ slots_in c.next_slot.new.stands.items
-slots_then c e is lt = slots_kept c.next_slot.new.stands.items c.self.inside.count (stand_of (to_z w64 (of_z w64 c.time-time.result)) c.in_ok-slot.slot) is lt
+slots_then c e is lt = slots_kept c.next_slot.new.stands.items c.self.inside.count (stand_of c.mark_of-mark.result c.in_ok-slot.slot) is lt
 
-its_time : (c : After-drop-index_mut) → to_z w64 (of_z w64 c.time-time.result) ≡ c.args.entry.key.time
-its_time c =
-    let same : to_z w64 (of_z w64 c.time-time.result) ≡ c.time-time.result = to_z-of_z {w = w64} {z = c.time-time.result} (record { sfits = c.time-time.type_inv }) in
-    same ∙ c.time-time.ensures ∙ ap (λ (x : Entry). x.key.time) c.entry.view_is
+its_mark : (c : After-drop-index_mut) → c.mark_of-mark.result ≡ mark_of c.args.entry
+its_mark c = c.mark_of-mark.ensures
 
-times_then : (c : After-drop-index_mut)
-    → c.self.inside.count < length c.next_slot.new.stands.items → times_in c.self.inside.count c.next_slot.new.stands.items ≡ times_in c.self.inside.count c.self.inside.stands.items
-    → times_in (c.self.inside.count + 1) (stood c) ≡ times_in c.self.inside.count c.self.inside.stands.items ++ c.args.entry.key.time ∷ []
-times_then c lt is =
-    let t = to_z w64 (of_z w64 c.time-time.result) in
-    times_more c.next_slot.new.stands.items c.self.inside.count (stand_of t c.in_ok-slot.slot) lt
-    ∙ ap (λ l. l ++ t ∷ []) is ∙ ap (λ x. times_in c.self.inside.count c.self.inside.stands.items ++ x ∷ []) (its_time c)
+marks_then : (c : After-drop-index_mut)
+    → c.self.inside.count < length c.next_slot.new.stands.items → marks_in c.self.inside.count c.next_slot.new.stands.items ≡ marks_in c.self.inside.count c.self.inside.stands.items
+    → marks_in (c.self.inside.count + 1) (stood c) ≡ marks_in c.self.inside.count c.self.inside.stands.items ++ mark_of c.args.entry ∷ []
+marks_then c lt is =
+    let m = c.mark_of-mark.result in
+    marks_more c.next_slot.new.stands.items c.self.inside.count (stand_of m c.in_ok-slot.slot) lt
+    ∙ ap (λ l. l ++ m ∷ []) is ∙ ap (λ x. marks_in c.self.inside.count c.self.inside.stands.items ++ x ∷ []) (its_mark c)
 
 pub invariant_of-self-2 : goal.invariant_of-self-2
 invariant_of-self-2 c =
@@ -183,12 +182,12 @@ invariant_of-self-2 c =
     let n = c.self.inside.count in
     let us = c.next_slot.new.stands.items in
     let fs = set c.next_slot.new.entries.items c.in_ok-slot.slot c.args.entry in
-    let rs = times_in (n + 1) (stood c) in
-    let placed = placed-pushed c.next_slot.new.entries.items (slots_in us) c.next_slot.new.places.items (times_in n c.self.inside.stands.items) c.make_cells.new.directory (slotted e).3
-    c.in_ok-slot.slot (free e) (slot e) fs rs c.args.entry refl (times_then c (spare e) (more e).1)
+    let rs = marks_in (n + 1) (stood c) in
+    let placed = placed-pushed c.next_slot.new.entries.items (slots_in us) c.next_slot.new.places.items (marks_in n c.self.inside.stands.items) c.make_cells.new.directory (slotted e).3
+    c.in_ok-slot.slot (free e) (slot e) fs rs c.args.entry refl (marks_then c (spare e) (more e).1)
     c.note.new.self (fresh e) (few e)
     (subst (λ m. Leads c.note.new.self m c.in_ok-slot.slot) (its_notice e) c.in_ok-note.ensures.noted) (others e) in record {
-      few = omega (arith, spare e, length-set us n (stand_of (to_z w64 (of_z w64 c.time-time.result)) c.in_ok-slot.slot));
+      few = omega (arith, spare e, length-set us n (stand_of c.mark_of-mark.result c.in_ok-slot.slot));
       placed = subst (λ l. IsPlaced fs l c.next_slot.new.places.items rs c.note.new.self) (sym (slots_then c e c.in_ok-slot.ensures.slot (spare e))) placed;
     }
 
@@ -198,8 +197,8 @@ returns-clause-ok c =
     let n = c.self.inside.count in
     let us = c.next_slot.new.stands.items in
     let fs = set c.next_slot.new.entries.items c.in_ok-slot.slot c.args.entry in
-    let rs = times_in (n + 1) (stood c) in
+    let rs = marks_in (n + 1) (stood c) in
     ap (λ l. by_place no_entry fs (take (length rs) l)) (slots_then c e c.in_ok-slot.ensures.slot (spare e))
-    ∙ seen-pushed c.next_slot.new.entries.items (slots_in us) c.next_slot.new.places.items (times_in n c.self.inside.stands.items) c.make_cells.new.directory (slotted e).3
-    c.in_ok-slot.slot (free e) (slot e) fs rs c.args.entry refl (times_then c (spare e) (more e).1)
+    ∙ seen-pushed c.next_slot.new.entries.items (slots_in us) c.next_slot.new.places.items (marks_in n c.self.inside.stands.items) c.make_cells.new.directory (slotted e).3
+    c.in_ok-slot.slot (free e) (slot e) fs rs c.args.entry refl (marks_then c (spare e) (more e).1)
     ∙ ap (λ l. l ++ c.args.entry ∷ []) (seen e)
