@@ -7,3 +7,4 @@ pub mod Order
 pub mod Plain
 pub use Rattle.ss_bytes.specs.Room
 pub use Rattle.ss_bytes.specs.Values
+pub use Rattle.ss_bytes.specs.declared.line.Line

@@ -4,9 +4,9 @@ ghost use Rattle.std.specs.Prelude.{◌≡◌, map, IfOk};
 ghost use Rattle.ss_program.specs.View.{view_item};
 ghost use Rattle.ss_machine_code.specs.Translation.{item_kind, lines_of};
 
+use ss_loops::pieces::items::kind_of;
 use ss_machine_code::item::ItemKind;
 use ss_picture::Picture;
-use ss_pieces::items::kind_of;
 use ss_program::statement::Item;
 use std::alloc::{AllocError, Global};
 use std::marker::Model;

@@ -10,14 +10,14 @@ use crate::lines::Lines;
 use ss_base::Line;
 use ss_loops::events::{emit_restarts, emit_schedule, emit_schedule_new};
 use ss_loops::loops::{emit_find, emit_for, emit_loop};
-use ss_machine_code::instruction::Instruction;
-use ss_pieces::conditions::{emit_condition, emit_phrases};
-use ss_pieces::emit::{emit_expression, emit_values, put};
-use ss_pieces::items::{count_values, emit_items};
-use ss_pieces::places::{
+use ss_loops::pieces::conditions::{emit_condition, emit_phrases};
+use ss_loops::pieces::emit::{emit_expression, emit_values, put};
+use ss_loops::pieces::items::{count_values, emit_items};
+use ss_loops::pieces::places::{
     emit_change, emit_create, emit_creates, emit_gives, emit_let, emit_reads, emit_remove_end,
 };
-use ss_pieces::sets::{emit_file, emit_remove};
+use ss_loops::pieces::sets::{emit_file, emit_remove};
+use ss_machine_code::instruction::Instruction;
 use ss_program::condition::Condition;
 use ss_program::expression::Expression;
 use ss_program::statement::{Item, Place, Statement};

@@ -3,3 +3,5 @@
 
 pub mod events;
 pub mod loops;
+
+pub use ss_pieces as pieces;

@@ -4,3 +4,4 @@ pub use Rattle.ss_steps.specs.Start
 pub mod Left
 pub mod Suited
 pub mod Held
+pub use Rattle.ss_steps.specs.declared.stop.Stop

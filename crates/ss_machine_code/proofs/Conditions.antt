@@ -3,7 +3,7 @@ use Rattle.std.proofs.Common.{◌≡◌, ℕ, ◌+◌, Bool, true, false, not, L
 use Rattle.std.specs.Prelude.{Result as OkOr}
 use Rattle.ss_bytes.specs.declared.line.Line.{Line}
 use Rattle.ss_base.specs.declared.value.Value.{Value}
-use Rattle.ss_input.specs.Words.{is_ended}
+use Rattle.ss_meaning.specs.Words.{is_ended}
 use Rattle.ss_program.specs.declared.head.GuardKind.{GuardKind}
 use Rattle.ss_program.specs.declared.head.GuardKind.TheVariants as guards
 use Rattle.ss_program.specs.Program.{SetOwner, Test, Compare, DataEnded, Empty, Member, Condition, Guard}

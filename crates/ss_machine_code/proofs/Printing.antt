@@ -3,8 +3,8 @@ use Rattle.std.proofs.Common.{◌≡◌, ℕ, suc, ◌+◌, true, false, List, [
 use Rattle.std.specs.Prelude.{slice_get, Result as OkOr, ℤ}
 use Rattle.ss_bytes.specs.declared.line.Line.{Line}
 use Rattle.ss_base.specs.declared.value.Value.{Value}
-use Rattle.ss_picture.specs.declared.items.Item.{Item as Shown}
-use Rattle.ss_picture.specs.declared.items.Item.TheVariants.{Is, Mean}
+use Rattle.ss_program.specs.Item.{Item as Shown}
+use Rattle.ss_program.specs.Item.TheVariants.{Is, Mean}
 use Rattle.ss_program.specs.Program.{Expression, Item, AValue, AMean, AMeanOf}
 use Rattle.ss_machine_code.specs.declared.instruction.Instruction.{Instruction}
 use Rattle.ss_machine_code.specs.declared.instruction.Instruction.TheVariants as i

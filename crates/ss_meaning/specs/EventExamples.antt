@@ -11,9 +11,9 @@ use Rattle.ss_events.specs.Order.{comes_before}
 use Rattle.ss_events.specs.PendingList.{scheduling_limit}
 use Rattle.ss_stats.specs.History.{tally_limit}
 use Rattle.ss_base.specs.declared.value.Value.TheVariants.{Whole}
-use Rattle.ss_picture.specs.declared.items.Item.TheVariants.{Is}
-use Rattle.ss_picture.specs.Numerals.{numeral}
-use Rattle.ss_picture.specs.Pictures.{picture_fields, filled}
+use Rattle.ss_program.specs.Item.TheVariants.{Is}
+use Rattle.ss_program.specs.Numerals.{numeral}
+use Rattle.ss_program.specs.Pictures.{picture_fields, filled}
 use Rattle.ss_program.specs.declared.expression.Fold.TheVariants.{Number, Sum, Maximum, Minimum}
 use Rattle.ss_program.specs.declared.sections.Subject.TheVariants.{OfVariable, OfCount}
 use Rattle.ss_program.specs.declared.sections.Weighting.TheVariants.{Tally, Accumulate}

@@ -2,3 +2,5 @@
 //!
 //! The crate has definitions alone (`specs/`), which the machine and its code are measured by.
 #![tactic(auto)]
+
+pub use ss_program as program;

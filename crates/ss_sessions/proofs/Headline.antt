@@ -10,8 +10,8 @@ use Rattle.ss_machine_code.specs.States.{State}
 use Rattle.ss_machine_code.specs.Machine.{Code, Goes, Over, step}
 use Rattle.ss_machine_code.specs.Running.{Underway, Ends, Behaves, result_at, result_of, start, steps, go_on as goes_on}
 use Rattle.ss_machine_code.specs.Laws.{EndingsStay, Grows, OnTheWay, OneTickFewer, Pauses, StepsGoOn}
-use Rattle.ss_steps.specs.declared.stop.Stop.{Stop}
-use Rattle.ss_steps.specs.declared.stop.Stop.TheVariants.{Ended, Fault, Paused, Memory, Output, Input, Failed}
+use Rattle.ss_machine.specs.Stop.{Stop}
+use Rattle.ss_machine.specs.Stop.TheVariants.{Ended, Fault, Paused, Memory, Output, Input, Failed}
 use Rattle.ss_working.specs.declared.working.Working.{Working}
 use Rattle.ss_working.specs.Holding.{state_of}
 use Rattle.ss_machine.specs.Runs.{Finishes, IsCut, IsCutAt, TookLast, Comes, Ran, does_read, does_write}

@@ -7,8 +7,8 @@ use Rattle.ss_input.specs.Inputs.{IsFresh, source_block, source_reader}
 use Rattle.ss_machine_code.specs.States.{State}
 use Rattle.ss_machine_code.specs.Machine.{Code}
 use Rattle.ss_machine_code.specs.Running.{Underway, start, steps}
-use Rattle.ss_steps.specs.declared.stop.Stop.{Stop}
-use Rattle.ss_steps.specs.declared.stop.Stop.TheVariants.{Ended, Fault, Paused, Memory, Output, Input, Failed}
+use Rattle.ss_machine.specs.Stop.{Stop}
+use Rattle.ss_machine.specs.Stop.TheVariants.{Ended, Fault, Paused, Memory, Output, Input, Failed}
 use Rattle.ss_meaning.specs.Meaning.{Ended as EndedThere, Fault as FaultThere}
 use Rattle.ss_working.specs.declared.working.Working.{Working}
 use Rattle.ss_working.specs.Holding.{state_of}

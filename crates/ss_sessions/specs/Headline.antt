@@ -6,8 +6,8 @@ use Rattle.std.specs.Io.KnownBytes.{Appends, Consumes, IsAtEnd}
 use Rattle.ss_program.specs.Program.{Program}
 use Rattle.ss_meaning.specs.Meaning.{Ended as EndedThere, Fault as FaultThere, Paused as PausedThere, meaning}
 use Rattle.ss_machine_code.specs.Laws.{Grows}
-use Rattle.ss_steps.specs.declared.stop.Stop.{Stop}
-use Rattle.ss_steps.specs.declared.stop.Stop.TheVariants.{Ended, Fault, Paused, Memory, Output, Input, Failed}
+use Rattle.ss_machine.specs.Stop.{Stop}
+use Rattle.ss_machine.specs.Stop.TheVariants.{Ended, Fault, Paused, Memory, Output, Input, Failed}
 
 -- the ticks that pieces hand out in all, up to 2^64 - 1
 abbrev pub handed_out : List ℕ → ℕ

@@ -1,4 +1,4 @@
 pub mod Sessions
 pub mod Headline
 pub mod Standing
-pub use Rattle.ss_steps.specs.declared.stop.Stop
+pub use Rattle.ss_machine.specs.Stop

@@ -8,8 +8,8 @@ use Rattle.ss_input.specs.declared.source.Source.{Source}
 use Rattle.ss_input.specs.Inputs.{IsFresh, source_block, source_missed, source_reader}
 use Rattle.ss_working.specs.declared.working.Working.{Working}
 use Rattle.ss_working.specs.Holding.{state_of}
-use Rattle.ss_steps.specs.declared.stop.Stop.{Stop}
-use Rattle.ss_steps.specs.declared.stop.Stop.TheVariants.{Paused, Output, Input, Failed}
+use Rattle.ss_machine.specs.Stop.{Stop}
+use Rattle.ss_machine.specs.Stop.TheVariants.{Paused, Output, Input, Failed}
 use Rattle.ss_machine.specs.Held.{Held, IsFirst}
 use Rattle.ss_machine.specs.Start.{IsAtStart, Continues}
 use Rattle.ss_machine.specs.Runs.{Comes, Ran}

@@ -4,8 +4,8 @@ use Rattle.std.specs.declared.option.Option.{Option}
 use Rattle.std.specs.Io.KnownBytes.{Appends}
 use Rattle.ss_machine_code.specs.Machine.{Code}
 use Rattle.ss_machine_code.specs.Running.{start}
-use Rattle.ss_steps.specs.declared.stop.Stop.{Stop}
-use Rattle.ss_steps.specs.declared.stop.Stop.TheVariants.{Ended, Fault, Paused, Memory, Output, Input, Failed}
+use Rattle.ss_machine.specs.Stop.{Stop}
+use Rattle.ss_machine.specs.Stop.TheVariants.{Ended, Fault, Paused, Memory, Output, Input, Failed}
 use Rattle.ss_machine.specs.Runs.{IsCut, IsCutAt, does_read, does_write}
 use Rattle.ss_sessions.specs.Headline.{Gave}
 

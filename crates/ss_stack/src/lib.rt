@@ -12,3 +12,5 @@ pub mod operands;
 pub mod spot;
 pub mod stack;
 pub mod taking;
+
+pub use ss_variables as variables;

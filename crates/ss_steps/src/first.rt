@@ -8,11 +8,11 @@ ghost use Rattle.ss_steps.specs.Start.{IsAtStart};
 use ss_base::copied_disciplines;
 use ss_code::code::Code;
 use ss_notices::copied_notices;
-use ss_stack::frames::Frames;
-use ss_stack::locals::Locals;
-use ss_stack::operands::Operands;
 use ss_store::scene::Scene;
 use ss_variables::variables::Variables;
+use ss_working::stack::frames::Frames;
+use ss_working::stack::locals::Locals;
+use ss_working::stack::operands::Operands;
 use ss_working::working::Working;
 use std::alloc::{AllocError, Global};
 

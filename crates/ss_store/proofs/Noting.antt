@@ -8,7 +8,7 @@ use Rattle.ss_base.specs.declared.value.Value.TheVariants.{Whole, Text}
 use Rattle.ss_program.specs.declared.sections.Subject.{Subject}
 use Rattle.ss_program.specs.declared.sections.Subject.TheVariants.{OfAttribute, OfCount}
 use Rattle.ss_program.specs.declared.sections.Statistic.{Statistic}
-use Rattle.ss_histories.specs.Records.{columns_of}
+use Rattle.ss_timeline.specs.Records.{columns_of}
 use Rattle.ss_stats.specs.History.{History, is_full, with_value}
 use Rattle.ss_meaning.specs.Values.{Trouble as Meant, Fails, if_ok, turned, due, unless_fault}
 use Rattle.ss_meaning.specs.Places.{is_of_mode, assigned_attribute}

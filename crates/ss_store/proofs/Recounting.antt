@@ -2,8 +2,8 @@
 use Rattle.std.proofs.Common.{◌≡◌, ℕ, ◌<◌, ℤ, Bool, true, false, List, [], ◌∷◌, length, Option, Some, None, Ok, Err, refl, ap, ◌∙◌, sym, subst}
 use Rattle.std.specs.Prelude.{pos, ◌||◌, slice_get, MatchResult, Result as OkOr, if◌then◌else◌}
 use Rattle.std.specs.List.{list_any}
-use Rattle.ss_histories.specs.Places.{is_about}
-use Rattle.ss_histories.specs.Records.{columns_of}
+use Rattle.ss_timeline.specs.Places.{is_about}
+use Rattle.ss_timeline.specs.Records.{columns_of}
 use Rattle.ss_base.specs.declared.fault.FaultKind.{FaultKind}
 use Rattle.ss_base.specs.declared.layout.Discipline.{Discipline}
 use Rattle.ss_base.specs.declared.value.Value.{Value}

@@ -4,3 +4,4 @@ pub mod Filed
 pub mod Scheduled
 pub mod Events
 pub use Rattle.ss_timeline.specs.Figures
+pub use Rattle.ss_timeline.specs.Records

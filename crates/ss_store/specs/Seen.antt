@@ -9,9 +9,9 @@ use Rattle.ss_base.specs.Plain.{PlainLayout}
 use Rattle.ss_base.specs.declared.layout.Discipline.{Discipline}
 use Rattle.ss_base.specs.declared.value.Value.{Value}
 use Rattle.ss_base.specs.declared.value.Value.TheVariants.{Whole}
-use Rattle.ss_histories.specs.Records.{Rows, columns_of}
-use Rattle.ss_histories.specs.declared.unnoted.Unnoted.{Unnoted}
-use Rattle.ss_histories.specs.declared.unnoted.Unnoted.TheVariants as unnoted
+use Rattle.ss_timeline.specs.Records.{Rows, columns_of}
+use Rattle.ss_timeline.specs.Unnoted.{Unnoted}
+use Rattle.ss_timeline.specs.Unnoted.TheVariants as unnoted
 use Rattle.ss_records.specs.State.{State, modes_of, is_made, created_all}
 use Rattle.ss_events.specs.PendingList.{PendingList, cancelled}
 use Rattle.ss_meaning.specs.Values.{Trouble as Meant, if_ok, turned, due, where_fit, unless_fault}

@@ -13,7 +13,7 @@ ghost use Rattle.ss_store.specs.Events.{Comes, Begins, Lets, First, Told, Adds, 
 use crate::scene::Scene;
 use crate::scheduling::lacking;
 use ss_base::{ClassKind, Line, Value};
-use ss_notices::NoticeClass;
+use ss_classes::notices::NoticeClass;
 use ss_population::known::Known;
 use ss_population::trouble::Unmade;
 

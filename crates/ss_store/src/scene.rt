@@ -5,12 +5,12 @@ ghost use Rattle.ss_records.specs.State.{first_state};
 ghost use Rattle.std.specs.Ordering.{int_eq};
 ghost use Rattle.ss_base.specs.declared.layout.Owner.TheVariants.{System};
 ghost use Rattle.ss_events.specs.PendingList.{none_pending};
-ghost use Rattle.ss_histories.specs.Records.{columns_of};
+ghost use Rattle.ss_timeline.specs.Records.{columns_of};
 ghost use Rattle.ss_meaning.specs.Histories.{no_histories, starting};
 
 use ss_base::{Discipline, Layout};
+use ss_classes::notices::NoticeClass;
 use ss_events::TieShape;
-use ss_notices::NoticeClass;
 use ss_population::population::Population;
 use ss_program::sections::Statistic;
 use ss_timeline::Timeline;

@@ -6,7 +6,7 @@ ghost use Rattle.ss_meaning.specs.Store.{Store as StoreSeen};
 ghost use Rattle.ss_meaning.specs.Histories.{noted, figure_kept, mean_kept};
 ghost use Rattle.ss_meaning.specs.Statistics.{bearer, figure, mean, reset};
 ghost use Rattle.ss_picture.specs.Suited.{IsMean};
-ghost use Rattle.ss_histories.specs.Records.{figured};
+ghost use Rattle.ss_timeline.specs.Records.{figured};
 ghost use Rattle.ss_population.specs.Told.{told, numbered};
 ghost use Rattle.ss_program.specs.declared.sections.Subject.TheVariants.{OfVariable, OfAttribute};
 ghost use Rattle.ss_timeline.specs.Figures.{subject_in, variable_in, variable_of, held_by, present_with, renewed_known, reset_of};
@@ -16,11 +16,11 @@ ghost use Rattle.ss_store.specs.Seen.{Looks, Changes, ChangesWhere, or_unnoted, 
 
 use crate::scene::Scene;
 use ss_base::{FaultKind, Value};
-use ss_histories::Unnoted;
 use ss_population::known::{Known, known_number};
 use ss_population::trouble::Trouble;
 use ss_program::expression::{Fold, SetQuery};
 use ss_program::sections::Subject;
+use ss_timeline::histories::Unnoted;
 
 impl Scene {
     /// Whether the program has statistics.

@@ -6,10 +6,10 @@ use Rattle.ss_program.specs.declared.expression.Variable.TheVariants.{Global}
 use Rattle.ss_program.specs.declared.sections.Subject.{Subject}
 use Rattle.ss_program.specs.declared.sections.Subject.TheVariants.{OfVariable, OfAttribute, OfCount}
 use Rattle.ss_program.specs.declared.sections.Statistic.{Statistic}
-use Rattle.ss_meaning.specs.Values.{Trouble as Meant, if_ok, turned, sure, number_of}
-use Rattle.ss_meaning.specs.Store.{Store, fetched, with_histories}
-use Rattle.ss_meaning.specs.Histories.{renewed}
-use Rattle.ss_meaning.specs.Statistics.{present}
+use Rattle.ss_histories.specs.Values.{Trouble as Meant, if_ok, turned, sure, number_of}
+use Rattle.ss_histories.specs.Store.{Store, fetched, with_histories}
+use Rattle.ss_histories.specs.Histories.{renewed}
+use Rattle.ss_histories.specs.Statistics.{present}
 
 -- what a statistic is about
 abbrev pub subject_in : List Statistic → (statistic : ℕ) → Option Subject

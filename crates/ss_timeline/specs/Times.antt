@@ -11,8 +11,8 @@ use Rattle.ss_events.specs.SortKey.{SortKey}
 use Rattle.ss_events.specs.declared.entry.Entry.{Entry}
 use Rattle.ss_events.specs.PendingList.{PendingList, scheduled, after_next}
 use Rattle.ss_histories.specs.Records.{Records, columns_of, why}
-use Rattle.ss_meaning.specs.Store.{Column}
-use Rattle.ss_meaning.specs.Histories.{all_noting}
+use Rattle.ss_histories.specs.Store.{Column}
+use Rattle.ss_histories.specs.Histories.{all_noting}
 use Rattle.ss_histories.specs.declared.unnoted.Unnoted.{Unnoted}
 
 -- the time, the notices that are pending, and the histories

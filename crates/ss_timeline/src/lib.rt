@@ -3,4 +3,5 @@
 
 mod timeline;
 
+pub use ss_histories as histories;
 pub use timeline::Timeline;

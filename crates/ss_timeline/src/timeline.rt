@@ -8,8 +8,8 @@ ghost use Rattle.ss_base.specs.declared.layout.Owner.TheVariants.{System, Class}
 ghost use Rattle.ss_events.specs.PendingList.{none_pending, is_pending, cancelled, next};
 ghost use Rattle.ss_histories.specs.Places.{is_about};
 ghost use Rattle.ss_histories.specs.Records.{HasRooms, is_up_to, renewed_where, figured, mean_in, columns_of};
-ghost use Rattle.ss_meaning.specs.Histories.{no_histories, starting, ending, all_noting, history_of, folded, renewed};
-ghost use Rattle.ss_meaning.specs.Values.{if_ok, sure};
+ghost use Rattle.ss_histories.specs.Histories.{no_histories, starting, ending, all_noting, history_of, folded, renewed};
+ghost use Rattle.ss_histories.specs.Values.{if_ok, sure};
 ghost use Rattle.ss_picture.specs.Suited.{IsMean};
 ghost use Rattle.ss_program.specs.declared.sections.Subject.TheVariants.{OfVariable, OfAttribute};
 ghost use Rattle.ss_timeline.specs.Figures.{subject_in};

@@ -5,3 +5,6 @@ pub mod effects;
 pub mod references;
 pub mod spots;
 pub mod working;
+
+pub use ss_stack as stack;
+pub use ss_store as store;

@@ -14,8 +14,8 @@ use ss_stack::frames::Frames;
 use ss_stack::locals::Locals;
 use ss_stack::numbers::{absolute, calculated, related, signed};
 use ss_stack::operands::Operands;
+use ss_stack::variables::variables::Variables;
 use ss_store::scene::Scene;
-use ss_variables::variables::Variables;
 use std::alloc::{AllocError, Global};
 
 /// What the machine works on, but for its code: the place of the next instruction, the operands, the calls that are open, what

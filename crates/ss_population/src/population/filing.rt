@@ -10,7 +10,7 @@ ghost use Rattle.ss_sets.specs.Disciplines.{Fits, filed, first_removed, last_rem
 use crate::population::Population;
 use crate::trouble::{Trouble, or_trouble};
 use ss_base::{Discipline, FaultKind};
-use ss_program::statement::End;
+use ss_meaning::program::statement::End;
 use ss_sets::{file, fits, is_in, remove_first, remove_last};
 
 impl Population {

@@ -1,7 +1,7 @@
 use Rattle.std.proofs.Common.{◌≡◌, sym, ap, subst, ◌∙◌, inl}
 use Rattle.ss_base.specs.Failures.{HasRisen}
 use Rattle.ss_machine.specs.Start.{IsAtStart}
-use Rattle.ss_steps.specs.declared.stop.Stop.TheVariants.{Memory, Output, Input}
+use Rattle.ss_machine.specs.Stop.TheVariants.{Memory, Output, Input}
 use Rattle.ss_sessions.specs.Sessions.{session_machine, session_reader, session_writer}
 use Rattle.ss_sessions.specs.Headline.{Simulated}
 use Rattle.ss_sessions.specs.Standing.{Stood}

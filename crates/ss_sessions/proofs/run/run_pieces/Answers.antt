@@ -1,6 +1,6 @@
 use Rattle.std.proofs.Common.{rules, arith, ◌≡◌, ◌+◌, ◌++◌, [], sym, ap, ◌∙◌, take, length, ◌∷◌}
 use Rattle.std.specs.List.{sum}
-use Rattle.ss_steps.specs.declared.stop.Stop.TheVariants.{Paused}
+use Rattle.ss_machine.specs.Stop.TheVariants.{Paused}
 use Rattle.ss_sessions.specs.Sessions.{session_machine, stands_so}
 use Rattle.ss_sessions.proofs.Handing.{next_piece, some_used, more_used, all_used, no_sum}
 use Rattle.ss_sessions.proofs.Running.{kept_stands, last_some}

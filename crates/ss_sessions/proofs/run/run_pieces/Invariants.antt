@@ -1,7 +1,7 @@
 use Rattle.std.proofs.Common.{◌≡◌, ◌+◌, ◌≤◌, [], take}
 use Rattle.std.specs.List.{sum}
 use Rattle.ss_machine_code.specs.Machine.{Code}
-use Rattle.ss_steps.specs.declared.stop.Stop.TheVariants.{Paused, Failed}
+use Rattle.ss_machine.specs.Stop.TheVariants.{Paused, Failed}
 use Rattle.ss_sessions.specs.Headline.{handed_out}
 use Rattle.ss_sessions.specs.Sessions.{GoesOn, HasRun, WasRun, session_machine, stands_so}
 use Rattle.ss_sessions.proofs.run.run_pieces.Given as goal

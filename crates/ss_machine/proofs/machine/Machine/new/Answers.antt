@@ -1,6 +1,6 @@
 use Rattle.std.proofs.Common.{◌≡◌, [], IfOk, List, refl, subst}
 use Rattle.ss_joins.specs.declared.fused.Micro.{Micro}
-use Rattle.ss_numbers.specs.Fitting.{IsFitted}
+use Rattle.ss_fused.specs.Fitting.{IsFitted}
 use Rattle.ss_fused.specs.Fused.{AreFused}
 use Rattle.ss_working.specs.declared.working.Working.{Working}
 use Rattle.ss_working.specs.Holding.{frames_of}

@@ -1,7 +1,7 @@
 use Rattle.std.proofs.Common.{◌≡◌, Ok, Err, sym, subst}
 use Rattle.std.specs.Prelude.{MatchResult}
 use Rattle.std.proofs.lemmas.Int.{to_z-of_z}
-use Rattle.ss_program.specs.declared.statement.End.{End}
+use Rattle.ss_meaning.specs.End.{End}
 use Rattle.ss_meaning.specs.Sets.{end_removed}
 use Rattle.ss_population.proofs.population.Population.remove_end.Goals as goal
 

@@ -1,6 +1,6 @@
 use Rattle.std.proofs.Common.{ap, sym, ◌∙◌}
 use Rattle.std.specs.List.{list_any}
-use Rattle.ss_histories.specs.Places.{is_about}
+use Rattle.ss_timeline.specs.Places.{is_about}
 use Rattle.ss_program.specs.declared.sections.Subject.TheVariants.{OfCount}
 use Rattle.ss_store.specs.Seen.{Seen}
 use Rattle.ss_store.proofs.Recounting.{unwatched}

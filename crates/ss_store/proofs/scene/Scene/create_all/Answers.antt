@@ -3,7 +3,7 @@ use Rattle.std.specs.Prelude.{pos, slice_get}
 use Rattle.ss_base.specs.declared.layout.Layout.{Layout}
 use Rattle.ss_base.specs.declared.layout.Owner.TheVariants.{Class}
 use Rattle.ss_records.specs.State.{created_all, records_in}
-use Rattle.ss_histories.specs.Records.{HasRooms, is_up_to}
+use Rattle.ss_timeline.specs.Records.{HasRooms, is_up_to}
 use Rattle.ss_meaning.specs.Entities.{is_permanent}
 use Rattle.ss_meaning.specs.Histories.{starting}
 use Rattle.ss_classes.specs.Layouts.{class_in}

@@ -2,7 +2,7 @@ use Rattle.std.proofs.Common.{sym, ap, ◌∙◌, subst}
 use Rattle.ss_program.specs.declared.expression.Variable.TheVariants.{Global}
 use Rattle.ss_meaning.specs.Entities.{class_at, is_permanent}
 use Rattle.ss_meaning.specs.Places.{written, assigned_attribute, assigned_variable}
-use Rattle.ss_records.specs.State.{is_made}
+use Rattle.ss_population.specs.State.{is_made}
 use Rattle.ss_population.specs.Told.{told, meant}
 use Rattle.ss_working.specs.Effects.{Came}
 use Rattle.ss_stack.specs.Spots.{spot_seen}
