@@ -1,35 +1,34 @@
-// Where the block of each creation number lies, in pages.
-ghost use Rattle.std.specs.Prelude.{◌≡◌, ℕ, ◌+◌, ◌*◌, ◌/◌, ◌^◌, ◌<◌, ◌≤◌, ◌++◌, [], ◌∷◌, length, nat_eq, false, Some, None, IfSome, slice_get, slice_set, MatchResult, ⊤};
+// Where the block of each creation number lies, and two numbers whose places are remembered.
+ghost use Rattle.std.specs.Prelude.{◌≡◌, ℕ, ◌+◌, ◌*◌, ◌/◌, ◌^◌, ◌<◌, ◌≤◌, ◌++◌, [], ◌∷◌, length, false, Some, None, IfSome, slice_get, slice_set, MatchResult, ⊤};
 ghost use Rattle.ss_records.specs.declared.store.Address.{Address};
 ghost use Rattle.ss_records.specs.Places.{living};
 ghost use Rattle.ss_records.specs.Pages.{in_page};
 
-use crate::page::{PAGE, Page};
-use crate::pages::PageMap;
+use crate::register::Register;
 use crate::store::Address;
 use std::alloc::{AllocError, Global};
 use std::marker::Model;
 
-/// A contract sees the place of each number, none where it is destroyed. The page of the next number is held
-/// always, an earlier one as long as one of its numbers is living.
+/// A contract sees the place of each number, none where it is destroyed. The number that was met last is remembered with its
+/// place, and one that is likely to come next: both are a matter of speed alone, and no contract sees them.
 #[derive(Drop)]
 pub(crate) struct Directory {
-    alloc: Global,
-    earlier: PageMap,
-    current: Page,
-    start: usize,
-    issued: usize,
+    register: Register,
+    recent: usize,
+    place: Option<Address>,
+    coming: usize,
+    next_place: Option<Address>,
 }
 
 impl Model for Directory {
-    ghost use Rattle.std.specs.Prelude.{◌+◌, length};
-    ghost use Rattle.ss_records.specs.Pages.{Listed, Paged, entry, upto};
+    ghost use Rattle.std.specs.Prelude.{◌≡◌, Some, IfSome, slice_get};
+    ghost use Rattle.ss_records.specs.Pages.{Listed};
 
     ghost Value = { Listed };
 
-    ghost view = { λ d. record { places = upto (entry d.earlier d.current d.start) d.issued; pages = length d.earlier + 1; start = d.start } };
+    ghost view = { λ d. d.register };
 
-    ghost invariant = { λ d. Paged d.earlier d.current d.start d.issued };
+    ghost invariant = { λ d. IfSome d.place (λ p. slice_get d.register.places d.recent ≡ Some (Some p)) × IfSome d.next_place (λ p. slice_get d.register.places d.coming ≡ Some (Some p)) };
 }
 
 impl Directory {
@@ -37,13 +36,13 @@ impl Directory {
     pub(crate) fn new(alloc: Global) -> Result<Directory, AllocError>
         ensures { MatchResult result (λ d. d.places ≡ []) (λ _. ⊤) }
     {
-        let current = Page::new(alloc)?;
+        let register = Register::new(alloc)?;
         Ok(Directory {
-            alloc,
-            earlier: PageMap::new(alloc),
-            current,
-            start: 0,
-            issued: 0,
+            register,
+            recent: 0,
+            place: None,
+            coming: 0,
+            next_place: None,
         })
     }
 
@@ -51,7 +50,7 @@ impl Directory {
     pub(crate) fn len(&self) -> usize
         ensures { result ≡ length self.now.places }
     {
-        self.issued
+        self.register.len()
     }
 
     /// How many pages are held: at most one more than numbers are living.
@@ -59,7 +58,7 @@ impl Directory {
         ensures value { result ≡ self.now.pages }
         ensures bound { result ≤ living self.now.places + 1 }
     {
-        self.earlier.len() + 1
+        self.register.pages()
     }
 
     /// How many stretches of a page's numbers hold all numbers.
@@ -67,31 +66,21 @@ impl Directory {
         ensures all { length self.now.places ≤ result * 256 }
         ensures few { result * 256 ≤ length self.now.places + 256 }
     {
-        self.issued / PAGE + 1
+        self.register.stretches()
     }
 
     /// Whether the page of a stretch is held: where it is not, no number of it is living.
-    #[inline(never)]
     pub(crate) fn holds(&self, stretch: usize) -> bool
         ensures { result ≡ false → (i : ℕ) → i / 256 ≡ stretch → in_page (slice_get self.now.places i) ≡ None }
     {
-        if stretch >= self.start / PAGE {
-            return true;
-        }
-        match self.earlier.get(stretch) {
-            Some(_) => true,
-            None => false,
-        }
+        self.register.holds(stretch)
     }
 
     /// The place of a number, none also where it was not issued.
     pub(crate) fn place_of(&self, i: usize) -> Option<Address>
         ensures { result ≡ in_page (slice_get self.now.places i) }
     {
-        if i >= self.issued {
-            return None;
-        }
-        self.get(i)
+        self.register.place_of(i)
     }
 
     /// The entry i, from 0 on.
@@ -100,12 +89,26 @@ impl Directory {
         requires { i < length self.now.places }
         ensures { slice_get self.now.places i ≡ Some result }
     {
-        if i >= self.start {
-            return self.current.get(i - self.start);
-        }
-        match self.earlier.get(i / PAGE) {
-            Some(page) => page.get(i % PAGE),
-            None => None,
+        self.register.get(i)
+    }
+
+    /// The entry i, from 0 on, where it is the one that was met last, and is not destroyed.
+    #[inline(always)]
+    pub(crate) fn remembered(&self, i: usize) -> Option<Address>
+        ensures { IfSome result (λ p. slice_get self.now.places i ≡ Some (Some p)) }
+    {
+        if i == self.recent { self.place } else { None }
+    }
+
+    /// The entry i, from 0 on, where it is the one that is likely to come next, and is not destroyed.
+    #[inline(always)]
+    pub(crate) fn expected(&self, i: usize) -> Option<Address>
+        ensures { IfSome result (λ p. slice_get self.now.places i ≡ Some (Some p)) }
+    {
+        if i == self.coming {
+            self.next_place
+        } else {
+            None
         }
     }
 
@@ -114,62 +117,51 @@ impl Directory {
     pub(crate) fn near(&self, i: usize) -> Option<Address>
         ensures { IfSome result (λ p. slice_get self.now.places i ≡ Some (Some p)) }
     {
-        let k = i.wrapping_sub(self.start);
-        if k < PAGE {
-            return self.current.get(k);
-        }
-        match self.earlier.near(i / PAGE) {
-            Some(page) => page.get(i % PAGE),
-            None => None,
+        match self.remembered(i) {
+            Some(place) => Some(place),
+            None => self.register.near(i),
         }
     }
 
-    /// The place of the next number.
+    /// Remembers the entry i, which is met.
+    #[inline(always)]
+    pub(crate) fn remember(&mut self, i: usize, place: Address)
+        requires { slice_get self.old.places i ≡ Some (Some place) }
+        ensures { self.new ≡ self.old }
+    {
+        self.recent = i;
+        self.place = Some(place);
+    }
+
+    /// Remembers the entry i, which is likely to come next.
+    #[inline(always)]
+    pub(crate) fn expect(&mut self, i: usize, place: Address)
+        requires { slice_get self.old.places i ≡ Some (Some place) }
+        ensures { self.new ≡ self.old }
+    {
+        self.coming = i;
+        self.next_place = Some(place);
+    }
+
+    /// Remembers the entry i, from 0 on, where it is found without a search and is not destroyed.
+    #[inline(always)]
+    pub(crate) fn meet(&mut self, i: usize)
+        ensures { self.new ≡ self.old }
+    {
+        if let Some(place) = self.near(i) {
+            self.remember(i, place);
+        }
+    }
+
+    /// The place of the next number, which is remembered.
     pub(crate) fn push(&mut self, place: Address) -> Result<(), AllocError>
         requires room { length self.old.places < 2 ^ 62 }
         ensures { MatchResult result (λ _. self.new.places ≡ self.old.places ++ Some place ∷ []) (λ _. self.new.places ≡ self.old.places) }
     {
-        if self.is_full() {
-            self.turn()?;
-        }
-        self.note(place);
-        Ok(())
-    }
-
-    // Whether the current page has taken its last number.
-    fn is_full(&self) -> bool
-        ensures value { result ≡ nat_eq (length self.now.places) (self.now.start + 256) }
-        ensures bound { length self.now.places ≤ self.now.start + 256 }
-    {
-        self.issued - self.start == PAGE
-    }
-
-    // Notes the place of the next number, where the current page has room.
-    fn note(&mut self, place: Address)
-        requires free { length self.old.places < self.old.start + 256 }
-        requires room { length self.old.places < 2 ^ 62 }
-        ensures { self.new.places ≡ self.old.places ++ Some place ∷ [] }
-    {
-        let k = self.issued - self.start;
-        self.current.set(k, place);
-        self.issued += 1;
-    }
-
-    // Makes the page of the next number, where the current one is full. One without a living number serves again.
-    #[inline(never)]
-    fn turn(&mut self) -> Result<(), AllocError>
-        requires full { length self.old.places ≡ self.old.start + 256 }
-        requires room { length self.old.places < 2 ^ 62 }
-        ensures { MatchResult result (λ _. (self.new.places ≡ self.old.places) × (length self.new.places < self.new.start + 256)) (λ _. self.new.places ≡ self.old.places) }
-    {
-        if self.current.is_empty() {
-            self.start += PAGE;
-            return Ok(());
-        }
-        let page = Page::new(self.alloc)?;
-        self.earlier
-            .push(self.start / PAGE, &mut self.current, page)?;
-        self.start += PAGE;
+        let i = self.register.len();
+        self.register.push(place)?;
+        self.recent = i;
+        self.place = Some(place);
         Ok(())
     }
 
@@ -178,32 +170,12 @@ impl Directory {
         requires { (p : Address) × (slice_get self.old.places i ≡ Some (Some p)) }
         ensures { self.new.places ≡ slice_set self.old.places i None }
     {
-        if i >= self.start {
-            self.clear_current(i);
-        } else {
-            self.clear_earlier(i);
+        self.register.clear(i);
+        if i == self.recent {
+            self.place = None;
         }
-    }
-
-    // Lets go of an entry in the current page.
-    fn clear_current(&mut self, i: usize)
-        requires there { (p : Address) × (slice_get self.old.places i ≡ Some (Some p)) }
-        requires current { self.old.start ≤ i }
-        ensures { self.new.places ≡ slice_set self.old.places i None }
-    {
-        let k = i - self.start;
-        self.current.clear(k);
-    }
-
-    // Lets go of an entry in an earlier page, and of the page where none of its numbers is living.
-    fn clear_earlier(&mut self, i: usize)
-        requires there { (p : Address) × (slice_get self.old.places i ≡ Some (Some p)) }
-        requires earlier { i < self.old.start }
-        ensures { self.new.places ≡ slice_set self.old.places i None }
-    {
-        let number = i / PAGE;
-        if self.earlier.clear(number, i % PAGE) {
-            self.earlier.remove(number);
+        if i == self.coming {
+            self.next_place = None;
         }
     }
 }

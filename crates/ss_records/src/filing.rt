@@ -337,6 +337,7 @@ impl Records {
                 if first.number == 0 {
                     return Err(FaultKind::EmptySet);
                 }
+                self.remember(s, first);
                 self.take_out(s, owner, first);
                 Ok(first.number as i64)
             }
@@ -360,6 +361,7 @@ impl Records {
                 if last.number == 0 {
                     return Err(FaultKind::EmptySet);
                 }
+                self.remember(s, last);
                 self.take_out(s, owner, last);
                 Ok(last.number as i64)
             }

@@ -13,6 +13,7 @@ pub(crate) mod pages;
 pub(crate) mod placing;
 pub(crate) mod plan;
 pub(crate) mod records;
+pub(crate) mod register;
 pub(crate) mod row;
 pub(crate) mod sets;
 pub(crate) mod shape;

@@ -121,6 +121,17 @@ impl Records {
     fn numbered(&self, r: i64) -> Result<Address, FaultKind>
         ensures { result ≡ numbered_place self.now.directory.places r }
     {
+        match self.near_numbered(r) {
+            Some(place) => Ok(place),
+            None => self.numbered_apart(r),
+        }
+    }
+
+    // The same where it may take a search, or there is a fault.
+    #[inline(never)]
+    fn numbered_apart(&self, r: i64) -> Result<Address, FaultKind>
+        ensures { result ≡ numbered_place self.now.directory.places r }
+    {
         if r == 0 {
             return Err(FaultKind::NoEntity);
         }
@@ -191,6 +202,19 @@ impl Records {
         requires class { class < length self.now.layout.classes }
         ensures { IfSome result (λ p. Found self.now class r p) }
     {
+        match self.remembered(class, r) {
+            Some(place) => Some(place),
+            None => self.near_by_kind(class, r),
+        }
+    }
+
+    // The same of one that was not met last.
+    #[inline(always)]
+    fn near_by_kind(&self, class: usize, r: i64) -> Option<Address>
+        requires kept { IsKept self.now }
+        requires class { class < length self.now.layout.classes }
+        ensures { IfSome result (λ p. Found self.now class r p) }
+    {
         match self.layout.kind(class) {
             ClassKind::Permanent => match self.indexed(class, r) {
                 Ok(place) => Some(place),
@@ -221,11 +245,75 @@ impl Records {
     // The block of a creation number, where it is found without a search.
     #[inline(always)]
     fn near_numbered(&self, r: i64) -> Option<Address>
-        requires kept { IsKept self.now }
         ensures { IfSome result (λ p. numbered_place self.now.directory.places r ≡ Ok p) }
     {
         let i = r.cast_unsigned().wrapping_sub(1);
         self.directory.near(i as usize)
+    }
+
+    // The block of a creation number of a class, where it was met last.
+    #[inline(always)]
+    fn remembered(&self, class: usize, r: i64) -> Option<Address>
+        requires kept { IsKept self.now }
+        requires class { class < length self.now.layout.classes }
+        ensures { IfSome result (λ p. Found self.now class r p) }
+    {
+        match self.remembered_numbered(r) {
+            Some(place) => {
+                if self.blocks.number(place, CLASS) == class as u64 {
+                    Some(place)
+                } else {
+                    None
+                }
+            }
+            None => None,
+        }
+    }
+
+    // The block of a creation number, where it was met last.
+    #[inline(always)]
+    fn remembered_numbered(&self, r: i64) -> Option<Address>
+        ensures { IfSome result (λ p. numbered_place self.now.directory.places r ≡ Ok p) }
+    {
+        let i = r.cast_unsigned().wrapping_sub(1);
+        self.directory.remembered(i as usize)
+    }
+
+    /// The block of a creation number of a class, where it is likely to come next.
+    #[inline(always)]
+    pub(crate) fn expected(&self, class: usize, r: i64) -> Option<Address>
+        requires kept { IsKept self.now }
+        requires class { class < length self.now.layout.classes }
+        ensures { IfSome result (λ p. Found self.now class r p) }
+    {
+        match self.expected_numbered(r) {
+            Some(place) => {
+                if self.blocks.number(place, CLASS) == class as u64 {
+                    Some(place)
+                } else {
+                    None
+                }
+            }
+            None => None,
+        }
+    }
+
+    // The block of a creation number, where it is likely to come next.
+    #[inline(always)]
+    fn expected_numbered(&self, r: i64) -> Option<Address>
+        ensures { IfSome result (λ p. numbered_place self.now.directory.places r ≡ Ok p) }
+    {
+        let i = r.cast_unsigned().wrapping_sub(1);
+        self.directory.expected(i as usize)
+    }
+
+    /// Remembers the entity of a number, if it is found without a search.
+    #[inline(always)]
+    pub(crate) fn meet(&mut self, r: i64)
+        ensures { self.new ≡ self.old }
+    {
+        let i = r.cast_unsigned().wrapping_sub(1);
+        self.directory.meet(i as usize);
     }
 
     /// The block of a notice of any class.

@@ -1,5 +1,5 @@
 // The sets: their ends, the neighbours of a member, and its owner.
-ghost use Rattle.std.specs.Prelude.{◌≡◌, ℕ, ◌+◌, ◌^◌, ◌<◌, ◌≤◌, length, slice_get, not, true, false, if◌then◌else◌, ℤ, pos, MatchResult, IfSome, IsOk, Ok, Err, Some};
+ghost use Rattle.std.specs.Prelude.{◌≡◌, ℕ, ◌+◌, ◌^◌, ◌<◌, ◌≤◌, length, slice_get, not, true, false, if◌then◌else◌, ℤ, pos, MatchResult, IfSome, IsOk, Ok, Err, Some, ⊥};
 ghost use Rattle.std.specs.Ordering.{match_ordering, int_cmp};
 ghost use Rattle.ss_states.specs.State.{State, is_filed, members_of, modes_of, value_in};
 ghost use Rattle.ss_states.specs.Sets.{joiner, owner, member_class, first_in, last_in, count_in, next_in, previous_in, owner_of_member, Apart};
@@ -10,7 +10,7 @@ ghost use Rattle.ss_records.specs.Passing.{ranks_past, first_where, before_where
 use crate::links::Entry;
 use crate::records::Records;
 use crate::shape::{NUMBER, value_start};
-use ss_base::{FaultKind, Mode, Owner, Value};
+use ss_base::{ClassKind, FaultKind, Mode, Owner, Value};
 
 /// What is read of a member of a set at once.
 #[derive(Clone, Copy)]
@@ -350,7 +350,7 @@ impl Records {
         ensures same { state self.new ≡ state self.old }
         ensures touches { (self.new.blocks.touches ≤ 2) × (self.new.blocks.total ≡ self.old.blocks.total + self.new.blocks.touches) }
     {
-        match self.near_joiner(s, x) {
+        match self.expected_joiner(s, x) {
             Some(member) => self.neighbour(s, o, member, reverse),
             None => self.onward_apart(s, o, x, reverse),
         }
@@ -370,6 +370,22 @@ impl Records {
         match self.joiner(s, x) {
             Ok(member) => self.neighbour(s, o, member, reverse),
             Err(_) => None,
+        }
+    }
+
+    // What x means as one that may be in a set, where it is likely to come next.
+    #[inline(always)]
+    fn expected_joiner(&self, s: usize, x: i64) -> Option<Entry>
+        requires kept { IsKept self.now }
+        requires set { s < length self.now.layout.sets }
+        ensures { IfSome result (λ e. Joins self.now s e × (joiner (state self.now) s x ≡ Ok e.number)) }
+    {
+        match self.expected(self.layout.member_class(s), x) {
+            Some(place) => Some(Entry {
+                place,
+                number: self.blocks.number(place, NUMBER),
+            }),
+            None => None,
         }
     }
 
@@ -411,7 +427,46 @@ impl Records {
         if owner.number as i64 != o {
             return None;
         }
+        self.pass(s, member, neighbour);
         Some(neighbour.number as i64)
+    }
+
+    // Remembers a member of a set, and that the one that follows it, if there is one, is likely to come next: where their class
+    // is not permanent.
+    #[inline(always)]
+    fn pass(&mut self, s: usize, member: Entry, next: Entry)
+        requires kept { IsKept self.old }
+        requires set { s < length self.old.layout.sets }
+        requires joins { Joins self.old s member }
+        requires next { (next.number ≡ 0 → ⊥) → Joins self.old s next }
+        ensures { self.new ≡ self.old }
+    {
+        let class = self.layout.member_class(s);
+        if let ClassKind::Permanent = self.layout.kind(class) {
+            return;
+        }
+        self.directory
+            .remember(member.number as usize - 1, member.place);
+        if next.number != 0 {
+            self.directory
+                .expect(next.number as usize - 1, next.place);
+        }
+    }
+
+    /// Remembers a member of a set, where its class is not permanent.
+    #[inline(always)]
+    pub(crate) fn remember(&mut self, s: usize, member: Entry)
+        requires kept { IsKept self.old }
+        requires set { s < length self.old.layout.sets }
+        requires joins { Joins self.old s member }
+        ensures { self.new ≡ self.old }
+    {
+        let class = self.layout.member_class(s);
+        if let ClassKind::Permanent = self.layout.kind(class) {
+            return;
+        }
+        self.directory
+            .remember(member.number as usize - 1, member.place);
     }
 
     /// Whose set x is in: at most two touches.

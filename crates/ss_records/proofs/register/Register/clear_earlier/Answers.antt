@@ -1,7 +1,7 @@
 use Rattle.std.proofs.Common.{◌<◌, slice_get, slice_set, None, sym, ap, subst, ◌∙◌}
 use Rattle.ss_records.specs.Pages.{Listed}
 use Rattle.ss_records.proofs.Paging.{its_page, places_fewer, paged_fewer, places_given, paged_given}
-use Rattle.ss_records.proofs.directory.Directory.clear_earlier.Goals as goal
+use Rattle.ss_records.proofs.register.Register.clear_earlier.Goals as goal
 
 pub clear-requires : goal.clear-requires
 clear-requires c =

@@ -1,7 +1,7 @@
 use Rattle.std.proofs.Common.{◌+◌, ◌<◌, ◌++◌, [], ◌∷◌, length, Some, sym, ap, subst, ◌∙◌, arith}
 use Rattle.ss_records.specs.Pages.{Listed, entry}
 use Rattle.ss_records.proofs.Paging.{upto_length, next_slot, paged_pushed, places_pushed}
-use Rattle.ss_records.proofs.directory.Directory.note.Goals as goal
+use Rattle.ss_records.proofs.register.Register.note.Goals as goal
 
 pub set-requires : goal.set-requires
 set-requires c =

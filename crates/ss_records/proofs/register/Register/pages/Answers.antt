@@ -2,7 +2,7 @@ use Rattle.std.proofs.Common.{◌+◌, ◌≤◌, subst, arith}
 use Rattle.ss_records.specs.Places.{living}
 use Rattle.ss_records.specs.Pages.{Listed}
 use Rattle.ss_records.proofs.Paging.{pages_few}
-use Rattle.ss_records.proofs.directory.Directory.pages.Goals as goal
+use Rattle.ss_records.proofs.register.Register.pages.Goals as goal
 
 pub returns-clause-bound : goal.returns-clause-bound
 returns-clause-bound c =

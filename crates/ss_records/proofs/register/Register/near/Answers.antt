@@ -2,7 +2,7 @@ use Rattle.std.proofs.Common.{◌≡◌, Some, slice_get, subst, arith}
 use Rattle.std.specs.Prelude.{IfSome}
 use Rattle.ss_records.specs.Pages.{Listed}
 use Rattle.ss_records.proofs.Paging.{near_within, near_beyond}
-use Rattle.ss_records.proofs.directory.Directory.near.Goals as goal
+use Rattle.ss_records.proofs.register.Register.near.Goals as goal
 
 pub returns-then-k-lt-PAGE : goal.returns-then-k-lt-PAGE
 returns-then-k-lt-PAGE c =

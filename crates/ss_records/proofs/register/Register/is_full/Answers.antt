@@ -1,7 +1,7 @@
 use Rattle.std.proofs.Common.{◌≡◌, ◌+◌, ◌≤◌, length, nat_eq, ◌-◌, subst, arith}
 use Rattle.ss_records.specs.Pages.{Listed, entry}
 use Rattle.ss_records.proofs.Paging.{upto_length, full_is}
-use Rattle.ss_records.proofs.directory.Directory.is_full.Goals as goal
+use Rattle.ss_records.proofs.register.Register.is_full.Goals as goal
 
 pub returns-clause-value : goal.returns-clause-value
 returns-clause-value c = subst (λ (w : Listed). nat_eq (c.self.inside.issued - c.self.inside.start) 256 ≡ nat_eq (length w.places) (w.start + 256)) c.self.view_is (full_is c.self.inside.earlier c.self.inside.current c.self.inside.start c.self.inside.issued c.self.invariant)

@@ -1,7 +1,7 @@
 use Rattle.std.proofs.Common.{◌≤◌, slice_get, slice_set, None, sym, ap, subst, ◌∙◌}
 use Rattle.ss_records.specs.Pages.{Listed}
 use Rattle.ss_records.proofs.Paging.{in_cur, paged_cleared, places_cleared}
-use Rattle.ss_records.proofs.directory.Directory.clear_current.Goals as goal
+use Rattle.ss_records.proofs.register.Register.clear_current.Goals as goal
 
 pub clear-requires : goal.clear-requires
 clear-requires c =

@@ -1,7 +1,7 @@
 use Rattle.std.proofs.Common.{◌<◌, length, slice_get, sym, ap, subst, ◌∙◌}
 use Rattle.ss_records.specs.Pages.{Listed}
 use Rattle.ss_records.proofs.Paging.{room_current, read_current, read_earlier, read_none}
-use Rattle.ss_records.proofs.directory.Directory.get.Goals as goal
+use Rattle.ss_records.proofs.register.Register.get.Goals as goal
 
 pub get-requires : goal.get-requires
 get-requires c = room_current c.self.inside.earlier c.self.inside.current c.self.inside.start c.self.inside.issued c.self.invariant c.args.i (subst (λ (w : Listed). c.args.i < length w.places) (sym c.self.view_is) c.requires) c.if-i-self.true

@@ -1,7 +1,7 @@
 use Rattle.std.proofs.Common.{◌≡◌, None, slice_get, sym, subst, arith}
 use Rattle.ss_records.specs.Pages.{Listed, in_page}
 use Rattle.ss_records.proofs.Paging.{not_held}
-use Rattle.ss_records.proofs.directory.Directory.holds.Goals as goal
+use Rattle.ss_records.proofs.register.Register.holds.Goals as goal
 
 pub returns-in-None : goal.returns-in-None
 returns-in-None c = λ _ i e.

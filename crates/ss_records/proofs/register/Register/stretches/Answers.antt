@@ -1,7 +1,7 @@
 use Rattle.std.proofs.Common.{◌+◌, ◌*◌, ◌/◌, ◌≤◌, length, subst, arith}
 use Rattle.ss_records.specs.Pages.{Listed, entry}
 use Rattle.ss_records.proofs.Paging.{upto_length, quot, rem}
-use Rattle.ss_records.proofs.directory.Directory.stretches.Goals as goal
+use Rattle.ss_records.proofs.register.Register.stretches.Goals as goal
 
 pub returns-clause-all : goal.returns-clause-all
 returns-clause-all c =

@@ -3,7 +3,7 @@ use Rattle.ss_records.specs.Places.{living}
 use Rattle.ss_records.specs.Pages.{Listed, entry}
 use Rattle.ss_records.proofs.Same.{equal}
 use Rattle.ss_records.proofs.Paging.{upto_length, places_again, paged_again, below_here, places_turned, paged_turned, at_least_one}
-use Rattle.ss_records.proofs.directory.Directory.turn.Goals as goal
+use Rattle.ss_records.proofs.register.Register.turn.Goals as goal
 
 pub invariant_of-self : goal.invariant_of-self
 invariant_of-self c =

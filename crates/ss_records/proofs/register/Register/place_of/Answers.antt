@@ -1,7 +1,7 @@
 use Rattle.std.proofs.Common.{◌≡◌, ◌<◌, None, length, slice_get, sym, ap, subst, arith}
 use Rattle.ss_records.specs.Pages.{Listed, entry, in_page}
 use Rattle.ss_records.proofs.Paging.{upto_length, get_beyond}
-use Rattle.ss_records.proofs.directory.Directory.place_of.Goals as goal
+use Rattle.ss_records.proofs.register.Register.place_of.Goals as goal
 
 pub returns-then-i-self : goal.returns-then-i-self
 returns-then-i-self c =
