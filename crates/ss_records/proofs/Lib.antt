@@ -23,6 +23,7 @@ pub mod Listing
 pub mod Living
 pub mod Looks
 pub mod Made
+pub mod Remembered
 pub mod Makings
 pub mod Memory
 pub mod Moved

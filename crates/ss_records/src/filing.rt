@@ -303,8 +303,24 @@ impl Records {
         }
     }
 
-    // Takes a member out of the set that it is in: nine touches.
+    // Takes a member out of the set that it is in, and remembers it: nine touches.
     fn take_out(&mut self, s: usize, owner: Entry, x: Entry)
+        requires kept { IsKept self.old }
+        requires set { s < length self.old.layout.sets }
+        requires owns { Owns self.old s owner }
+        requires joins { Joins self.old s x }
+        requires there { contains (members_of self.old.notes.lists s owner.number) x.number ≡ true }
+        requires touches { self.old.blocks.touches ≤ 8 }
+        ensures kept { IsKept self.new }
+        ensures done { state self.new ≡ with_list_of (state self.old) s owner.number (less x.number (members_of self.old.notes.lists s owner.number)) }
+        ensures touches { (self.new.blocks.touches ≡ self.old.blocks.touches + 9) × (self.new.blocks.total ≡ self.old.blocks.total + 9) }
+    {
+        self.remember(s, x);
+        self.cut_out(s, owner, x);
+    }
+
+    // The same without remembering it.
+    fn cut_out(&mut self, s: usize, owner: Entry, x: Entry)
         requires kept { IsKept self.old }
         requires set { s < length self.old.layout.sets }
         requires owns { Owns self.old s owner }
@@ -337,7 +353,6 @@ impl Records {
                 if first.number == 0 {
                     return Err(FaultKind::EmptySet);
                 }
-                self.remember(s, first);
                 self.take_out(s, owner, first);
                 Ok(first.number as i64)
             }
@@ -361,7 +376,6 @@ impl Records {
                 if last.number == 0 {
                     return Err(FaultKind::EmptySet);
                 }
-                self.remember(s, last);
                 self.take_out(s, owner, last);
                 Ok(last.number as i64)
             }

@@ -119,6 +119,7 @@ impl Records {
     // The block of a creation number.
     #[inline(always)]
     fn numbered(&self, r: i64) -> Result<Address, FaultKind>
+        requires kept { IsKept self.now }
         ensures { result ≡ numbered_place self.now.directory.places r }
     {
         match self.near_numbered(r) {
@@ -245,6 +246,7 @@ impl Records {
     // The block of a creation number, where it is found without a search.
     #[inline(always)]
     fn near_numbered(&self, r: i64) -> Option<Address>
+        requires kept { IsKept self.now }
         ensures { IfSome result (λ p. numbered_place self.now.directory.places r ≡ Ok p) }
     {
         let i = r.cast_unsigned().wrapping_sub(1);
@@ -273,6 +275,7 @@ impl Records {
     // The block of a creation number, where it was met last.
     #[inline(always)]
     fn remembered_numbered(&self, r: i64) -> Option<Address>
+        requires kept { IsKept self.now }
         ensures { IfSome result (λ p. numbered_place self.now.directory.places r ≡ Ok p) }
     {
         let i = r.cast_unsigned().wrapping_sub(1);
@@ -301,6 +304,7 @@ impl Records {
     // The block of a creation number, where it is likely to come next.
     #[inline(always)]
     fn expected_numbered(&self, r: i64) -> Option<Address>
+        requires kept { IsKept self.now }
         ensures { IfSome result (λ p. numbered_place self.now.directory.places r ≡ Ok p) }
     {
         let i = r.cast_unsigned().wrapping_sub(1);

@@ -1,5 +1,5 @@
 // The sets: their ends, the neighbours of a member, and its owner.
-ghost use Rattle.std.specs.Prelude.{◌≡◌, ℕ, ◌+◌, ◌^◌, ◌<◌, ◌≤◌, length, slice_get, not, true, false, if◌then◌else◌, ℤ, pos, MatchResult, IfSome, IsOk, Ok, Err, Some, ⊥};
+ghost use Rattle.std.specs.Prelude.{◌≡◌, ℕ, ◌+◌, ◌^◌, ◌<◌, ◌≤◌, length, slice_get, not, true, false, if◌then◌else◌, ℤ, pos, MatchResult, IfSome, IsOk, Ok, Err, Some};
 ghost use Rattle.std.specs.Ordering.{match_ordering, int_cmp};
 ghost use Rattle.ss_states.specs.State.{State, is_filed, members_of, modes_of, value_in};
 ghost use Rattle.ss_states.specs.Sets.{joiner, owner, member_class, first_in, last_in, count_in, next_in, previous_in, owner_of_member, Apart};

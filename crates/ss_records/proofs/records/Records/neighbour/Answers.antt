@@ -2,8 +2,13 @@ use Rattle.std.proofs.Common.{rules, ◌≡◌, ◌+◌, w64, to_z, of_z, sym, a
 use Rattle.std.proofs.lemmas.Int.{ints}
 use Rattle.ss_records.specs.Cells.{link, number, word_at}
 use Rattle.ss_records.specs.Links.{Leads}
-use Rattle.ss_records.proofs.Looks.{owner_leads, owner_small}
+use Rattle.ss_records.proofs.Looks.{owner_leads, owner_small, owner_has}
 use Rattle.ss_records.proofs.Onward.{beside_leads, beside_small, beside_filed, beside_value, in_its}
+use Rattle.ss_records.specs.declared.records.Records.{Records}
+use Rattle.ss_records.specs.Kept.{state_of}
+use Rattle.ss_records.specs.Parts.{state, places, held}
+use Rattle.ss_records.proofs.Still.{joins_still}
+use Rattle.ss_records.proofs.Remembered.{beside_joins}
 use Rattle.ss_records.proofs.records.Records.neighbour.Goals as goal
 
 pub follow-neighbour-requires-clause-leads : goal.follow-neighbour-requires-clause-leads
@@ -54,3 +59,21 @@ returns-clause-found c =
       in_its r c.requires.kept c.args.s c.requires.set e c.requires.joins b.result b.ensures.at filed p u v c.args.o x j is,
       beside_value r c.requires.kept c.args.s c.requires.set e c.requires.joins b.result b.ensures.at q c.follow-neighbour.ensures.there n c.args.reverse w x j,
     )
+
+pub pass-requires-clause-next : goal.pass-requires-clause-next
+pass-requires-clause-next c =
+    let r = c.args.self.now in let e = c.args.member in let b = c.member_base-base in let q = c.follow-neighbour.result in
+    let w = subst (λ k. word_at r.blocks.cells e.place.at k ≡ link q.place.at) c.beside.ensures c.follow-neighbour.ensures.word in
+    let n = c.if-neighbour-member.false in
+    let filed = beside_filed r c.requires.kept c.args.s c.requires.set e c.requires.joins b.result b.ensures.at q c.follow-neighbour.ensures.there n c.args.reverse w in
+    let cells = c.follow-neighbour.ensures.cells in let p = c.follow-owner.result in let z = c.follow-owner.new.self in
+    let u : word_at r.blocks.cells e.place.at (b.result + 2) ≡ link p.place.at = (λ i. word_at (sym cells i) e.place.at (b.result + 2)) ∙ c.follow-owner.ensures.word in
+    let v : word_at r.blocks.cells p.place.at 1 ≡ number p.number = (λ i. word_at (sym cells i) p.place.at 1) ∙ c.follow-owner.ensures.there in
+    let has = owner_has r c.requires.kept c.args.s c.requires.set e c.requires.joins b.result b.ensures.at filed p u v in
+    let h : held (record r { blocks = z }) ≡ held r = λ i. record r { blocks = record { cells = (c.follow-owner.ensures.cells ∙ cells) i; touches = 0; total = 0 } } in
+    λ some. joins_still r (record r { blocks = z }) h c.args.s q (beside_joins r c.requires.kept c.args.s c.requires.set e c.requires.joins b.result b.ensures.at p.number has.1 q c.follow-neighbour.ensures.there some c.args.reverse w)
+
+pub returns-clause-same : goal.returns-clause-same
+returns-clause-same c =
+    let r = c.args.self.now in
+    ap (λ (z : Records). state z) c.pass.ensures ∙ ap (λ bs. state_of r.layout bs (places r) r.notes.lists) (c.follow-owner.ensures.cells ∙ c.follow-neighbour.ensures.cells)

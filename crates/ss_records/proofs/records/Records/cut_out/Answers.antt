@@ -7,7 +7,7 @@ use Rattle.ss_records.proofs.Files.{still_around}
 use Rattle.ss_records.proofs.Cuts.{parts, prev_found, next_found, around_it, list_less}
 use Rattle.ss_records.proofs.Still.{kept_still, set_still, owns_still, joins_still, base_room}
 use Rattle.ss_records.proofs.Ends.{room_at_first, room_at_second, few_then, nine_touches}
-use Rattle.ss_records.proofs.records.Records.take_out.Goals as goal
+use Rattle.ss_records.proofs.records.Records.cut_out.Goals as goal
 
 pub member_base-base-requires : goal.member_base-base-requires
 member_base-base-requires c = c.requires.set
