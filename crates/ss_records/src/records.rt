@@ -337,6 +337,24 @@ impl Records {
         }
     }
 
+    // The same, where it is found without a search.
+    #[inline(always)]
+    fn near_notice(&self, r: i64) -> Option<Address>
+        requires kept { IsKept self.now }
+        ensures { IfSome result (λ p. FoundNotice self.now r p) }
+    {
+        match self.near_numbered(r) {
+            Some(place) => {
+                if self.is_notice(self.blocks.number(place, CLASS)) {
+                    Some(place)
+                } else {
+                    None
+                }
+            }
+            None => None,
+        }
+    }
+
     // Whether a class is one of notices.
     fn is_notice(&self, class: u64) -> bool
         ensures { result ≡ is_notice (kind_of self.now.layout class) }
@@ -520,6 +538,25 @@ impl Records {
 
     /// Sets the time of a notice.
     pub(crate) fn set_time(&mut self, r: i64, t: i64) -> Result<(), FaultKind>
+        requires kept { IsKept self.old }
+        ensures kept { IsKept self.new }
+        ensures done { MatchResult result (λ _. timed (state self.old) r t ≡ Ok (state self.new)) (λ e. (timed (state self.old) r t ≡ Err e) × (state self.new ≡ state self.old)) }
+        ensures touches { (self.new.blocks.touches ≡ self.old.blocks.touches) × (self.new.blocks.total ≡ self.old.blocks.total) }
+        ensures blocks { length self.new.blocks.cells ≡ length self.old.blocks.cells }
+    {
+        match self.near_notice(r) {
+            Some(place) => {
+                let k = self.time_word(place);
+                self.blocks.set_number(place, k, t.cast_unsigned());
+                Ok(())
+            }
+            None => self.set_time_apart(r, t),
+        }
+    }
+
+    // The same where it may take a search, or there is a fault.
+    #[inline(never)]
+    fn set_time_apart(&mut self, r: i64, t: i64) -> Result<(), FaultKind>
         requires kept { IsKept self.old }
         ensures kept { IsKept self.new }
         ensures done { MatchResult result (λ _. timed (state self.old) r t ≡ Ok (state self.new)) (λ e. (timed (state self.old) r t ≡ Err e) × (state self.new ≡ state self.old)) }
