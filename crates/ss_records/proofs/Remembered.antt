@@ -46,9 +46,9 @@ numbered_entry r K s e h kind =
     let m = by_entry a.0 a.1 a.4 (listed (places r) (member_class r.layout s) a.0 a.1 a.3) in
     let before : e.number - 1 ≡ a.0 = omega (arith, a.2) in
     ap (λ n. slice_get r.directory.places n) before ∙ m ∙ ap (λ (q : Address). Some (Some q)) (same_place a.1 e.place (sym at)) where
-  by_entry : (i : ℕ) (p : Address) → class_at r.blocks.cells p ≡ member_class r.layout s → Lists (places r) i p → slice_get r.directory.places i ≡ Some (Some p)
-  by_entry i p c (inl m) = m
-  by_entry i p c (inr (b, ps, m, g)) = let y = K.made b ps m in absurd (kind (subst (λ k. IsPermanent (kind_of r.layout k)) (sym (y.class i p g) ∙ c) y.permanent))
+      by_entry : (i : ℕ) (p : Address) → class_at r.blocks.cells p ≡ member_class r.layout s → Lists (places r) i p → slice_get r.directory.places i ≡ Some (Some p)
+      by_entry i p c (inl m) = m
+      by_entry i p c (inr (b, ps, m, g)) = let y = K.made b ps m in absurd (kind (subst (λ k. IsPermanent (kind_of r.layout k)) (sym (y.class i p g) ∙ c) y.permanent))
 
 -- the neighbour of a member may be in the set as well, if there is one
 module _ (r : Records) (K : IsKept r) (s : ℕ) (inside : s < length r.layout.sets) (e : Entry) (h : Joins r s e) (b : ℕ) (base : (u : SetLayout) → slice_get r.layout.sets s ≡ Some u → b ≡ member_base r.layout s u)

@@ -448,8 +448,7 @@ impl Records {
         self.directory
             .remember(member.number as usize - 1, member.place);
         if next.number != 0 {
-            self.directory
-                .expect(next.number as usize - 1, next.place);
+            self.directory.expect(next.number as usize - 1, next.place);
         }
     }
 
