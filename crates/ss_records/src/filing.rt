@@ -447,30 +447,30 @@ impl Records {
 
     // Takes the first member out of the set of an owner, and answers it. The touches are counted at once.
     #[inline(always)]
-    fn draw_first(&mut self, s: usize, owner: Entry) -> Option<i64>
+    fn draw_first(&mut self, s: usize, home: Entry) -> Option<i64>
         requires kept { IsKept self.old }
         requires set { s < length self.old.layout.sets }
-        requires owns { Owns self.old s owner }
+        requires owns { Owns self.old s home }
         ensures kept { IsKept self.new }
-        ensures done { IfSome result (λ x. (o : ℤ) → owner (state self.old) s o ≡ Ok owner.number → first_removed (state self.old) s o ≡ Ok (x, state self.new)) }
+        ensures done { IfSome result (λ x. (o : ℤ) → owner (state self.old) s o ≡ Ok home.number → first_removed (state self.old) s o ≡ Ok (x, state self.new)) }
         ensures same { result ≡ None → state self.new ≡ state self.old }
         ensures touches { (self.new.blocks.touches ≤ 12) × (self.new.blocks.total ≡ self.old.blocks.total + self.new.blocks.touches) }
     {
         let set = self.layout.owner_base(s);
         let member = self.layout.member_base(s);
-        let first = self.blocks.look(owner.place, set);
+        let first = self.blocks.look(home.place, set);
         if first.number == 0 {
             self.blocks.start_at(1);
             return None;
         }
         let after = self.blocks.look(first.place, member);
-        let count = self.blocks.peek_count(owner.place, set + 2);
+        let count = self.blocks.peek_count(home.place, set + 2);
         let is_last = after.number == 0;
         self.blocks.start_at(3);
         self.blocks.unlink(
             member,
             set,
-            owner.place,
+            home.place,
             self.system,
             true,
             first.place,
@@ -478,7 +478,7 @@ impl Records {
             is_last,
             count,
         );
-        self.notes.take_out(s, owner.number, first.number);
+        self.notes.take_out(s, home.number, first.number);
         Some(first.number as i64)
     }
 

@@ -14,22 +14,22 @@ use Rattle.ss_records.proofs.Drawn.{behind, less_is, around_first}
 use Rattle.ss_records.proofs.records.Records.draw_first.Goals as goal
 
 pub look-first-requires : goal.look-first-requires
-look-first-requires c = record { leads = first_leads c.args.self.now c.requires.kept c.args.s c.requires.set c.args.owner c.requires.owns c.owner_base-set.result c.owner_base-set.ensures.at }
+look-first-requires c = record { leads = first_leads c.args.self.now c.requires.kept c.args.s c.requires.set c.args.home c.requires.owns c.owner_base-set.result c.owner_base-set.ensures.at }
 
 pub look-after-requires : goal.look-after-requires
 look-after-requires c =
-    let r = c.args.self.now in let k = c.requires.kept in let e = c.args.owner in let own = c.requires.owns in let set = c.owner_base-set in let mem = c.member_base-member in let q = c.look-first.result in
+    let r = c.args.self.now in let k = c.requires.kept in let e = c.args.home in let own = c.requires.owns in let set = c.owner_base-set in let mem = c.member_base-member in let q = c.look-first.result in
     let between = at_first r k c.args.s c.requires.set e own set.result set.ensures.at q c.look-first.ensures.word c.look-first.ensures.there in
     let inn = first_in_it r c.args.s e.number (record { place = r.system; number = 0 }) q (members_of r.notes.lists c.args.s e.number) between c.if-first-eq0.false in
     let j = joins_it r k c.args.s c.requires.set e.number q between.after inn in
     record { leads = rw c.look-first.ensures.cells (next_leads r k c.args.s c.requires.set q j mem.result mem.ensures.at) }
 
 pub peek_count-count-requires : goal.peek_count-count-requires
-peek_count-count-requires c = record { word = rw (c.look-after.ensures.cells, c.look-first.ensures.cells) (counts c.args.self.now c.requires.kept c.args.s c.requires.set c.args.owner c.requires.owns c.owner_base-set.result c.owner_base-set.ensures.at) }
+peek_count-count-requires c = record { word = rw (c.look-after.ensures.cells, c.look-first.ensures.cells) (counts c.args.self.now c.requires.kept c.args.s c.requires.set c.args.home c.requires.owns c.owner_base-set.result c.owner_base-set.ensures.at) }
 
 pub unlink-requires-clause-member : goal.unlink-requires-clause-member
 unlink-requires-clause-member c =
-    let r = c.args.self.now in let k = c.requires.kept in let e = c.args.owner in let own = c.requires.owns in let set = c.owner_base-set in let mem = c.member_base-member in let q = c.look-first.result in
+    let r = c.args.self.now in let k = c.requires.kept in let e = c.args.home in let own = c.requires.owns in let set = c.owner_base-set in let mem = c.member_base-member in let q = c.look-first.result in
     let between = at_first r k c.args.s c.requires.set e own set.result set.ensures.at q c.look-first.ensures.word c.look-first.ensures.there in
     let inn = first_in_it r c.args.s e.number (record { place = r.system; number = 0 }) q (members_of r.notes.lists c.args.s e.number) between c.if-first-eq0.false in
     let j = joins_it r k c.args.s c.requires.set e.number q between.after inn in
@@ -42,7 +42,7 @@ unlink-requires-clause-member c =
 
 pub unlink-requires-clause-owner : goal.unlink-requires-clause-owner
 unlink-requires-clause-owner c =
-    let r = c.args.self.now in let k = c.requires.kept in let e = c.args.owner in let own = c.requires.owns in let set = c.owner_base-set in let mem = c.member_base-member in let q = c.look-first.result in
+    let r = c.args.self.now in let k = c.requires.kept in let e = c.args.home in let own = c.requires.owns in let set = c.owner_base-set in let mem = c.member_base-member in let q = c.look-first.result in
     let between = at_first r k c.args.s c.requires.set e own set.result set.ensures.at q c.look-first.ensures.word c.look-first.ensures.there in
     let inn = first_in_it r c.args.s e.number (record { place = r.system; number = 0 }) q (members_of r.notes.lists c.args.s e.number) between c.if-first-eq0.false in
     let j = joins_it r k c.args.s c.requires.set e.number q between.after inn in
@@ -50,7 +50,7 @@ unlink-requires-clause-owner c =
 
 pub unlink-requires-clause-after : goal.unlink-requires-clause-after
 unlink-requires-clause-after c = λ no.
-    let r = c.args.self.now in let k = c.requires.kept in let e = c.args.owner in let own = c.requires.owns in let set = c.owner_base-set in let mem = c.member_base-member in let q = c.look-first.result in
+    let r = c.args.self.now in let k = c.requires.kept in let e = c.args.home in let own = c.requires.owns in let set = c.owner_base-set in let mem = c.member_base-member in let q = c.look-first.result in
     let between = at_first r k c.args.s c.requires.set e own set.result set.ensures.at q c.look-first.ensures.word c.look-first.ensures.there in
     let inn = first_in_it r c.args.s e.number (record { place = r.system; number = 0 }) q (members_of r.notes.lists c.args.s e.number) between c.if-first-eq0.false in
     let j = joins_it r k c.args.s c.requires.set e.number q between.after inn in
@@ -63,7 +63,7 @@ unlink-requires-clause-after c = λ no.
 
 pub unlink-requires-clause-counts : goal.unlink-requires-clause-counts
 unlink-requires-clause-counts c =
-    let r = c.args.self.now in let k = c.requires.kept in let e = c.args.owner in let own = c.requires.owns in let set = c.owner_base-set in let mem = c.member_base-member in let q = c.look-first.result in
+    let r = c.args.self.now in let k = c.requires.kept in let e = c.args.home in let own = c.requires.owns in let set = c.owner_base-set in let mem = c.member_base-member in let q = c.look-first.result in
     let between = at_first r k c.args.s c.requires.set e own set.result set.ensures.at q c.look-first.ensures.word c.look-first.ensures.there in
     let inn = first_in_it r c.args.s e.number (record { place = r.system; number = 0 }) q (members_of r.notes.lists c.args.s e.number) between c.if-first-eq0.false in
     let j = joins_it r k c.args.s c.requires.set e.number q between.after inn in
@@ -78,12 +78,12 @@ unlink-requires-clause-counts c =
 
 pub overflow_cast-result : goal.overflow_cast-result
 overflow_cast-result c =
-    let small = first_small c.args.self.now c.requires.kept c.args.s c.requires.set c.args.owner c.requires.owns c.owner_base-set.result c.owner_base-set.ensures.at c.look-first.result c.look-first.ensures.word c.look-first.ensures.there in
+    let small = first_small c.args.self.now c.requires.kept c.args.s c.requires.set c.args.home c.requires.owns c.owner_base-set.result c.owner_base-set.ensures.at c.look-first.result c.look-first.ensures.word c.look-first.ensures.there in
     omega (arith, ints, small)
 
 pub returns-clause-kept : goal.returns-clause-kept
 returns-clause-kept c =
-    let r = c.args.self.now in let k = c.requires.kept in let e = c.args.owner in let own = c.requires.owns in let set = c.owner_base-set in let mem = c.member_base-member in let q = c.look-first.result in
+    let r = c.args.self.now in let k = c.requires.kept in let e = c.args.home in let own = c.requires.owns in let set = c.owner_base-set in let mem = c.member_base-member in let q = c.look-first.result in
     let between = at_first r k c.args.s c.requires.set e own set.result set.ensures.at q c.look-first.ensures.word c.look-first.ensures.there in
     let inn = first_in_it r c.args.s e.number (record { place = r.system; number = 0 }) q (members_of r.notes.lists c.args.s e.number) between c.if-first-eq0.false in
     let j = joins_it r k c.args.s c.requires.set e.number q between.after inn in
@@ -98,7 +98,7 @@ returns-clause-kept c =
 
 pub returns-clause-done : goal.returns-clause-done
 returns-clause-done c = λ o om.
-    let r = c.args.self.now in let k = c.requires.kept in let e = c.args.owner in let own = c.requires.owns in let set = c.owner_base-set in let mem = c.member_base-member in let q = c.look-first.result in
+    let r = c.args.self.now in let k = c.requires.kept in let e = c.args.home in let own = c.requires.owns in let set = c.owner_base-set in let mem = c.member_base-member in let q = c.look-first.result in
     let between = at_first r k c.args.s c.requires.set e own set.result set.ensures.at q c.look-first.ensures.word c.look-first.ensures.there in
     let inn = first_in_it r c.args.s e.number (record { place = r.system; number = 0 }) q (members_of r.notes.lists c.args.s e.number) between c.if-first-eq0.false in
     let j = joins_it r k c.args.s c.requires.set e.number q between.after inn in
