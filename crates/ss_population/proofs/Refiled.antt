@@ -1,6 +1,6 @@
 -- Filing and removing change the members of sets alone, and N. of the set can be counted again.
-use Rattle.std.proofs.Common.{◌≡◌, ℕ, ℤ, Bool, true, false, List, [], ◌∷◌, ◌++◌, length, Ok, Err, refl, ap, ◌∙◌, subst}
-use Rattle.std.specs.Prelude.{pos, negsuc, zero, suc, if◌then◌else◌, MatchResult, Result as OkOr}
+use Rattle.std.proofs.Common.{◌≡◌, ℕ, ℤ, Bool, true, false, List, [], ◌∷◌, ◌++◌, length, Option, Some, None, Ok, Err, refl, ap, ◌∙◌, subst}
+use Rattle.std.specs.Prelude.{pos, negsuc, zero, suc, if◌then◌else◌, IfSome, MatchResult, Result as OkOr}
 use Rattle.ss_base.specs.declared.fault.FaultKind.{FaultKind}
 use Rattle.ss_base.specs.declared.fault.FaultKind.TheVariants.{FiledTwice, NotFiled}
 use Rattle.ss_base.specs.declared.layout.ClassKind.{ClassKind}
@@ -148,3 +148,12 @@ module _ (h g : State) (r : OkOr (Unit {0}) FaultKind) (s : ℕ) (o x : ℤ) whe
 
   pub after_counts : (y : ℤ) → MatchResult r (λ _. filed_after h s o x y ≡ Ok g) (λ k. (filed_after h s o x y ≡ Err k) × (g ≡ h)) → counts_of g.permanents ≡ counts_of h.permanents
   after_counts y d = refiled_counts (filed_after h s o x y) (λ t e. after_refiled h t s o x y e) d
+
+-- of calls that say whether they filed, or what they took out
+pub last_counts : (h g : State) (done : Bool) (s : ℕ) (o x : ℤ) → (done ≡ true → filed_last h s o x ≡ Ok g) → (done ≡ false → g ≡ h) → counts_of g.permanents ≡ counts_of h.permanents
+last_counts h g true s o x did left = ap (λ (y : State). counts_of y.permanents) (last_refiled h g s o x (did refl)).kept
+last_counts h g false s o x did left = ap (λ (y : State). counts_of y.permanents) (left refl)
+
+pub drawn_counts : (h g : State) (r : Option ℤ) (s : ℕ) (o : ℤ) → IfSome r (λ x. first_removed h s o ≡ Ok (x, g)) → (r ≡ None → g ≡ h) → counts_of g.permanents ≡ counts_of h.permanents
+drawn_counts h g (Some x) s o did left = ap (λ (y : State). counts_of y.permanents) (first_out_refiled h g s o x did).kept
+drawn_counts h g None s o did left = ap (λ (y : State). counts_of y.permanents) (left refl)

@@ -7,6 +7,7 @@ pub mod Creates
 pub mod Cuts
 pub mod Destroys
 pub mod Disjoint
+pub mod Drawn
 pub mod Filed
 pub mod Files
 pub mod Ends

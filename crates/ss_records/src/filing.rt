@@ -1,5 +1,5 @@
 // Filing and removing.
-ghost use Rattle.std.specs.Prelude.{◌≡◌, ℕ, ◌+◌, ◌<◌, ◌≤◌, List, ◌∷◌, ◌++◌, length, false, true, Result, MatchResult, IfSome, IsOk, Ok, Err};
+ghost use Rattle.std.specs.Prelude.{◌≡◌, ℕ, ◌+◌, ◌<◌, ◌≤◌, ℤ, List, [], ◌∷◌, ◌++◌, length, false, true, Result, MatchResult, IfSome, IsOk, Ok, Err, None};
 ghost use Rattle.ss_states.specs.State.{State, and_then, is_filed, contains, members_of};
 ghost use Rattle.ss_states.specs.Disciplines.{first_removed, last_removed, member_test};
 ghost use Rattle.ss_states.specs.Sets.{joiner, owner, less, with_list_of, put_in, put_beside, taken_out, filed_first, filed_last, filed_before, filed_after, removed};
@@ -381,6 +381,121 @@ impl Records {
             }
             Err(fault) => Err(fault),
         }
+    }
+
+    /// Files x last in the set of an owner, where both are found without a search, and says whether it did: not where x is in some
+    /// set of the name.
+    #[inline(always)]
+    pub(crate) fn file_last_near(&mut self, s: usize, o: i64, x: i64) -> bool
+        requires kept { IsKept self.old }
+        requires set { s < length self.old.layout.sets }
+        ensures kept { IsKept self.new }
+        ensures done { result ≡ true → filed_last (state self.old) s o x ≡ Ok (state self.new) }
+        ensures same { result ≡ false → state self.new ≡ state self.old }
+        ensures touches { (self.new.blocks.touches ≤ 12) × (result ≡ true → 4 ≤ self.new.blocks.touches) × (self.new.blocks.total ≡ self.old.blocks.total + self.new.blocks.touches) }
+    {
+        match self.near_pair(s, o, x) {
+            Some(both) => self.put_last(s, both.owner, both.x),
+            None => {
+                self.blocks.start();
+                false
+            }
+        }
+    }
+
+    // Links x in behind the last member of the set of an owner, and says whether it did: not where it is in some set of the name.
+    // The touches are counted at once.
+    #[inline(always)]
+    fn put_last(&mut self, s: usize, owner: Entry, x: Entry) -> bool
+        requires kept { IsKept self.old }
+        requires set { s < length self.old.layout.sets }
+        requires owns { Owns self.old s owner }
+        requires joins { Joins self.old s x }
+        ensures kept { IsKept self.new }
+        ensures done { result ≡ true → (is_filed self.old.notes.lists s x.number ≡ false) × (state self.new ≡ with_list_of (state self.old) s owner.number (members_of self.old.notes.lists s owner.number ++ x.number ∷ [])) }
+        ensures same { result ≡ false → state self.new ≡ state self.old }
+        ensures touches { (self.new.blocks.touches ≤ 12) × (result ≡ true → 4 ≤ self.new.blocks.touches) × (self.new.blocks.total ≡ self.old.blocks.total + self.new.blocks.touches) }
+    {
+        let member = self.layout.member_base(s);
+        let set = self.layout.owner_base(s);
+        let next = self.blocks.look(x.place, member);
+        if next.number != x.number {
+            self.blocks.start_at(1);
+            return false;
+        }
+        let last = self.blocks.look(owner.place, set + 1);
+        let count = self.blocks.peek_count(owner.place, set + 2);
+        let is_first = last.number == 0;
+        self.blocks.start_at(3);
+        self.blocks.link_between(
+            member,
+            set,
+            owner.place,
+            last.place,
+            is_first,
+            x.place,
+            self.system,
+            true,
+            count,
+        );
+        self.notes.put_before(s, owner.number, x.number, 0);
+        true
+    }
+
+    /// Takes the first member out of the set of an owner who is found without a search, and answers it: none where there is none.
+    #[inline(always)]
+    pub(crate) fn remove_first_near(&mut self, s: usize, o: i64) -> Option<i64>
+        requires kept { IsKept self.old }
+        requires set { s < length self.old.layout.sets }
+        ensures kept { IsKept self.new }
+        ensures done { IfSome result (λ x. first_removed (state self.old) s o ≡ Ok (x, state self.new)) }
+        ensures same { result ≡ None → state self.new ≡ state self.old }
+        ensures touches { (self.new.blocks.touches ≤ 12) × (self.new.blocks.total ≡ self.old.blocks.total + self.new.blocks.touches) }
+    {
+        match self.near_owner(s, o) {
+            Some(owner) => self.draw_first(s, owner),
+            None => {
+                self.blocks.start();
+                None
+            }
+        }
+    }
+
+    // Takes the first member out of the set of an owner, and answers it. The touches are counted at once.
+    #[inline(always)]
+    fn draw_first(&mut self, s: usize, home: Entry) -> Option<i64>
+        requires kept { IsKept self.old }
+        requires set { s < length self.old.layout.sets }
+        requires owns { Owns self.old s home }
+        ensures kept { IsKept self.new }
+        ensures done { IfSome result (λ x. (o : ℤ) → owner (state self.old) s o ≡ Ok home.number → first_removed (state self.old) s o ≡ Ok (x, state self.new)) }
+        ensures same { result ≡ None → state self.new ≡ state self.old }
+        ensures touches { (self.new.blocks.touches ≤ 12) × (self.new.blocks.total ≡ self.old.blocks.total + self.new.blocks.touches) }
+    {
+        let set = self.layout.owner_base(s);
+        let member = self.layout.member_base(s);
+        let first = self.blocks.look(home.place, set);
+        if first.number == 0 {
+            self.blocks.start_at(1);
+            return None;
+        }
+        let after = self.blocks.look(first.place, member);
+        let count = self.blocks.peek_count(home.place, set + 2);
+        let is_last = after.number == 0;
+        self.blocks.start_at(3);
+        self.blocks.unlink(
+            member,
+            set,
+            home.place,
+            self.system,
+            true,
+            first.place,
+            after.place,
+            is_last,
+            count,
+        );
+        self.notes.take_out(s, home.number, first.number);
+        Some(first.number as i64)
     }
 
     /// Whether x is in the set of an owner: at most two touches.

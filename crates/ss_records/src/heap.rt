@@ -1,4 +1,4 @@
-ghost use Rattle.std.specs.Prelude.{◌≡◌, ◌+◌, ◌<◌, ◌≤◌, true, false, if◌then◌else◌, length, pos, MatchResult, IfSome, Ok, Err, Some, IsOk, slice_get, ⊤};
+ghost use Rattle.std.specs.Prelude.{◌≡◌, ◌+◌, ◌<◌, ◌≤◌, true, false, if◌then◌else◌, length, pos, MatchResult, IfSome, Ok, Err, Some, None, IsOk, slice_get, ⊤};
 ghost use Rattle.ss_base.specs.Layout.{mode_of};
 ghost use Rattle.ss_states.specs.State.{State, first_state, known_in, known_notice_in, kind_of, modes_of, value_in, time_in, created, created_all, destroyed, assigned, timed, RefusedFor, living_numbers, living_records};
 ghost use Rattle.ss_states.specs.Disciplines.{first_removed, last_removed, member_test, owned};
@@ -405,6 +405,41 @@ impl Heap {
     {
         self.records.start();
         self.records.remove_last(set, o)
+    }
+
+    /// Files x as the last member of the set of an owner, and says whether it did: not where there is a fault, and it may give up
+    /// elsewhere too.
+    #[inline(always)]
+    pub fn file_last_near(&mut self, set: usize, o: i64, x: i64) -> bool
+        requires set { set < length self.old.state.layout.sets }
+        ensures done { result ≡ true → filed_last self.old.state set o x ≡ Ok self.new.state }
+        ensures same { result ≡ false → self.new.state ≡ self.old.state }
+        ensures touches { (self.new.touches ≤ 12) × (result ≡ true → 4 ≤ self.new.touches) × (self.new.total ≡ self.old.total + self.new.touches) }
+    {
+        self.records.file_last_near(set, o, x)
+    }
+
+    /// Takes the first member out of the set of an owner, and answers it: none where there is a fault, and it may give up elsewhere
+    /// too.
+    #[inline(always)]
+    pub fn remove_first_near(&mut self, set: usize, o: i64) -> Option<i64>
+        requires set { set < length self.old.state.layout.sets }
+        ensures done { IfSome result (λ x. first_removed self.old.state set o ≡ Ok (x, self.new.state)) }
+        ensures same { result ≡ None → self.new.state ≡ self.old.state }
+        ensures touches { (self.new.touches ≤ 12) × (self.new.total ≡ self.old.total + self.new.touches) }
+    {
+        self.records.remove_first_near(set, o)
+    }
+
+    /// How many members the set of an owner has: none where there is a fault, and it may give up elsewhere too.
+    #[inline(always)]
+    pub fn count_near(&mut self, set: usize, o: i64) -> Option<i64>
+        requires set { set < length self.old.state.layout.sets }
+        ensures value { IfSome result (λ n. count_in self.old.state set o ≡ Ok n) }
+        ensures same { self.new.state ≡ self.old.state }
+        ensures touches { (self.new.touches ≤ 1) × (self.new.total ≡ self.old.total + self.new.touches) }
+    {
+        self.records.count_near(set, o)
     }
 
     /// Whether x is in the set of an owner. Faults: those of x (1 to 5), then those of the owner.

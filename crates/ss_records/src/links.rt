@@ -31,6 +31,22 @@ impl Blocks {
         }
     }
 
+    /// The same where the touch is counted beside it.
+    #[inline(always)]
+    pub(crate) fn look(&mut self, place: Address, k: usize) -> Entry
+        requires leads { Leads self.old.cells place.at k }
+        ensures word { word_at self.old.cells place.at k ≡ link result.place.at }
+        ensures there { word_at self.old.cells result.place.at 1 ≡ number result.number }
+        ensures cells { self.new.cells ≡ self.old.cells }
+        ensures touches { (self.new.touches ≡ self.old.touches) × (self.new.total ≡ self.old.total + 1) }
+    {
+        let to = self.peek_link(place, k);
+        Entry {
+            place: to,
+            number: self.number(to, NUMBER),
+        }
+    }
+
     // Lets a link lead elsewhere: a touch, which is counted beside it. Words keep their kinds.
     fn relink(&mut self, place: Address, k: usize, to: Address)
         requires word { IsLink (word_at self.old.cells place.at k) }

@@ -173,6 +173,30 @@ impl Records {
         }
     }
 
+    /// How many members the set of an owner has who is found without a search: a touch.
+    #[inline(always)]
+    pub(crate) fn count_near(&mut self, s: usize, o: i64) -> Option<i64>
+        requires kept { IsKept self.old }
+        requires set { s < length self.old.layout.sets }
+        ensures value { IfSome result (λ n. count_in (state self.old) s o ≡ Ok n) }
+        ensures kept { IsKept self.new }
+        ensures same { state self.new ≡ state self.old }
+        ensures touches { (self.new.blocks.touches ≤ 1) × (self.new.blocks.total ≡ self.old.blocks.total + self.new.blocks.touches) }
+    {
+        match self.near_owner(s, o) {
+            Some(owner) => {
+                let base = self.layout.owner_base(s);
+                let count = self.blocks.peek_count(owner.place, base + 2);
+                self.blocks.start_at(1);
+                Some(count as i64)
+            }
+            None => {
+                self.blocks.start();
+                None
+            }
+        }
+    }
+
     /// The member that follows x in its set, 0 where there is none: a touch.
     pub(crate) fn next(&mut self, s: usize, x: i64) -> Result<i64, FaultKind>
         requires kept { IsKept self.old }

@@ -207,6 +207,14 @@ impl Blocks {
         self.touches = 0;
     }
 
+    /// Counts the touches from so many on: those that a call made by then, which are counted beside it.
+    pub(crate) fn start_at(&mut self, count: u64)
+        ensures cells { self.new.cells ≡ self.old.cells }
+        ensures touches { (self.new.touches ≡ count) × (self.new.total ≡ self.old.total) }
+    {
+        self.touches = count;
+    }
+
     /// Counts so many touches: those of the writes beside it.
     pub(crate) fn expect(&mut self, count: u64)
         requires { self.old.touches + count < 2 ^ 64 }
@@ -289,6 +297,27 @@ impl Blocks {
     {
         self.touches += 1;
         self.store.link(place, k)
+    }
+
+    /// Where a link leads: one touch, which is counted beside it.
+    pub(crate) fn peek_link(&mut self, place: Address, k: usize) -> Address
+        requires word { IsLink (word_at self.old.cells place.at k) }
+        ensures word { word_at self.old.cells place.at k ≡ link result.at }
+        ensures cells { self.new.cells ≡ self.old.cells }
+        ensures touches { (self.new.touches ≡ self.old.touches) × (self.new.total ≡ self.old.total + 1) }
+    {
+        let store = &mut self.store;
+        store.link(place, k)
+    }
+
+    /// A count of members: one touch, which is counted beside it.
+    pub(crate) fn peek_count(&mut self, place: Address, k: usize) -> u64
+        requires word { IsCounter (word_at self.old.cells place.at k) }
+        ensures word { word_at self.old.cells place.at k ≡ counter result }
+        ensures cells { self.new.cells ≡ self.old.cells }
+        ensures touches { (self.new.touches ≡ self.old.touches) × (self.new.total ≡ self.old.total + 1) }
+    {
+        self.store.count(place, k)
     }
 
     /// Lets a link lead elsewhere: one touch, which is counted beside it.

@@ -27,7 +27,7 @@ pub enum Filing {
 impl Scene {
     // Whether the discipline of a set is FIFO.
     #[inline(always)]
-    fn is_fifo(&self, set: usize) -> bool
+    pub(crate) fn is_fifo(&self, set: usize) -> bool
         ensures { result ≡ true → slice_get self.now.disciplines set ≡ Some Fifo }
     {
         matches!(self.disciplines.get(set), Some(Discipline::Fifo))

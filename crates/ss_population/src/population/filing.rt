@@ -1,10 +1,10 @@
 //! Filing and removing.
 
-ghost use Rattle.std.specs.Prelude.{◌≡◌, ◌<◌, length, true, IsTrue, IfSome, MatchResult, Ok, Err};
+ghost use Rattle.std.specs.Prelude.{◌≡◌, ◌<◌, length, true, false, IsTrue, IfSome, MatchResult, Ok, Err, None};
 ghost use Rattle.ss_meaning.specs.Sets.{beside, is_fit, end_removed};
 ghost use Rattle.ss_meaning.specs.Values.{due, where_fit};
 ghost use Rattle.ss_population.specs.Told.{meant};
-ghost use Rattle.ss_records.specs.Sets.{filed_first, filed_last, filed_before, filed_after, removed};
+ghost use Rattle.ss_records.specs.Sets.{count_in, filed_first, filed_last, filed_before, filed_after, removed};
 ghost use Rattle.ss_sets.specs.Disciplines.{Fits, filed, first_removed, last_removed, member_test};
 
 use crate::population::Population;
@@ -139,6 +139,55 @@ impl Population {
             End::First => self.remove_first(set, o),
             End::Last => self.remove_last(set, o),
         }
+    }
+
+    /// Files x as the last member of the set of an owner, and says whether it did: not where there is a fault, and it may give up
+    /// elsewhere too.
+    #[inline(always)]
+    pub fn file_last_near(&mut self, set: usize, o: i64, x: i64) -> bool
+        requires set { set < length self.old.layout.sets }
+        ensures done { result ≡ true → filed_last self.old set o x ≡ Ok self.new }
+        ensures same { result ≡ false → self.new ≡ self.old }
+    {
+        self.heap.file_last_near(set, o, x)
+    }
+
+    // Takes the first member out of the set of an owner, and answers it: none where there is a fault, and it may give up elsewhere
+    // too.
+    #[inline(always)]
+    fn remove_first_near(&mut self, set: usize, o: i64) -> Option<i64>
+        requires set { set < length self.old.layout.sets }
+        ensures done { IfSome result (λ x. first_removed self.old set o ≡ Ok (x, self.new)) }
+        ensures same { result ≡ None → self.new ≡ self.old }
+    {
+        self.heap.remove_first_near(set, o)
+    }
+
+    /// Takes the member at an end out of the set of an owner, and answers it: none where there is a fault, and it may give up
+    /// elsewhere too.
+    #[inline(always)]
+    pub fn remove_end_near(&mut self, end: End, set: usize, o: i64) -> Option<i64>
+        requires set { set < length self.old.layout.sets }
+        ensures done { IfSome result (λ x. end_removed end self.old set o ≡ Ok (x, self.new)) }
+        ensures same { result ≡ None → self.new ≡ self.old }
+    {
+        match end {
+            End::First => self.remove_first_near(set, o),
+            End::Last => match self.remove_last(set, o) {
+                Ok(x) => Some(x),
+                Err(_) => None,
+            },
+        }
+    }
+
+    /// How many members the set of an owner has: none where there is a fault, and it may give up elsewhere too.
+    #[inline(always)]
+    pub fn count_near(&mut self, set: usize, o: i64) -> Option<i64>
+        requires set { set < length self.old.layout.sets }
+        ensures value { IfSome result (λ n. count_in self.old set o ≡ Ok n) }
+        ensures same { self.new ≡ self.old }
+    {
+        self.heap.count_near(set, o)
     }
 
     /// Whether x is in the set of an owner. Faults: those of x (1 to 5), then those of the owner.
