@@ -9,4 +9,5 @@ pub mod Noted
 pub mod Bare
 pub mod Unstarted
 mod Quiet
+mod Spared
 pub mod OnePlace

@@ -1,6 +1,6 @@
 //! Which statistics are about a subject.
 
-ghost use Rattle.std.specs.Prelude.{◌≡◌, ◌++◌, ◌∷◌, [], OnOk, IfOk, if◌then◌else◌};
+ghost use Rattle.std.specs.Prelude.{◌≡◌, ℕ, true, ◌++◌, ◌∷◌, [], OnOk, IfOk, if◌then◌else◌};
 ghost use Rattle.ss_meaning.specs.Histories.{same_subject};
 ghost use Rattle.ss_program.specs.declared.sections.Subject.{Subject as TheSubject};
 ghost use Rattle.ss_program.specs.declared.sections.Subject.TheVariants.{OfAttribute};
@@ -50,6 +50,14 @@ impl Tables {
         ensures { result.now ≡ found (OfAttribute class field) self.now.variables self.now.attributes self.now.sets }
     {
         self.attributes.at(class, field)
+    }
+
+    /// Whether nothing stands under an attribute.
+    #[inline(always)]
+    fn has_no_attributes(&self) -> bool
+        ensures { result ≡ true → self.now.attributes ≡ [] }
+    {
+        self.attributes.is_empty()
     }
 
     /// Puts one number more under a subject. The error comes where memory was refused.
@@ -114,6 +122,14 @@ impl About {
         ensures { result.now ≡ places (is_about (OfAttribute class field)) self.now }
     {
         self.tables.at_attribute(class, field)
+    }
+
+    /// Whether no statistic is about an attribute.
+    #[inline(always)]
+    pub(crate) fn has_no_attributes(&self) -> bool
+        ensures { result ≡ true → (class field : ℕ) → places (is_about (OfAttribute class field)) self.now ≡ [] }
+    {
+        self.tables.has_no_attributes()
     }
 }
 

@@ -1,11 +1,12 @@
 //! The histories of all statistics.
 
-ghost use Rattle.std.specs.Prelude.{◌≡◌, ◌≤ℤ◌, ◌<◌, [], true, false, ℤ, pos, length, slice_get, Ok, Err, IfOk, OnOk, IfSome, MatchResult};
+ghost use Rattle.std.specs.Prelude.{◌≡◌, ℕ, ◌≤ℤ◌, ◌<◌, [], true, false, ℤ, pos, length, slice_get, Ok, Err, IfOk, OnOk, IfSome, MatchResult};
 ghost use Rattle.ss_base.specs.declared.value.Value.{Value as ValueSeen};
 ghost use Rattle.std.specs.Bool.{IsFalse};
 ghost use Rattle.std.specs.List.{All, list_any};
 ghost use Rattle.std.specs.Option.{option_map};
 ghost use Rattle.std.specs.Ordering.{int_eq};
+ghost use Rattle.ss_base.specs.declared.layout.Layout.{Layout as TheLayout};
 ghost use Rattle.ss_base.specs.declared.layout.Owner.TheVariants.{Class};
 ghost use Rattle.ss_program.specs.declared.sections.Statistic.{Statistic};
 ghost use Rattle.ss_program.specs.declared.sections.Subject.{Subject as TheSubject};
@@ -13,7 +14,7 @@ ghost use Rattle.ss_program.specs.declared.sections.Subject.TheVariants.{OfVaria
 ghost use Rattle.ss_picture.specs.Suited.{IsMean};
 ghost use Rattle.ss_meaning.specs.Values.{if_ok, sure};
 ghost use Rattle.ss_meaning.specs.Histories.{no_histories, starting, ending, all_noting, history_of, folded, renewed};
-ghost use Rattle.ss_histories.specs.Records.{columns_of, statistics_of, rows_of, figured, mean_in, HasRooms, is_up_to, why, renewed_where};
+ghost use Rattle.ss_histories.specs.Records.{columns_of, statistics_of, rows_of, figured, mean_in, HasRooms, OwnsNone, Spares, is_up_to, why, renewed_where};
 ghost use Rattle.ss_histories.specs.Each.{KeptUntil};
 ghost use Rattle.ss_histories.specs.Places.{is_about, places as places_of};
 
@@ -71,6 +72,7 @@ impl Histories {
 
     /// Makes room for so many more histories of each statistic of what the entities of a class have, or of what the
     /// system has. No history changes. The error comes where memory was refused.
+    #[inline(never)]
     pub fn reserve(&mut self, layout: &Layout, whose: Owner, count: i64) -> Result<(), AllocError>
         ensures statistics { self.new.statistics ≡ self.old.statistics }
         ensures rows { self.new.rows ≡ self.old.rows }
@@ -82,7 +84,7 @@ impl Histories {
 
     /// Starts the histories of an entity of a class as it comes into being, or those of the system, which is 0, with the
     /// value 0. `reserve` made room for them.
-    #[inline(always)]
+    #[inline(never)]
     pub fn start(&mut self, layout: &Layout, whose: Owner, entity: i64, now: i64)
         requires now { self.old.latest ≤ℤ now }
         requires room { HasRooms layout.now whose (pos 1) self.old.statistics self.old.room }
@@ -108,7 +110,7 @@ impl Histories {
     }
 
     /// Ends the histories of an entity of a class, as it goes.
-    #[inline(always)]
+    #[inline(never)]
     pub fn end(&mut self, layout: &Layout, class: usize, entity: i64)
         ensures ended { columns_of self.new.rows ≡ ending layout.now class entity self.old.statistics (columns_of self.old.rows) }
         ensures statistics { self.new.statistics ≡ self.old.statistics }
@@ -129,6 +131,15 @@ impl Histories {
         ensures { result ≡ false → self.now.statistics ≡ [] }
     {
         each::has_any(&self.kept)
+    }
+
+    /// Whether no statistic is kept of an attribute: then the entities of a class that owns no set have no history.
+    #[inline(always)]
+    pub fn spares_setless(&self) -> bool
+        ensures { result ≡ true → (l : TheLayout) (class : ℕ) → OwnsNone l class → Spares l class self.now }
+    {
+        let _kept = &self.kept;
+        self.about.has_no_attributes()
     }
 
     /// Whether a statistic is kept of a subject.

@@ -1,6 +1,6 @@
 //! A table of numbers under numbers.
 
-ghost use Rattle.std.specs.Prelude.{◌≡◌, ◌++◌, ◌∷◌, [], ℕ, ◌==◌, ◌&&◌, if◌then◌else◌, length, ◌<◌, OnOk};
+ghost use Rattle.std.specs.Prelude.{◌≡◌, ◌++◌, ◌∷◌, [], ℕ, ◌==◌, ◌&&◌, if◌then◌else◌, length, ◌<◌, OnOk, true};
 ghost use Rattle.ss_histories.specs.Places.{row_at, cell_at};
 
 use std::alloc::{AllocError, Global};
@@ -120,6 +120,14 @@ impl Grid {
         Grid {
             tables: Vec::new(alloc),
         }
+    }
+
+    /// Whether nothing was put under a pair.
+    #[inline(always)]
+    pub(crate) fn is_empty(&self) -> bool
+        ensures { result ≡ true → self.now ≡ [] }
+    {
+        self.tables.is_empty()
     }
 
     /// What stands under a pair of numbers.

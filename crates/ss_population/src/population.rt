@@ -1,11 +1,12 @@
 //! The entities of a run, and how many of each permanent class are made.
 
-ghost use Rattle.std.specs.Prelude.{◌≡◌, ◌<◌, true, false, length, pos, IfOk, IfSome, MatchResult, None, Some, Ok, Err, replicate, slice_get, slice_set};
+ghost use Rattle.std.specs.Prelude.{◌≡◌, ℕ, ◌<◌, true, false, length, pos, IfOk, IfSome, MatchResult, None, Some, Ok, Err, replicate, slice_get, slice_set};
 ghost use Rattle.ss_base.specs.Layout.{mode_of};
+ghost use Rattle.ss_base.specs.declared.layout.Owner.TheVariants.{Class};
 ghost use Rattle.ss_records.specs.Added.{Added};
 ghost use Rattle.ss_records.specs.Kept.{IsPermanent};
 ghost use Rattle.ss_records.specs.State.{first_state, is_made, records_in, known_in, value_in, time_in, assigned, timed, created, created_all, destroyed, kind_of, modes_of, RefusedFor};
-ghost use Rattle.ss_records.specs.Sets.{first_in, last_in, count_in, next_in, previous_in, owner_of_member};
+ghost use Rattle.ss_records.specs.Sets.{owner_kind, first_in, last_in, count_in, next_in, previous_in, owner_of_member};
 
 mod filing;
 
@@ -142,6 +143,15 @@ impl Population {
         self.heap.set_time_a(n, t)
     }
 
+    /// Whether a class owns a set.
+    #[inline(always)]
+    pub fn owns_set(&self, class: usize) -> bool
+        requires { class < length self.now.layout.classes }
+        ensures { result ≡ false → (set : ℕ) → owner_kind self.now.layout set ≡ Class class → ⊥ }
+    {
+        self.heap.owns_set(class)
+    }
+
     /// A new entity of a class whose entities come and go. Faults: 14 after the last number.
     #[inline(always)]
     pub fn create(&mut self, class: usize) -> Result<i64, Refused>
@@ -168,7 +178,7 @@ impl Population {
     }
 
     /// An entity goes. Faults: 1 to 4, then 9 and 10.
-    #[inline(never)]
+    #[inline(always)]
     pub fn destroy(&mut self, class: usize, n: i64) -> Result<(), FaultKind>
         requires class { class < length self.old.layout.classes }
         requires kind { IsPermanent (kind_of self.old.layout class) → ⊥ }

@@ -53,6 +53,14 @@ filled_owned cs ds p end from i h room =
     let b = filled_put cs (put_word ds p (from + 3 * i) (link end)) p from (from + 3 * i + 1) (from + 3 * i + 2) (owned_from end from) (link end) a (omega arith) (omega (arith, room)) (sym (ap (owned_word end) (at 1) ∙ owned_last end i)) (omega arith) in
     filled_put cs (put_word (put_word ds p (from + 3 * i) (link end)) p (from + 3 * i + 1) (link end)) p from (from + 3 * i + 2) (from + 3 * (i + 1)) (owned_from end from) (counter 0) b (omega arith) room (sym (ap (owned_word end) (at 2) ∙ owned_count end i)) (omega arith)
 
+-- the three words of a set that is joined
+pub filled_links : (cs ds : Cells) (p q : Ptr) (from i : ℕ) → Filled cs ds p from (from + 3 * i) (links_to q) → from + 3 * i + 2 < length (words_at cs p)
+    → Filled cs (put_word (put_word (put_word ds p (from + 3 * i) (link q)) p (from + 3 * i + 1) (link q)) p (from + 3 * i + 2) (link q)) p from (from + 3 * (i + 1)) (links_to q)
+filled_links cs ds p q from i h room =
+    let a = filled_put cs ds p from (from + 3 * i) (from + 3 * i + 1) (links_to q) (link q) h (omega arith) (omega (arith, room)) refl refl in
+    let b = filled_put cs (put_word ds p (from + 3 * i) (link q)) p from (from + 3 * i + 1) (from + 3 * i + 2) (links_to q) (link q) a (omega arith) (omega (arith, room)) refl (omega arith) in
+    filled_put cs (put_word (put_word ds p (from + 3 * i) (link q)) p (from + 3 * i + 1) (link q)) p from (from + 3 * i + 2) (from + 3 * (i + 1)) (links_to q) (link q) b (omega arith) room refl (omega arith)
+
 -- the words that are still blank may be written
 module _ (cs ds : Cells) (p : Ptr) (from count i : ℕ) (f : ℕ → Word) (h : Filled cs ds p from (from + 3 * i) f) (room : from + 3 * count ≤ length (words_at cs p)) (blanks : (k : ℕ) → from ≤ k → k < from + 3 * count → word_at cs p k ≡ blank) (inside : i < count) where
   here_room : (w : Word) (k j : ℕ) → j < from + 3 * count → j < length (words_at (put_word ds p k w) p)
@@ -68,6 +76,13 @@ module _ (cs ds : Cells) (p : Ptr) (from count i : ℕ) (f : ℕ → Word) (h : 
   may_third w v = let es = put_word ds p (from + 3 * i) w in (
     omega (arith, here_room w (from + 3 * i) (from + 3 * i + 2) (omega (arith, inside)), length_put es p (from + 3 * i + 1) v p),
     subst MayBeCounter (sym (word_put es p (from + 3 * i + 1) v (from + 3 * i + 2) ∙ word_other (words_at es p) (from + 3 * i + 1) v (from + 3 * i + 2) (λ e. absurd (omega (arith, e)))
+        ∙ word_put ds p (from + 3 * i) w (from + 3 * i + 2) ∙ word_other (words_at ds p) (from + 3 * i) w (from + 3 * i + 2) (λ e. absurd (omega (arith, e))) ∙ h.above (from + 3 * i + 2) (omega arith) ∙ blanks (from + 3 * i + 2) (omega arith) (omega (arith, inside)))) tt,
+  )
+
+  pub may_link : (w v : Word) → (from + 3 * i + 2 < length (words_at (put_word (put_word ds p (from + 3 * i) w) p (from + 3 * i + 1) v) p)) × MayBeLink (word_at (put_word (put_word ds p (from + 3 * i) w) p (from + 3 * i + 1) v) p (from + 3 * i + 2))
+  may_link w v = let es = put_word ds p (from + 3 * i) w in (
+    omega (arith, here_room w (from + 3 * i) (from + 3 * i + 2) (omega (arith, inside)), length_put es p (from + 3 * i + 1) v p),
+    subst MayBeLink (sym (word_put es p (from + 3 * i + 1) v (from + 3 * i + 2) ∙ word_other (words_at es p) (from + 3 * i + 1) v (from + 3 * i + 2) (λ e. absurd (omega (arith, e)))
         ∙ word_put ds p (from + 3 * i) w (from + 3 * i + 2) ∙ word_other (words_at ds p) (from + 3 * i) w (from + 3 * i + 2) (λ e. absurd (omega (arith, e))) ∙ h.above (from + 3 * i + 2) (omega arith) ∙ blanks (from + 3 * i + 2) (omega arith) (omega (arith, inside)))) tt,
   )
 
@@ -94,3 +109,25 @@ module _ (l : Layout) (cs a b d e : Cells) (end p : Ptr) (c n : ℕ) where
 
 pub laid_system_from : (l : Layout) (cs a e : Cells) (p : Ptr) → Filled cs a p 0 2 (head_word 0 0) → Filled a e p 2 (block_words l System) (owned_from p 2) → LaidSystem l cs e p
 laid_system_from l cs a e p f i = record { written = written_twice cs a e p f.written i.written; its_number = i.below 1 (omega arith) ∙ f.inside 1 (omega arith) (omega arith); owned = i.inside }
+
+-- one word first, and then those behind it
+module _ (cs : Cells) (p : Ptr) (from to : ℕ) (w : Word) where
+  pub first_room : to ≤ length (words_at cs p) → to ≤ length (words_at (put_word cs p from w) p)
+  first_room room = omega (arith, room, length_put cs p from w p)
+
+  pub first_blank : ((k : ℕ) → from ≤ k → k < to → word_at cs p k ≡ blank) → (k : ℕ) → from + 1 ≤ k → k < to → word_at (put_word cs p from w) p k ≡ blank
+  first_blank b k x y = word_put cs p from w k ∙ word_other (words_at cs p) from w k (λ e. absurd (omega (arith, e, x))) ∙ b k (omega (arith, x)) y
+
+  pub filled_first : (ds : Cells) (f : ℕ → Word) → w ≡ f from → from < to → to ≤ length (words_at cs p) → Filled (put_word cs p from w) ds p (from + 1) to f → Filled cs ds p from to f
+  filled_first ds f e low room h =
+      let one = filled_put cs cs p from from (from + 1) f w (filled_none cs p from f) (omega arith) (omega (arith, low, room)) e refl in
+      record {
+        written = written_twice cs (put_word cs p from w) ds p one.written h.written;
+        inside = λ j a b. by_same from j
+            (λ z q. h.below j (omega (arith, q)) ∙ one.inside j a (omega (arith, q)))
+            (λ z q. h.inside j (below_next from j a q) b);
+        below = λ j a. h.below j (omega (arith, a)) ∙ one.below j a;
+        above = λ j a. h.above j a ∙ one.above j (omega (arith, a, low));
+      } where
+        below_next : (m n : ℕ) → m ≤ n → (m ≡ n → ⊥) → m + 1 ≤ n
+        below_next m n a q = omega (arith, a, q)

@@ -1,10 +1,13 @@
 -- Entities of a class that joins no set, or owns none.
-use Rattle.std.proofs.Common.{◌≡◌, ℕ, ◌+◌, ◌==◌, Bool, drop, slice_get, Some, ap, true, false, List, [], ◌∷◌, refl, sym, ◌∙◌, arith}
+use Rattle.std.proofs.Common.{◌≡◌, ℕ, zero, suc, ◌+◌, ◌==◌, Bool, drop, slice_get, Some, ap, true, false, List, [], ◌∷◌, refl, sym, ◌∙◌, arith}
+use Rattle.std.specs.Prelude.{not, nat_eq}
 use Rattle.ss_base.specs.declared.layout.Owner.{Owner}
 use Rattle.ss_base.specs.declared.layout.Owner.TheVariants.{System, Class}
 use Rattle.ss_base.specs.declared.layout.SetLayout.{SetLayout}
 use Rattle.ss_states.specs.State.{Members, in_a_set, owns_members, is_owner_class}
+use Rattle.ss_states.specs.Sets.{owner_in}
 use Rattle.ss_records.proofs.Filed.{drop_at}
+use Rattle.ss_records.proofs.Same.{same, by_same, false_is_not_true}
 use Rattle.ss_records.specs.Shape.{joins, owned_by, same_owner, count_sets}
 
 none_of : (p : SetLayout → Bool) (t : SetLayout) (ts : List SetLayout) → count_sets p (t ∷ ts) ≡ 0 → (p t ≡ false) × (count_sets p ts ≡ 0)
@@ -35,3 +38,15 @@ module _ (p : SetLayout → Bool) (ts : List SetLayout) (s : ℕ) (t : SetLayout
 
   pub counts_none : p t ≡ false → count_sets p (drop s ts) ≡ count_sets p (drop (s + 1) ts)
   counts_none e = ap (count_sets p) (drop_at ts s t g) ∙ rw e (omega arith)
+
+-- the sets of a class that owns none
+pub owned_by_none : (ts : List SetLayout) (c : ℕ) → count_sets (owned_by (Class c)) ts ≡ 0 → (k : ℕ) → owner_in (slice_get ts k) ≡ Class c → ⊥
+owned_by_none [] c h k e = absurd cc
+owned_by_none (t ∷ ts) c h zero e = clash (sym (none_of (owned_by (Class c)) t ts h).0 ∙ ap (λ o. same_owner o (Class c)) e ∙ same c) where
+  clash : false ≡ true → ⊥
+  clash z = cc
+owned_by_none (t ∷ ts) c h (suc k) e = owned_by_none ts c (none_of (owned_by (Class c)) t ts h).1 k e
+
+-- a number that is not other than 0
+pub none_counted : (n : ℕ) → not (nat_eq n 0) ≡ false → n ≡ 0
+none_counted n e = by_same n 0 (λ z q. q) (λ z q. absurd (false_is_not_true (sym e ∙ ap not z)))

@@ -1,8 +1,9 @@
-ghost use Rattle.std.specs.Prelude.{◌≡◌, ◌+◌, ◌<◌, ◌≤◌, true, false, if◌then◌else◌, length, pos, MatchResult, IfSome, Ok, Err, Some, None, IsOk, slice_get, ⊤};
+ghost use Rattle.std.specs.Prelude.{◌≡◌, ◌+◌, ◌<◌, ◌≤◌, true, false, if◌then◌else◌, length, pos, MatchResult, IfSome, Ok, Err, Some, None, IsOk, slice_get, ⊤, ℕ};
 ghost use Rattle.ss_base.specs.Layout.{mode_of};
+ghost use Rattle.ss_base.specs.declared.layout.Owner.TheVariants.{Class};
 ghost use Rattle.ss_states.specs.State.{State, first_state, known_in, known_notice_in, kind_of, modes_of, value_in, time_in, created, created_all, destroyed, assigned, timed, RefusedFor, living_numbers, living_records};
 ghost use Rattle.ss_states.specs.Disciplines.{first_removed, last_removed, member_test, owned};
-ghost use Rattle.ss_states.specs.Sets.{member_class, owner, first_in, last_in, count_in, next_in, previous_in, owner_of_member, filed_first, filed_last, filed_before, filed_after, removed, Apart};
+ghost use Rattle.ss_states.specs.Sets.{member_class, owner, owner_kind, first_in, last_in, count_in, next_in, previous_in, owner_of_member, filed_first, filed_last, filed_before, filed_after, removed, Apart};
 ghost use Rattle.ss_records.specs.Added.{Added};
 ghost use Rattle.ss_records.specs.Kept.{IsPermanent};
 ghost use Rattle.ss_records.specs.Passing.{ranks_past, first_where, before_where};
@@ -160,8 +161,18 @@ impl Heap {
         self.records.add_whole(class, field, r, n)
     }
 
+    /// Whether a class owns a set.
+    #[inline(always)]
+    pub fn owns_set(&self, class: usize) -> bool
+        requires { class < length self.now.state.layout.classes }
+        ensures { result ≡ false → (set : ℕ) → owner_kind self.now.state.layout set ≡ Class class → ⊥ }
+    {
+        self.records.owns_set(class)
+    }
+
     /// A new entity of a temporary class or a class of notices, with first values, in no set: its creation
     /// number. Faults: 14 after the last creation number. Want of memory is answered only where no fault is due.
+    #[inline(always)]
     pub fn create(&mut self, class: usize) -> Result<i64, Refused>
         requires class { class < length self.old.state.layout.classes }
         requires kind { IsPermanent (kind_of self.old.state.layout class) → ⊥ }
@@ -186,6 +197,7 @@ impl Heap {
     }
 
     /// Destroys an entity that is in no set and has no members. Faults: 1 to 4, then 9, then 10.
+    #[inline(always)]
     pub fn destroy(&mut self, class: usize, r: i64) -> Result<(), FaultKind>
         requires class { class < length self.old.state.layout.classes }
         requires kind { IsPermanent (kind_of self.old.state.layout class) → ⊥ }

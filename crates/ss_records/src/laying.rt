@@ -10,8 +10,83 @@ use crate::shape::{CLASS, NUMBER, VALUES};
 use crate::store::{Address, Blocks};
 use ss_base::Owner;
 
-/// Zeros.
+/// Zeros. The first few words are written one by one, which takes less than a loop.
+#[inline(always)]
 pub(crate) fn fill_numbers(blocks: &mut Blocks, place: Address, from: usize, to: usize)
+    requires order { from ≤ to }
+    requires room { to ≤ length (words_at blocks.old.cells place.at) }
+    requires blank { (k : ℕ) → from ≤ k → k < to → word_at blocks.old.cells place.at k ≡ blank }
+    ensures filled { Filled blocks.old.cells blocks.new.cells place.at from to zeros }
+    ensures touches { (blocks.new.touches ≡ blocks.old.touches) × (blocks.new.total ≡ blocks.old.total) }
+{
+    if from < to {
+        blocks.set_number(place, from, 0);
+        fill_second(blocks, place, from + 1, to);
+    }
+}
+
+// The same from the second word on.
+#[inline(always)]
+fn fill_second(blocks: &mut Blocks, place: Address, from: usize, to: usize)
+    requires order { from ≤ to }
+    requires room { to ≤ length (words_at blocks.old.cells place.at) }
+    requires blank { (k : ℕ) → from ≤ k → k < to → word_at blocks.old.cells place.at k ≡ blank }
+    ensures filled { Filled blocks.old.cells blocks.new.cells place.at from to zeros }
+    ensures touches { (blocks.new.touches ≡ blocks.old.touches) × (blocks.new.total ≡ blocks.old.total) }
+{
+    if from < to {
+        blocks.set_number(place, from, 0);
+        fill_third(blocks, place, from + 1, to);
+    }
+}
+
+// The same from the third word on.
+#[inline(always)]
+fn fill_third(blocks: &mut Blocks, place: Address, from: usize, to: usize)
+    requires order { from ≤ to }
+    requires room { to ≤ length (words_at blocks.old.cells place.at) }
+    requires blank { (k : ℕ) → from ≤ k → k < to → word_at blocks.old.cells place.at k ≡ blank }
+    ensures filled { Filled blocks.old.cells blocks.new.cells place.at from to zeros }
+    ensures touches { (blocks.new.touches ≡ blocks.old.touches) × (blocks.new.total ≡ blocks.old.total) }
+{
+    if from < to {
+        blocks.set_number(place, from, 0);
+        fill_fourth(blocks, place, from + 1, to);
+    }
+}
+
+// The same from the fourth word on.
+#[inline(always)]
+fn fill_fourth(blocks: &mut Blocks, place: Address, from: usize, to: usize)
+    requires order { from ≤ to }
+    requires room { to ≤ length (words_at blocks.old.cells place.at) }
+    requires blank { (k : ℕ) → from ≤ k → k < to → word_at blocks.old.cells place.at k ≡ blank }
+    ensures filled { Filled blocks.old.cells blocks.new.cells place.at from to zeros }
+    ensures touches { (blocks.new.touches ≡ blocks.old.touches) × (blocks.new.total ≡ blocks.old.total) }
+{
+    if from < to {
+        blocks.set_number(place, from, 0);
+        fill_on(blocks, place, from + 1, to);
+    }
+}
+
+// The same from the fifth word on.
+#[inline(always)]
+fn fill_on(blocks: &mut Blocks, place: Address, from: usize, to: usize)
+    requires order { from ≤ to }
+    requires room { to ≤ length (words_at blocks.old.cells place.at) }
+    requires blank { (k : ℕ) → from ≤ k → k < to → word_at blocks.old.cells place.at k ≡ blank }
+    ensures filled { Filled blocks.old.cells blocks.new.cells place.at from to zeros }
+    ensures touches { (blocks.new.touches ≡ blocks.old.touches) × (blocks.new.total ≡ blocks.old.total) }
+{
+    if from < to {
+        fill_rest(blocks, place, from, to);
+    }
+}
+
+// The same of many words.
+#[inline(never)]
+fn fill_rest(blocks: &mut Blocks, place: Address, from: usize, to: usize)
     requires order { from ≤ to }
     requires room { to ≤ length (words_at blocks.old.cells place.at) }
     requires blank { (k : ℕ) → from ≤ k → k < to → word_at blocks.old.cells place.at k ≡ blank }
@@ -23,28 +98,31 @@ pub(crate) fn fill_numbers(blocks: &mut Blocks, place: Address, from: usize, to:
     }
 }
 
-/// Links that lead to one place: a touch each.
+/// Links of so many sets that lead to one place, three words each: three touches each, which are counted beside it.
+#[inline(always)]
 pub(crate) fn fill_links(
     blocks: &mut Blocks,
     place: Address,
     from: usize,
-    to: usize,
+    count: usize,
     target: Address,
 )
-    requires order { from ≤ to }
-    requires room { to ≤ length (words_at blocks.old.cells place.at) }
-    requires blank { (k : ℕ) → from ≤ k → k < to → word_at blocks.old.cells place.at k ≡ blank }
-    requires touches { blocks.old.touches + to < 2 ^ 64 }
-    ensures filled { Filled blocks.old.cells blocks.new.cells place.at from to (links_to target.at) }
-    ensures touches { (blocks.new.touches + from ≡ blocks.old.touches + to) × (blocks.new.total + from ≡ blocks.old.total + to) }
+    requires room { from + 3 * count ≤ length (words_at blocks.old.cells place.at) }
+    requires blank { (k : ℕ) → from ≤ k → k < from + 3 * count → word_at blocks.old.cells place.at k ≡ blank }
+    requires small { from + 3 * count < 2 ^ 64 }
+    ensures filled { Filled blocks.old.cells blocks.new.cells place.at from (from + 3 * count) (links_to target.at) }
+    ensures touches { (blocks.new.touches ≡ blocks.old.touches) × (blocks.new.total ≡ blocks.old.total + 3 * count) }
 {
-    for k in from..to {
+    for i in 0..count {
+        let k = from + 3 * i;
         blocks.set_link(place, k, target);
-        blocks.expect(1);
+        blocks.set_link(place, k + 1, target);
+        blocks.set_link(place, k + 2, target);
     }
 }
 
-/// Sets without a member, three words each: three touches each.
+/// Sets without a member, three words each: three touches each, which are counted beside it.
+#[inline(always)]
 pub(crate) fn fill_owned(
     blocks: &mut Blocks,
     place: Address,
@@ -54,21 +132,20 @@ pub(crate) fn fill_owned(
 )
     requires room { from + 3 * count ≤ length (words_at blocks.old.cells place.at) }
     requires blank { (k : ℕ) → from ≤ k → k < from + 3 * count → word_at blocks.old.cells place.at k ≡ blank }
-    requires touches { blocks.old.touches + 3 * count < 2 ^ 64 }
     requires small { from + 3 * count < 2 ^ 64 }
     ensures filled { Filled blocks.old.cells blocks.new.cells place.at from (from + 3 * count) (owned_from end.at from) }
-    ensures touches { (blocks.new.touches ≡ blocks.old.touches + 3 * count) × (blocks.new.total ≡ blocks.old.total + 3 * count) }
+    ensures touches { (blocks.new.touches ≡ blocks.old.touches) × (blocks.new.total ≡ blocks.old.total + 3 * count) }
 {
     for i in 0..count {
         let k = from + 3 * i;
         blocks.set_link(place, k, end);
         blocks.set_link(place, k + 1, end);
         blocks.set_count(place, k + 2, 0);
-        blocks.expect(3);
     }
 }
 
 // Writes the class and the number.
+#[inline(always)]
 fn lay_head(blocks: &mut Blocks, place: Address, class: u64, number: u64)
     requires room { 2 ≤ length (words_at blocks.old.cells place.at) }
     requires blank { (k : ℕ) → word_at blocks.old.cells place.at k ≡ blank }
@@ -80,6 +157,7 @@ fn lay_head(blocks: &mut Blocks, place: Address, class: u64, number: u64)
 }
 
 /// Makes a blank block that of a new entity, in no set and without members.
+#[inline(always)]
 pub(crate) fn lay(
     blocks: &mut Blocks,
     layout: &Plan,
@@ -98,12 +176,14 @@ pub(crate) fn lay(
     ensures few { blocks.new.touches ≤ blocks.old.touches + 8388608 }
 {
     let links = layout.links_start(class);
+    let joined = layout.joined_count(class);
     let owned = layout.owned_start(Owner::Class(class));
     let count = layout.owned_count(Owner::Class(class));
     lay_head(blocks, place, class as u64, number);
     fill_numbers(blocks, place, VALUES, links);
-    fill_links(blocks, place, links, owned, place);
+    fill_links(blocks, place, links, joined, place);
     fill_owned(blocks, place, owned, count, end);
+    blocks.expect(3 * (joined + count) as u64);
 }
 
 /// Makes a blank block that of the system, without members.
@@ -118,4 +198,5 @@ pub(crate) fn lay_system(blocks: &mut Blocks, layout: &Plan, place: Address)
     let count = layout.owned_count(Owner::System);
     lay_head(blocks, place, 0, 0);
     fill_owned(blocks, place, VALUES, count, place);
+    blocks.expect(3 * count as u64);
 }

@@ -22,11 +22,12 @@ pub(crate) struct Plan {
     system_sets: usize,
 }
 
-/// Where the links of a class and the words of the sets that it owns begin, and how many sets it owns.
+/// Where the links of a class and the words of the sets that it owns begin, and how many sets it joins and owns.
 #[derive(Clone, Copy)]
 struct Extent {
     links: usize,
     owned: usize,
+    joined: usize,
     sets: usize,
 }
 
@@ -147,6 +148,16 @@ impl Plan {
         }
     }
 
+    /// How many sets a class joins.
+    #[inline(always)]
+    pub(crate) fn joined_count(&self, class: usize) -> usize
+        requires { class < length self.now.classes }
+        ensures value { result ≡ count_sets (joins class) self.now.sets }
+        ensures bound { result ≤ 1048576 }
+    {
+        self.classes[class].joined
+    }
+
     /// How many words of links a class has: three for each set that it joins.
     #[inline(always)]
     pub(crate) fn link_words(&self, class: usize) -> usize
@@ -224,6 +235,7 @@ fn all_extents(alloc: Global, layout: &Layout) -> Result<Vec<Extent>, AllocError
         extents.push(Extent {
             links: shape::links_start(layout, class),
             owned: shape::owned_start(layout, owner),
+            joined: shape::joined_count(layout, class),
             sets: shape::owned_count(layout, owner),
         })?;
     }

@@ -1,6 +1,7 @@
 // The records: where each lies, and what its block says.
 ghost use Rattle.std.specs.Prelude.{◌≡◌, ℕ, ◌+◌, ◌-◌, ◌*◌, ◌^◌, ◌<◌, ◌≤◌, length, MatchResult, IfOk, IfSome, Ok, Err, Some, None, slice_get, true, false, ⊤, suc};
 ghost use Rattle.ss_states.specs.State.{entity, notice, numbered, and_then, of_class, kind_of, modes_of, is_notice, first_state, living_numbers, living_records, value_in, time_in, in_a_set, owns_members, destroyed, created, created_all, with_made, assigned, timed, RefusedFor};
+ghost use Rattle.ss_states.specs.Sets.{owner_kind};
 ghost use Rattle.ss_records.specs.Cells.{words_at, number};
 ghost use Rattle.ss_records.specs.Reading.{record_of};
 ghost use Rattle.ss_base.specs.Layout.{mode_of};
@@ -160,6 +161,17 @@ impl Records {
             ClassKind::Permanent => self.indexed(class, r),
             ClassKind::Temporary | ClassKind::Notice => self.of_class(class, r),
         }
+    }
+
+    // The block of an entity of a class whose entities come and go one by one.
+    #[inline(always)]
+    fn find_single(&self, class: usize, r: i64) -> Result<Address, FaultKind>
+        requires kept { IsKept self.now }
+        requires class { class < length self.now.layout.classes }
+        requires kind { IsPermanent (kind_of self.now.layout class) → ⊥ }
+        ensures found { MatchResult result (λ p. Found self.now class r p) (λ e. entity (state self.now) class r ≡ Err e) }
+    {
+        self.of_class(class, r)
     }
 
     // The block of an index of a permanent class.
@@ -573,7 +585,17 @@ impl Records {
         }
     }
 
+    /// Whether a class owns a set.
+    #[inline(always)]
+    pub(crate) fn owns_set(&self, class: usize) -> bool
+        requires { class < length self.now.layout.classes }
+        ensures { result ≡ false → (set : ℕ) → owner_kind self.now.layout set ≡ Owner.Class class → ⊥ }
+    {
+        self.layout.owned_count(Owner::Class(class)) != 0
+    }
+
     /// A new entity, with the next creation number.
+    #[inline(always)]
     pub(crate) fn create(&mut self, alloc: &Global, class: usize) -> Result<i64, Refused>
         requires kept { IsKept self.old }
         requires class { class < length self.old.layout.classes }
@@ -655,6 +677,7 @@ impl Records {
     }
 
     // Whether an entity is in a set.
+    #[inline(always)]
     fn in_a_set(&mut self, class: usize, place: Address, number: u64) -> bool
         requires kept { IsKept self.old }
         requires entry { (i : ℕ) × (slice_get self.old.directory.places i ≡ Some (Some place)) × (number ≡ suc i) }
@@ -679,6 +702,7 @@ impl Records {
     }
 
     // Whether an entity has members in a set.
+    #[inline(always)]
     fn owns_members(&mut self, class: usize, place: Address, number: u64) -> bool
         requires kept { IsKept self.old }
         requires entry { (i : ℕ) × (slice_get self.old.directory.places i ≡ Some (Some place)) × (number ≡ suc i) }
@@ -703,6 +727,7 @@ impl Records {
     }
 
     /// Gives the block of an entity back.
+    #[inline(always)]
     pub(crate) fn destroy(&mut self, alloc: &Global, class: usize, r: i64) -> Result<(), FaultKind>
         requires kept { IsKept self.old }
         requires class { class < length self.old.layout.classes }
@@ -712,7 +737,7 @@ impl Records {
         ensures done { MatchResult result (λ _. destroyed (state self.old) class r ≡ Ok (state self.new)) (λ e. (destroyed (state self.old) class r ≡ Err e) × (state self.new ≡ state self.old)) }
         ensures touches { self.new.blocks.total + self.old.blocks.touches ≡ self.old.blocks.total + self.new.blocks.touches }
     {
-        match self.find(class, r) {
+        match self.find_single(class, r) {
             Ok(place) => {
                 let number = r as u64;
                 if self.in_a_set(class, place, number) {

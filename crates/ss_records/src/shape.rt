@@ -88,6 +88,15 @@ pub(crate) fn owned_start(layout: &Layout, owner: Owner) -> usize
     }
 }
 
+/// How many sets a class joins.
+pub(crate) fn joined_count(layout: &Layout, class: usize) -> usize
+    requires small { Small layout.now }
+    ensures value { result ≡ count_sets (joins class) layout.now.sets }
+    ensures bound { result ≤ 1048576 }
+{
+    joining(&layout.sets, class)
+}
+
 /// How many sets an owner has.
 pub(crate) fn owned_count(layout: &Layout, owner: Owner) -> usize
     requires small { Small layout.now }

@@ -65,6 +65,7 @@ pub(crate) fn owns_in(
 }
 
 /// Whether the entity is in a set of any name: at most a touch for each name.
+#[inline(always)]
 pub(crate) fn in_a_set(
     blocks: &mut Blocks,
     layout: &Plan,
@@ -105,6 +106,7 @@ pub(crate) fn in_a_set(
 }
 
 /// Whether the entity has members in a set of any name: at most a touch for each name.
+#[inline(always)]
 pub(crate) fn owns_members(
     blocks: &mut Blocks,
     layout: &Plan,

@@ -218,23 +218,25 @@ impl Scene {
     }
 
     // The number of a new entity of a class, whose histories start.
-    #[inline(never)]
+    #[inline(always)]
     fn create_number(&mut self, class: usize) -> Made
         ensures { Makes (made_one class) self.old self.new (as_value result) }
     {
         if !self.is_single(class) {
             return Made::Misfit;
         }
+        let owns = self.population.owns_set(class);
         if self
             .timeline
-            .reserve(self.population.layout(), class, 1)
+            .reserve_one(self.population.layout(), class, owns)
             .is_err()
         {
             return Made::Wanting;
         }
         match self.population.create(class) {
             Ok(number) => {
-                self.timeline.start(self.population.layout(), class, number);
+                self.timeline
+                    .start_one(self.population.layout(), class, owns, number);
                 Made::Number(number)
             }
             Err(Refused::Fault(_)) => Made::Last,
@@ -263,10 +265,11 @@ impl Scene {
         if !self.is_single(class) {
             return Err(Trouble::Misfit);
         }
+        let owns = self.population.owns_set(class);
         match self.population.destroy(class, known.number) {
             Ok(()) => {
                 self.timeline
-                    .end(self.population.layout(), class, known.number);
+                    .end_one(self.population.layout(), class, owns, known.number);
                 Ok(())
             }
             Err(kind) => Err(Trouble::Fault(kind)),
@@ -274,7 +277,7 @@ impl Scene {
     }
 
     /// An entity goes, and its histories end, whether or not it is pending. Faults: 1 to 4, then 9 and 10.
-    #[inline(always)]
+    #[inline(never)]
     pub(crate) fn remove_entity(&mut self, class: usize, x: Value) -> Result<(), Trouble>
         ensures { Changes (gone class x) self.old self.new result }
     {

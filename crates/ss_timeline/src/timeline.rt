@@ -1,13 +1,14 @@
 //! TIME.V, the notices that are pending, and the histories.
 
-ghost use Rattle.std.specs.Prelude.{◌≡◌, ◌≤ℤ◌, [], map, ℤ, pos, true, false, Ok, Err, MatchResult, IfOk, IfSome, OnOk};
+ghost use Rattle.std.specs.Prelude.{◌≡◌, ℕ, ◌≤ℤ◌, [], map, ℤ, pos, true, false, Ok, Err, MatchResult, IfOk, IfSome, OnOk};
 ghost use Rattle.ss_base.specs.declared.value.Value.{Value as ValueSeen};
 ghost use Rattle.std.specs.List.{list_any};
 ghost use Rattle.std.specs.Ordering.{int_eq};
+ghost use Rattle.ss_base.specs.declared.layout.Layout.{Layout as TheLayout};
 ghost use Rattle.ss_base.specs.declared.layout.Owner.TheVariants.{System, Class};
 ghost use Rattle.ss_events.specs.PendingList.{none_pending, is_pending, cancelled, next};
 ghost use Rattle.ss_histories.specs.Places.{is_about};
-ghost use Rattle.ss_histories.specs.Records.{HasRooms, is_up_to, renewed_where, figured, mean_in, columns_of};
+ghost use Rattle.ss_histories.specs.Records.{HasRooms, OwnsNone, Spares, is_up_to, renewed_where, figured, mean_in, columns_of};
 ghost use Rattle.ss_histories.specs.Histories.{no_histories, starting, ending, all_noting, history_of, folded, renewed};
 ghost use Rattle.ss_histories.specs.Values.{if_ok, sure};
 ghost use Rattle.ss_picture.specs.Suited.{IsMean};
@@ -203,6 +204,47 @@ impl Timeline {
         }
     }
 
+    /// Whether the entities of a class have a history, as it is told without a look at each statistic, where it is known whether
+    /// the class owns a set.
+    #[inline(always)]
+    fn bears(&self, owns: bool) -> bool
+        ensures { result ≡ false → (l : TheLayout) (class : ℕ) → (owns ≡ false → OwnsNone l class) → Spares l class self.now.histories }
+    {
+        owns || !self.histories.spares_setless()
+    }
+
+    /// Makes room for one more history of each statistic of what an entity of a class has, where it is known whether the class owns
+    /// a set. The error comes where memory was refused.
+    #[inline(always)]
+    pub fn reserve_one(
+        &mut self,
+        layout: &Layout,
+        class: usize,
+        owns: bool,
+    ) -> Result<(), AllocError>
+        requires owns { owns ≡ false → OwnsNone layout.now class }
+        ensures same { self.new ≡ record self.old { histories = record self.old.histories { room = self.new.histories.room } } }
+        ensures room { OnOk result (HasRooms layout.now (Class class) (pos 1) self.new.histories.statistics self.new.histories.room) }
+    {
+        if !self.bears(owns) {
+            return Ok(());
+        }
+        self.reserve(layout, class, 1)
+    }
+
+    /// Starts the histories of an entity of a class, as it comes into being, where it is known whether the class owns a set.
+    #[inline(always)]
+    pub fn start_one(&mut self, layout: &Layout, class: usize, owns: bool, entity: i64)
+        requires owns { owns ≡ false → OwnsNone layout.now class }
+        requires room { HasRooms layout.now (Class class) (pos 1) self.old.histories.statistics self.old.histories.room }
+        ensures started { columns self.new ≡ starting layout.now (Class class) (int_eq entity) self.old.time self.old.histories.statistics (columns self.old) }
+        ensures same { IsAt self.old self.new }
+    {
+        if self.bears(owns) {
+            self.start(layout, class, entity);
+        }
+    }
+
     /// Starts the histories of the entities 1 to a number of a class.
     pub fn start_all(&mut self, layout: &Layout, class: usize, count: i64)
         requires room { HasRooms layout.now (Class class) count self.old.histories.statistics self.old.histories.room }
@@ -220,6 +262,18 @@ impl Timeline {
     {
         if self.has_statistics() {
             self.histories.end(layout, class, entity);
+        }
+    }
+
+    /// Ends the histories of an entity of a class, as it goes, where it is known whether the class owns a set.
+    #[inline(always)]
+    pub fn end_one(&mut self, layout: &Layout, class: usize, owns: bool, entity: i64)
+        requires owns { owns ≡ false → OwnsNone layout.now class }
+        ensures ended { columns self.new ≡ ending layout.now class entity self.old.histories.statistics (columns self.old) }
+        ensures same { IsAt self.old self.new }
+    {
+        if self.bears(owns) {
+            self.end(layout, class, entity);
         }
     }
 

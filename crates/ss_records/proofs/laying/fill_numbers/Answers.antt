@@ -1,9 +1,15 @@
-use Rattle.std.proofs.Common.{◌+◌, refl, arith, ◌∙◌}
-use Rattle.ss_records.proofs.Fills.{filled_put}
+use Rattle.std.proofs.Common.{◌+◌, refl, subst}
+use Rattle.ss_records.specs.Laid.{Filled, zeros}
+use Rattle.ss_records.proofs.Fills.{filled_first, first_room, first_blank}
 use Rattle.ss_records.proofs.laying.fill_numbers.Goals as goal
 
-pub loop-k-preserved : goal.loop-k-preserved
-loop-k-preserved c = record {
-  filled = rw c.set_number.ensures.cells (filled_put c.args.blocks.now.cells c.loop-k.blocks.cells c.args.place.at c.args.from c.loop-k.k (c.loop-k.k + 1) _ _ c.loop-k.invariant.filled c.loop-k.auto.k (omega (arith, c.loop-k-test.true, c.requires.room)) refl refl);
-  touches = (c.set_number.ensures.touches.0 ∙ c.loop-k.invariant.touches.0, c.set_number.ensures.touches.1 ∙ c.loop-k.invariant.touches.1);
-}
+pub fill_second-requires-clause-room : goal.fill_second-requires-clause-room
+fill_second-requires-clause-room c = rw c.set_number.ensures.cells (first_room c.args.blocks.now.cells c.args.place.at c.args.from c.args.to _ c.requires.room)
+
+pub fill_second-requires-clause-blank : goal.fill_second-requires-clause-blank
+fill_second-requires-clause-blank c = rw c.set_number.ensures.cells (first_blank c.args.blocks.now.cells c.args.place.at c.args.from c.args.to _ c.requires.blank)
+
+pub returns-then-from-to-clause-filled : goal.returns-then-from-to-clause-filled
+returns-then-from-to-clause-filled c =
+    filled_first c.args.blocks.now.cells c.args.place.at c.args.from c.args.to _ c.fill_second.new.blocks.cells zeros refl c.if-from-to.true c.requires.room
+    (subst (λ bs. Filled bs c.fill_second.new.blocks.cells c.args.place.at (c.args.from + 1) c.args.to zeros) c.set_number.ensures.cells c.fill_second.ensures.filled)

@@ -1,4 +1,4 @@
-use Rattle.std.proofs.Common.{arith}
+use Rattle.std.proofs.Common.{arith, ◌∙◌}
 use Rattle.ss_records.proofs.Fills.{filled_owned, may_second, may_third}
 use Rattle.ss_records.proofs.laying.fill_owned.Goals as goal
 
@@ -12,9 +12,9 @@ set_count-requires c =
 
 pub loop-i-preserved : goal.loop-i-preserved
 loop-i-preserved c = record {
-  filled = rw (c.expect.ensures.cells, c.set_count.ensures.cells, c.set_link-in-loop-i.ensures.cells, c.set_link.ensures.cells) (filled_owned c.args.blocks.now.cells c.loop-i.blocks.cells c.args.place.at c.args.end.at c.args.from c.loop-i.i c.loop-i.invariant.filled (omega (arith, c.loop-i-test.true, c.requires.room)));
+  filled = rw (c.set_count.ensures.cells, c.set_link-in-loop-i.ensures.cells, c.set_link.ensures.cells) (filled_owned c.args.blocks.now.cells c.loop-i.blocks.cells c.args.place.at c.args.end.at c.args.from c.loop-i.i c.loop-i.invariant.filled (omega (arith, c.loop-i-test.true, c.requires.room)));
   touches = (
-    omega (arith, c.expect.ensures.touches.0, c.set_count.ensures.touches.0, c.set_link-in-loop-i.ensures.touches.0, c.set_link.ensures.touches.0, c.loop-i.invariant.touches.0),
-    omega (arith, c.expect.ensures.touches.1, c.set_count.ensures.touches.1, c.set_link-in-loop-i.ensures.touches.1, c.set_link.ensures.touches.1, c.loop-i.invariant.touches.1),
+    c.set_count.ensures.touches.0 ∙ c.set_link-in-loop-i.ensures.touches.0 ∙ c.set_link.ensures.touches.0 ∙ c.loop-i.invariant.touches.0,
+    omega (arith, c.set_count.ensures.touches.1, c.set_link-in-loop-i.ensures.touches.1, c.set_link.ensures.touches.1, c.loop-i.invariant.touches.1),
   );
 }

@@ -11,5 +11,5 @@ fill_owned-requires-clause-blank c = λ k a b. blank_above c.lay_head.ensures.fi
 
 pub returns-clause-laid : goal.returns-clause-laid
 returns-clause-laid c =
-    laid_system_from c.args.layout.now c.args.blocks.now.cells c.lay_head.new.blocks.cells c.fill_owned.new.blocks.cells c.args.place.at c.lay_head.ensures.filled
-    (subst (λ n. Filled c.lay_head.new.blocks.cells c.fill_owned.new.blocks.cells c.args.place.at 2 (2 + 3 * n) (owned_from c.args.place.at 2)) c.owned_count-count.ensures.value c.fill_owned.ensures.filled)
+    rw c.expect.ensures.cells (laid_system_from c.args.layout.now c.args.blocks.now.cells c.lay_head.new.blocks.cells c.fill_owned.new.blocks.cells c.args.place.at c.lay_head.ensures.filled
+    (subst (λ n. Filled c.lay_head.new.blocks.cells c.fill_owned.new.blocks.cells c.args.place.at 2 (2 + 3 * n) (owned_from c.args.place.at 2)) c.owned_count-count.ensures.value c.fill_owned.ensures.filled))

@@ -5,8 +5,8 @@ use Rattle.ss_records.proofs.plan.all_extents.Goals as goal
 pub loop-class-preserved : goal.loop-class-preserved
 loop-class-preserved c =
     let xs = c.loop-class.extents.items in let ys = c.push.new.self.items in
-    let x : Extent = record { links = c.links_start.result; owned = c.owned_start.result; sets = c.owned_count.result } in
+    let x : Extent = record { links = c.links_start.result; owned = c.owned_start.result; joined = c.joined_count.result; sets = c.owned_count.result } in
     record {
       many = one_longer xs ys x c.loop-class.class c.in_ok-push.ensures.items c.loop-class.invariant.many;
-      each = extents_more c.args.layout.now xs ys c.loop-class.class x c.in_ok-push.ensures.items c.loop-class.invariant.many c.loop-class.invariant.each (λ i. record { links = c.links_start.ensures.at i; owned = c.owned_start.ensures.at i; sets = c.owned_count.ensures.value i });
+      each = extents_more c.args.layout.now xs ys c.loop-class.class x c.in_ok-push.ensures.items c.loop-class.invariant.many c.loop-class.invariant.each (λ i. record { links = c.links_start.ensures.at i; owned = c.owned_start.ensures.at i; joined = c.joined_count.ensures.value i; sets = c.owned_count.ensures.value i });
     }

@@ -75,11 +75,11 @@ returns-else-owns_members-clause-done c =
     let k = is_destroyed r.layout r.blocks.cells r.system.at (places r) r.notes.lists c.requires.kept f.index p m0 c.args.class c.args.r h.is h.entity none few in
     rw (c.give_back.ensures.cells, c.clear.ensures, n) (subst (λ (z : Records). destroyed (state r) c.args.class c.args.r ≡ Ok (state_of z.layout (without q.blocks.cells p.at) (lying (slice_set z.directory.places f.index None) z.permanents.items) z.notes.lists)) (sym whole) (rw cells k))
 
-pub find-requires-clause-kept : goal.find-requires-clause-kept
-find-requires-clause-kept c = c.requires.kept
+pub find_single-requires-clause-kept : goal.find_single-requires-clause-kept
+find_single-requires-clause-kept c = c.requires.kept
 
-pub find-requires-clause-class : goal.find-requires-clause-class
-find-requires-clause-class c = c.requires.class
+pub find_single-requires-clause-class : goal.find_single-requires-clause-class
+find_single-requires-clause-class c = c.requires.class
 
 pub in_a_set-requires-clause-kept : goal.in_a_set-requires-clause-kept
 in_a_set-requires-clause-kept c = c.requires.kept
