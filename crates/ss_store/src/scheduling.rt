@@ -7,9 +7,9 @@ ghost use Rattle.ss_events.specs.declared.key.Tie.{Tie as TieSeen};
 ghost use Rattle.ss_meaning.specs.Entities.{attribute};
 ghost use Rattle.ss_meaning.specs.Events.{time_at, not_past, endowed, prepared, made_notice, ties_of, filed_notice, rescheduled};
 ghost use Rattle.ss_meaning.specs.Places.{assigned_attribute};
+ghost use Rattle.ss_meaning.specs.Values.{turned};
 ghost use Rattle.ss_store.specs.AtOnce.{Does};
 ghost use Rattle.ss_store.specs.Seen.{Looks, Notes, Grows};
-ghost use Rattle.ss_meaning.specs.Values.{turned};
 ghost use Rattle.ss_store.specs.Scheduled.{Leads, Forms, Goes, Finds, AddsTie, IsTied, put_there, lacking, moment_of, time_after, key_ranked, key_meant, as_whole, scheduled_known, scheduled_anew};
 
 use crate::at_once::Number;
@@ -133,12 +133,7 @@ impl Scene {
     /// number, or where a history of an attribute is full. Want of memory changes nothing; where the values do not fit, the
     /// notice is made.
     #[inline(never)]
-    pub fn notice_number(
-        &mut self,
-        class: usize,
-        given: &[Value],
-        time: i64,
-    ) -> Result<i64, Unmade>
+    pub fn notice_number(&mut self, class: usize, given: &[Value], time: i64) -> Result<i64, Unmade>
         ensures { Forms (made_notice class given.now time) self.old self.new (as_whole result) }
     {
         match self.create_number(class) {
@@ -351,13 +346,7 @@ impl Scene {
 
     // The same of a value that refers to a notice.
     #[inline(always)]
-    fn file_any(
-        &mut self,
-        alloc: Global,
-        class: usize,
-        x: &Value,
-        time: i64,
-    ) -> Result<(), Unmade>
+    fn file_any(&mut self, alloc: Global, class: usize, x: &Value, time: i64) -> Result<(), Unmade>
         ensures { Grows (filed_notice class x.now time) self.old self.new result }
     {
         match x {
