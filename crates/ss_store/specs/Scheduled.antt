@@ -2,6 +2,7 @@
 use Rattle.std.specs.Prelude.{◌≡◌, ℕ, Bool, true, false, List, [], ◌∷◌, ◌++◌, ℤ, int_lt, Option, Result, Ok, Err}
 use Rattle.ss_base.specs.declared.fault.FaultKind.TheVariants.{PastTime}
 use Rattle.ss_base.specs.declared.value.Value.{Value}
+use Rattle.ss_base.specs.declared.value.Value.TheVariants.{Whole}
 use Rattle.ss_events.specs.declared.key.Tie.{Tie}
 use Rattle.ss_events.specs.SortKey.{SortKey}
 use Rattle.ss_events.specs.PendingList.{scheduled}
@@ -58,6 +59,11 @@ IsTied v high old new (Err t) = t ≡ unmade.Memory
 abbrev pub AddsTie : (Store → Result Value Meant) → (high : Bool) → Seen → (old new : List Tie) → Result (Unit {0}) Unmade → Type 0
 AddsTie f high e old new (Ok u) = (v : Value) × (new ≡ old ++ record { value = v; high = high } ∷ []) × ((s : Store) → f (with_seen s e) ≡ Ok v)
 AddsTie f high e old new (Err t) = Finds {A = Value} f e (Err t)
+
+-- a number as a value
+abbrev pub as_whole : Result ℤ Unmade → Result Value Unmade
+as_whole (Ok n) = Ok (Whole n)
+as_whole (Err t) = Err t
 
 -- a trouble where memory might have been wanting
 abbrev pub lacking : Trouble → Unmade

@@ -219,7 +219,7 @@ impl Scene {
 
     // The number of a new entity of a class, whose histories start.
     #[inline(always)]
-    fn create_number(&mut self, class: usize) -> Made
+    pub(crate) fn create_number(&mut self, class: usize) -> Made
         ensures { Makes (made_one class) self.old self.new (as_value result) }
     {
         if !self.is_single(class) {

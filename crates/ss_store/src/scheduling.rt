@@ -1,17 +1,19 @@
 //! Scheduling: the time of an event, making notices, and filing them among those that are pending.
 
-ghost use Rattle.std.specs.Prelude.{◌≡◌, Some, Ok, IfSome};
+ghost use Rattle.std.specs.Prelude.{◌≡◌, List, Some, Ok, Err, IfSome, IfOk, IfErr};
 ghost use Rattle.ss_base.specs.declared.value.Value.TheVariants.{Whole};
 ghost use Rattle.ss_classes.specs.Ranks.{ranked_at};
+ghost use Rattle.ss_events.specs.declared.key.Tie.{Tie as TieSeen};
 ghost use Rattle.ss_meaning.specs.Entities.{attribute};
 ghost use Rattle.ss_meaning.specs.Events.{time_at, not_past, endowed, prepared, made_notice, ties_of, filed_notice, rescheduled};
 ghost use Rattle.ss_meaning.specs.Places.{assigned_attribute};
+ghost use Rattle.ss_meaning.specs.Values.{turned};
 ghost use Rattle.ss_store.specs.AtOnce.{Does};
 ghost use Rattle.ss_store.specs.Seen.{Looks, Notes, Grows};
-ghost use Rattle.ss_store.specs.Scheduled.{Leads, Forms, Goes, Finds, AddsTie, IsTied, put_there, lacking, moment_of, time_after, key_ranked, key_meant, scheduled_known, scheduled_anew};
+ghost use Rattle.ss_store.specs.Scheduled.{Leads, Forms, Goes, Finds, AddsTie, IsTied, put_there, lacking, moment_of, time_after, key_ranked, key_meant, as_whole, scheduled_known, scheduled_anew};
 
 use crate::at_once::Number;
-use crate::entities::settled;
+use crate::entities::{Made, settled};
 use crate::scene::Scene;
 use ss_base::{FaultKind, RankKey, Value, plus};
 use ss_classes::rank_of;
@@ -127,18 +129,34 @@ impl Scene {
         }
     }
 
-    /// A new notice of a class, with values for its first attributes and its TIME.A. Faults: 14 after the last number,
-    /// or where a history of an attribute is full. Want of memory changes nothing; where the values do not fit, the
+    /// The number of a new notice of a class, with values for its first attributes and its TIME.A. Faults: 14 after the last
+    /// number, or where a history of an attribute is full. Want of memory changes nothing; where the values do not fit, the
     /// notice is made.
+    #[inline(never)]
+    pub fn notice_number(&mut self, class: usize, given: &[Value], time: i64) -> Result<i64, Unmade>
+        ensures { Forms (made_notice class given.now time) self.old self.new (as_whole result) }
+    {
+        match self.create_number(class) {
+            Made::Number(number) => {
+                match self.prepare(class, &Value::Whole(number), given, time) {
+                    Ok(()) => Ok(number),
+                    Err(trouble) => Err(lacking(trouble)),
+                }
+            }
+            Made::Last => Err(Unmade::Fault(FaultKind::Overflow)),
+            Made::Misfit => Err(Unmade::Misfit),
+            Made::Wanting => Err(Unmade::Memory),
+        }
+    }
+
+    /// The same as a value.
+    #[inline(always)]
     pub fn make_notice(&mut self, class: usize, given: &[Value], time: i64) -> Result<Value, Unmade>
         ensures { Forms (made_notice class given.now time) self.old self.new result }
     {
-        match self.create(class) {
+        match self.notice_number(class, given, time) {
+            Ok(number) => Ok(Value::Whole(number)),
             Err(unmade) => Err(unmade),
-            Ok(x) => match self.prepare(class, &x, given, time) {
-                Ok(()) => Ok(x),
-                Err(trouble) => Err(lacking(trouble)),
-            },
         }
     }
 
@@ -211,6 +229,48 @@ impl Scene {
         Ok(())
     }
 
+    // The values that attributes have now, as ties in a list of their own.
+    #[inline(never)]
+    fn frozen(
+        &self,
+        alloc: Global,
+        class: usize,
+        x: &Value,
+        keys: &[RankKey],
+    ) -> Result<Vec<Tie>, Unmade>
+        ensures ties { IfOk result (λ ties. Finds (λ s. ties_of class x.now s keys.now) self.now (Ok ties.items)) }
+        ensures not { IfErr result (λ unmade. Finds {A = List TieSeen} (λ s. ties_of class x.now s keys.now) self.now (Err unmade)) }
+    {
+        let mut ties = Vec::new(alloc);
+        match self.freeze(class, x, keys, &mut ties) {
+            Err(unmade) => Err(unmade),
+            Ok(()) => Ok(ties),
+        }
+    }
+
+    // The key of a notice of this rank, whose ties these attributes are.
+    #[inline(always)]
+    fn key_by(
+        &self,
+        alloc: Global,
+        keys: &[RankKey],
+        rank: usize,
+        class: usize,
+        x: &Value,
+        time: i64,
+    ) -> Result<Key, Unmade>
+        ensures { Finds (λ s. turned (λ ties. record { time = time; rank = rank; ties = ties }) (ties_of class x.now s keys.now)) self.now result }
+    {
+        let ties = match keys {
+            [] => Vec::new(alloc),
+            _ => match self.frozen(alloc, class, x, keys) {
+                Err(unmade) => return Err(unmade),
+                Ok(ties) => ties,
+            },
+        };
+        Ok(Key::with_ties(time, rank, ties))
+    }
+
     // The key of a notice whose class has this rank.
     #[inline(always)]
     fn key_at(
@@ -225,13 +285,7 @@ impl Scene {
     {
         match self.notices.get(rank) {
             None => Err(Unmade::Misfit),
-            Some(said) => {
-                let mut ties = Vec::new(alloc);
-                match self.freeze(class, x, said.ties().as_slice(), &mut ties) {
-                    Err(unmade) => Err(unmade),
-                    Ok(()) => Ok(Key::with_ties(time, rank, ties)),
-                }
-            }
+            Some(said) => self.key_by(alloc, said.ties().as_slice(), rank, class, x, time),
         }
     }
 
@@ -255,6 +309,7 @@ impl Scene {
     }
 
     // A notice is filed among those that are pending.
+    #[inline(always)]
     fn file_pending(
         &mut self,
         alloc: Global,
@@ -273,9 +328,38 @@ impl Scene {
         }
     }
 
-    /// A notice is filed among those that are pending: for this time, by the rank of its class and the values that
-    /// the attributes which break ties have now. Faults: 1 to 4, then 13 where the time is before TIME.V, then 11, then
+    /// A notice is filed among those that are pending, by its number: for this time, by the rank of its class and the values
+    /// that the attributes which break ties have now. Faults: 1 to 4, then 13 where the time is before TIME.V, then 11, then
     /// 14 after the last scheduling. Want of memory changes nothing.
+    #[inline(never)]
+    pub fn file_known(
+        &mut self,
+        alloc: Global,
+        class: usize,
+        notice: Known,
+        time: i64,
+    ) -> Result<(), Unmade>
+        ensures { Grows (filed_notice class (Whole notice.number) time) self.old self.new result }
+    {
+        self.file_pending(alloc, class, &Value::Whole(notice.number), time)
+    }
+
+    // The same of a value that refers to a notice.
+    #[inline(always)]
+    fn file_any(&mut self, alloc: Global, class: usize, x: &Value, time: i64) -> Result<(), Unmade>
+        ensures { Grows (filed_notice class x.now time) self.old self.new result }
+    {
+        match x {
+            Value::Whole(number) => {
+                let notice = Known { number: *number };
+                self.file_known(alloc, class, notice, time)
+            }
+            Value::Text(_) => Err(Unmade::Misfit),
+        }
+    }
+
+    /// The same of a value that refers to a notice.
+    #[inline(always)]
     pub fn file_notice(
         &mut self,
         alloc: Global,
@@ -285,7 +369,7 @@ impl Scene {
     ) -> Result<(), Unmade>
         ensures { Grows (filed_notice class x time) self.old self.new result }
     {
-        self.file_pending(alloc, class, &x, time)
+        self.file_any(alloc, class, &x, time)
     }
 
     // A notice that is not pending gets values and its TIME.A, and is filed.
@@ -301,7 +385,7 @@ impl Scene {
     {
         match self.prepare(class, x, given, time) {
             Err(trouble) => Err(lacking(trouble)),
-            Ok(()) => self.file_pending(alloc, class, x, time),
+            Ok(()) => self.file_any(alloc, class, x, time),
         }
     }
 

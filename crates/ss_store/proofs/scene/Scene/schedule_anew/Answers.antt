@@ -22,6 +22,6 @@ pub returns-in-Ok : goal.returns-in-Ok
 returns-in-Ok c =
     let class = c.args.class in let x = c.args.x.now in let given = c.args.given.now in let time = c.args.time in let e = c.args.self.now in
     let same : to_z w64 (of_z w64 time) ≡ time = search rules in
-    goes_on (prepared class x given time) (filed_notice class x time) e c.prepare.new.self c.file_pending.new.self c.file_pending.result
+    goes_on (prepared class x given time) (filed_notice class x time) e c.prepare.new.self c.file_any.new.self c.file_any.result
     (λ s. subst (λ (z : ℤ). prepared class x given z (with_seen s e) ≡ Ok (with_seen s c.prepare.new.self)) same (c.in-Ok.ensures s))
-    (subst (λ (z : ℤ). Grows (filed_notice class x z) c.prepare.new.self c.file_pending.new.self c.file_pending.result) same c.file_pending.ensures)
+    (subst (λ (z : ℤ). Grows (filed_notice class x z) c.prepare.new.self c.file_any.new.self c.file_any.result) same c.file_any.ensures)
