@@ -54,13 +54,13 @@ Comes old new (Some c) = (s : Store) → next_event (with_seen s old) ≡ Some (
 abbrev pub passed : (time : ℤ) → Seen → Seen
 passed t e = record e { time = t; pending = after_next e.pending }
 
--- the same, where one comes next
-abbrev pub passing : Option (ℤ × ℤ) → Seen → Seen
-passing None e = e
-passing (Some n) e = passed n.0 e
+-- its time, where one comes next
+abbrev pub time_next : Option (ℤ × ℤ) → (now : ℤ) → ℤ
+time_next None now = now
+time_next (Some n) now = n.0
 
 abbrev pub passed_on : Seen → Seen
-passed_on e = passing (next e.pending) e
+passed_on e = record e { time = time_next (next e.pending) e.time; pending = after_next e.pending }
 
 -- an event comes next, and what is seen once it was taken out is as it begins; or none comes
 abbrev pub Nears : Seen → Option Event → Type 0
