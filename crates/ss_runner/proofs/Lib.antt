@@ -5,3 +5,4 @@ mod Outcomes
 mod Indices
 mod Dues
 mod Began
+mod AtOnce

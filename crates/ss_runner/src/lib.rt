@@ -1,6 +1,7 @@
 //! What each instruction does to what the machine holds.
 #![tactic(auto)]
 
+pub mod at_once;
 pub mod beginning;
 pub mod calling;
 pub mod entities;

@@ -1,6 +1,6 @@
 //! The calls that are open.
 
-ghost use Rattle.std.specs.Prelude.{◌≡◌, [], ◌∷◌, OnOk, MatchOption};
+ghost use Rattle.std.specs.Prelude.{◌≡◌, ◌≤◌, [], ◌∷◌, true, false, OnOk, MatchOption};
 
 use crate::frame::Frame;
 use std::alloc::{AllocError, Global};
@@ -41,6 +41,35 @@ impl Frames {
         }
         self.frames.push(frame)?;
         Ok(())
+    }
+
+    /// Opens a call where there is room for it, and says whether it did. If not, nothing changes. It asks for no memory.
+    #[inline(always)]
+    pub fn put(&mut self, frame: Frame) -> bool
+        ensures opened { result ≡ true → self.new ≡ frame ∷ self.old }
+        ensures kept { result ≡ false → self.new ≡ self.old }
+    {
+        if self.frames.len() >= self.frames.capacity() {
+            return false;
+        }
+        self.frames.push_reserved(frame);
+        true
+    }
+
+    /// Closes the innermost call where it yields nothing, and not from beyond so many variables. If not, nothing changes.
+    #[inline(always)]
+    pub fn close(&mut self, here: usize) -> Option<Frame>
+        ensures { MatchOption result (self.new ≡ self.old) (λ frame. (self.old ≡ frame ∷ self.new) × (frame.count ≡ 0) × (frame.first ≤ here)) }
+    {
+        match self.frames.last() {
+            None => None,
+            Some(frame) => {
+                if frame.count != 0 || frame.first > here {
+                    return None;
+                }
+                Some(self.frames.take_last())
+            }
+        }
     }
 
     /// Closes the innermost call.

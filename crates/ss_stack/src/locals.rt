@@ -1,6 +1,6 @@
 //! The local variables of all open calls.
 
-ghost use Rattle.std.specs.Prelude.{◌≡◌, ◌++◌, [], ◌∷◌, false, map, take, drop, length, slice_get, Ok, Some, IfOk, OnOk};
+ghost use Rattle.std.specs.Prelude.{◌≡◌, ◌++◌, [], ◌∷◌, true, false, map, take, drop, length, slice_get, Ok, Some, IfOk, OnOk};
 ghost use Rattle.ss_base.specs.Layout.{mode_of};
 ghost use Rattle.ss_base.specs.declared.layout.Mode.TheVariants.{Integer};
 ghost use Rattle.ss_base.specs.declared.value.Value.TheVariants.{Whole};
@@ -119,8 +119,33 @@ impl Locals {
         Ok(())
     }
 
-    // How many are at hand.
-    fn count(&self) -> usize
+    /// One more variable at hand, which holds a value, where there is room for it, and says whether it came. It asks for no memory.
+    #[inline(always)]
+    pub fn put(&mut self, value: Value) -> bool
+        ensures below { self.new.below ≡ self.old.below }
+        ensures here { result ≡ true → self.new.here ≡ self.old.here ++ value ∷ [] }
+    {
+        self.values.push_within(value)
+    }
+
+    /// Puts variables of these modes, as they are at first, behind those at hand where there is room for all, and says whether they
+    /// came. It asks for no memory.
+    #[inline(always)]
+    pub fn start(&mut self, others: &[Mode]) -> bool
+        ensures below { self.new.below ≡ self.old.below }
+        ensures here { result ≡ true → self.new.here ≡ self.old.here ++ firsts others.now }
+    {
+        for mode in others {
+            if !self.put(mode.first_value()) {
+                return false;
+            }
+        }
+        true
+    }
+
+    /// How many are at hand.
+    #[inline(always)]
+    pub fn count(&self) -> usize
         ensures { result ≡ length self.now.here }
     {
         self.values.len() - self.base

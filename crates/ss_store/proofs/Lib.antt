@@ -8,6 +8,7 @@ pub mod Fitting
 pub mod Joined
 pub mod Stepping
 pub mod Taking
+pub mod Passing
 pub mod Noting
 pub mod Rehoming
 pub mod Starting

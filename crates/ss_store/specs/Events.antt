@@ -7,7 +7,7 @@ use Rattle.ss_base.specs.declared.layout.ClassKind.{ClassKind}
 use Rattle.ss_base.specs.declared.layout.ClassKind.TheVariants.{Permanent, Temporary, Notice}
 use Rattle.ss_base.specs.declared.layout.RankKey.{RankKey}
 use Rattle.ss_records.specs.State.{State, known_in, notice}
-use Rattle.ss_events.specs.PendingList.{after_next}
+use Rattle.ss_events.specs.PendingList.{next, after_next}
 use Rattle.ss_program.specs.declared.expression.Variable.TheVariants.{Global}
 use Rattle.ss_meaning.specs.Values.{Trouble as Meant, turned}
 use Rattle.ss_meaning.specs.Store.{Notices, Store}
@@ -53,6 +53,19 @@ Comes old new (Some c) = (s : Store) → next_event (with_seen s old) ≡ Some (
 -- what is seen once the notice that comes next was taken out, at its time
 abbrev pub passed : (time : ℤ) → Seen → Seen
 passed t e = record e { time = t; pending = after_next e.pending }
+
+-- its time, where one comes next
+abbrev pub time_next : Option (ℤ × ℤ) → (now : ℤ) → ℤ
+time_next None now = now
+time_next (Some n) now = n.0
+
+abbrev pub passed_on : Seen → Seen
+passed_on e = record e { time = time_next (next e.pending) e.time; pending = after_next e.pending }
+
+-- an event comes next, and what is seen once it was taken out is as it begins; or none comes
+abbrev pub Nears : Seen → Option Event → Type 0
+Nears e None = (s : Store) → next_event (with_seen s e) ≡ None
+Nears e (Some c) = (s : Store) → next_event (with_seen s e) ≡ Some (coming_meant c (ties_at e.notices c.rank) (with_seen s (passed_on e)))
 
 -- ## The class of a notice
 

@@ -1,14 +1,14 @@
 //! Events: whether one comes, which comes next, and how it begins.
 
-ghost use Rattle.std.specs.Prelude.{◌≡◌, List};
+ghost use Rattle.std.specs.Prelude.{◌≡◌, true, false, List, Ok};
 ghost use Rattle.ss_base.specs.declared.layout.RankKey.{RankKey as KeySeen};
 ghost use Rattle.ss_base.specs.declared.value.Value.TheVariants.{Whole};
-ghost use Rattle.ss_meaning.specs.Entities.{attribute};
+ghost use Rattle.ss_meaning.specs.Entities.{attribute, gone};
 ghost use Rattle.ss_meaning.specs.Events.{is_awaited, attributes};
 ghost use Rattle.ss_meaning.specs.Store.{Store as StoreSeen};
 ghost use Rattle.ss_store.specs.Seen.{with_seen};
 ghost use Rattle.ss_store.specs.Scheduled.{Finds, put_there};
-ghost use Rattle.ss_store.specs.Events.{Comes, Begins, Lets, First, Told, Adds, IsPut, is_of};
+ghost use Rattle.ss_store.specs.Events.{Comes, Nears, passed_on, Begins, Lets, First, Told, Adds, IsPut, is_of};
 
 use crate::scene::Scene;
 use crate::scheduling::lacking;
@@ -104,6 +104,35 @@ impl Scene {
     {
         self.population.meet(known.number);
         self.event(known)
+    }
+
+    /// The event that comes next, which stays where it is. There is none where no notice is pending or the number that comes next is
+    /// not a notice of these classes.
+    #[inline(always)]
+    pub fn upcoming(&mut self) -> Option<Event>
+        ensures value { Nears self.old result }
+        ensures same { self.new ≡ self.old }
+    {
+        match self.timeline.least() {
+            None => None,
+            Some((_, number)) => self.met_event(Known { number }),
+        }
+    }
+
+    /// Destroys the notice that comes next, of this class, and takes it out: TIME.V is then its time. Says whether it did; if not,
+    /// nothing has changed.
+    #[inline(always)]
+    pub fn pass_event(&mut self, class: usize, notice: Known) -> bool
+        ensures done { result ≡ true → (s : StoreSeen) → gone class (Whole notice.number) (with_seen s (passed_on self.old)) ≡ Ok (with_seen s self.new) }
+        ensures kept { result ≡ false → self.new ≡ self.old }
+    {
+        match self.remove_entity(class, Value::Whole(notice.number)) {
+            Err(_) => false,
+            Ok(()) => {
+                self.timeline.pass();
+                true
+            }
+        }
     }
 
     /// Takes out the event that comes next, and TIME.V is then its time. There is none, and nothing changes, where no

@@ -1,6 +1,6 @@
 //! The global variables.
 
-ghost use Rattle.std.specs.Prelude.{◌≡◌, ◌≤◌, ◌<◌, ◌-◌, ◌++◌, [], ◌∷◌, false, List, length, map, take, drop, slice_get, IfOk, OnOk, OnErr, MatchOption, Ok, Some};
+ghost use Rattle.std.specs.Prelude.{◌≡◌, ◌≤◌, ◌<◌, ◌-◌, ◌++◌, [], ◌∷◌, true, false, List, length, map, take, drop, slice_get, IfOk, OnOk, OnErr, MatchOption, Ok, Some};
 ghost use Rattle.ss_base.specs.declared.layout.Mode.TheVariants.{Integer};
 ghost use Rattle.ss_base.specs.declared.value.Value.{Value as ValueSeen};
 ghost use Rattle.ss_base.specs.declared.value.Value.TheVariants.{Whole};
@@ -105,6 +105,25 @@ impl Variables {
         self.numbers.push_reserved(word.number);
         self.texts.push_reserved(word.text);
         Ok(())
+    }
+
+    /// One more, which holds a value, where there is room for it, and says whether it came. If not, nothing changes. It asks for no
+    /// memory.
+    #[inline(always)]
+    pub fn push_within(&mut self, value: Value) -> bool
+        ensures more { result ≡ true → self.new ≡ self.old ++ value ∷ [] }
+        ensures kept { result ≡ false → self.new ≡ self.old }
+    {
+        if self.numbers.len() >= self.numbers.capacity() {
+            return false;
+        }
+        if self.texts.len() >= self.texts.capacity() {
+            return false;
+        }
+        let word = parted(value);
+        self.numbers.push_reserved(word.number);
+        self.texts.push_reserved(word.text);
+        true
     }
 
     /// Keeps the first so many.
