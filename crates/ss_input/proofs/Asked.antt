@@ -1,5 +1,5 @@
 -- When the reader is asked.
-use Rattle.std.proofs.Common.{◌≡◌, ◌≢◌, ◌⊎◌, inl, inr, ℕ, Bool, true, false, not, List, [], ◌∷◌, drop, Option, Some, refl, sym, ap, ◌∙◌}
+use Rattle.std.proofs.Common.{◌≡◌, ◌≢◌, inl, inr, ℕ, Bool, true, false, not, List, [], ◌∷◌, drop, Some, refl, sym, ap, ◌∙◌}
 use Rattle.ss_reading.specs.Blocks.{BlockSeen, first_of}
 use Rattle.ss_input.specs.Sources.{behind, Suffices, Unasked, StandsBefore, HasWord}
 use Rattle.ss_input.specs.Words.{is_separator, is_word_byte}

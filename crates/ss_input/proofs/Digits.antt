@@ -1,6 +1,7 @@
 -- Digits that are read one after another.
-use Rattle.std.proofs.Common.{◌≡◌, ℕ, ◌+◌, ◌-◌, ◌*◌, ◌<◌, length, take, min, true, List, [], ◌∷◌, ◌++◌, refl, sym, ap, ◌∙◌, slice_index_or, arith}
+use Rattle.std.proofs.Common.{◌≡◌, ◌≤◌, ◌&&◌, Bool, false, nat_le, ℕ, ◌+◌, ◌-◌, ◌*◌, ◌<◌, length, take, min, true, List, [], ◌∷◌, ◌++◌, refl, sym, ap, ◌∙◌, slice_index_or, arith}
 use Rattle.std.specs.List.{list_all}
+use Rattle.std.proofs.lemmas.Bool.{leb-true}
 use Rattle.std.proofs.lemmas.List.{take_more}
 use Rattle.std.proofs.lemmas.List.Folds.{list_all-append}
 use Rattle.ss_input.specs.Words.{is_digit, digits_from}
@@ -21,3 +22,14 @@ pub capped_more : (xs : List ℕ) (i v : ℕ) → i < length xs → v ≡ min (d
 capped_more xs i v lt e =
     capped_step (digits_from 0 (take i xs)) (slice_index_or xs i 0 - 48) v e ∙
     ap (λ n. min n cap) (sym (ap (digits_from 0) (take_more xs i 0 lt) ∙ digits_more (take i xs) 0 (slice_index_or xs i 0)))
+
+pub value_more : (xs : List ℕ) (i v : ℕ) → i < length xs → v ≡ digits_from 0 (take i xs) → v * 10 + (slice_index_or xs i 0 - 48) ≡ digits_from 0 (take (i + 1) xs)
+value_more xs i v lt e =
+    ap (λ n. n * 10 + (slice_index_or xs i 0 - 48)) e ∙ sym (ap (digits_from 0) (take_more xs i 0 lt) ∙ digits_more (take i xs) 0 (slice_index_or xs i 0))
+
+and-right : (a b : Bool) → (a && b) ≡ true → b ≡ true
+and-right true b e = e
+and-right false b e = absurd cc
+
+pub digit_small : (b : ℕ) → is_digit b ≡ true → b - 48 ≤ 9
+digit_small b e = let low = leb-true b 57 (and-right (nat_le 48 b) (nat_le b 57) e) in omega (arith, low)

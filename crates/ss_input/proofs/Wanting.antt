@@ -1,12 +1,9 @@
 -- Where the reader failed, more of its bytes were needed.
-use Rattle.std.proofs.Common.{◌≡◌, ℕ, Bool, true, false, not, ◌&&◌, List, [], ◌∷◌, ◌++◌, length, Option, refl, sym, ap, subst, ◌∙◌}
-use Rattle.std.specs.Prelude.{if◌then◌else◌}
+use Rattle.std.proofs.Common.{◌≡◌, ℕ, Bool, true, false, not, ◌&&◌, List, [], ◌∷◌, ◌++◌, Option, refl, ap, ◌∙◌}
 use Rattle.std.specs.List.{list_all}
 use Rattle.std.proofs.lemmas.List.{append-nil}
-use Rattle.ss_input.specs.declared.source.Source.{Source}
 use Rattle.ss_reading.specs.Blocks.{BlockSeen}
-use Rattle.ss_input.specs.Sources.{Passes, Passed, GapPassed, Wants, Lacks, behind}
-use Rattle.ss_input.specs.Inputs.{source_block, source_gap}
+use Rattle.ss_input.specs.Sources.{GapPassed, Wants, Lacks, behind}
 use Rattle.ss_input.specs.Words.{is_separator, is_word_byte}
 use Rattle.ss_input.proofs.Passages.{passes_then}
 

@@ -1,5 +1,5 @@
 -- Sources of input data, and what a call of one reads.
-use Rattle.std.specs.Prelude.{◌≡◌, ℕ, ◌≤◌, true, false, List, [], ◌++◌, length, Option, Some, None, Result, Ok, Err}
+use Rattle.std.specs.Prelude.{◌≡◌, ℕ, ◌+◌, ◌<◌, ◌≤◌, true, false, List, [], ◌∷◌, ◌++◌, take, drop, length, Option, Some, None, Result, Ok, Err}
 use Rattle.std.specs.List.{list_all}
 use Rattle.std.specs.Io.KnownBytes.{Consumes}
 use Rattle.ss_base.specs.Failures.{raised}
@@ -9,6 +9,7 @@ use Rattle.ss_input.specs.declared.source.Source.{Source}
 use Rattle.ss_reading.specs.Blocks.{BlockSeen}
 use Rattle.ss_input.specs.Sources.{GapPassed, StandsBefore}
 use Rattle.ss_input.specs.Words.{is_separator, is_word_byte}
+use Rattle.ss_input.specs.Numbers.{BeginsWith}
 
 -- what is seen of a source: its reader with the bytes at hand, how many separators were passed since the last word, and
 -- why it gives no more
@@ -38,6 +39,20 @@ pub record Reaches {R : Type 0} (remaining : R → Option (List ℕ)) (old new :
   pub passed : GapPassed remaining (source_block old) (source_block new) (source_gap old) (source_gap new)
   pub next : StandsBefore is_word_byte (source_block new)
   pub small : source_gap new ≤ 1048576
+
+-- a number of so many bytes is at hand behind so many separators, and a separator stands behind it
+pub record IsAtHand {R : Type 0} (s : Source R) (gap value count : ℕ) : Type 0 where
+  pub within : gap ≤ length (source_block s).left
+  pub separators : list_all is_separator (take gap (source_block s).left) ≡ true
+  pub small : source_gap s + gap ≤ 1048576
+  pub begins : BeginsWith value count (drop gap (source_block s).left)
+
+-- so many separators stand before a word, whose first byte is at hand
+pub record IsBeforeWord {R : Type 0} (s : Source R) (gap : ℕ) : Type 0 where
+  pub within : gap < length (source_block s).left
+  pub separators : list_all is_separator (take gap (source_block s).left) ≡ true
+  pub small : source_gap s + gap ≤ 1048576
+  pub stops : (b : ℕ) (rest : List ℕ) → drop gap (source_block s).left ≡ b ∷ rest → is_word_byte b ≡ true
 
 -- an input not yet read for which a source stands, where more is what its reader gives from here on: the separators
 -- since the last word, the bytes at hand, and more

@@ -1,8 +1,11 @@
 //! The number that a word is.
 
-ghost use Rattle.std.specs.Prelude.{◌≡◌, pos, neg_ℤ};
-ghost use Rattle.ss_input.specs.Words.{digits_of, number_read, within_64_bits};
-ghost use Rattle.ss_input.specs.Numbers.{capped};
+ghost use Rattle.std.specs.List.{list_all};
+ghost use Rattle.std.specs.Prelude.{◌≡◌, ◌≤◌, ◌∷◌, ℕ, List, true, length, take, drop, pos, neg_ℤ, IfSome};
+ghost use Rattle.ss_input.specs.Words.{digits_of, is_digit, is_separator, is_word_byte, number_read, within_64_bits};
+ghost use Rattle.ss_input.specs.Numbers.{capped, BeginsWith};
+
+use crate::passing::is_separator;
 
 /// A number above this one is told as this one: it lies outside 64 bits with either sign.
 const CAP: u128 = 9_223_372_036_854_775_809;
@@ -54,4 +57,65 @@ pub(crate) fn number_read(word: &[u8]) -> Option<i64>
         [b'-', rest @ ..] => negative(rest),
         _ => positive(word),
     }
+}
+
+/// The most digits of a number that is read where it stands.
+const SHORT: usize = 18;
+
+/// The greatest number behind which another digit is read.
+const MOST: u64 = 99_999_999_999_999_999;
+
+/// A number that stands at the beginning of some bytes, and how many of them it is.
+#[derive(Clone, Copy)]
+pub(crate) struct Standing {
+    pub(crate) value: u64,
+    pub(crate) count: usize,
+}
+
+// Whether a byte is a digit.
+#[inline(always)]
+fn is_digit(byte: u8) -> bool
+    ensures { result ≡ is_digit byte }
+{
+    byte.is_ascii_digit()
+}
+
+/// The number that bytes begin with, where it is of few digits, has no sign, and a separator stands behind it.
+#[inline(always)]
+pub(crate) fn number_standing(bytes: &[u8]) -> Option<Standing>
+    ensures { IfSome result (λ n. BeginsWith n.value n.count bytes.now) }
+{
+    let mut value: u64 = 0;
+    for count in 0..SHORT {
+        if count >= bytes.len() {
+            return None;
+        }
+        let byte = bytes[count];
+        if !is_digit(byte) {
+            if count > 0 && is_separator(byte) {
+                return Some(Standing { value, count });
+            }
+            return None;
+        }
+        if value > MOST {
+            return None;
+        }
+        value = value * 10 + u64::from(byte - b'0');
+    }
+    None
+}
+
+/// How many separators bytes begin with.
+#[inline(always)]
+pub(crate) fn separators(bytes: &[u8]) -> usize
+    ensures count { result ≤ length bytes.now }
+    ensures all { list_all is_separator (take result bytes.now) ≡ true }
+    ensures stops { (b : ℕ) (rest : List ℕ) → drop result bytes.now ≡ b ∷ rest → is_word_byte b ≡ true }
+{
+    for count in 0..bytes.len() {
+        if !is_separator(bytes[count]) {
+            return count;
+        }
+    }
+    bytes.len()
 }

@@ -17,6 +17,7 @@ pub const WORD_LIMIT: usize = 64;
 pub const SEPARATOR_LIMIT: usize = 1_048_576;
 
 /// Whether a byte parts words: a blank, a tab, or an end of a line.
+#[inline(always)]
 pub(crate) fn is_separator(byte: u8) -> bool
     ensures { result ≡ is_separator byte }
 {

@@ -1,6 +1,6 @@
 //! The input data of a run.
 
-ghost use Rattle.std.specs.Prelude.{◌≡◌, ◌+◌, ◌≤◌, ℕ, ℤ, Bool, List, [], false, true, length, take, Ok, Err, Some, None, IfOk, OnOk};
+ghost use Rattle.std.specs.Prelude.{◌≡◌, ◌+◌, ◌≤◌, ℕ, ℤ, pos, Bool, List, [], false, true, length, take, Ok, Err, Some, None, IfOk, IfSome, OnOk};
 ghost use Rattle.ss_base.specs.declared.fault.FaultKind.{FaultKind as FaultSeen};
 ghost use Rattle.ss_base.specs.declared.value.Value.TheVariants.{Whole, Text};
 ghost use Rattle.ss_base.specs.declared.layout.Mode.TheVariants.{Integer, Alpha as AlphaMode};
@@ -8,11 +8,11 @@ ghost use Rattle.ss_base.specs.Failures.{HasRisen, HasRisenBy};
 ghost use Rattle.ss_input.specs.declared.source.Missed.{Missed as MissedSeen};
 ghost use Rattle.ss_reading.specs.Blocks.{KnowsEnd};
 ghost use Rattle.ss_input.specs.Sources.{Gives, GapPassed, StandsBefore, Suffices, Unasked, HasWord, Wants, Lacks};
-ghost use Rattle.ss_input.specs.Inputs.{source_block, source_gap, source_missed, source_reader, IsFresh, Reads, Finds, Reaches, missed_of, failures_after};
+ghost use Rattle.ss_input.specs.Inputs.{source_block, source_gap, source_missed, source_reader, IsFresh, IsAtHand, IsBeforeWord, Reads, Finds, Reaches, missed_of, failures_after};
 ghost use Rattle.ss_input.specs.Words.{is_separator, is_word_byte, is_ended, next_word, value_given};
 
-use crate::number::number_read;
-use crate::passing::{WORD_LIMIT, pass_gap, pass_word};
+use crate::number::{number_read, number_standing, separators};
+use crate::passing::{SEPARATOR_LIMIT, WORD_LIMIT, pass_gap, pass_word};
 use ss_base::{Alpha, FaultKind, FaultyRead};
 use ss_reading::{Block, ReadFailed};
 use std::marker::Model;
@@ -36,6 +36,14 @@ pub struct Source<R> {
     block: Block<R>,
     gap: Gap,
     missed: Option<Missed>,
+}
+
+/// A number whose bytes are at hand: how many separators stand before it, and how many bytes it has.
+#[derive(Clone, Copy)]
+struct AtHand {
+    gap: usize,
+    value: u64,
+    count: usize,
 }
 
 /// How many separators were passed since the last word.
@@ -167,6 +175,71 @@ impl<R: FaultyRead> Source<R> {
         }
     }
 
+    // The next word, where it is a number of a few digits, and all of it is at hand with a separator behind it.
+    #[inline(always)]
+    fn number_at_hand(&self) -> Option<AtHand>
+        ensures { IfSome result (λ n. IsAtHand self.now n.gap n.value n.count) }
+    {
+        let bytes = self.block.at_hand();
+        let gap = separators(bytes);
+        if gap > SEPARATOR_LIMIT - self.gap.count {
+            return None;
+        }
+        let (_, behind) = bytes.split_at(gap);
+        let Some(standing) = number_standing(behind) else {
+            return None;
+        };
+        Some(AtHand {
+            gap,
+            value: standing.value,
+            count: standing.count,
+        })
+    }
+
+    // Passes a number that is at hand.
+    #[inline(always)]
+    fn pass_number(&mut self, number: AtHand)
+        requires { IsAtHand self.old number.gap number.value number.count }
+        ensures read { Reads R.remaining self.old self.new (λ input rest. value_given Integer input ≡ Ok (record { value = Whole (pos number.value); rest = rest })) }
+        ensures reader { source_reader self.new ≡ source_reader self.old }
+        ensures ended { (source_block self.new).ended ≡ (source_block self.old).ended }
+        ensures missed { source_missed self.new ≡ source_missed self.old }
+    {
+        self.block.pass(number.gap + number.count);
+        self.gap = Gap { count: 0 };
+    }
+
+    // How many separators stand before the next word, where its first byte is at hand.
+    #[inline(always)]
+    fn gap_at_hand(&self) -> Option<usize>
+        ensures { IfSome result (λ gap. IsBeforeWord self.now gap) }
+    {
+        let bytes = self.block.at_hand();
+        let gap = separators(bytes);
+        if gap >= bytes.len() {
+            return None;
+        }
+        if gap > SEPARATOR_LIMIT - self.gap.count {
+            return None;
+        }
+        Some(gap)
+    }
+
+    // Passes separators that stand before a word.
+    #[inline(always)]
+    fn pass_gap_at_hand(&mut self, gap: usize)
+        requires { IsBeforeWord self.old gap }
+        ensures read { Reads R.remaining self.old self.new (λ input rest. (rest ≡ input) × (is_ended input ≡ Ok false)) }
+        ensures reader { source_reader self.new ≡ source_reader self.old }
+        ensures ended { (source_block self.new).ended ≡ (source_block self.old).ended }
+        ensures missed { source_missed self.new ≡ source_missed self.old }
+    {
+        self.block.pass(gap);
+        self.gap = Gap {
+            count: self.gap.count + gap,
+        };
+    }
+
     // What a call answers, which is remembered where it gave no value.
     fn remember<T: Drop>(&mut self, answer: Result<T, Missed>) -> Result<T, Missed>
         ensures same { result ≡ answer }
@@ -201,6 +274,10 @@ impl<R: FaultyRead> Source<R> {
     {
         if let Some(missed) = self.missed {
             return Err(missed);
+        }
+        if let Some(number) = self.number_at_hand() {
+            self.pass_number(number);
+            return Ok(number.value as i64);
         }
         let answer = self.read_integer();
         self.remember(answer)
@@ -269,6 +346,10 @@ impl<R: FaultyRead> Source<R> {
     {
         if let Some(missed) = self.missed {
             return Err(missed);
+        }
+        if let Some(gap) = self.gap_at_hand() {
+            self.pass_gap_at_hand(gap);
+            return Ok(false);
         }
         let answer = self.find_end();
         self.remember(answer)

@@ -1,6 +1,6 @@
 //! Input, a block at a time.
 
-ghost use Rattle.std.specs.Prelude.{◌≡◌, ◌≢◌, ◌<◌, [], true, false, length, drop, IfOk, OnOk, OnErr};
+ghost use Rattle.std.specs.Prelude.{◌≡◌, ◌≢◌, ◌<◌, ◌≤◌, [], true, false, length, drop, IfOk, OnOk, OnErr};
 ghost use Rattle.std.specs.Io.KnownBytes.{Keeps};
 ghost use Rattle.ss_base.specs.Failures.{errors_after};
 ghost use Rattle.ss_reading.specs.Blocks.{KnowsEnd, Looks, Fills, Unread, first_of};
@@ -71,6 +71,23 @@ impl<R> Block<R> {
             [] => None,
             [byte, ..] => Some(*byte),
         }
+    }
+
+    /// The bytes that are at hand.
+    #[inline(always)]
+    pub fn at_hand(&self) -> &[u8]
+        ensures { result.now ≡ self.now.left }
+    {
+        &self.room[self.next..self.end]
+    }
+
+    /// Passes the first so many of the bytes that are at hand.
+    #[inline(always)]
+    pub fn pass(&mut self, count: usize)
+        requires { count ≤ length self.old.left }
+        ensures { self.new ≡ record { reader = self.old.reader; left = drop count self.old.left; ended = self.old.ended } }
+    {
+        self.next += count;
     }
 
     /// Passes the first of the bytes that are left.

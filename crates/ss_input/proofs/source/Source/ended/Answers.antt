@@ -1,6 +1,6 @@
-use Rattle.std.proofs.Common.{◌≡◌, Ok, Err, ◌∙◌, sym, ap}
+use Rattle.std.proofs.Common.{◌≡◌, false, Ok, Err, ◌∙◌, sym, ap, subst}
 use Rattle.ss_reading.specs.Blocks.{BlockSeen}
-use Rattle.ss_input.specs.Inputs.{failures_after}
+use Rattle.ss_input.specs.Inputs.{Reads, failures_after}
 use Rattle.ss_input.specs.Words.{is_ended}
 use Rattle.ss_input.proofs.Failures.{never_falls, failed_once}
 use Rattle.ss_input.proofs.Reached.{reads_moved, finds_moved, nothing_found}
@@ -37,3 +37,8 @@ pub returns-clause-unasked : goal.returns-clause-unasked
 returns-clause-unasked g c enough =
     let h = c.find_end-answer.ensures.unasked enough in
     ap (λ (b : BlockSeen g.row.R.Denot). b.reader) c.remember.ensures.block ∙ h.reader
+
+pub returns-in-Some-gap_at_hand-clause-read : goal.returns-in-Some-gap_at_hand-clause-read
+returns-in-Some-gap_at_hand-clause-read g c ended e =
+    let same : false ≡ ended = cc in
+    subst (λ b. Reads g.R.FaultyRead.remaining c.args.self.now c.pass_gap_at_hand.new.self (λ input rest. (rest ≡ input) × (is_ended input ≡ Ok b))) same c.pass_gap_at_hand.ensures.read

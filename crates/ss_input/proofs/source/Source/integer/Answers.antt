@@ -1,8 +1,10 @@
-use Rattle.std.proofs.Common.{◌≡◌, Ok, Err, ◌∙◌, sym, ap}
+use Rattle.std.proofs.Common.{◌≡◌, drop, Ok, Err, pos, to_z, w64, ◌∙◌, sym, ap, subst, arith}
 use Rattle.ss_base.specs.declared.layout.Mode.TheVariants.{Integer}
 use Rattle.ss_base.specs.declared.value.Value.TheVariants.{Whole}
 use Rattle.ss_reading.specs.Blocks.{BlockSeen}
-use Rattle.ss_input.specs.Inputs.{failures_after}
+use Rattle.std.proofs.lemmas.Int.{to_z_pos}
+use Rattle.ss_input.specs.Inputs.{source_block, Reads, failures_after}
+use Rattle.ss_input.specs.Numbers.{BeginsWith}
 use Rattle.ss_input.specs.Words.{value_given}
 use Rattle.ss_input.proofs.Failures.{never_falls, failed_once}
 use Rattle.ss_input.proofs.Reached.{reads_moved, finds_moved, nothing_found}
@@ -38,3 +40,12 @@ returns-clause-never_falls g c =
 pub returns-clause-unasked : goal.returns-clause-unasked
 returns-clause-unasked g c has =
     ap (λ (b : BlockSeen g.row.R.Denot). b.reader) c.remember.ensures.block ∙ c.read_integer-answer.ensures.unasked has
+
+pub returns-in-Some-number_at_hand-clause-read : goal.returns-in-Some-number_at_hand-clause-read
+returns-in-Some-number_at_hand-clause-read g c x e =
+    let old = c.args.self.now in
+    let n = c.in-Some-number_at_hand.number in
+    let begins : BeginsWith n.value n.count (drop n.gap (source_block old).left) = c.in-Some-number_at_hand.ensures.begins in
+    let whole : to_z w64 n.value ≡ pos n.value = to_z_pos w64 n.value (omega (arith, begins.small)) in
+    let same : to_z w64 n.value ≡ x = cc in
+    subst (λ z. Reads g.R.FaultyRead.remaining old c.pass_number.new.self (λ input rest. value_given Integer input ≡ Ok (record { value = Whole z; rest = rest }))) (sym whole ∙ same) c.pass_number.ensures.read
