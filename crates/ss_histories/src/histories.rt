@@ -72,7 +72,6 @@ impl Histories {
 
     /// Makes room for so many more histories of each statistic of what the entities of a class have, or of what the
     /// system has. No history changes. The error comes where memory was refused.
-    #[inline(never)]
     pub fn reserve(&mut self, layout: &Layout, whose: Owner, count: i64) -> Result<(), AllocError>
         ensures statistics { self.new.statistics ≡ self.old.statistics }
         ensures rows { self.new.rows ≡ self.old.rows }
@@ -84,7 +83,7 @@ impl Histories {
 
     /// Starts the histories of an entity of a class as it comes into being, or those of the system, which is 0, with the
     /// value 0. `reserve` made room for them.
-    #[inline(never)]
+    #[inline(always)]
     pub fn start(&mut self, layout: &Layout, whose: Owner, entity: i64, now: i64)
         requires now { self.old.latest ≤ℤ now }
         requires room { HasRooms layout.now whose (pos 1) self.old.statistics self.old.room }
@@ -110,7 +109,7 @@ impl Histories {
     }
 
     /// Ends the histories of an entity of a class, as it goes.
-    #[inline(never)]
+    #[inline(always)]
     pub fn end(&mut self, layout: &Layout, class: usize, entity: i64)
         ensures ended { columns_of self.new.rows ≡ ending layout.now class entity self.old.statistics (columns_of self.old.rows) }
         ensures statistics { self.new.statistics ≡ self.old.statistics }
