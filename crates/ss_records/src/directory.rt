@@ -166,6 +166,7 @@ impl Directory {
     }
 
     /// Lets go of the entry i.
+    #[inline(always)]
     pub(crate) fn clear(&mut self, i: usize)
         requires { (p : Address) × (slice_get self.old.places i ≡ Some (Some p)) }
         ensures { self.new.places ≡ slice_set self.old.places i None }

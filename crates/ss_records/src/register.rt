@@ -174,6 +174,7 @@ impl Register {
     }
 
     /// Lets go of the entry i.
+    #[inline(always)]
     pub(crate) fn clear(&mut self, i: usize)
         requires { (p : Address) × (slice_get self.old.places i ≡ Some (Some p)) }
         ensures { self.new.places ≡ slice_set self.old.places i None }
@@ -186,6 +187,7 @@ impl Register {
     }
 
     // Lets go of an entry in the current page.
+    #[inline(always)]
     fn clear_current(&mut self, i: usize)
         requires there { (p : Address) × (slice_get self.old.places i ≡ Some (Some p)) }
         requires current { self.old.start ≤ i }
@@ -196,6 +198,7 @@ impl Register {
     }
 
     // Lets go of an entry in an earlier page, and of the page where none of its numbers is living.
+    #[inline(never)]
     fn clear_earlier(&mut self, i: usize)
         requires there { (p : Address) × (slice_get self.old.places i ≡ Some (Some p)) }
         requires earlier { i < self.old.start }
