@@ -54,11 +54,12 @@ Comes old new (Some c) = (s : Store) → next_event (with_seen s old) ≡ Some (
 abbrev pub passed : (time : ℤ) → Seen → Seen
 passed t e = record e { time = t; pending = after_next e.pending }
 
--- its time, where one comes next
+-- the time of what comes next, or else the time now
 abbrev pub time_next : Option (ℤ × ℤ) → (now : ℤ) → ℤ
 time_next None now = now
 time_next (Some n) now = n.0
 
+-- what is seen once that was taken out
 abbrev pub passed_on : Seen → Seen
 passed_on e = record e { time = time_next (next e.pending) e.time; pending = after_next e.pending }
 
