@@ -38,6 +38,10 @@ not_permanent Notice n h = h
 same_place : (p q : Address) → p.at ≡ q.at → p ≡ q
 same_place p q e = λ i. record { at = e i }
 
+-- one that may be in a set has a number
+pub some_number : (r : Records) (s : ℕ) (e : Entry) → Joins r s e → e.number ≡ 0 → ⊥
+some_number r s e h z = let a = entry_of r.blocks.cells (places r) (member_class r.layout s) e.number h.is in absurd (omega (arith, z, a.2))
+
 -- one of a class of numbers that may be in a set stands under its number
 pub numbered_entry : (r : Records) (K : IsKept r) (s : ℕ) (e : Entry) → Joins r s e → (IsPermanent (kind_of r.layout (member_class r.layout s)) → ⊥) → slice_get r.directory.places (e.number - 1) ≡ Some (Some e.place)
 numbered_entry r K s e h kind =

@@ -7,6 +7,7 @@ ghost use Rattle.ss_records.specs.Parts.{IsKept, state, held, Owns, Joins, Betwe
 
 use crate::links::Entry;
 use crate::records::Records;
+use crate::sets;
 use ss_base::FaultKind;
 
 // An owner of a set, and one that may be in the set.
@@ -461,7 +462,7 @@ impl Records {
         }
     }
 
-    // Takes the first member out of the set of an owner, and answers it. The touches are counted at once.
+    // Takes the first member out of the set of an owner, remembers it and answers it. The touches are counted at once.
     #[inline(always)]
     fn draw_first(&mut self, s: usize, home: Entry) -> Option<i64>
         requires kept { IsKept self.old }
@@ -479,6 +480,7 @@ impl Records {
             self.blocks.start_at(1);
             return None;
         }
+        sets::keep(&mut self.directory, &self.layout, s, first);
         let after = self.blocks.look(first.place, member);
         let count = self.blocks.peek_count(home.place, set + 2);
         let is_last = after.number == 0;

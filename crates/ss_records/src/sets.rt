@@ -1,13 +1,16 @@
 // The sets: their ends, the neighbours of a member, and its owner.
-ghost use Rattle.std.specs.Prelude.{◌≡◌, ℕ, ◌+◌, ◌^◌, ◌<◌, ◌≤◌, length, slice_get, not, true, false, if◌then◌else◌, ℤ, pos, MatchResult, IfSome, IsOk, Ok, Err, Some};
+ghost use Rattle.std.specs.Prelude.{◌≡◌, ℕ, ◌+◌, ◌-◌, ◌^◌, ◌<◌, ◌≤◌, length, slice_get, not, true, false, if◌then◌else◌, ℤ, pos, MatchResult, IfSome, IsOk, Ok, Err, Some};
 ghost use Rattle.std.specs.Ordering.{match_ordering, int_cmp};
-ghost use Rattle.ss_states.specs.State.{State, is_filed, members_of, modes_of, value_in};
+ghost use Rattle.ss_states.specs.State.{State, is_filed, members_of, kind_of, modes_of, value_in};
 ghost use Rattle.ss_states.specs.Sets.{joiner, owner, member_class, first_in, last_in, count_in, next_in, previous_in, owner_of_member, Apart};
 ghost use Rattle.ss_states.specs.Disciplines.{member_test, owned};
+ghost use Rattle.ss_records.specs.Kept.{IsPermanent};
 ghost use Rattle.ss_records.specs.Parts.{IsKept, state, Owns, Joins};
 ghost use Rattle.ss_records.specs.Passing.{ranks_past, first_where, before_where};
 
+use crate::directory::Directory;
 use crate::links::Entry;
+use crate::plan::Plan;
 use crate::records::Records;
 use crate::shape::{NUMBER, value_start};
 use ss_base::{ClassKind, FaultKind, Mode, Owner, Value};
@@ -484,12 +487,7 @@ impl Records {
         requires joins { Joins self.old s member }
         ensures { self.new ≡ self.old }
     {
-        let class = self.layout.member_class(s);
-        if let ClassKind::Permanent = self.layout.kind(class) {
-            return;
-        }
-        self.directory
-            .remember(member.number as usize - 1, member.place);
+        keep(&mut self.directory, &self.layout, s, member);
     }
 
     /// Whose set x is in: at most two touches.
@@ -545,4 +543,19 @@ fn other_than(number: u64, member: u64) -> u64
     ensures other { (number ≡ member → ⊥) → result ≡ number }
 {
     if number == member { 0 } else { number }
+}
+
+/// Remembers a member of a set, where its class is not permanent.
+#[inline(always)]
+pub(crate) fn keep(directory: &mut Directory, layout: &Plan, s: usize, member: Entry)
+    requires set { s < length layout.now.sets }
+    requires number { member.number ≡ 0 → ⊥ }
+    requires entry { (IsPermanent (kind_of layout.now (member_class layout.now s)) → ⊥) → slice_get directory.old.places (member.number - 1) ≡ Some (Some member.place) }
+    ensures { directory.new ≡ directory.old }
+{
+    let class = layout.member_class(s);
+    if let ClassKind::Permanent = layout.kind(class) {
+        return;
+    }
+    directory.remember(member.number as usize - 1, member.place);
 }

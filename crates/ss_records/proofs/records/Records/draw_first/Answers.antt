@@ -11,10 +11,18 @@ use Rattle.ss_records.proofs.Files.{owner_words, member_words', after_word', kep
 use Rattle.ss_records.proofs.Cuts.{at_first}
 use Rattle.ss_records.proofs.Ends.{joins_it, taken, first_in_it}
 use Rattle.ss_records.proofs.Drawn.{behind, less_is, around_first}
+use Rattle.ss_records.proofs.Remembered.{numbered_entry}
 use Rattle.ss_records.proofs.records.Records.draw_first.Goals as goal
 
 pub look-first-requires : goal.look-first-requires
 look-first-requires c = record { leads = first_leads c.args.self.now c.requires.kept c.args.s c.requires.set c.args.home c.requires.owns c.owner_base-set.result c.owner_base-set.ensures.at }
+
+pub keep-requires-clause-entry : goal.keep-requires-clause-entry
+keep-requires-clause-entry c =
+    let r = c.args.self.now in let k = c.requires.kept in let e = c.args.home in let own = c.requires.owns in let set = c.owner_base-set in let q = c.look-first.result in
+    let between = at_first r k c.args.s c.requires.set e own set.result set.ensures.at q c.look-first.ensures.word c.look-first.ensures.there in
+    let inn = first_in_it r c.args.s e.number (record { place = r.system; number = 0 }) q (members_of r.notes.lists c.args.s e.number) between c.if-first-eq0.false in
+    numbered_entry r k c.args.s q (joins_it r k c.args.s c.requires.set e.number q between.after inn)
 
 pub look-after-requires : goal.look-after-requires
 look-after-requires c =
@@ -94,7 +102,7 @@ returns-clause-kept c =
     let around = around_first r k c.args.s c.requires.set e.number q j inn between.first mem.result mem.ensures.at z w v in
     let n : word_at r.blocks.cells e.place.at (set.result + 2) ≡ counter c.peek_count-count.result = (λ i. word_at (sym both i) e.place.at (set.result + 2)) ∙ c.peek_count-count.ensures.word in
     let many = how_many r k c.args.s c.requires.set e own set.result set.ensures.at c.peek_count-count.result n in
-    rw (c.unlink.ensures.cells, c.start_at-2.ensures.cells, c.peek_count-count.ensures.cells, c.look-after.ensures.cells, c.look-first.ensures.cells, c.take_out.ensures) (kept_out r k c.args.s c.requires.set e q own mem.result set.result mem.ensures.at set.ensures.at j (record { place = r.system; number = 0 }) z [] ys around c.peek_count-count.result many)
+    rw (c.unlink.ensures.cells, c.start_at-2.ensures.cells, c.peek_count-count.ensures.cells, c.look-after.ensures.cells, c.look-first.ensures.cells, c.take_out.ensures, c.keep.ensures) (kept_out r k c.args.s c.requires.set e q own mem.result set.result mem.ensures.at set.ensures.at j (record { place = r.system; number = 0 }) z [] ys around c.peek_count-count.result many)
 
 pub returns-clause-done : goal.returns-clause-done
 returns-clause-done c = λ o om.
@@ -109,8 +117,8 @@ returns-clause-done c = λ o om.
     let around = around_first r k c.args.s c.requires.set e.number q j inn between.first mem.result mem.ensures.at z w v in
     let n : word_at r.blocks.cells e.place.at (set.result + 2) ≡ counter c.peek_count-count.result = (λ i. word_at (sym both i) e.place.at (set.result + 2)) ∙ c.peek_count-count.ensures.word in
     let many = how_many r k c.args.s c.requires.set e own set.result set.ensures.at c.peek_count-count.result n in
-    let new = record r { blocks = c.unlink.new.self; notes = c.take_out.new.self } in
-    let out : state new ≡ with_list_of (state r) c.args.s e.number ys = rw (c.unlink.ensures.cells, c.start_at-2.ensures.cells, c.peek_count-count.ensures.cells, c.look-after.ensures.cells, c.look-first.ensures.cells, c.take_out.ensures) (state_out r k c.args.s c.requires.set e q own mem.result set.result mem.ensures.at set.ensures.at j (record { place = r.system; number = 0 }) z [] ys around c.peek_count-count.result many) in
+    let new = record r { blocks = c.unlink.new.self; notes = c.take_out.new.self; directory = c.keep.new.directory } in
+    let out : state new ≡ with_list_of (state r) c.args.s e.number ys = rw (c.unlink.ensures.cells, c.start_at-2.ensures.cells, c.peek_count-count.ensures.cells, c.look-after.ensures.cells, c.look-first.ensures.cells, c.take_out.ensures, c.keep.ensures) (state_out r k c.args.s c.requires.set e q own mem.result set.result mem.ensures.at set.ensures.at j (record { place = r.system; number = 0 }) z [] ys around c.peek_count-count.result many) in
     let found = sym (first_value r k c.args.s c.requires.set e own set.result set.ensures.at q c.look-first.ensures.word c.look-first.ensures.there o om) in
     let is = as_whole q.number q.number refl (first_small r k c.args.s c.requires.set e own set.result set.ensures.at q c.look-first.ensures.word c.look-first.ensures.there) in
     taken r k c.args.s c.requires.set e.number q between.after inn o (cast_signed w64 q.number) (state new) (first_in (state r) c.args.s o) om found is

@@ -1,16 +1,8 @@
-use Rattle.std.proofs.Common.{sym, ap, subst, ◌∙◌}
-use Rattle.ss_base.specs.declared.layout.SetLayout.{SetLayout}
-use Rattle.ss_base.specs.declared.layout.ClassKind.{ClassKind}
-use Rattle.ss_states.specs.State.{kind_of}
-use Rattle.ss_states.specs.Sets.{member_in}
-use Rattle.ss_records.specs.Kept.{IsPermanent}
-use Rattle.ss_records.proofs.Owning.{kind_is}
-use Rattle.ss_records.proofs.Remembered.{not_permanent, numbered_entry}
+use Rattle.ss_records.proofs.Remembered.{some_number, numbered_entry}
 use Rattle.ss_records.proofs.records.Records.remember.Goals as goal
 
-pub remember-requires : goal.remember-requires
-remember-requires c =
-    let r = c.args.self.now in
-    let k = kind_is r.layout c.args.s (λ (t : SetLayout). t.member) c.member_class-class.result c.requires.set c.member_class-class.ensures.is in
-    let no = subst (λ (z : ClassKind). IsPermanent z → ⊥) (c.kind.ensures ∙ ap (kind_of r.layout) (sym (ap member_in k.1 ∙ k.2))) (not_permanent c.kind.result c.in_default.not-Permanent) in
-    numbered_entry r c.requires.kept c.args.s c.args.member c.requires.joins no
+pub keep-requires-clause-number : goal.keep-requires-clause-number
+keep-requires-clause-number c = some_number c.args.self.now c.args.s c.args.member c.requires.joins
+
+pub keep-requires-clause-entry : goal.keep-requires-clause-entry
+keep-requires-clause-entry c = numbered_entry c.args.self.now c.requires.kept c.args.s c.args.member c.requires.joins
