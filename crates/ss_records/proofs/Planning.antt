@@ -62,10 +62,6 @@ pub owned_reach : (l : Layout) → Small l → (o : Owner) → owned_start l o �
 owned_reach l h System = omega arith
 owned_reach l h (Class c) = omega (arith, links_reach l h c, few_sets (joins c) l.sets, h.sets)
 
--- how many links a class has
-pub links_few : (l : Layout) → Small l → (c a b : ℕ) → a ≡ links_start l c → b ≡ owned_start l (Class c) → b ≤ a + 3145728
-links_few l h c a b x y = omega (arith, x, y, few_sets (joins c) l.sets, h.sets)
-
 pub member_reach : (l : Layout) → Small l → (s : ℕ) (t : SetLayout) → member_base l s t ≤ 5242883
 member_reach l h s t = omega (arith, links_reach l h t.member, few_before (joins t.member) l.sets s, h.sets)
 

@@ -4,6 +4,7 @@
 pub(crate) mod attributes;
 pub(crate) mod directory;
 pub(crate) mod filing;
+pub(crate) mod finding;
 mod heap;
 pub(crate) mod laying;
 pub(crate) mod links;
