@@ -9,3 +9,5 @@ pub mod Exchanging
 pub mod Slotted
 pub mod Standing
 pub mod Times
+pub mod Kept
+pub mod Held

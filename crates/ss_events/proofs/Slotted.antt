@@ -63,7 +63,7 @@ length-exchanged xs ys a b = length-set (set ys (get_or xs b 0) a) (get_or xs a 
 
 module _ (xs ys : List ℕ) (h : IsPaired xs ys) (a b : ℕ) (a_in : a < length xs) (b_in : b < length xs) where
   -- each slot leads to the other's place where it stood in one of the two
-  exchanged-at : (s : ℕ) → s < length ys → get_or (exchanged xs ys a b) s 0 ≡ exchange a b (get_or ys s 0)
+  pub exchanged-at : (s : ℕ) → s < length ys → get_or (exchanged xs ys a b) s 0 ≡ exchange a b (get_or ys s 0)
   exchanged-at s s_in =
       let i = get_or xs a 0 in
       let j = get_or xs b 0 in

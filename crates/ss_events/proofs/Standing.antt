@@ -290,8 +290,8 @@ module _ (es : List Entry) (xs ys : List ℕ) (qs : List Mark) (d : Directory) (
 
   -- ---- one entry fewer
 
-  module _ (at n s : ℕ) (long : length qs ≡ n + 1) (at_in : at < length qs) (slot : s ≡ get_or xs at 0) (fs : List Entry) (us vs : List ℕ) (rs : List Mark) (e : Entry)
-      (b : fs ≡ set es s no_entry) (c : us ≡ swap xs at n) (f : vs ≡ exchanged xs ys at n) (o : rs ≡ swap_remove qs at (mark_of e)) (it : e ≡ get_or es s no_entry) where
+  module _ (at n s : ℕ) (long : length qs ≡ n + 1) (at_in : at < length qs) (slot : s ≡ get_or xs at 0) (fs : List Entry) (us vs : List ℕ) (rs : List Mark) (e x : Entry)
+      (b : fs ≡ set es s x) (c : us ≡ swap xs at n) (f : vs ≡ exchanged xs ys at n) (o : rs ≡ swap_remove qs at (mark_of e)) (it : e ≡ get_or es s no_entry) where
     n_in : n < length qs
     n_in = omega (arith, long)
 
@@ -321,7 +321,7 @@ module _ (es : List Entry) (xs ys : List ℕ) (qs : List Mark) (d : Directory) (
     kept : (j : ℕ) → j < length qs → j ≢ at → get_or fs (get_or xs j 0) no_entry ≡ get_or es (get_or xs j 0) no_entry
     kept j j_in other =
         ap (λ l. get_or l (get_or xs j 0) no_entry) b
-        ∙ get_or-set_other es s (get_or xs j 0) no_entry no_entry
+        ∙ get_or-set_other es s (get_or xs j 0) x no_entry
         (λ is. slots_apart j at (in_slots j j_in) (in_slots at at_in) other (is ∙ slot))
 
     pub seen-removed : (z : Entry) → by_place no_entry fs (take (length rs) us) ≡ swap_remove seen at z
@@ -350,7 +350,7 @@ module _ (es : List Entry) (xs ys : List ℕ) (qs : List Mark) (d : Directory) (
     pub placed-removed : (g : Directory)
         → ((m : ℤ) (t : ℕ) → m ≢ e.notice → t ≢ s → Leads d m t → Leads g m t) → IsPlaced fs us vs rs g
     placed-removed g others = record {
-      long = ap length c ∙ length-swap xs at n ∙ h.long ∙ sym (length-set es s no_entry) ∙ sym (ap length b);
+      long = ap length c ∙ length-swap xs at n ∙ h.long ∙ sym (length-set es s x) ∙ sym (ap length b);
       paired = subst (λ l. IsPaired l vs) (sym c) (subst (λ l. IsPaired (swap xs at n) l) (sym f) (exchange_pairs xs ys h.paired at n (in_slots at at_in) (in_slots n n_in)));
       within = omega (arith, rs_long, ap length c, length-swap xs at n, h.within, long);
       marked =

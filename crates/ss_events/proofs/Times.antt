@@ -11,8 +11,8 @@ use Rattle.std.proofs.lemmas.Cmp.{tied_itself, nat_cmp_total, int_cmp_total}
 use Rattle.std.proofs.lemmas.Int.{ints}
 use Rattle.ss_events.specs.declared.key.Tie.{Tie}
 use Rattle.ss_events.specs.declared.entry.Entry.{Entry}
-use Rattle.ss_events.specs.Order.{tie_order, comes_before}
-use Rattle.ss_events.specs.Slots.{is_tied, untold, told_ranks, told_numbers, order_of}
+use Rattle.ss_events.specs.Order.{tie_order, key_order, comes_before}
+use Rattle.ss_events.specs.Slots.{is_tied, untold, told_ranks, told_numbers, order_of, IsBut}
 
 by_tests : (b c : Bool) (r s : Ordering) → (b ≡ false → c ≡ false → ⊥) → b ≡ is_lt (ordering_then (ordering_then (cond b Less (cond c Greater Equal)) r) s)
 by_tests true c r s h = refl
@@ -58,7 +58,7 @@ by_number true q = refl
 by_number false true = refl
 by_number false false = refl
 
-untied : (ts : List Tie) → is_tied ts ≡ false → ts ≡ []
+pub untied : (ts : List Tie) → is_tied ts ≡ false → ts ≡ []
 untied [] e = refl
 untied (t ∷ ts) e = absurd cc
 
@@ -75,13 +75,13 @@ numbers_tell e f a b c d =
 
 -- ---- by orders that tell
 
-by_three : (b c d : Bool) (u x : ℕ) → (cond b u (cond c (cond d x u) u) ≡ u → ⊥) → (b ≡ false) × (c ≡ true) × (d ≡ true)
+pub by_three : (b c d : Bool) (u x : ℕ) → (cond b u (cond c (cond d x u) u) ≡ u → ⊥) → (b ≡ false) × (c ≡ true) × (d ≡ true)
 by_three true c d u x h = absurd (h refl)
 by_three false false d u x h = absurd (h refl)
 by_three false true false u x h = absurd (h refl)
 by_three false true true u x h = (refl, refl, refl)
 
-below : (m n : ℕ) → ltb m n ≡ true → m < n
+pub below : (m n : ℕ) → ltb m n ≡ true → m < n
 below m n e = ⊎_elim (λ lt. lt) (λ past. absurd (let x : ltb m n ≡ false = le-ltb m n past in cc)) (cases_lt m n)
 
 -- what is known of an entry whose order tells something
@@ -114,3 +114,13 @@ orders_tell e f same first second =
     (λ is. of_one_rank e.key.rank f.key.rank e.number f.number is ∙ numbers_tell e f same is a.0 b.0)
     (λ other. of_two_ranks e.key.rank f.key.rank e.number f.number other a.1 b.1 ∙ ranks_tell e f same other)
     (cases_eq e.key.rank f.key.rank)
+
+-- ---- whatever the notices
+
+pub but_before : (e f g : Entry) → IsBut e f → comes_before e g ≡ comes_before f g
+unfolding comes_before
+but_before e f g h = λ i. is_lt (ordering_then (key_order (h.key i) g.key) (nat_cmp (h.number i) g.number))
+
+pub before_but : (e f g : Entry) → IsBut f g → comes_before e f ≡ comes_before e g
+unfolding comes_before
+before_but e f g h = λ i. is_lt (ordering_then (key_order e.key (h.key i)) (nat_cmp e.number (h.number i)))

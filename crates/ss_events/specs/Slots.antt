@@ -1,5 +1,5 @@
 -- How pending entries stand in slots, and the slots in places.
-use Rattle.std.specs.Prelude.{◌≡◌, ◌⊎◌, ℕ, ◌+◌, ◌*◌, ◌^◌, ◌<◌, ◌≤◌, ℤ, pos, Bool, true, false, List, [], ◌∷◌, map, length, take, slice_index, slice_index_or, slice_set, nat_lt, bit_and, Option, Some, None, if◌then◌else◌}
+use Rattle.std.specs.Prelude.{◌≡◌, ◌⊎◌, ◌==◌, ℕ, ◌+◌, ◌*◌, ◌/◌, ◌%◌, ◌^◌, ◌<◌, ◌≤◌, ℤ, pos, Bool, true, false, List, [], ◌∷◌, map, length, take, slice_index, slice_index_or, slice_set, nat_lt, bit_and, Option, Some, None, if◌then◌else◌}
 use Rattle.std.specs.Int.{w64, cast_unsigned}
 use Rattle.std.specs.Map.{lookup}
 use Rattle.std.specs.Option.{unwrap_or}
@@ -52,6 +52,30 @@ mark_of e = record { time = e.key.time; order = order_of e }
 abbrev pub no_mark : Mark
 no_mark = record { time = pos 0; order = 0 }
 
+-- two entries are one but for their notices
+pub record IsBut (e f : Entry) : Type 0 where
+  pub key : e.key ≡ f.key
+  pub number : e.number ≡ f.number
+
+-- the entry that a mark tells, with this notice
+abbrev pub told_by : Mark → ℤ → Entry
+told_by m notice = record { key = record { time = m.time; rank = m.order / told_numbers; ties = [] }; number = m.order % told_numbers; notice = notice }
+
+-- the entry in a slot: where its mark tells it by that, and else by what is kept whole
+abbrev pub entry_in : Mark → ℤ → Entry → Entry
+entry_in m notice whole = if m.order == untold then record { key = whole.key; number = whole.number; notice = notice } else told_by m notice
+
+-- the same of all slots
+abbrev pub entries_in : List Mark → List ℤ → List Entry → List Entry
+entries_in [] ns ws = []
+entries_in (m ∷ ms) [] ws = []
+entries_in (m ∷ ms) (n ∷ ns) [] = []
+entries_in (m ∷ ms) (n ∷ ns) (w ∷ ws) = entry_in m n w ∷ entries_in ms ns ws
+
+-- entries of which nothing is known but their notices
+abbrev pub with_notices : List ℤ → List Entry
+with_notices ns = map (λ n. record no_entry { notice = n }) ns
+
 -- the marks of entries, in their order
 abbrev pub marks_of : List Entry → List Mark
 marks_of es = map mark_of es
@@ -59,6 +83,14 @@ marks_of es = map mark_of es
 -- the slots in places, in their order
 abbrev pub slots_in : List Stand → List ℕ
 slots_in stands = map (λ s. s.slot) stands
+
+-- the mark of what stands in the place of each slot
+abbrev pub marks_by_slot : List Stand → List ℕ → List Mark
+marks_by_slot stands places = by_place no_mark (map (λ s. s.mark) stands) places
+
+-- the entries by slot
+abbrev pub kept : List Stand → List ℕ → List ℤ → List Entry → List Entry
+kept stands places notices wholes = entries_in (marks_by_slot stands places) notices wholes
 
 -- the marks of what stands in the first few places
 abbrev pub marks_in : ℕ → List Stand → List Mark
@@ -126,6 +158,12 @@ pub record IsPlaced (entries : List Entry) (slots places : List ℕ) (marks : Li
 pub record AreStanding (count : ℕ) (entries : List Entry) (stands : List Stand) (places : List ℕ) (directory : Directory) : Type 0 where
   pub few : count ≤ length stands
   pub placed : IsPlaced entries (slots_in stands) places (marks_in count stands) directory
+
+-- there are as many notices and entries as slots, and so many places are taken
+pub record AreHeld (count : ℕ) (notices : List ℤ) (wholes : List Entry) (stands : List Stand) (places : List ℕ) (directory : Directory) : Type 0 where
+  pub noticed : length notices ≡ length places
+  pub whole : length wholes ≡ length places
+  pub standing : AreStanding count (kept stands places notices wholes) stands places directory
 
 -- what stands in the first few places
 abbrev pub standing : ℕ → List Entry → List Stand → List Entry

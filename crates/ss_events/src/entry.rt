@@ -2,9 +2,9 @@
 //!
 //! Nothing but this module reads a key, and none of its functions hands an entry out. So two keys are compared and an
 //! entry is put into a place only by `Heap`, which counts it.
-ghost use Rattle.std.specs.Prelude.{◌≡◌, IfOk, IsTrue, ◌↔◌, int_lt, map};
+ghost use Rattle.std.specs.Prelude.{◌≡◌, ◌<◌, ◌*◌, pos, IfOk, IsTrue, ◌↔◌, int_lt, map};
 ghost use Rattle.ss_events.specs.PendingList.{FitsClass};
-ghost use Rattle.ss_events.specs.Slots.{is_tied, no_entry, no_mark, order_of, mark_of};
+ghost use Rattle.ss_events.specs.Slots.{is_tied, no_entry, no_mark, order_of, mark_of, told_by, told_ranks, told_numbers};
 
 mod directory;
 mod heap;
@@ -164,6 +164,22 @@ fn mark_of(entry: &Entry) -> Mark
     }
 }
 
+// The entry that a mark tells, but for its notice.
+fn told_by(alloc: Global, mark: Mark) -> Entry
+    requires { mark.order < told_ranks * told_numbers }
+    ensures { result ≡ told_by mark (pos 0) }
+{
+    Entry {
+        key: Key::with_ties(
+            mark.time,
+            (mark.order / TOLD_NUMBERS) as usize,
+            Vec::new(alloc),
+        ),
+        number: mark.order % TOLD_NUMBERS,
+        notice: 0,
+    }
+}
+
 impl Entry {
     // What stands where no entry does: it has no ties.
     #[inline(always)]
@@ -175,12 +191,5 @@ impl Entry {
             number: 0,
             notice: 0,
         }
-    }
-
-    // The time of the event, and the notice.
-    fn event(&self) -> (i64, i64)
-        ensures { result ≡ (self.now.key.time, self.now.notice) }
-    {
-        (self.key.time(), self.notice)
     }
 }

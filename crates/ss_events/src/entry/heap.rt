@@ -80,7 +80,7 @@ impl Heap {
         requires { 0 < length self.now.entries }
         ensures { (d : Entry) → result ≡ event_of (slice_index_or self.now.entries 0 d) }
     {
-        self.entries.get(0).event()
+        self.entries.event(0)
     }
 
     /// Whether the entry at place `a` comes out before that at `b`. Counts a comparison.
@@ -142,8 +142,7 @@ impl Heap {
     {
         let last = self.entries.len() - 1;
         self.moves += u64::from(at != last);
-        let entry = self.entries.remove(at);
-        entry.event()
+        self.entries.remove(at)
     }
 }
 
@@ -154,5 +153,21 @@ fn is_tied_before(entries: &Places, a: usize, b: usize) -> bool
     requires b_within { b < length entries.now }
     ensures { (d : Entry) → result ≡ comes_before (slice_index_or entries.now a d) (slice_index_or entries.now b d) }
 {
-    comes_before(entries.get(a), entries.get(b))
+    if entries.mark(a).order == UNTOLD {
+        return is_before_told_or_not(entries.whole(a), entries, b);
+    }
+    let told = entries.told(a);
+    is_before_told_or_not(&told, entries, b)
+}
+
+// The same of an entry and that at a place.
+fn is_before_told_or_not(entry: &Entry, entries: &Places, b: usize) -> bool
+    requires { b < length entries.now }
+    ensures { (d : Entry) → result ≡ comes_before entry.now (slice_index_or entries.now b d) }
+{
+    if entries.mark(b).order == UNTOLD {
+        return comes_before(entry, entries.whole(b));
+    }
+    let told = entries.told(b);
+    comes_before(entry, &told)
 }

@@ -1,6 +1,5 @@
 use Rattle.std.proofs.Common.{rules, ◌≡◌, ◌∙◌, get_or, ap, sym, to_z, of_z, w64}
 use Rattle.std.specs.Prelude.{int_lt, nat_lt}
-use Rattle.ss_events.specs.declared.entry.Entry.{Entry}
 use Rattle.ss_events.specs.declared.entry.Mark.{Mark}
 use Rattle.ss_events.specs.Slots.{mark_of}
 use Rattle.ss_events.proofs.Times.{times_tell, orders_tell}

@@ -1,0 +1,16 @@
+use Rattle.std.proofs.Common.{◌∙◌, get_or, ap, sym}
+use Rattle.ss_events.specs.declared.entry.Mark.{Mark}
+use Rattle.ss_events.proofs.Times.{before_but}
+use Rattle.ss_events.proofs.entry.heap.is_before_told_or_not.Goals as goal
+
+pub whole-requires-clause-untold : goal.whole-requires-clause-untold
+whole-requires-clause-untold c = λ d. sym (ap (λ (m : Mark). m.order) (c.mark.ensures d)) ∙ c.if-mark.true
+
+pub told-told-requires-clause-told : goal.told-told-requires-clause-told
+told-told-requires-clause-told c = λ d is. c.if-mark.false (ap (λ (m : Mark). m.order) (c.mark.ensures d) ∙ is)
+
+pub returns-then-mark : goal.returns-then-mark
+returns-then-mark c = λ d. c.comes_before.ensures ∙ before_but c.args.entry.now c.whole.result.now (get_or c.args.entries.now c.args.b d) (c.whole.ensures d)
+
+pub returns : goal.returns
+returns c = λ d. c.comes_before-2.ensures ∙ before_but c.args.entry.now c.told-told.result (get_or c.args.entries.now c.args.b d) (c.told-told.ensures d)
