@@ -15,6 +15,9 @@ use Rattle.ss_population.specs.declared.trouble.Trouble.TheVariants.{Fault, Misf
 use Rattle.ss_population.specs.declared.trouble.Unmade.{Unmade}
 use Rattle.ss_population.specs.declared.trouble.Unmade.TheVariants as unmade
 use Rattle.ss_population.specs.Told.{told}
+use Rattle.ss_store.specs.declared.scheduling.Filed.{Filed}
+use Rattle.ss_store.specs.declared.scheduling.Filed.TheVariants as filings
+use Rattle.ss_store.specs.declared.scheduling.Filed.TheVariants.{Done, Wanting}
 use Rattle.ss_store.specs.Seen.{Seen, with_seen}
 
 -- ## Operations in several steps
@@ -64,6 +67,13 @@ AddsTie f high e old new (Err t) = Finds {A = Value} f e (Err t)
 abbrev pub as_whole : Result ℤ Unmade → Result Value Unmade
 as_whole (Ok n) = Ok (Whole n)
 as_whole (Err t) = Err t
+
+-- what filing a notice came to
+abbrev pub filing_of : Filed → Result (Unit {0}) Unmade
+filing_of Done = Ok tt
+filing_of (filings.Fault kind) = Err (unmade.Fault kind)
+filing_of filings.Misfit = Err unmade.Misfit
+filing_of Wanting = Err unmade.Memory
 
 -- a trouble where memory might have been wanting
 abbrev pub lacking : Trouble → Unmade

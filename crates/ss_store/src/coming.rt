@@ -126,7 +126,7 @@ impl Scene {
         ensures done { result ≡ true → (s : StoreSeen) → gone class (Whole notice.number) (with_seen s (passed_on self.old)) ≡ Ok (with_seen s self.new) }
         ensures kept { result ≡ false → self.new ≡ self.old }
     {
-        match self.remove_entity(class, Value::Whole(notice.number)) {
+        match self.remove_known(class, notice) {
             Err(_) => false,
             Ok(()) => {
                 self.timeline.pass();

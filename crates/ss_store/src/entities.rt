@@ -244,6 +244,14 @@ impl Scene {
         }
     }
 
+    // The same by a call.
+    #[inline(never)]
+    pub(crate) fn create_apart(&mut self, class: usize) -> Made
+        ensures { Makes (made_one class) self.old self.new (as_value result) }
+    {
+        self.create_number(class)
+    }
+
     /// The number of a new entity of a class, whose histories start. Faults: 14 after the last number.
     #[inline(always)]
     pub fn create(&mut self, class: usize) -> Result<Value, Unmade>
@@ -259,7 +267,7 @@ impl Scene {
 
     // An entity goes by its number, and its histories end, whether or not it is pending.
     #[inline(always)]
-    fn remove_known(&mut self, class: usize, known: Known) -> Result<(), Trouble>
+    pub(crate) fn remove_known(&mut self, class: usize, known: Known) -> Result<(), Trouble>
         ensures { Changes (gone class (Whole known.number)) self.old self.new result }
     {
         if !self.is_single(class) {

@@ -10,7 +10,7 @@ ghost use Rattle.ss_meaning.specs.Places.{assigned_attribute};
 ghost use Rattle.ss_meaning.specs.Values.{turned};
 ghost use Rattle.ss_store.specs.AtOnce.{Does};
 ghost use Rattle.ss_store.specs.Seen.{Looks, Notes, Grows};
-ghost use Rattle.ss_store.specs.Scheduled.{Leads, Forms, Goes, Finds, AddsTie, IsTied, put_there, lacking, moment_of, time_after, key_ranked, key_meant, as_whole, scheduled_known, scheduled_anew};
+ghost use Rattle.ss_store.specs.Scheduled.{Leads, Forms, Goes, Finds, AddsTie, IsTied, put_there, lacking, moment_of, time_after, filing_of, key_ranked, key_meant, as_whole, scheduled_known, scheduled_anew};
 
 use crate::at_once::Number;
 use crate::entities::{Made, settled};
@@ -21,6 +21,42 @@ use ss_events::{Key, Tie};
 use ss_population::known::Known;
 use ss_population::trouble::{Trouble, Unmade, number_of};
 use std::alloc::Global;
+
+// What filing a notice came to.
+#[derive(Clone, Copy)]
+pub(crate) enum Filed {
+    Done,
+    Fault(FaultKind),
+    Misfit,
+    // Memory was refused.
+    Wanting,
+}
+
+// What filing a notice came to, in one piece.
+#[inline(always)]
+fn in_one(answer: Result<(), Unmade>) -> Filed
+    ensures { filing_of result ≡ answer }
+{
+    match answer {
+        Ok(()) => Filed::Done,
+        Err(Unmade::Fault(kind)) => Filed::Fault(kind),
+        Err(Unmade::Misfit) => Filed::Misfit,
+        Err(Unmade::Memory) => Filed::Wanting,
+    }
+}
+
+// The same the other way round.
+#[inline(always)]
+fn as_told(filed: Filed) -> Result<(), Unmade>
+    ensures { result ≡ filing_of filed }
+{
+    match filed {
+        Filed::Done => Ok(()),
+        Filed::Fault(kind) => Err(Unmade::Fault(kind)),
+        Filed::Misfit => Err(Unmade::Misfit),
+        Filed::Wanting => Err(Unmade::Memory),
+    }
+}
 
 impl Scene {
     // A time that is not before TIME.V.
@@ -45,9 +81,63 @@ impl Scene {
         }
     }
 
+    // The time so many units from now, where they are not below 0 and the time fits.
+    #[inline(always)]
+    fn time_onward(&self, units: i64) -> Option<i64>
+        ensures { IfSome result (λ time. Looks (time_after units) self.now (Ok time)) }
+    {
+        if units < 0 {
+            return None;
+        }
+        match self.time_after(units) {
+            Ok(time) => Some(time),
+            Err(_) => None,
+        }
+    }
+
+    // A time that is not before TIME.V, if it is that.
+    #[inline(always)]
+    fn time_to_come(&self, time: i64) -> Option<i64>
+        ensures { IfSome result (λ time. Looks (not_past time) self.now (Ok time)) }
+    {
+        if time < self.timeline.time() {
+            return None;
+        }
+        Some(time)
+    }
+
+    // The time for which a notice is scheduled, where there is no fault.
+    #[inline(always)]
+    fn time_near(&self, later: bool, value: Value) -> Option<i64>
+        ensures { IfSome result (λ time. Looks (time_at (moment_of later value)) self.now (Ok time)) }
+    {
+        match value {
+            Value::Whole(number) => {
+                if later {
+                    self.time_onward(number)
+                } else {
+                    self.time_to_come(number)
+                }
+            }
+            Value::Text(_) => None,
+        }
+    }
+
     /// The time for which a notice is scheduled, in units: a value, or so many units from now. Faults: 14 where the
     /// sum is too great, then 13 where the time is before TIME.V.
+    #[inline(always)]
     pub fn time_at(&self, later: bool, value: Value) -> Result<i64, Trouble>
+        ensures { Looks (time_at (moment_of later value)) self.now result }
+    {
+        match self.time_near(later, value) {
+            Some(time) => Ok(time),
+            None => self.time_apart(later, value),
+        }
+    }
+
+    // The same with every care.
+    #[inline(never)]
+    fn time_apart(&self, later: bool, value: Value) -> Result<i64, Trouble>
         ensures { Looks (time_at (moment_of later value)) self.now result }
     {
         match number_of(value) {
@@ -132,11 +222,11 @@ impl Scene {
     /// The number of a new notice of a class, with values for its first attributes and its TIME.A. Faults: 14 after the last
     /// number, or where a history of an attribute is full. Want of memory changes nothing; where the values do not fit, the
     /// notice is made.
-    #[inline(never)]
+    #[inline(always)]
     pub fn notice_number(&mut self, class: usize, given: &[Value], time: i64) -> Result<i64, Unmade>
         ensures { Forms (made_notice class given.now time) self.old self.new (as_whole result) }
     {
-        match self.create_number(class) {
+        match self.create_apart(class) {
             Made::Number(number) => {
                 match self.prepare(class, &Value::Whole(number), given, time) {
                     Ok(()) => Ok(number),
@@ -328,10 +418,18 @@ impl Scene {
         }
     }
 
+    // A notice is filed among those that are pending, by its number.
+    #[inline(never)]
+    fn file_apart(&mut self, alloc: Global, class: usize, notice: Known, time: i64) -> Filed
+        ensures { Grows (filed_notice class (Whole notice.number) time) self.old self.new (filing_of result) }
+    {
+        in_one(self.file_pending(alloc, class, &Value::Whole(notice.number), time))
+    }
+
     /// A notice is filed among those that are pending, by its number: for this time, by the rank of its class and the values
     /// that the attributes which break ties have now. Faults: 1 to 4, then 13 where the time is before TIME.V, then 11, then
     /// 14 after the last scheduling. Want of memory changes nothing.
-    #[inline(never)]
+    #[inline(always)]
     pub fn file_known(
         &mut self,
         alloc: Global,
@@ -341,7 +439,7 @@ impl Scene {
     ) -> Result<(), Unmade>
         ensures { Grows (filed_notice class (Whole notice.number) time) self.old self.new result }
     {
-        self.file_pending(alloc, class, &Value::Whole(notice.number), time)
+        as_told(self.file_apart(alloc, class, notice, time))
     }
 
     // The same of a value that refers to a notice.
@@ -359,7 +457,7 @@ impl Scene {
     }
 
     /// The same of a value that refers to a notice.
-    #[inline(always)]
+    #[inline(never)]
     pub fn file_notice(
         &mut self,
         alloc: Global,

@@ -11,7 +11,7 @@ use Rattle.ss_store.proofs.scene.Scene.pass_event.Goals as goal
 
 pub returns-in-Ok-clause-done : goal.returns-in-Ok-clause-done
 returns-in-Ok-clause-done c = λ u s.
-    let class = c.args.class in let n = c.args.notice.number in let old = c.args.self.now in let mid = c.remove_entity.new.self in
+    let class = c.args.class in let n = c.args.notice.number in let old = c.args.self.now in let mid = c.remove_known.new.self in
     let inside = c.self.inside in let t = inside.timeline in
     let same : to_z w64 (of_z w64 n) ≡ n = search rules in
     gone_passed class n old mid s ((subst (λ (z : ℤ). (s : Store) → gone class (Whole z) (with_seen s old) ≡ Ok (with_seen s mid)) same c.in-Ok.ensures) s) ∙

@@ -4,7 +4,7 @@ use Rattle.ss_meaning.specs.Events.{time_at, not_past}
 use Rattle.ss_population.specs.Told.{told}
 use Rattle.ss_store.specs.Seen.{with_seen}
 use Rattle.ss_store.specs.Scheduled.{moment_of, time_after}
-use Rattle.ss_store.proofs.scene.Scene.time_at.Goals as goal
+use Rattle.ss_store.proofs.scene.Scene.time_apart.Goals as goal
 
 pub returns-then-later : goal.returns-then-later
 returns-then-later c = λ s.
