@@ -4,6 +4,7 @@ ghost use Rattle.std.specs.Prelude.{◌≡◌, ℕ, ◌<◌, true, false, length
 ghost use Rattle.ss_base.specs.Layout.{mode_of};
 ghost use Rattle.ss_base.specs.declared.layout.Owner.TheVariants.{Class};
 ghost use Rattle.ss_records.specs.Added.{Added};
+ghost use Rattle.ss_records.specs.Classed.{HasClass};
 ghost use Rattle.ss_records.specs.Kept.{IsPermanent};
 ghost use Rattle.ss_records.specs.State.{first_state, is_made, records_in, known_in, value_in, time_in, assigned, timed, created, created_all, destroyed, kind_of, modes_of, RefusedFor};
 ghost use Rattle.ss_records.specs.Sets.{owner_kind, first_in, last_in, count_in, next_in, previous_in, owner_of_member};
@@ -66,6 +67,15 @@ impl Population {
         ensures { result ≡ known_in self.now class n }
     {
         self.heap.known(class, n)
+    }
+
+    /// The class of a temporary entity or a notice by its number: none where no entity of that number is living, and it may give
+    /// up elsewhere too.
+    #[inline(always)]
+    pub fn class_near(&self, n: i64) -> Option<usize>
+        ensures { IfSome result (λ c. HasClass self.now n c) }
+    {
+        self.heap.class_near(n)
     }
 
     /// The value of an attribute. Faults: 1 to 5.

@@ -2,6 +2,7 @@ pub mod Apart
 pub mod Assigns
 pub mod Blocks
 pub mod Calls
+pub mod Classed
 pub mod Count
 pub mod Creates
 pub mod Cuts

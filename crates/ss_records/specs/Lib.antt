@@ -3,6 +3,7 @@ pub use Rattle.ss_states.specs.State
 pub use Rattle.ss_states.specs.Sets
 pub mod Added
 pub mod Cells
+pub mod Classed
 pub mod Kept
 pub mod Laid
 pub mod Links

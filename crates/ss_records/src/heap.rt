@@ -5,6 +5,7 @@ ghost use Rattle.ss_states.specs.State.{State, first_state, known_in, known_noti
 ghost use Rattle.ss_states.specs.Disciplines.{first_removed, last_removed, member_test, owned};
 ghost use Rattle.ss_states.specs.Sets.{member_class, owner, owner_kind, first_in, last_in, count_in, next_in, previous_in, owner_of_member, filed_first, filed_last, filed_before, filed_after, removed, Apart};
 ghost use Rattle.ss_records.specs.Added.{Added};
+ghost use Rattle.ss_records.specs.Classed.{HasClass};
 ghost use Rattle.ss_records.specs.Kept.{IsPermanent};
 ghost use Rattle.ss_records.specs.Passing.{ranks_past, first_where, before_where};
 
@@ -80,6 +81,15 @@ impl Heap {
         ensures { self.new ≡ self.old }
     {
         self.records.meet(r);
+    }
+
+    /// The class of a temporary entity or a notice by its creation number: none where no entity of that number is living, and it
+    /// may give up elsewhere too.
+    #[inline(always)]
+    pub fn class_near(&self, r: i64) -> Option<usize>
+        ensures { IfSome result (λ c. HasClass self.now.state r c) }
+    {
+        self.records.class_near(r)
     }
 
     /// The time of a notice. Faults: 1 to 4.

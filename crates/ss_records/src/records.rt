@@ -10,6 +10,7 @@ ghost use Rattle.ss_records.specs.Kept.{Kept, Small, numbered_place, indexed_pla
 ghost use Rattle.ss_records.specs.Places.{class_at, lying};
 ghost use Rattle.ss_records.specs.Parts.{IsKept, state, Found, FoundNotice};
 ghost use Rattle.ss_records.specs.Added.{Added};
+ghost use Rattle.ss_records.specs.Classed.{HasClass};
 
 use crate::directory::Directory;
 use crate::notes::Notes;
@@ -263,6 +264,18 @@ impl Records {
     {
         let i = r.cast_unsigned().wrapping_sub(1);
         self.directory.near(i as usize)
+    }
+
+    /// The class of the entity of a creation number, where it is found without a search.
+    #[inline(always)]
+    pub(crate) fn class_near(&self, r: i64) -> Option<usize>
+        requires kept { IsKept self.now }
+        ensures { IfSome result (λ c. HasClass (state self.now) r c) }
+    {
+        match self.near_numbered(r) {
+            Some(place) => Some(self.blocks.number(place, CLASS) as usize),
+            None => None,
+        }
     }
 
     // The block of a creation number of a class, where it was met last.
