@@ -23,6 +23,8 @@ use Rattle.ss_population.specs.Told.{meant}
 use Rattle.ss_store.specs.declared.coming.Event.{Event}
 use Rattle.ss_store.specs.Scheduled.{Finds}
 use Rattle.ss_classes.specs.Ranks.{ranked_at}
+use Rattle.ss_classes.specs.Layouts.{kind_at}
+use Rattle.ss_records.specs.Classed.{HasClass}
 use Rattle.ss_store.specs.Events.{ranked_meant, ties_in, ties_at, is_notice_kind, is_there, is_of, first_of, First, Told}
 use Rattle.ss_store.specs.Seen.{Seen, with_seen}
 
@@ -144,6 +146,26 @@ module _ (h : State) (n : ℤ) where
 pub told_first : (e : Seen) (n : ℤ) (r : Option Event) → First e.heap e.notices n r → Told e n r
 told_first e n None f = λ s. first_is e.heap n (with_seen s e) ∙ f
 told_first e n (Some c) f = (λ s. first_is e.heap n (with_seen s e) ∙ f.0, f.1)
+
+-- the same where the class of the number is known
+module _ (e : Seen) (n : ℤ) (class rank : ℕ) (said : Notices) (c : Event) (has : HasClass e.heap n class) (kind : is_notice_kind (kind_at e.heap.layout class) ≡ true) where
+  noticed_there : notice e.heap n ≡ Ok has.seen
+  noticed_there =
+      let h = e.heap in
+      ap (λ (q : OkOr Record FaultKind). and_then q (of_notice h.layout)) has.found
+      ∙ ap (λ b. if b then Ok has.seen else Err WrongClass) (ap (λ k. is_notice (kind_of h.layout k)) has.class ∙ sym (noticed (slice_get h.layout.classes class)) ∙ kind)
+
+  pub told_near : ranked_from 0 e.notices class ≡ ranked_at e.notices (Some rank) → slice_get e.notices rank ≡ Some said
+      → c ≡ record { rank = rank; class = said.class; line = said.line; given = said.given; saved = said.saved; notice = n } → Told e n (Some c)
+  told_near at here is =
+      let es = e.notices in
+      let d : Event = record { rank = rank; class = said.class; line = said.line; given = said.given; saved = said.saved; notice = n } in (
+        λ s. ap (λ (q : OkOr Record FaultKind). ranked_as q (with_seen s e)) noticed_there
+            ∙ ap (λ k. ranked_from 0 es k) has.class ∙ at
+            ∙ ap (λ (o : Option Notices). option_map (λ (said : Notices). record { rank = rank; said = said }) o) here
+            ∙ sym (ap (λ (o : Option Notices). Some (ranked_meant d (ties_in o))) here) ∙ ap (λ (c : Event). Some (ranked_meant c (ties_at es c.rank))) (sym is),
+        ap (λ (c : Event). c.notice) is,
+      )
 
 -- ## The values that an event takes
 

@@ -19,7 +19,7 @@ use ss_base::{FaultKind, RankKey, Value, plus};
 use ss_classes::rank_of;
 use ss_events::{Key, Tie};
 use ss_population::known::Known;
-use ss_population::trouble::{Trouble, Unmade, number_of};
+use ss_population::trouble::{Trouble, Unmade};
 use std::alloc::Global;
 
 // What filing a notice came to.
@@ -98,7 +98,7 @@ impl Scene {
     // A time that is not before TIME.V, if it is that.
     #[inline(always)]
     fn time_to_come(&self, time: i64) -> Option<i64>
-        ensures { IfSome result (λ time. Looks (not_past time) self.now (Ok time)) }
+        ensures { IfSome result (λ t. Looks (not_past time) self.now (Ok t)) }
     {
         if time < self.timeline.time() {
             return None;
@@ -106,20 +106,38 @@ impl Scene {
         Some(time)
     }
 
-    // The time for which a notice is scheduled, where there is no fault.
+    // The time for which a notice is scheduled by a number, where there is no fault.
     #[inline(always)]
-    fn time_near(&self, later: bool, value: Value) -> Option<i64>
-        ensures { IfSome result (λ time. Looks (time_at (moment_of later value)) self.now (Ok time)) }
+    fn time_near(&self, later: bool, number: Number) -> Option<i64>
+        ensures { IfSome result (λ time. Looks (time_at (moment_of later (Whole number.value))) self.now (Ok time)) }
     {
-        match value {
-            Value::Whole(number) => {
-                if later {
-                    self.time_onward(number)
-                } else {
-                    self.time_to_come(number)
-                }
-            }
-            Value::Text(_) => None,
+        if later {
+            self.time_onward(number.value)
+        } else {
+            self.time_to_come(number.value)
+        }
+    }
+
+    // The same with every care.
+    #[inline(never)]
+    fn time_apart(&self, later: bool, number: Number) -> Result<i64, Trouble>
+        ensures { Looks (time_at (moment_of later (Whole number.value))) self.now result }
+    {
+        if later {
+            self.time_after(number.value)
+        } else {
+            self.not_past(number.value)
+        }
+    }
+
+    // The same, where no care is taken that need not be.
+    #[inline(always)]
+    fn time_by(&self, later: bool, number: Number) -> Result<i64, Trouble>
+        ensures { Looks (time_at (moment_of later (Whole number.value))) self.now result }
+    {
+        match self.time_near(later, number) {
+            Some(time) => Ok(time),
+            None => self.time_apart(later, number),
         }
     }
 
@@ -129,26 +147,9 @@ impl Scene {
     pub fn time_at(&self, later: bool, value: Value) -> Result<i64, Trouble>
         ensures { Looks (time_at (moment_of later value)) self.now result }
     {
-        match self.time_near(later, value) {
-            Some(time) => Ok(time),
-            None => self.time_apart(later, value),
-        }
-    }
-
-    // The same with every care.
-    #[inline(never)]
-    fn time_apart(&self, later: bool, value: Value) -> Result<i64, Trouble>
-        ensures { Looks (time_at (moment_of later value)) self.now result }
-    {
-        match number_of(value) {
-            Err(trouble) => Err(trouble),
-            Ok(number) => {
-                if later {
-                    self.time_after(number)
-                } else {
-                    self.not_past(number)
-                }
-            }
+        match value {
+            Value::Whole(value) => self.time_by(later, Number { value }),
+            Value::Text(_) => Err(Trouble::Misfit),
         }
     }
 
