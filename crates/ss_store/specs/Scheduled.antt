@@ -1,5 +1,6 @@
 -- What scheduling does once the number of the notice is known, and what is said of operations in several steps.
-use Rattle.std.specs.Prelude.{◌≡◌, ℕ, Bool, true, false, List, [], ◌∷◌, ◌++◌, ℤ, int_lt, Option, Result, Ok, Err}
+use Rattle.std.specs.Prelude.{◌≡◌, ℕ, Bool, true, false, List, [], ◌∷◌, ◌++◌, ℤ, int_lt, Option, Some, slice_get, Result, Ok, Err}
+use Rattle.std.specs.Option.{option_map}
 use Rattle.ss_base.specs.declared.fault.FaultKind.TheVariants.{PastTime}
 use Rattle.ss_base.specs.declared.value.Value.{Value}
 use Rattle.ss_base.specs.declared.value.Value.TheVariants.{Whole}
@@ -7,9 +8,10 @@ use Rattle.ss_events.specs.declared.key.Tie.{Tie}
 use Rattle.ss_events.specs.SortKey.{SortKey}
 use Rattle.ss_events.specs.PendingList.{scheduled}
 use Rattle.ss_meaning.specs.Values.{Trouble as Meant, if_ok, turned, due, sure, unless_fault}
-use Rattle.ss_meaning.specs.Store.{Store, with_pending}
-use Rattle.ss_meaning.specs.Events.{Moment, AtTime, Later, Ranked, ranked, ties_of, not_past, prepared, filed_notice}
+use Rattle.ss_meaning.specs.Store.{Notices, Store, with_pending}
+use Rattle.ss_meaning.specs.Events.{Moment, AtTime, Later, Ranked, ranked, ranked_from, ties_of, not_past, prepared, filed_notice}
 use Rattle.ss_base.specs.Arithmetic.{plus_of}
+use Rattle.ss_classes.specs.Ranks.{ranked_at}
 use Rattle.ss_population.specs.declared.trouble.Trouble.{Trouble}
 use Rattle.ss_population.specs.declared.trouble.Trouble.TheVariants.{Fault, Misfit}
 use Rattle.ss_population.specs.declared.trouble.Unmade.{Unmade}
@@ -98,6 +100,14 @@ key_ranked r class x t s =
 
 abbrev pub key_meant : (class : ℕ) → (x : Value) → (time : ℤ) → Store → Result SortKey Meant
 key_meant class x t s = key_ranked (ranked class s) class x t s
+
+-- a class of notices of this rank has no ties
+abbrev pub HasNoTies : List Notices → (rank : ℕ) → Type 0
+HasNoTies es rank = option_map (λ said. said.ties) (slice_get es rank) ≡ Some []
+
+-- a class of notices has this rank, and no ties
+abbrev pub IsUntied : List Notices → (class rank : ℕ) → Type 0
+IsUntied es class rank = (ranked_from 0 es class ≡ ranked_at es (Some rank)) × HasNoTies es rank
 
 -- what filing a notice does once its key and its number are known
 abbrev pub scheduled_known : SortKey → (number : ℤ) → Store → Result Store Meant

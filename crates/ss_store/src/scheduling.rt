@@ -1,6 +1,6 @@
 //! Scheduling: the time of an event, making notices, and filing them among those that are pending.
 
-ghost use Rattle.std.specs.Prelude.{◌≡◌, List, Some, Ok, Err, IfSome, IfOk, IfErr};
+ghost use Rattle.std.specs.Prelude.{◌≡◌, true, [], List, Some, Ok, Err, IfSome, IfOk, IfErr};
 ghost use Rattle.ss_base.specs.declared.value.Value.TheVariants.{Whole};
 ghost use Rattle.ss_classes.specs.Ranks.{ranked_at};
 ghost use Rattle.ss_events.specs.declared.key.Tie.{Tie as TieSeen};
@@ -10,12 +10,13 @@ ghost use Rattle.ss_meaning.specs.Places.{assigned_attribute};
 ghost use Rattle.ss_meaning.specs.Values.{turned};
 ghost use Rattle.ss_store.specs.AtOnce.{Does};
 ghost use Rattle.ss_store.specs.Seen.{Looks, Notes, Grows};
-ghost use Rattle.ss_store.specs.Scheduled.{Leads, Forms, Goes, Finds, AddsTie, IsTied, put_there, lacking, moment_of, time_after, filing_of, key_ranked, key_meant, as_whole, scheduled_known, scheduled_anew};
+ghost use Rattle.ss_store.specs.Scheduled.{Leads, Forms, Goes, Finds, AddsTie, IsTied, put_there, lacking, moment_of, time_after, filing_of, key_ranked, key_meant, as_whole, HasNoTies, IsUntied, scheduled_known, scheduled_anew};
 
 use crate::at_once::Number;
 use crate::entities::{Made, settled};
 use crate::scene::Scene;
 use ss_base::{FaultKind, RankKey, Value, plus};
+use ss_classes::notices::NoticeClass;
 use ss_classes::rank_of;
 use ss_events::{Key, Tie};
 use ss_population::known::Known;
@@ -56,6 +57,14 @@ fn as_told(filed: Filed) -> Result<(), Unmade>
         Filed::Misfit => Err(Unmade::Misfit),
         Filed::Wanting => Err(Unmade::Memory),
     }
+}
+
+// Whether a class of notices has no ties.
+#[inline(always)]
+fn has_no_ties(said: &NoticeClass) -> bool
+    ensures { result ≡ true → said.now.ties ≡ [] }
+{
+    said.ties().as_slice().is_empty()
 }
 
 impl Scene {
@@ -391,6 +400,65 @@ impl Scene {
         }
     }
 
+    // Whether the class of notices of this rank has no ties.
+    #[inline(always)]
+    fn is_untied(&self, rank: usize) -> bool
+        ensures { result ≡ true → HasNoTies self.now.notices rank }
+    {
+        match self.notices.get(rank) {
+            None => false,
+            Some(said) => has_no_ties(said),
+        }
+    }
+
+    // The rank of a class of notices, where it has no ties.
+    #[inline(always)]
+    fn rank_untied(&self, class: usize) -> Option<usize>
+        ensures { IfSome result (λ rank. IsUntied self.now.notices class rank) }
+    {
+        match rank_of(&self.notices, class) {
+            None => None,
+            Some(rank) => {
+                if self.is_untied(rank) {
+                    Some(rank)
+                } else {
+                    None
+                }
+            }
+        }
+    }
+
+    // The key of a notice, by its number, with every care.
+    #[inline(never)]
+    fn key_apart(
+        &self,
+        alloc: Global,
+        class: usize,
+        notice: Known,
+        time: i64,
+    ) -> Result<Key, Unmade>
+        ensures { Finds (key_meant class (Whole notice.number) time) self.now result }
+    {
+        self.key(alloc, class, &Value::Whole(notice.number), time)
+    }
+
+    // The key of a notice, by its number.
+    #[inline(always)]
+    fn key_known(
+        &self,
+        alloc: Global,
+        class: usize,
+        notice: Known,
+        time: i64,
+    ) -> Result<Key, Unmade>
+        ensures { Finds (key_meant class (Whole notice.number) time) self.now result }
+    {
+        match self.rank_untied(class) {
+            Some(rank) => Ok(Key::with_ties(time, rank, Vec::new(alloc))),
+            None => self.key_apart(alloc, class, notice, time),
+        }
+    }
+
     // A notice is filed under a key, by its number.
     #[inline(always)]
     fn schedule_known(&mut self, key: Key, known: Known) -> Result<(), Unmade>
@@ -399,32 +467,32 @@ impl Scene {
         settled(self.timeline.schedule(key, known.number))
     }
 
-    // A notice is filed among those that are pending.
+    // A notice is filed among those that are pending, by its number.
     #[inline(always)]
     fn file_pending(
         &mut self,
         alloc: Global,
         class: usize,
-        x: &Value,
+        notice: Known,
         time: i64,
     ) -> Result<(), Unmade>
-        ensures { Grows (filed_notice class x.now time) self.old self.new result }
+        ensures { Grows (filed_notice class (Whole notice.number) time) self.old self.new result }
     {
-        match self.find(class, *x) {
+        match self.find_by_number(class, notice) {
             Err(trouble) => Err(lacking(trouble)),
-            Ok(known) => match self.key(alloc, class, x, time) {
+            Ok(known) => match self.key_known(alloc, class, notice, time) {
                 Err(unmade) => Err(unmade),
                 Ok(key) => self.schedule_known(key, known),
             },
         }
     }
 
-    // A notice is filed among those that are pending, by its number.
+    // The same by a call, which tells in one piece what it came to.
     #[inline(never)]
     fn file_apart(&mut self, alloc: Global, class: usize, notice: Known, time: i64) -> Filed
         ensures { Grows (filed_notice class (Whole notice.number) time) self.old self.new (filing_of result) }
     {
-        in_one(self.file_pending(alloc, class, &Value::Whole(notice.number), time))
+        in_one(self.file_pending(alloc, class, notice, time))
     }
 
     /// A notice is filed among those that are pending, by its number: for this time, by the rank of its class and the values

@@ -10,7 +10,5 @@ returns c =
     let n = c.args.notice.number in
     let old = c.args.self.now in let new = c.file_pending.new.self in
     let same : to_z w64 (of_z w64 time) ≡ time = search rules in
-    let number : to_z w64 (of_z w64 n) ≡ n = search rules in
     subst (Grows (filed_notice c.args.class (Whole n) time) old new) (sym c.in_one.ensures)
-    (subst (λ (m : ℤ). Grows (filed_notice c.args.class (Whole m) time) old new c.file_pending.result) number
-    (subst (λ (t : ℤ). Grows (filed_notice c.args.class (Whole (to_z w64 (of_z w64 n))) t) old new c.file_pending.result) same c.file_pending.ensures))
+    (subst (λ (t : ℤ). Grows (filed_notice c.args.class (Whole n) t) old new c.file_pending.result) same c.file_pending.ensures)
