@@ -1,6 +1,7 @@
 -- Operations in several steps.
 use Rattle.std.proofs.Common.{◌≡◌, ℕ, ℤ, false, List, [], ◌∷◌, ◌++◌, Option, Some, None, Ok, Err, refl, ap, sym, ◌∙◌}
-use Rattle.std.specs.Prelude.{Result as OkOr}
+use Rattle.std.specs.Prelude.{slice_get, Result as OkOr}
+use Rattle.std.specs.Option.{option_map}
 use Rattle.std.proofs.lemmas.List.{append_assoc}
 use Rattle.ss_base.specs.declared.value.Value.{Value}
 use Rattle.ss_base.specs.declared.layout.RankKey.{RankKey}
@@ -9,7 +10,7 @@ use Rattle.ss_events.specs.declared.key.Tie.{Tie}
 use Rattle.ss_events.specs.SortKey.{SortKey}
 use Rattle.ss_events.specs.PendingList.{is_pending}
 use Rattle.ss_meaning.specs.Values.{Trouble as Meant, if_ok, turned, sure, unless_fault}
-use Rattle.ss_meaning.specs.Store.{Store}
+use Rattle.ss_meaning.specs.Store.{Notices, Store}
 use Rattle.ss_meaning.specs.Entities.{entity, attribute}
 use Rattle.ss_meaning.specs.Events.{Ranked, ranked, ties_of, prepared, filed_notice, rescheduled}
 use Rattle.ss_population.specs.declared.trouble.Trouble.{Trouble}
@@ -18,7 +19,7 @@ use Rattle.ss_population.specs.declared.trouble.Unmade.{Unmade}
 use Rattle.ss_population.specs.declared.trouble.Unmade.TheVariants as unmade
 use Rattle.ss_population.specs.Told.{told, meant}
 use Rattle.ss_store.specs.Seen.{Seen, with_seen, Changes, Grows}
-use Rattle.ss_store.specs.Scheduled.{Leads, Forms, Goes, Finds, put_there, lacking, key_ranked, key_meant, scheduled_known, scheduled_anew}
+use Rattle.ss_store.specs.Scheduled.{Leads, Forms, Goes, Finds, put_there, lacking, key_ranked, key_meant, IsUntied, scheduled_known, scheduled_anew}
 
 -- ## Steps
 
@@ -104,6 +105,11 @@ module _ (class : ℕ) (x : Value) (t : ℤ) where
       sides (Ok n) = placed n (ranked class s)
       sides (Err t) = refl
 
+  -- the notice is not found
+  pub not_found : (e : Seen) (trouble : Trouble) → ((s : Store) → entity class x (with_seen s e) ≡ told {A = ℤ} (Err trouble)) → Grows (filed_notice class x t) e e (Err (lacking trouble))
+  not_found e (Fault kind) h = (λ s. filed_is (with_seen s e) ∙ ap (λ r. if_ok r (λ n. if_ok (key_meant class x t (with_seen s e)) (λ key. scheduled_known key n (with_seen s e)))) (h s), refl)
+  not_found e Misfit h = (λ s. filed_is (with_seen s e) ∙ ap (λ r. if_ok r (λ n. if_ok (key_meant class x t (with_seen s e)) (λ key. scheduled_known key n (with_seen s e)))) (h s), refl)
+
   module _ (e : Seen) (n : ℤ) (found : (s : Store) → entity class x (with_seen s e) ≡ Ok n) where
     found_filed : (s : Store) → filed_notice class x t (with_seen s e) ≡ if_ok (key_meant class x t (with_seen s e)) (λ key. scheduled_known key n (with_seen s e))
     found_filed s = filed_is (with_seen s e) ∙ ap (λ r. if_ok r (λ n. if_ok (key_meant class x t (with_seen s e)) (λ key. scheduled_known key n (with_seen s e)))) (found s)
@@ -129,3 +135,16 @@ module _ (class : ℕ) (x : Value) (t : ℤ) where
     again given new r free h = goes_alike (rescheduled class x given t) (scheduled_anew class x given t) (prepared class x given t) e new r
         (λ s. ap (λ r. if_ok r (λ n. unless_fault (is_pending n e.pending.entries) AlreadyScheduled (scheduled_anew class x given t (with_seen s e)))) (found s)
         ∙ ap (λ b. unless_fault b AlreadyScheduled (scheduled_anew class x given t (with_seen s e))) free) h
+
+-- ## Classes without ties
+
+module _ (e : Seen) (class rank : ℕ) (x : Value) (t : ℤ) where
+  untied_said : (s : Store) (o : Option Notices) → option_map (λ said. said.ties) o ≡ Some [] → key_ranked (option_map (λ said. record { rank = rank; said = said }) o) class x t s ≡ Ok (record { time = t; rank = rank; ties = [] })
+  untied_said s None none = absurd cc
+  untied_said s (Some said) none =
+      let key : List Tie → SortKey = λ ties. record { time = t; rank = rank; ties = ties } in
+      let empty : said.ties ≡ [] = cc in
+      ap (λ (ties : List RankKey). turned key (ties_of class x s ties)) empty
+
+  pub untied_key : IsUntied e.notices class rank → Finds (key_meant class x t) e (Ok (record { time = t; rank = rank; ties = [] }))
+  untied_key (at, none) s = ap (λ (r : Option Ranked). key_ranked r class x t (with_seen s e)) at ∙ untied_said (with_seen s e) (slice_get e.notices rank) none

@@ -1,20 +1,21 @@
 -- Which event comes next, and the values that it takes.
-use Rattle.std.proofs.Common.{◌≡◌, ℕ, zero, suc, ◌+◌, ◌==◌, ℤ, Bool, true, false, ◌&&◌, List, [], ◌∷◌, ◌++◌, drop, Option, Some, None, Ok, Err, refl, ap, sym, ◌∙◌, subst}
-use Rattle.std.specs.Prelude.{slice_get, if◌then◌else◌, Result as OkOr}
+use Rattle.std.proofs.Common.{arith, ◌≡◌, ℕ, zero, suc, ◌+◌, ◌<◌, ◌==◌, length, ℤ, Bool, true, false, ◌&&◌, List, [], ◌∷◌, ◌++◌, drop, Option, Some, None, Ok, Err, refl, ap, sym, ◌∙◌, subst}
+use Rattle.std.specs.Prelude.{slice_get, is_some, if◌then◌else◌, Result as OkOr}
 use Rattle.std.proofs.Common.{T, eqb→eq}
 use lib.Dec.{eqb_refl}
 use Rattle.std.specs.Option.{option_map}
 use Rattle.std.proofs.lemmas.List.{append_assoc}
 use Rattle.ss_base.specs.Plain.{PlainClass}
 use Rattle.ss_base.specs.declared.value.Value.{Value}
+use Rattle.ss_base.specs.declared.value.Value.TheVariants.{Whole}
 use Rattle.ss_base.specs.declared.fault.FaultKind.{FaultKind}
 use Rattle.ss_base.specs.declared.fault.FaultKind.TheVariants.{WrongClass}
 use Rattle.ss_base.specs.declared.layout.ClassKind.{ClassKind}
 use Rattle.ss_base.specs.declared.layout.ClassKind.TheVariants.{Permanent, Temporary, Notice}
-use Rattle.ss_records.specs.State.{Record, State, kind_of, kind_in, numbered, and_then, of_class, of_notice, is_notice, notice, entity_of_kind, no_value}
-use Rattle.ss_meaning.specs.Values.{Trouble as Meant, if_ok, turned}
+use Rattle.ss_records.specs.State.{Record, State, kind_of, kind_in, numbered, and_then, of_class, of_notice, is_notice, notice, entity_of_kind, known_in, no_value}
+use Rattle.ss_meaning.specs.Values.{Trouble as Meant, if_ok, turned, due, where_fit}
 use Rattle.ss_meaning.specs.Store.{Notices, Store}
-use Rattle.ss_meaning.specs.Entities.{attribute}
+use Rattle.ss_meaning.specs.Entities.{entity, attribute}
 use Rattle.ss_meaning.specs.Events.{ranked_from, ranked_as, attributes}
 use Rattle.ss_population.specs.declared.trouble.Trouble.TheVariants.{Fault, Misfit}
 use Rattle.ss_population.specs.declared.trouble.Unmade.{Unmade}
@@ -23,6 +24,9 @@ use Rattle.ss_population.specs.Told.{meant}
 use Rattle.ss_store.specs.declared.coming.Event.{Event}
 use Rattle.ss_store.specs.Scheduled.{Finds}
 use Rattle.ss_classes.specs.Ranks.{ranked_at}
+use Rattle.ss_classes.specs.Layouts.{kind_at}
+use Rattle.ss_records.specs.Classed.{HasClass}
+use Rattle.ss_records.specs.Kept.{IsPermanent}
 use Rattle.ss_store.specs.Events.{ranked_meant, ties_in, ties_at, is_notice_kind, is_there, is_of, first_of, First, Told}
 use Rattle.ss_store.specs.Seen.{Seen, with_seen}
 
@@ -144,6 +148,49 @@ module _ (h : State) (n : ℤ) where
 pub told_first : (e : Seen) (n : ℤ) (r : Option Event) → First e.heap e.notices n r → Told e n r
 told_first e n None f = λ s. first_is e.heap n (with_seen s e) ∙ f
 told_first e n (Some c) f = (λ s. first_is e.heap n (with_seen s e) ∙ f.0, f.1)
+
+-- the same where the class of the number is known
+module _ (e : Seen) (n : ℤ) (class rank : ℕ) (said : Notices) (c : Event) (has : HasClass e.heap n class) (kind : is_notice_kind (kind_at e.heap.layout class) ≡ true) where
+  noticed_there : notice e.heap n ≡ Ok has.seen
+  noticed_there =
+      let h = e.heap in
+      ap (λ (q : OkOr Record FaultKind). and_then q (of_notice h.layout)) has.found
+      ∙ ap (λ b. if b then Ok has.seen else Err WrongClass) (ap (λ k. is_notice (kind_of h.layout k)) has.class ∙ sym (noticed (slice_get h.layout.classes class)) ∙ kind)
+
+  pub told_near : ranked_from 0 e.notices class ≡ ranked_at e.notices (Some rank) → slice_get e.notices rank ≡ Some said
+      → c ≡ record { rank = rank; class = said.class; line = said.line; given = said.given; saved = said.saved; notice = n } → Told e n (Some c)
+  told_near at here is =
+      let es = e.notices in
+      let d : Event = record { rank = rank; class = said.class; line = said.line; given = said.given; saved = said.saved; notice = n } in (
+        λ s. ap (λ (q : OkOr Record FaultKind). ranked_as q (with_seen s e)) noticed_there
+            ∙ ap (λ k. ranked_from 0 es k) has.class ∙ at
+            ∙ ap (λ (o : Option Notices). option_map (λ (said : Notices). record { rank = rank; said = said }) o) here
+            ∙ sym (ap (λ (o : Option Notices). Some (ranked_meant d (ties_in o))) here) ∙ ap (λ (c : Event). Some (ranked_meant c (ties_at es c.rank))) (sym is),
+        ap (λ (c : Event). c.notice) is,
+      )
+
+-- ## An entity whose class is known
+
+module _ (h : State) (n : ℤ) (class : ℕ) (has : HasClass h n class) where
+  by_kind : (k : ClassKind) → (IsPermanent k → ⊥) → entity_of_kind h k class n ≡ and_then (numbered h n) (of_class class)
+  by_kind Permanent never = absurd (never tt)
+  by_kind Temporary never = refl
+  by_kind Notice never = refl
+
+  pub known_near : known_in h class n ≡ Ok tt
+  known_near =
+      ap no_value (by_kind (kind_of h.layout class) has.kind ∙ ap (λ (q : OkOr Record FaultKind). and_then q (of_class class)) has.found
+      ∙ ap (λ b. if b then Ok has.seen else Err WrongClass) (ap (λ k. k == class) has.class ∙ itself class))
+
+some_inside : {A : Type 0} (xs : List A) (i : ℕ) → i < length xs → is_some (slice_get xs i) ≡ true
+some_inside [] i h = absurd (omega (arith, h))
+some_inside (x ∷ xs) zero h = refl
+some_inside (x ∷ xs) (suc i) h = let less : i < length xs = omega (arith, h) in some_inside xs i less
+
+pub found_near : (e : Seen) (n : ℤ) (class : ℕ) → HasClass e.heap n class → (s : Store) → entity class (Whole n) (with_seen s e) ≡ Ok n
+found_near e n class has s =
+    ap (λ b. where_fit b (turned (λ _. n) (due (known_in e.heap class n)))) (some_inside e.heap.layout.classes class has.inside)
+    ∙ ap (λ (q : OkOr (Unit {0}) FaultKind). where_fit true (turned (λ _. n) (due q))) (known_near e.heap n class has)
 
 -- ## The values that an event takes
 

@@ -1,5 +1,6 @@
 -- What scheduling does once the number of the notice is known, and what is said of operations in several steps.
-use Rattle.std.specs.Prelude.{◌≡◌, ℕ, Bool, true, false, List, [], ◌∷◌, ◌++◌, ℤ, int_lt, Option, Result, Ok, Err}
+use Rattle.std.specs.Prelude.{◌≡◌, ℕ, Bool, true, false, List, [], ◌∷◌, ◌++◌, ℤ, int_lt, Option, Some, slice_get, Result, Ok, Err}
+use Rattle.std.specs.Option.{option_map}
 use Rattle.ss_base.specs.declared.fault.FaultKind.TheVariants.{PastTime}
 use Rattle.ss_base.specs.declared.value.Value.{Value}
 use Rattle.ss_base.specs.declared.value.Value.TheVariants.{Whole}
@@ -7,14 +8,18 @@ use Rattle.ss_events.specs.declared.key.Tie.{Tie}
 use Rattle.ss_events.specs.SortKey.{SortKey}
 use Rattle.ss_events.specs.PendingList.{scheduled}
 use Rattle.ss_meaning.specs.Values.{Trouble as Meant, if_ok, turned, due, sure, unless_fault}
-use Rattle.ss_meaning.specs.Store.{Store, with_pending}
-use Rattle.ss_meaning.specs.Events.{Moment, AtTime, Later, Ranked, ranked, ties_of, not_past, prepared, filed_notice}
+use Rattle.ss_meaning.specs.Store.{Notices, Store, with_pending}
+use Rattle.ss_meaning.specs.Events.{Moment, AtTime, Later, Ranked, ranked, ranked_from, ties_of, not_past, prepared, filed_notice}
 use Rattle.ss_base.specs.Arithmetic.{plus_of}
+use Rattle.ss_classes.specs.Ranks.{ranked_at}
 use Rattle.ss_population.specs.declared.trouble.Trouble.{Trouble}
 use Rattle.ss_population.specs.declared.trouble.Trouble.TheVariants.{Fault, Misfit}
 use Rattle.ss_population.specs.declared.trouble.Unmade.{Unmade}
 use Rattle.ss_population.specs.declared.trouble.Unmade.TheVariants as unmade
 use Rattle.ss_population.specs.Told.{told}
+use Rattle.ss_store.specs.declared.scheduling.Filed.{Filed}
+use Rattle.ss_store.specs.declared.scheduling.Filed.TheVariants as filings
+use Rattle.ss_store.specs.declared.scheduling.Filed.TheVariants.{Done, Wanting}
 use Rattle.ss_store.specs.Seen.{Seen, with_seen}
 
 -- ## Operations in several steps
@@ -65,6 +70,13 @@ abbrev pub as_whole : Result ℤ Unmade → Result Value Unmade
 as_whole (Ok n) = Ok (Whole n)
 as_whole (Err t) = Err t
 
+-- what filing a notice came to
+abbrev pub filing_of : Filed → Result (Unit {0}) Unmade
+filing_of Done = Ok tt
+filing_of (filings.Fault kind) = Err (unmade.Fault kind)
+filing_of filings.Misfit = Err unmade.Misfit
+filing_of Wanting = Err unmade.Memory
+
 -- a trouble where memory might have been wanting
 abbrev pub lacking : Trouble → Unmade
 lacking (Fault kind) = unmade.Fault kind
@@ -88,6 +100,14 @@ key_ranked r class x t s =
 
 abbrev pub key_meant : (class : ℕ) → (x : Value) → (time : ℤ) → Store → Result SortKey Meant
 key_meant class x t s = key_ranked (ranked class s) class x t s
+
+-- a class of notices of this rank has no ties
+abbrev pub HasNoTies : List Notices → (rank : ℕ) → Type 0
+HasNoTies es rank = option_map (λ said. said.ties) (slice_get es rank) ≡ Some []
+
+-- a class of notices has this rank, and no ties
+abbrev pub IsUntied : List Notices → (class rank : ℕ) → Type 0
+IsUntied es class rank = (ranked_from 0 es class ≡ ranked_at es (Some rank)) × HasNoTies es rank
 
 -- what filing a notice does once its key and its number are known
 abbrev pub scheduled_known : SortKey → (number : ℤ) → Store → Result Store Meant

@@ -1,19 +1,22 @@
 //! Events: whether one comes, which comes next, and how it begins.
 
-ghost use Rattle.std.specs.Prelude.{◌≡◌, true, false, List, Ok};
+ghost use Rattle.std.specs.Prelude.{◌≡◌, true, false, List, Ok, Some, IfSome};
 ghost use Rattle.ss_base.specs.declared.layout.RankKey.{RankKey as KeySeen};
 ghost use Rattle.ss_base.specs.declared.value.Value.TheVariants.{Whole};
 ghost use Rattle.ss_meaning.specs.Entities.{attribute, gone};
 ghost use Rattle.ss_meaning.specs.Events.{is_awaited, attributes};
 ghost use Rattle.ss_meaning.specs.Store.{Store as StoreSeen};
+ghost use Rattle.ss_records.specs.Classed.{HasClass};
+ghost use Rattle.ss_classes.specs.Layouts.{kind_at};
 ghost use Rattle.ss_store.specs.Seen.{with_seen};
 ghost use Rattle.ss_store.specs.Scheduled.{Finds, put_there};
-ghost use Rattle.ss_store.specs.Events.{Comes, Nears, passed_on, Begins, Lets, First, Told, Adds, IsPut, is_of};
+ghost use Rattle.ss_store.specs.Events.{Comes, Nears, passed_on, Begins, Lets, First, Told, Adds, IsPut, is_of, is_notice_kind};
 
 use crate::scene::Scene;
 use crate::scheduling::lacking;
 use ss_base::{ClassKind, Line, Value};
 use ss_classes::notices::NoticeClass;
+use ss_classes::rank_of;
 use ss_population::known::Known;
 use ss_population::trouble::Unmade;
 
@@ -96,14 +99,55 @@ impl Scene {
         self.event_among(&self.notices, known)
     }
 
-    // The same, and the notice is remembered, so that it is found sooner.
+    // The same by a call.
+    #[inline(never)]
+    fn event_apart(&self, known: Known) -> Option<Event>
+        ensures { Told self.now known.number result }
+    {
+        self.event(known)
+    }
+
+    // The event of a notice of a class, by its number.
+    #[inline(always)]
+    fn event_in(&self, class: usize, known: Known) -> Option<Event>
+        requires class { HasClass self.now.heap known.number class }
+        requires kind { is_notice_kind (kind_at self.now.heap.layout class) ≡ true }
+        ensures { IfSome result (λ event. Told self.now known.number (Some event)) }
+    {
+        match rank_of(&self.notices, class) {
+            None => None,
+            Some(rank) => match self.notices.get(rank) {
+                None => None,
+                Some(said) => Some(event_of(said, rank, known.number)),
+            },
+        }
+    }
+
+    // The event of a notice, by its number, where it is found at once.
+    #[inline(always)]
+    fn event_near(&self, known: Known) -> Option<Event>
+        ensures { IfSome result (λ event. Told self.now known.number (Some event)) }
+    {
+        match self.population.class_near(known.number) {
+            None => None,
+            Some(class) => match self.kind(class) {
+                Some(ClassKind::Notice) => self.event_in(class, known),
+                _ => None,
+            },
+        }
+    }
+
+    // The event of a notice, by its number, which is remembered, so that it is found sooner.
     #[inline(always)]
     fn met_event(&mut self, known: Known) -> Option<Event>
         ensures value { Told self.old known.number result }
         ensures same { self.new ≡ self.old }
     {
         self.population.meet(known.number);
-        self.event(known)
+        match self.event_near(known) {
+            Some(event) => Some(event),
+            None => self.event_apart(known),
+        }
     }
 
     /// The event that comes next, which stays where it is. There is none where no notice is pending or the number that comes next is
@@ -126,7 +170,7 @@ impl Scene {
         ensures done { result ≡ true → (s : StoreSeen) → gone class (Whole notice.number) (with_seen s (passed_on self.old)) ≡ Ok (with_seen s self.new) }
         ensures kept { result ≡ false → self.new ≡ self.old }
     {
-        match self.remove_entity(class, Value::Whole(notice.number)) {
+        match self.remove_known(class, notice) {
             Err(_) => false,
             Ok(()) => {
                 self.timeline.pass();

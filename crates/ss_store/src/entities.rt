@@ -1,12 +1,13 @@
 //! Entities: references, attributes, how many of a class there are, creating and destroying.
 
-ghost use Rattle.std.specs.Prelude.{◌≡◌, pos};
+ghost use Rattle.std.specs.Prelude.{◌≡◌, true, pos};
 ghost use Rattle.ss_base.specs.declared.value.Value.TheVariants.{Whole};
 ghost use Rattle.ss_meaning.specs.Entities.{is_single, is_permanent, entity, attribute, time_of, made_count, made_one, gone, without};
 ghost use Rattle.ss_meaning.specs.Events.{with_time};
 ghost use Rattle.ss_meaning.specs.Store.{Store as StoreSeen};
 ghost use Rattle.ss_meaning.specs.Places.{is_of_mode, assigned_attribute};
 ghost use Rattle.ss_population.specs.Told.{numbered};
+ghost use Rattle.ss_records.specs.Classed.{HasClass};
 ghost use Rattle.ss_classes.specs.Layouts.{class_in, kind_at};
 ghost use Rattle.ss_store.specs.Seen.{Looks, Changes, Notes, Makes, Grows, IsEarlier, as_value, settled, count_open, number_made, created_all_known, mode_at, with_seen};
 
@@ -56,6 +57,36 @@ impl Scene {
             Ok(()) => Ok(known),
             Err(kind) => Err(Trouble::Fault(kind)),
         }
+    }
+
+    // The same by a call.
+    #[inline(never)]
+    fn find_apart(&self, class: usize, known: Known) -> Result<Known, Trouble>
+        ensures { Looks (entity class (Whole known.number)) self.now (numbered result) }
+    {
+        self.find_known(class, known)
+    }
+
+    // Whether a number is that of an entity of a class, where that is found at once.
+    #[inline(always)]
+    fn is_near(&self, class: usize, known: Known) -> bool
+        ensures { result ≡ true → HasClass self.now.heap known.number class }
+    {
+        match self.population.class_near(known.number) {
+            Some(found) => found == class,
+            None => false,
+        }
+    }
+
+    // A number as that of an entity of a class that comes and goes.
+    #[inline(always)]
+    pub(crate) fn find_by_number(&self, class: usize, known: Known) -> Result<Known, Trouble>
+        ensures { Looks (entity class (Whole known.number)) self.now (numbered result) }
+    {
+        if self.is_near(class, known) {
+            return Ok(known);
+        }
+        self.find_apart(class, known)
     }
 
     // The entity of a class that a value refers to.
@@ -244,6 +275,14 @@ impl Scene {
         }
     }
 
+    // The same by a call.
+    #[inline(never)]
+    pub(crate) fn create_apart(&mut self, class: usize) -> Made
+        ensures { Makes (made_one class) self.old self.new (as_value result) }
+    {
+        self.create_number(class)
+    }
+
     /// The number of a new entity of a class, whose histories start. Faults: 14 after the last number.
     #[inline(always)]
     pub fn create(&mut self, class: usize) -> Result<Value, Unmade>
@@ -259,7 +298,7 @@ impl Scene {
 
     // An entity goes by its number, and its histories end, whether or not it is pending.
     #[inline(always)]
-    fn remove_known(&mut self, class: usize, known: Known) -> Result<(), Trouble>
+    pub(crate) fn remove_known(&mut self, class: usize, known: Known) -> Result<(), Trouble>
         ensures { Changes (gone class (Whole known.number)) self.old self.new result }
     {
         if !self.is_single(class) {

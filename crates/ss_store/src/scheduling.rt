@@ -1,6 +1,6 @@
 //! Scheduling: the time of an event, making notices, and filing them among those that are pending.
 
-ghost use Rattle.std.specs.Prelude.{◌≡◌, List, Some, Ok, Err, IfSome, IfOk, IfErr};
+ghost use Rattle.std.specs.Prelude.{◌≡◌, true, [], List, Some, Ok, Err, IfSome, IfOk, IfErr};
 ghost use Rattle.ss_base.specs.declared.value.Value.TheVariants.{Whole};
 ghost use Rattle.ss_classes.specs.Ranks.{ranked_at};
 ghost use Rattle.ss_events.specs.declared.key.Tie.{Tie as TieSeen};
@@ -10,17 +10,62 @@ ghost use Rattle.ss_meaning.specs.Places.{assigned_attribute};
 ghost use Rattle.ss_meaning.specs.Values.{turned};
 ghost use Rattle.ss_store.specs.AtOnce.{Does};
 ghost use Rattle.ss_store.specs.Seen.{Looks, Notes, Grows};
-ghost use Rattle.ss_store.specs.Scheduled.{Leads, Forms, Goes, Finds, AddsTie, IsTied, put_there, lacking, moment_of, time_after, key_ranked, key_meant, as_whole, scheduled_known, scheduled_anew};
+ghost use Rattle.ss_store.specs.Scheduled.{Leads, Forms, Goes, Finds, AddsTie, IsTied, put_there, lacking, moment_of, time_after, filing_of, key_ranked, key_meant, as_whole, HasNoTies, IsUntied, scheduled_known, scheduled_anew};
 
 use crate::at_once::Number;
 use crate::entities::{Made, settled};
 use crate::scene::Scene;
 use ss_base::{FaultKind, RankKey, Value, plus};
+use ss_classes::notices::NoticeClass;
 use ss_classes::rank_of;
 use ss_events::{Key, Tie};
 use ss_population::known::Known;
-use ss_population::trouble::{Trouble, Unmade, number_of};
+use ss_population::trouble::{Trouble, Unmade};
 use std::alloc::Global;
+
+// What filing a notice came to.
+#[derive(Clone, Copy)]
+pub(crate) enum Filed {
+    Done,
+    Fault(FaultKind),
+    Misfit,
+    // Memory was refused.
+    Wanting,
+}
+
+// What filing a notice came to, in one piece.
+#[inline(always)]
+fn in_one(answer: Result<(), Unmade>) -> Filed
+    ensures { filing_of result ≡ answer }
+{
+    match answer {
+        Ok(()) => Filed::Done,
+        Err(Unmade::Fault(kind)) => Filed::Fault(kind),
+        Err(Unmade::Misfit) => Filed::Misfit,
+        Err(Unmade::Memory) => Filed::Wanting,
+    }
+}
+
+// The same the other way round.
+#[inline(always)]
+fn as_told(filed: Filed) -> Result<(), Unmade>
+    ensures { result ≡ filing_of filed }
+{
+    match filed {
+        Filed::Done => Ok(()),
+        Filed::Fault(kind) => Err(Unmade::Fault(kind)),
+        Filed::Misfit => Err(Unmade::Misfit),
+        Filed::Wanting => Err(Unmade::Memory),
+    }
+}
+
+// Whether a class of notices has no ties.
+#[inline(always)]
+fn has_no_ties(said: &NoticeClass) -> bool
+    ensures { result ≡ true → said.now.ties ≡ [] }
+{
+    said.ties().as_slice().is_empty()
+}
 
 impl Scene {
     // A time that is not before TIME.V.
@@ -45,20 +90,75 @@ impl Scene {
         }
     }
 
+    // The time so many units from now, where they are not below 0 and the time fits.
+    #[inline(always)]
+    fn time_onward(&self, units: i64) -> Option<i64>
+        ensures { IfSome result (λ time. Looks (time_after units) self.now (Ok time)) }
+    {
+        if units < 0 {
+            return None;
+        }
+        match self.time_after(units) {
+            Ok(time) => Some(time),
+            Err(_) => None,
+        }
+    }
+
+    // A time that is not before TIME.V, if it is that.
+    #[inline(always)]
+    fn time_to_come(&self, time: i64) -> Option<i64>
+        ensures { IfSome result (λ t. Looks (not_past time) self.now (Ok t)) }
+    {
+        if time < self.timeline.time() {
+            return None;
+        }
+        Some(time)
+    }
+
+    // The time for which a notice is scheduled by a number, where there is no fault.
+    #[inline(always)]
+    fn time_near(&self, later: bool, number: Number) -> Option<i64>
+        ensures { IfSome result (λ time. Looks (time_at (moment_of later (Whole number.value))) self.now (Ok time)) }
+    {
+        if later {
+            self.time_onward(number.value)
+        } else {
+            self.time_to_come(number.value)
+        }
+    }
+
+    // The same with every care.
+    #[inline(never)]
+    fn time_apart(&self, later: bool, number: Number) -> Result<i64, Trouble>
+        ensures { Looks (time_at (moment_of later (Whole number.value))) self.now result }
+    {
+        if later {
+            self.time_after(number.value)
+        } else {
+            self.not_past(number.value)
+        }
+    }
+
+    // The same, where no care is taken that need not be.
+    #[inline(always)]
+    fn time_by(&self, later: bool, number: Number) -> Result<i64, Trouble>
+        ensures { Looks (time_at (moment_of later (Whole number.value))) self.now result }
+    {
+        match self.time_near(later, number) {
+            Some(time) => Ok(time),
+            None => self.time_apart(later, number),
+        }
+    }
+
     /// The time for which a notice is scheduled, in units: a value, or so many units from now. Faults: 14 where the
     /// sum is too great, then 13 where the time is before TIME.V.
+    #[inline(always)]
     pub fn time_at(&self, later: bool, value: Value) -> Result<i64, Trouble>
         ensures { Looks (time_at (moment_of later value)) self.now result }
     {
-        match number_of(value) {
-            Err(trouble) => Err(trouble),
-            Ok(number) => {
-                if later {
-                    self.time_after(number)
-                } else {
-                    self.not_past(number)
-                }
-            }
+        match value {
+            Value::Whole(value) => self.time_by(later, Number { value }),
+            Value::Text(_) => Err(Trouble::Misfit),
         }
     }
 
@@ -132,11 +232,11 @@ impl Scene {
     /// The number of a new notice of a class, with values for its first attributes and its TIME.A. Faults: 14 after the last
     /// number, or where a history of an attribute is full. Want of memory changes nothing; where the values do not fit, the
     /// notice is made.
-    #[inline(never)]
+    #[inline(always)]
     pub fn notice_number(&mut self, class: usize, given: &[Value], time: i64) -> Result<i64, Unmade>
         ensures { Forms (made_notice class given.now time) self.old self.new (as_whole result) }
     {
-        match self.create_number(class) {
+        match self.create_apart(class) {
             Made::Number(number) => {
                 match self.prepare(class, &Value::Whole(number), given, time) {
                     Ok(()) => Ok(number),
@@ -300,6 +400,65 @@ impl Scene {
         }
     }
 
+    // Whether the class of notices of this rank has no ties.
+    #[inline(always)]
+    fn is_untied(&self, rank: usize) -> bool
+        ensures { result ≡ true → HasNoTies self.now.notices rank }
+    {
+        match self.notices.get(rank) {
+            None => false,
+            Some(said) => has_no_ties(said),
+        }
+    }
+
+    // The rank of a class of notices, where it has no ties.
+    #[inline(always)]
+    fn rank_untied(&self, class: usize) -> Option<usize>
+        ensures { IfSome result (λ rank. IsUntied self.now.notices class rank) }
+    {
+        match rank_of(&self.notices, class) {
+            None => None,
+            Some(rank) => {
+                if self.is_untied(rank) {
+                    Some(rank)
+                } else {
+                    None
+                }
+            }
+        }
+    }
+
+    // The key of a notice, by its number, with every care.
+    #[inline(never)]
+    fn key_apart(
+        &self,
+        alloc: Global,
+        class: usize,
+        notice: Known,
+        time: i64,
+    ) -> Result<Key, Unmade>
+        ensures { Finds (key_meant class (Whole notice.number) time) self.now result }
+    {
+        self.key(alloc, class, &Value::Whole(notice.number), time)
+    }
+
+    // The key of a notice, by its number.
+    #[inline(always)]
+    fn key_known(
+        &self,
+        alloc: Global,
+        class: usize,
+        notice: Known,
+        time: i64,
+    ) -> Result<Key, Unmade>
+        ensures { Finds (key_meant class (Whole notice.number) time) self.now result }
+    {
+        match self.rank_untied(class) {
+            Some(rank) => Ok(Key::with_ties(time, rank, Vec::new(alloc))),
+            None => self.key_apart(alloc, class, notice, time),
+        }
+    }
+
     // A notice is filed under a key, by its number.
     #[inline(always)]
     fn schedule_known(&mut self, key: Key, known: Known) -> Result<(), Unmade>
@@ -308,30 +467,38 @@ impl Scene {
         settled(self.timeline.schedule(key, known.number))
     }
 
-    // A notice is filed among those that are pending.
+    // A notice is filed among those that are pending, by its number.
     #[inline(always)]
     fn file_pending(
         &mut self,
         alloc: Global,
         class: usize,
-        x: &Value,
+        notice: Known,
         time: i64,
     ) -> Result<(), Unmade>
-        ensures { Grows (filed_notice class x.now time) self.old self.new result }
+        ensures { Grows (filed_notice class (Whole notice.number) time) self.old self.new result }
     {
-        match self.find(class, *x) {
+        match self.find_by_number(class, notice) {
             Err(trouble) => Err(lacking(trouble)),
-            Ok(known) => match self.key(alloc, class, x, time) {
+            Ok(known) => match self.key_known(alloc, class, notice, time) {
                 Err(unmade) => Err(unmade),
                 Ok(key) => self.schedule_known(key, known),
             },
         }
     }
 
+    // The same by a call, which tells in one piece what it came to.
+    #[inline(never)]
+    fn file_apart(&mut self, alloc: Global, class: usize, notice: Known, time: i64) -> Filed
+        ensures { Grows (filed_notice class (Whole notice.number) time) self.old self.new (filing_of result) }
+    {
+        in_one(self.file_pending(alloc, class, notice, time))
+    }
+
     /// A notice is filed among those that are pending, by its number: for this time, by the rank of its class and the values
     /// that the attributes which break ties have now. Faults: 1 to 4, then 13 where the time is before TIME.V, then 11, then
     /// 14 after the last scheduling. Want of memory changes nothing.
-    #[inline(never)]
+    #[inline(always)]
     pub fn file_known(
         &mut self,
         alloc: Global,
@@ -341,7 +508,7 @@ impl Scene {
     ) -> Result<(), Unmade>
         ensures { Grows (filed_notice class (Whole notice.number) time) self.old self.new result }
     {
-        self.file_pending(alloc, class, &Value::Whole(notice.number), time)
+        as_told(self.file_apart(alloc, class, notice, time))
     }
 
     // The same of a value that refers to a notice.
@@ -359,7 +526,7 @@ impl Scene {
     }
 
     /// The same of a value that refers to a notice.
-    #[inline(always)]
+    #[inline(never)]
     pub fn file_notice(
         &mut self,
         alloc: Global,

@@ -1,14 +1,15 @@
-use Rattle.std.proofs.Common.{rules, ◌≡◌, ℤ, subst, to_z, of_z, w64}
+use Rattle.std.proofs.Common.{rules, ◌≡◌, ℤ, sym, subst, to_z, of_z, w64}
 use Rattle.ss_base.specs.declared.value.Value.TheVariants.{Whole}
 use Rattle.ss_meaning.specs.Events.{filed_notice}
 use Rattle.ss_store.specs.Seen.{Grows}
+use Rattle.ss_store.specs.Scheduled.{filing_of}
 use Rattle.ss_store.proofs.scene.Scene.file_known.Goals as goal
 
 pub returns : goal.returns
 returns c =
     let time = c.args.time in
     let n = c.args.notice.number in
+    let old = c.args.self.now in let new = c.file_apart.new.self in
     let same : to_z w64 (of_z w64 time) ≡ time = search rules in
-    let number : to_z w64 (of_z w64 n) ≡ n = search rules in
-    subst (λ (m : ℤ). Grows (filed_notice c.args.class (Whole m) time) c.args.self.now c.file_pending.new.self c.file_pending.result) number
-    (subst (λ (t : ℤ). Grows (filed_notice c.args.class (Whole (to_z w64 (of_z w64 n))) t) c.args.self.now c.file_pending.new.self c.file_pending.result) same c.file_pending.ensures)
+    subst (Grows (filed_notice c.args.class (Whole n) time) old new) (sym c.as_told.ensures)
+    (subst (λ (t : ℤ). Grows (filed_notice c.args.class (Whole n) t) old new (filing_of c.file_apart.result)) same c.file_apart.ensures)

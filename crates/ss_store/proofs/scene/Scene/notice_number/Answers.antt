@@ -18,7 +18,7 @@ returns-in-Err c =
     let n = c.in-Number.number in
     let number : to_z w64 (of_z w64 n) ≡ n = search rules in
     let x = Whole n in
-    let mid = c.create_number.new.self in
+    let mid = c.create_apart.new.self in
     let t = c.in-Err.trouble in
     subst (λ (u : Unmade). Forms (made_notice class given time) c.args.self.now c.prepare.new.self (Err u)) (sym c.lacking.ensures)
     (forms_not (made_notice class given time) c.args.self.now c.prepare.new.self t
