@@ -40,6 +40,7 @@ impl Records {
     }
 
     // The same where it may take a search.
+    #[cold]
     #[inline(never)]
     fn pair_apart(&self, s: usize, o: i64, x: i64) -> Result<Pair, FaultKind>
         requires kept { IsKept self.now }

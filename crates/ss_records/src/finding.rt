@@ -27,6 +27,7 @@ impl Records {
     }
 
     // The same where it may take a search, or there is a fault.
+    #[cold]
     #[inline(never)]
     fn numbered_apart(&self, r: i64) -> Result<Address, FaultKind>
         ensures { result ≡ numbered_place self.now.directory.places r }

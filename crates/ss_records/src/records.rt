@@ -177,6 +177,7 @@ impl Records {
     }
 
     // The same where it may take a search. The call comes last, so that what needs none keeps nothing aside.
+    #[cold]
     #[inline(never)]
     fn whole_apart(&self, class: usize, field: usize, r: i64) -> Option<i64>
         requires kept { IsKept self.now }
@@ -216,6 +217,7 @@ impl Records {
     }
 
     // The same where it may take a search.
+    #[cold]
     #[inline(never)]
     fn set_whole_apart(&mut self, class: usize, field: usize, r: i64, n: i64) -> bool
         requires kept { IsKept self.old }
@@ -305,6 +307,7 @@ impl Records {
     }
 
     // The same where it may take a search, or there is a fault.
+    #[cold]
     #[inline(never)]
     fn set_time_apart(&mut self, r: i64, t: i64) -> Result<(), FaultKind>
         requires kept { IsKept self.old }
