@@ -11,3 +11,4 @@ pub mod Unstarted
 mod Quiet
 mod Spared
 pub mod OnePlace
+mod OnlyPlace

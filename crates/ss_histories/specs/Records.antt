@@ -11,12 +11,14 @@ use Rattle.ss_base.specs.declared.value.Value.{Value}
 use Rattle.ss_base.specs.declared.value.Value.TheVariants.{Whole}
 use Rattle.ss_program.specs.declared.expression.Fold.{Fold}
 use Rattle.ss_program.specs.declared.expression.Fold.TheVariants.{Number, Sum, Maximum, Minimum}
+use Rattle.ss_program.specs.declared.sections.Subject.{Subject}
 use Rattle.ss_program.specs.declared.sections.Subject.TheVariants.{OfCount}
 use Rattle.ss_program.specs.declared.sections.Statistic.{Statistic}
 use Rattle.ss_stats.specs.History.{History, last_moment, number_of, sum_of, mean_of, maximum_of, minimum_of, is_full, with_value, restarted}
 use Rattle.ss_meaning.specs.Values.{Trouble, Fails, Misfit, turned, due}
 use Rattle.ss_meaning.specs.Store.{Column}
-use Rattle.ss_meaning.specs.Histories.{history_of, with_history, home, same_owner, starting, ending}
+use Rattle.ss_meaning.specs.Histories.{history_of, with_history, all_noting, home, same_owner, starting, ending}
+use Rattle.ss_histories.specs.Places.{places, is_about}
 use Rattle.ss_histories.specs.declared.unnoted.Unnoted.{Unnoted}
 use Rattle.ss_histories.specs.declared.unnoted.Unnoted.TheVariants.{Full}
 use Rattle.ss_histories.specs.declared.unnoted.Unnoted.TheVariants as unnoted
@@ -138,6 +140,14 @@ mean_in j x now cs = turned (λ h. mean_of h now) (history_of j x cs)
 abbrev pub renewed_where : Bool → List Column → Result (List Column) Trouble
 renewed_where true cs = Ok cs
 renewed_where false cs = Err Misfit
+
+-- whatever number a subject of an entity is, histories note it
+abbrev pub Takes : Subject → (entity now : ℤ) → List Statistic → List Column → Type 0
+Takes subject x now ss cs = (n : ℤ) → (ds : List Column) × (all_noting subject x now (Whole n) ss cs ≡ Ok ds)
+
+-- the statistic at a place is the only one of N. of a set
+abbrev pub IsOnly : (set place : ℕ) → List Statistic → Type 0
+IsOnly set place ss = places (is_about (OfCount set)) ss ≡ place ∷ []
 
 -- why a value is not noted
 abbrev pub why : Unnoted → Trouble

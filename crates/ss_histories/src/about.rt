@@ -3,7 +3,7 @@
 ghost use Rattle.std.specs.Prelude.{◌≡◌, ℕ, true, ◌++◌, ◌∷◌, [], OnOk, IfOk, if◌then◌else◌};
 ghost use Rattle.ss_meaning.specs.Histories.{same_subject};
 ghost use Rattle.ss_program.specs.declared.sections.Subject.{Subject as TheSubject};
-ghost use Rattle.ss_program.specs.declared.sections.Subject.TheVariants.{OfAttribute};
+ghost use Rattle.ss_program.specs.declared.sections.Subject.TheVariants.{OfAttribute, OfCount};
 ghost use Rattle.ss_histories.specs.Places.{places, is_about, found};
 
 use crate::table::{Grid, Table};
@@ -50,6 +50,14 @@ impl Tables {
         ensures { result.now ≡ found (OfAttribute class field) self.now.variables self.now.attributes self.now.sets }
     {
         self.attributes.at(class, field)
+    }
+
+    /// What stands under N. of a set.
+    #[inline(always)]
+    fn at_count(&self, set: usize) -> &[usize]
+        ensures { result.now ≡ found (OfCount set) self.now.variables self.now.attributes self.now.sets }
+    {
+        self.sets.at(set)
     }
 
     /// Whether nothing stands under an attribute.
@@ -122,6 +130,14 @@ impl About {
         ensures { result.now ≡ places (is_about (OfAttribute class field)) self.now }
     {
         self.tables.at_attribute(class, field)
+    }
+
+    /// Where the statistics of N. of a set stand.
+    #[inline(always)]
+    pub(crate) fn count_places(&self, set: usize) -> &[usize]
+        ensures { result.now ≡ places (is_about (OfCount set)) self.now }
+    {
+        self.tables.at_count(set)
     }
 
     /// Whether no statistic is about an attribute.

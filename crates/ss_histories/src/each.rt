@@ -1,6 +1,6 @@
 //! What is done with each of some statistics.
 
-ghost use Rattle.std.specs.Prelude.{◌≡◌, ◌<◌, [], false, ◌≤ℤ◌, pos, map, fold, length, IfOk, OnOk, IsTrue, MatchResult, IfSome, Some, None};
+ghost use Rattle.std.specs.Prelude.{◌≡◌, ◌<◌, [], ◌∷◌, true, false, ◌≤ℤ◌, pos, map, fold, length, IfOk, OnOk, IsTrue, MatchResult, IfSome, Some, None};
 ghost use Rattle.std.specs.List.{All};
 ghost use Rattle.std.specs.Ordering.{int_eq};
 ghost use Rattle.ss_base.specs.declared.value.Value.TheVariants.{Whole};
@@ -65,6 +65,27 @@ pub(crate) fn note_each(kept: &mut [Kept], places: &[usize], entity: i64, now: i
     }
 }
 
+/// Whether the history of an entity in the statistic at a place takes a number, as it is told at once.
+#[inline(always)]
+pub(crate) fn takes_at(kept: &[Kept], place: usize, entity: i64, now: i64) -> bool
+    requires within { place < length kept.now }
+    requires until { All (KeptUntil now) kept.now }
+    ensures { result ≡ true → refused_at entity (map shown kept.now) place ≡ None }
+{
+    kept[place].takes(entity, now)
+}
+
+/// The only place, if there is one.
+#[inline(always)]
+pub(crate) fn only(places: &[usize]) -> Option<usize>
+    ensures { IfSome result (λ place. places.now ≡ place ∷ []) }
+{
+    match places {
+        [place] => Some(*place),
+        _ => None,
+    }
+}
+
 /// Whether there is a statistic.
 #[inline(always)]
 pub(crate) fn has_any(kept: &[Kept]) -> bool
@@ -87,8 +108,27 @@ pub(crate) fn has_some(places: &[usize]) -> bool
     }
 }
 
-// Notes a number in the history of an entity in the statistic at a place, or says why that takes none; then nothing
-// changes.
+/// Notes a number in the history of an entity in the statistic at a place, or says why that takes none; then nothing
+/// changes.
+#[inline(always)]
+pub(crate) fn note_here(
+    kept: &mut [Kept],
+    place: usize,
+    entity: i64,
+    now: i64,
+    number: i64,
+) -> Option<Unnoted>
+    requires within { place < length kept.old }
+    requires until { All (KeptUntil now) kept.old }
+    ensures refused { result ≡ refused_at entity (map shown kept.old) place }
+    ensures same { IfSome result (λ _. kept.new ≡ kept.old) }
+    ensures shown { map shown kept.new ≡ changed_at (noted_one entity now number) (map shown kept.old) place }
+    ensures until { All (KeptUntil now) kept.new }
+{
+    kept[place].note_or_refuse(entity, now, number)
+}
+
+// The same by a call.
 #[inline(never)]
 fn note_at_place(
     kept: &mut [Kept],
@@ -104,7 +144,7 @@ fn note_at_place(
     ensures shown { map shown kept.new ≡ changed_at (noted_one entity now number) (map shown kept.old) place }
     ensures until { All (KeptUntil now) kept.new }
 {
-    kept[place].note_or_refuse(entity, now, number)
+    note_here(kept, place, entity, now, number)
 }
 
 // The same as `note_all` does.

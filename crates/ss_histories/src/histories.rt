@@ -2,6 +2,7 @@
 
 ghost use Rattle.std.specs.Prelude.{◌≡◌, ℕ, ◌≤ℤ◌, ◌<◌, [], true, false, ℤ, pos, length, slice_get, Ok, Err, IfOk, OnOk, IfSome, MatchResult};
 ghost use Rattle.ss_base.specs.declared.value.Value.{Value as ValueSeen};
+ghost use Rattle.ss_base.specs.declared.value.Value.TheVariants.{Whole};
 ghost use Rattle.std.specs.Bool.{IsFalse};
 ghost use Rattle.std.specs.List.{All, list_any};
 ghost use Rattle.std.specs.Option.{option_map};
@@ -10,11 +11,11 @@ ghost use Rattle.ss_base.specs.declared.layout.Layout.{Layout as TheLayout};
 ghost use Rattle.ss_base.specs.declared.layout.Owner.TheVariants.{Class};
 ghost use Rattle.ss_program.specs.declared.sections.Statistic.{Statistic};
 ghost use Rattle.ss_program.specs.declared.sections.Subject.{Subject as TheSubject};
-ghost use Rattle.ss_program.specs.declared.sections.Subject.TheVariants.{OfVariable, OfAttribute};
+ghost use Rattle.ss_program.specs.declared.sections.Subject.TheVariants.{OfVariable, OfAttribute, OfCount};
 ghost use Rattle.ss_picture.specs.Suited.{IsMean};
 ghost use Rattle.ss_meaning.specs.Values.{if_ok, sure};
 ghost use Rattle.ss_meaning.specs.Histories.{no_histories, starting, ending, all_noting, history_of, folded, renewed};
-ghost use Rattle.ss_histories.specs.Records.{columns_of, statistics_of, rows_of, figured, mean_in, HasRooms, OwnsNone, Spares, is_up_to, why, renewed_where};
+ghost use Rattle.ss_histories.specs.Records.{columns_of, statistics_of, rows_of, figured, mean_in, HasRooms, IsOnly, OwnsNone, Spares, Takes, is_up_to, why, renewed_where};
 ghost use Rattle.ss_histories.specs.Each.{KeptUntil};
 ghost use Rattle.ss_histories.specs.Places.{is_about, places as places_of};
 
@@ -212,6 +213,38 @@ impl Histories {
         note_at(&mut self.kept, &mut self.latest, places, entity, now, value)
     }
 
+    /// Where the only statistic of N. of a set stands, if the history of its owner in it takes a number: then noting one
+    /// does not fail.
+    #[inline(always)]
+    pub fn taking(&self, set: usize, owner: i64, now: i64) -> Option<usize>
+        requires { self.now.latest ≤ℤ now }
+        ensures { IfSome result (λ place. IsOnly set place self.now.statistics × Takes (OfCount set) owner now self.now.statistics (columns_of self.now.rows)) }
+    {
+        let places = self.about.count_places(set);
+        match each::only(places) {
+            Some(place) => if each::takes_at(&self.kept, place, owner, now) {
+                Some(place)
+            } else {
+                None
+            },
+            None => None,
+        }
+    }
+
+    /// Notes N. of the set of an owner, now, in the only statistic of it, whose history takes a number.
+    #[inline(always)]
+    pub fn note_count(&mut self, set: usize, place: usize, owner: i64, now: i64, number: i64)
+        requires now { self.old.latest ≤ℤ now }
+        requires only { IsOnly set place self.old.statistics }
+        requires takes { Takes (OfCount set) owner now self.old.statistics (columns_of self.old.rows) }
+        ensures noted { all_noting (OfCount set) owner now (Whole number) self.old.statistics (columns_of self.old.rows) ≡ Ok (columns_of self.new.rows) }
+        ensures statistics { self.new.statistics ≡ self.old.statistics }
+        ensures latest { self.new.latest ≤ℤ now }
+    {
+        let _ = set;
+        note_only(&mut self.kept, &mut self.latest, place, owner, now, number);
+    }
+
     /// What is asked of the history of an entity in a statistic, if it has one. Faults: 14 for a sum of more than 64
     /// bits.
     pub fn figure(
@@ -289,4 +322,21 @@ fn note_at(
         }
         Err(unnoted) => Err(unnoted),
     }
+}
+
+// Notes N. of the set of an owner, now, in the statistic at a place, which is the only one of that, and whose history takes a number.
+#[inline(always)]
+fn note_only(kept: &mut [Kept], latest: &mut i64, place: usize, owner: i64, now: i64, number: i64)
+    requires within { place < length kept.old }
+    requires until { All (KeptUntil latest.old) kept.old }
+    requires start { pos 0 ≤ℤ latest.old }
+    requires now { latest.old ≤ℤ now }
+    ensures noted { (set : ℕ) → IsOnly set place (statistics_of kept.old) → Takes (OfCount set) owner now (statistics_of kept.old) (columns_of (rows_of kept.old)) → all_noting (OfCount set) owner now (Whole number) (statistics_of kept.old) (columns_of (rows_of kept.old)) ≡ Ok (columns_of (rows_of kept.new)) }
+    ensures statistics { (set : ℕ) → IsOnly set place (statistics_of kept.old) → statistics_of kept.new ≡ statistics_of kept.old }
+    ensures until { All (KeptUntil latest.new) kept.new }
+    ensures start { pos 0 ≤ℤ latest.new }
+    ensures latest { latest.new ≤ℤ now }
+{
+    let _ = each::note_here(kept, place, owner, now, number);
+    *latest = now;
 }

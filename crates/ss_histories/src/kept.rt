@@ -1,6 +1,6 @@
 //! The histories of one statistic.
 
-ghost use Rattle.std.specs.Prelude.{◌≡◌, Some, is_some, ◌+◌, ◌<◌, ◌≤◌, pos, ◌≤ℤ◌, OnOk, IfSome};
+ghost use Rattle.std.specs.Prelude.{◌≡◌, true, Some, None, is_some, ◌+◌, ◌<◌, ◌≤◌, pos, ◌≤ℤ◌, OnOk, IfSome};
 ghost use Rattle.std.specs.Ordering.{int_eq};
 ghost use Rattle.std.specs.Option.{option_map, option_copied};
 ghost use Rattle.ss_histories.specs.Each.{refused_in};
@@ -132,6 +132,18 @@ impl Kept {
         }
     }
 
+    /// Whether the history of an entity takes a number, as it is told at once.
+    #[inline(always)]
+    pub(crate) fn takes(&self, entity: i64, now: i64) -> bool
+        requires { IsUntil now (column_of self.now.rows) }
+        ensures { result ≡ true → refused_in (column_of self.now.rows entity) ≡ None }
+    {
+        match self.of(entity) {
+            Some(watched) => watched.is_open(now),
+            None => false,
+        }
+    }
+
     /// Notes a value in the history of an entity, if it has one that isn't full.
     pub(crate) fn note(&mut self, entity: i64, now: i64, value: i64)
         requires { IsUntil now (column_of self.old.rows) }
@@ -227,7 +239,7 @@ fn note_system(system: &mut Option<Watched>, now: i64, value: i64) -> Option<Unn
 }
 
 // Notes a value in the history of any other entity, or says why that takes no number; then nothing changes.
-#[inline(always)]
+#[inline(never)]
 fn note_found(
     others: &mut HashMap<i64, Watched>,
     entity: i64,

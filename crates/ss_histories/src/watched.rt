@@ -1,6 +1,6 @@
 //! The totals of one history.
 
-ghost use Rattle.std.specs.Prelude.{◌≡◌, pos, ◌≤ℤ◌, not, false};
+ghost use Rattle.std.specs.Prelude.{◌≡◌, pos, ◌≤ℤ◌, not, true, false};
 ghost use Rattle.ss_picture.specs.Suited.{IsMean};
 ghost use Rattle.ss_meaning.specs.Histories.{at_start};
 ghost use Rattle.ss_histories.specs.Records.{figure_of, noted_value};
@@ -10,7 +10,7 @@ use crate::told::Told;
 use ss_base::FaultKind;
 use ss_program::expression::Fold;
 use ss_program::sections::Weighting;
-use ss_stats::Totals;
+use ss_stats::{TALLY_LIMIT, Totals};
 use std::marker::Model;
 
 /// The totals of a history. A contract sees them as that history.
@@ -62,6 +62,15 @@ impl Watched {
     {
         let mut totals = self.totals;
         totals.note(now, 0).is_err()
+    }
+
+    /// Whether it takes one more value, as it is told at once.
+    #[inline(always)]
+    pub(crate) fn is_open(&self, now: i64) -> bool
+        requires { last_moment self.now ≤ℤ now }
+        ensures { result ≡ true → is_full self.now ≡ false }
+    {
+        self.totals.number(now) < TALLY_LIMIT
     }
 
     /// Notes a value, unless it is full, and answers whether it did.

@@ -8,11 +8,12 @@ ghost use Rattle.ss_base.specs.declared.layout.Layout.{Layout as TheLayout};
 ghost use Rattle.ss_base.specs.declared.layout.Owner.TheVariants.{System, Class};
 ghost use Rattle.ss_events.specs.PendingList.{none_pending, is_pending, cancelled, next};
 ghost use Rattle.ss_histories.specs.Places.{is_about};
-ghost use Rattle.ss_histories.specs.Records.{HasRooms, OwnsNone, Spares, is_up_to, renewed_where, figured, mean_in, columns_of};
+ghost use Rattle.ss_histories.specs.Records.{HasRooms, IsOnly, OwnsNone, Spares, Takes, is_up_to, renewed_where, figured, mean_in, columns_of};
 ghost use Rattle.ss_histories.specs.Histories.{no_histories, starting, ending, all_noting, history_of, folded, renewed};
 ghost use Rattle.ss_histories.specs.Values.{if_ok, sure};
 ghost use Rattle.ss_picture.specs.Suited.{IsMean};
-ghost use Rattle.ss_program.specs.declared.sections.Subject.TheVariants.{OfVariable, OfAttribute};
+ghost use Rattle.ss_program.specs.declared.sections.Subject.TheVariants.{OfVariable, OfAttribute, OfCount};
+ghost use Rattle.ss_base.specs.declared.value.Value.TheVariants.{Whole};
 ghost use Rattle.ss_timeline.specs.Figures.{subject_in};
 ghost use Rattle.ss_timeline.specs.Times.{IsAt, Schedules, Noted, columns, passed_by};
 
@@ -176,6 +177,26 @@ impl Timeline {
         }
         self.histories
             .note_attribute(class, field, entity, self.time, value)
+    }
+
+    /// Where the only statistic of N. of a set stands, if the history of its owner in it takes a number: then noting one
+    /// does not fail.
+    #[inline(always)]
+    pub fn taking(&self, set: usize, owner: i64) -> Option<usize>
+        ensures { IfSome result (λ place. IsOnly set place self.now.histories.statistics × Takes (OfCount set) owner self.now.time self.now.histories.statistics (columns self.now)) }
+    {
+        self.histories.taking(set, owner, self.time)
+    }
+
+    /// Notes N. of the set of an owner in the only statistic of it, whose history takes a number.
+    #[inline(always)]
+    pub fn note_count(&mut self, set: usize, place: usize, owner: i64, number: i64)
+        requires only { IsOnly set place self.old.histories.statistics }
+        requires takes { Takes (OfCount set) owner self.old.time self.old.histories.statistics (columns self.old) }
+        ensures { Noted (OfCount set) owner (Whole number) self.old self.new (Ok tt) }
+    {
+        self.histories
+            .note_count(set, place, owner, self.time, number);
     }
 
     /// Makes room for so many more histories of each statistic of what the entities of a class have. The error comes

@@ -4,7 +4,7 @@ use Rattle.ss_histories.specs.Records.{IsUntil, column_of}
 use Rattle.ss_histories.specs.Each.{shown, noted_one, KeptUntil}
 use Rattle.ss_histories.proofs.Columns.{one_changed, all_written, until_noted}
 use Rattle.ss_histories.proofs.Fullness.{refused_there}
-use Rattle.ss_histories.proofs.each.note_at_place.Goals as goal
+use Rattle.ss_histories.proofs.each.note_here.Goals as goal
 
 pub returns-clause-refused : goal.returns-clause-refused
 returns-clause-refused c =
