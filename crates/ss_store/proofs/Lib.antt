@@ -14,3 +14,4 @@ pub mod Rehoming
 pub mod Starting
 pub mod Figured
 pub mod Going
+mod Renoting

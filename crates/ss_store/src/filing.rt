@@ -142,7 +142,7 @@ impl Scene {
 
     // The same by the number of the member and what refers to the owner, which is answered.
     #[inline(always)]
-    pub(crate) fn file_member(
+    fn file_member(
         &mut self,
         filing: Filing,
         set: usize,
@@ -157,6 +157,30 @@ impl Scene {
         }
         match self.owner(set, owner) {
             Ok(owner) => match self.place(filing, set, Membership { owner, member }) {
+                Ok(()) => Ok(owner),
+                Err(trouble) => Err(trouble),
+            },
+            Err(trouble) => Err(trouble),
+        }
+    }
+
+    // The same where it hardly goes last.
+    #[inline(always)]
+    pub(crate) fn file_member_anywhere(
+        &mut self,
+        filing: Filing,
+        set: usize,
+        member: Known,
+        owner: Option<Value>,
+    ) -> Result<Known, Trouble>
+        ensures value { Rehomes set owner (λ o. filed_by (filing_meant filing) set o member.number) self.old self.new result }
+        ensures counted { IfOk result (λ owner. IsCountable self.new.heap set owner.number) }
+    {
+        if !self.has_set(set) {
+            return Err(Trouble::Misfit);
+        }
+        match self.owner(set, owner) {
+            Ok(owner) => match self.place_anywhere(filing, set, Membership { owner, member }) {
                 Ok(()) => Ok(owner),
                 Err(trouble) => Err(trouble),
             },
