@@ -15,3 +15,4 @@ pub mod Starting
 pub mod Figured
 pub mod Going
 mod Renoting
+pub mod Making

@@ -242,7 +242,7 @@ impl Scene {
 
     // Whether the entities of a class come and go one by one.
     #[inline(always)]
-    fn is_single(&self, class: usize) -> bool
+    pub(crate) fn is_single(&self, class: usize) -> bool
         ensures { result ≡ is_single (class_in self.now.heap.layout class) }
     {
         is_single(self.population.layout(), class)

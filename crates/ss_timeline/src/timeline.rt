@@ -228,7 +228,7 @@ impl Timeline {
     /// Whether the entities of a class have a history, as it is told without a look at each statistic, where it is known whether
     /// the class owns a set.
     #[inline(always)]
-    fn bears(&self, owns: bool) -> bool
+    pub fn bears(&self, owns: bool) -> bool
         ensures { result ≡ false → (l : TheLayout) (class : ℕ) → (owns ≡ false → OwnsNone l class) → Spares l class self.now.histories }
     {
         owns || !self.histories.spares_setless()

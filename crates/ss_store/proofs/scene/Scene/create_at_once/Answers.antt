@@ -1,0 +1,24 @@
+use Rattle.std.proofs.Common.{rules, ◌≡◌, true, Some, int_eq, to_z, of_z, w64, refl, sym, subst}
+use Rattle.ss_meaning.specs.Entities.{is_single, made_one}
+use Rattle.ss_classes.specs.Layouts.{class_in}
+use Rattle.ss_store.specs.AtOnce.{Draws, StaysQuiet}
+use Rattle.ss_store.specs.Seen.{Seen}
+use Rattle.ss_store.specs.contracts.scene.Scene.{the_view}
+use Rattle.ss_store.proofs.Making.{spared_made}
+use Rattle.ss_store.proofs.Renoting.{quiet_still}
+use Rattle.ss_store.proofs.scene.Scene.create_at_once.Goals as goal
+
+pub returns-clause-made : goal.returns-clause-made
+returns-clause-made c =
+    let n = c.in-Ok.number in let class = c.args.class in
+    let old = the_view c.self.inside in
+    let x : to_z w64 (of_z w64 n) ≡ n = search rules in
+    let yes : is_single (class_in c.args.self.now.heap.layout class) ≡ true = search rules in
+    let single = subst (λ (e : Seen). is_single (class_in e.heap.layout class) ≡ true) (sym c.self.view_is) yes in
+    let starts = (c.bears.ensures c.if-bears.false old.heap.layout class c.owns_set.ensures).starts (int_eq n) old.time in
+    rw x (subst (λ (e : Seen). Draws (made_one class) e (record old { heap = c.create.new.self }) (Some n)) c.self.view_is (spared_made class n old c.create.new.self single c.in-Ok.ensures starts))
+
+pub returns-clause-quiet : goal.returns-clause-quiet
+returns-clause-quiet c =
+    let old = the_view c.self.inside in
+    subst (λ (e : Seen). StaysQuiet e (record old { heap = c.create.new.self })) c.self.view_is (quiet_still old (record old { heap = c.create.new.self }) refl)
