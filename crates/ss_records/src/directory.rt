@@ -154,6 +154,7 @@ impl Directory {
     }
 
     /// The place of the next number, which is remembered.
+    #[inline(always)]
     pub(crate) fn push(&mut self, place: Address) -> Result<(), AllocError>
         requires room { length self.old.places < 2 ^ 62 }
         ensures { MatchResult result (λ _. self.new.places ≡ self.old.places ++ Some place ∷ []) (λ _. self.new.places ≡ self.old.places) }
