@@ -9,7 +9,7 @@ use Rattle.ss_base.specs.declared.value.Value.TheVariants.{Whole}
 use Rattle.ss_records.specs.State.{State, LAST_NUMBER, with_created, created}
 use Rattle.ss_timeline.specs.Records.{columns_of}
 use Rattle.ss_meaning.specs.Values.{turned, due, where_fit}
-use Rattle.ss_meaning.specs.Store.{Store, with_heap, with_histories}
+use Rattle.ss_meaning.specs.Store.{with_heap, with_histories}
 use Rattle.ss_meaning.specs.Histories.{starting}
 use Rattle.ss_meaning.specs.Entities.{is_single, with_new, made_one}
 use Rattle.ss_classes.specs.Layouts.{class_in}

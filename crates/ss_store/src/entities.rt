@@ -283,11 +283,15 @@ impl Scene {
         self.create_number(class)
     }
 
-    /// The number of a new entity of a class, whose histories start. Faults: 14 after the last number.
+    /// The number of a new entity of a class, whose histories start. Faults: 14 after the last number. Want of memory is answered also
+    /// where it was refused to an entity that was to be made at once, and then none is asked for.
     #[inline(always)]
     pub fn create(&mut self, class: usize) -> Result<Value, Unmade>
         ensures { Makes (made_one class) self.old self.new result }
     {
+        if self.is_wanting {
+            return Err(Unmade::Memory);
+        }
         match self.create_number(class) {
             Made::Number(number) => Ok(Value::Whole(number)),
             Made::Last => Err(Unmade::Fault(FaultKind::Overflow)),

@@ -25,6 +25,8 @@ pub struct Scene {
     pub(crate) disciplines: Vec<Discipline>,
     pub(crate) notices: Vec<NoticeClass>,
     pub(crate) timeline: Timeline,
+    // Memory was refused to an entity that was to be made at once.
+    pub(crate) is_wanting: bool,
 }
 
 impl Model for Scene {
@@ -57,6 +59,7 @@ impl Scene {
             disciplines,
             notices,
             timeline,
+            is_wanting: false,
         })
     }
 }

@@ -8,8 +8,8 @@ use Rattle.ss_store.proofs.Making.{spared_made}
 use Rattle.ss_store.proofs.Renoting.{quiet_still}
 use Rattle.ss_store.proofs.scene.Scene.create_at_once.Goals as goal
 
-pub returns-clause-made : goal.returns-clause-made
-returns-clause-made c =
+pub returns-in-Ok-clause-made : goal.returns-in-Ok-clause-made
+returns-in-Ok-clause-made c =
     let n = c.in-Ok.number in let class = c.args.class in
     let old = the_view c.self.inside in
     let x : to_z w64 (of_z w64 n) ≡ n = search rules in
@@ -18,7 +18,7 @@ returns-clause-made c =
     let starts = (c.bears.ensures c.if-bears.false old.heap.layout class c.owns_set.ensures).starts (int_eq n) old.time in
     rw x (subst (λ (e : Seen). Draws (made_one class) e (record old { heap = c.create.new.self }) (Some n)) c.self.view_is (spared_made class n old c.create.new.self single c.in-Ok.ensures starts))
 
-pub returns-clause-quiet : goal.returns-clause-quiet
-returns-clause-quiet c =
+pub returns-in-Ok-clause-quiet : goal.returns-in-Ok-clause-quiet
+returns-in-Ok-clause-quiet c =
     let old = the_view c.self.inside in
     subst (λ (e : Seen). StaysQuiet e (record old { heap = c.create.new.self })) c.self.view_is (quiet_still old (record old { heap = c.create.new.self }) refl)
