@@ -5,18 +5,19 @@ use denote.RawPtr.{Ptr}
 use Rattle.ss_base.specs.declared.layout.ClassKind.{ClassKind}
 use Rattle.ss_base.specs.declared.layout.ClassKind.TheVariants.{Permanent, Temporary, Notice}
 use Rattle.ss_base.specs.declared.layout.Layout.{Layout}
-use Rattle.ss_records.specs.declared.store.Address.{Address}
-use Rattle.ss_records.specs.Cells.{Cells, words_at}
+use Rattle.ss_blocks.specs.declared.store.Address.{Address}
+use Rattle.ss_blocks.specs.Cells.{Cells, words_at}
 use Rattle.ss_states.specs.State.{State, Members, and_then, of_class, entity, entity_of_kind, kind_of, numbered, indexed, number_in, members_of, owner_of}
 use Rattle.ss_states.specs.Sets.{member_in, member_class, Apart}
 use Rattle.ss_records.specs.Reading.{record_of}
 use Rattle.ss_records.specs.Places.{Directory, Lists, class_at}
 use Rattle.ss_records.specs.Kept.{Kept, IsPermanent, state_of, issued_place, numbered_place}
 use Rattle.ss_records.specs.Slotted.{IsOf}
-use Rattle.ss_records.proofs.Same.{same}
+use Rattle.ss_blocks.proofs.Same.{same}
 use Rattle.ss_records.proofs.Splice.{not_and_in}
 use Rattle.ss_records.proofs.Disjoint.{entry_of}
-use Rattle.ss_records.proofs.Filed.{get_there, filed_or_not}
+use Rattle.ss_blocks.proofs.Entries.{get_there}
+use Rattle.ss_records.proofs.Filed.{filed_or_not}
 use Rattle.ss_records.proofs.Listing.{listed}
 use Rattle.ss_records.proofs.Keeps.{read_place, numbered_is}
 use Rattle.ss_records.proofs.Indexing.{indexed_there, of_permanent}

@@ -14,24 +14,21 @@ use Rattle.ss_base.specs.declared.layout.Mode.{Mode}
 use Rattle.ss_base.specs.declared.layout.ClassLayout.{ClassLayout}
 use Rattle.ss_base.specs.declared.layout.Layout.{Layout}
 use Rattle.ss_base.specs.Layout.{mode_of}
-use Rattle.ss_records.specs.declared.store.Address.{Address}
-use Rattle.ss_records.specs.Cells.{Word, number, Cells, IsNumber, MayBeNumber, words_at, word_of, word_at, with_word, put_word}
+use Rattle.ss_blocks.specs.declared.store.Address.{Address}
+use Rattle.ss_blocks.specs.Cells.{Word, number, Cells, IsNumber, MayBeNumber, words_at, word_of, word_at, with_word, put_word}
 use Rattle.ss_states.specs.State.{Record, State, Members, and_then, entity, numbered, of_notice, notice, value_in, time_in, number_in, kind_in, kind_of, modes_of, is_notice, with_value, with_time, with_indexed, with_entity, with_entity_of_kind, assigned, timed}
 use Rattle.ss_records.specs.Shape.{values_end, links_start}
 use Rattle.ss_records.specs.Reading.{plain, class_of, record_of, record_at, records_at, value_at, put_two, PutsValue}
-use Rattle.ss_records.specs.Kept.{Kept, Formed, IsPermanent, Written, state_of}
+use Rattle.ss_blocks.specs.Writes.{Written}
+use Rattle.ss_records.specs.Kept.{Kept, Formed, IsPermanent, state_of}
 use Rattle.ss_records.specs.Places.{Made, Directory, Lists, class_at}
-use Rattle.ss_records.proofs.Numbers.{length-with_word}
-use Rattle.ss_records.proofs.Same.{by_same}
-use Rattle.ss_records.proofs.Puts.{word_other, word_here, words_written, written_put, written_twice}
-use Rattle.ss_records.proofs.WordKinds.{number_may}
+use Rattle.ss_blocks.proofs.Numbers.{length-with_word}
+use Rattle.ss_blocks.proofs.Same.{by_same}
+use Rattle.ss_blocks.proofs.Puts.{word_other, word_here, words_written, written_put, written_twice}
+use Rattle.ss_blocks.proofs.WordKinds.{number_may}
 use Rattle.ss_records.proofs.ReadWords.{read_as, with_two, two_other, value_read, record_value, record_time}
 use Rattle.ss_records.proofs.Keeps.{kept_written, records_written, permanents_same, records_same, permanents_written}
-
-pub get_inside : {A : Type 0} (xs : List A) (i : ℕ) (a : A) → slice_get xs i ≡ Some a → i < length xs
-get_inside [] i a h = cc
-get_inside (x ∷ xs) zero a h = omega arith
-get_inside (x ∷ xs) (suc i) a h = omega (arith, get_inside xs i a h)
+use Rattle.ss_blocks.proofs.Entries.{get_inside}
 
 with_numbered : (s : State) (k : ClassKind) (c n : ℕ) (r : Record) → (IsPermanent k → ⊥) → with_entity_of_kind s k c n r ≡ record s { records = slice_set s.records (n - 1) (Some r) }
 with_numbered s Permanent c n r h = absurd (h tt)

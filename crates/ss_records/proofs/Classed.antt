@@ -6,15 +6,15 @@ use Rattle.ss_base.specs.declared.layout.ClassKind.{ClassKind}
 use Rattle.ss_base.specs.declared.layout.ClassKind.TheVariants.{Permanent, Temporary, Notice}
 use Rattle.ss_states.specs.State.{State, numbered, and_then, of_class, no_value, kind_of, entity_of_kind, known_in}
 use Rattle.ss_records.specs.declared.records.Records.{Records}
-use Rattle.ss_records.specs.declared.store.Address.{Address}
-use Rattle.ss_records.specs.Cells.{number, words_at, word_at}
+use Rattle.ss_blocks.specs.declared.store.Address.{Address}
+use Rattle.ss_blocks.specs.Cells.{number, words_at, word_at}
 use Rattle.ss_records.specs.Reading.{plain, record_of}
 use Rattle.ss_records.specs.Places.{class_at}
 use Rattle.ss_records.specs.Kept.{IsPermanent, numbered_place}
 use Rattle.ss_records.specs.Parts.{IsKept, state, places}
 use Rattle.ss_records.specs.Classed.{HasClass}
 use Rattle.ss_records.proofs.Keeps.{read_place, numbered_is, there}
-use Rattle.ss_records.proofs.Same.{same, differs}
+use Rattle.ss_blocks.proofs.Same.{same, differs}
 
 -- the class is the one that the block at the place of the number says
 pub class_there : (r : Records) (K : IsKept r) (x : ℤ) (p : Address) (c : ℕ) → numbered_place r.directory.places x ≡ Ok p → word_at r.blocks.cells p.at 0 ≡ number c → HasClass (state r) x c

@@ -10,32 +10,24 @@ use Rattle.ss_base.specs.declared.layout.Mode.TheVariants.{Integer, Alpha}
 use Rattle.ss_base.specs.declared.layout.Layout.{Layout}
 use Rattle.ss_base.specs.declared.layout.Owner.TheVariants.{System, Class}
 use Rattle.ss_base.specs.Layout.{first_value}
-use Rattle.ss_records.specs.declared.store.Address.{Address}
-use Rattle.ss_records.specs.Cells.{Word, blank, number, Cells, IsNumber, words_at, word_of, word_at, blanks}
+use Rattle.ss_blocks.specs.declared.store.Address.{Address}
+use Rattle.ss_blocks.specs.Cells.{Word, number, Cells, IsNumber, words_at, word_of, word_at, blanks}
 use Rattle.ss_states.specs.State.{Record, Members, kind_of, modes_of, is_notice, first_record, created, LAST_NUMBER}
 use Rattle.ss_records.specs.Shape.{values_end, links_start, block_words}
 use Rattle.ss_records.specs.Reading.{plain, value_of, values_from, class_of, record_of, record_at, records_at}
 use Rattle.ss_records.specs.Kept.{Kept, Formed, IsPermanent, state_of}
-use Rattle.ss_records.specs.Places.{Numbers, Made, Directory, lying, own_or, listing, Lists, class_at, living, made_count}
+use Rattle.ss_blocks.specs.Places.{Numbers}
+use Rattle.ss_records.specs.Places.{Made, Directory, lying, own_or, listing, Lists, class_at, made_count}
 use Rattle.ss_records.specs.Laid.{Laid, Born}
-use Rattle.ss_records.proofs.Same.{by_same}
-use Rattle.ss_records.proofs.Puts.{words_new, words_old}
+use Rattle.ss_blocks.proofs.Same.{by_same}
+use Rattle.ss_blocks.proofs.Puts.{words_new, words_old, length-blanks}
 use Rattle.ss_records.specs.Slotted.{IsOf}
 use Rattle.ss_records.proofs.Listing.{listed}
 use Rattle.ss_records.proofs.Disjoint.{entry_of}
 use Rattle.ss_records.proofs.ReadWords.{read_as}
 use Rattle.ss_records.proofs.Keeps.{map_same, made_same, entry_is}
-use Rattle.ss_records.proofs.Assigns.{get_inside}
+use Rattle.ss_blocks.proofs.Entries.{get_inside, living_push, living_bound}
 use Rattle.ss_records.proofs.NamesCreated.{name_born}
-
-pub word_blank : (n k : ℕ) → word_of (blanks n) k ≡ blank
-word_blank zero k = refl
-word_blank (suc n) zero = refl
-word_blank (suc n) (suc k) = word_blank n k
-
-pub length-blanks : (n : ℕ) → length (blanks n) ≡ n
-length-blanks zero = refl
-length-blanks (suc n) = ap suc (length-blanks n)
 
 first_of : (m : Mode) → value_of m 0 0 ≡ first_value m
 first_of Integer = refl
@@ -85,11 +77,6 @@ push_on d q b i p h = by_class (slice_get d.classes b) h where
   by_class (Some None) k = get_on d.numbers q i p k
   by_class (Some (Some ps)) k = k
 
-pub living_push : (d : Numbers) (q : Address) → living (d ++ Some q ∷ []) ≡ living d + 1
-living_push [] q = omega arith
-living_push (None ∷ ps) q = living_push ps q
-living_push (Some p ∷ ps) q = omega (arith, living_push ps q)
-
 length_push : (d : Numbers) (q : Address) → length (d ++ Some q ∷ []) ≡ length d + 1
 length_push [] q = omega arith
 length_push (z ∷ zs) q = omega (arith, length_push zs q)
@@ -100,11 +87,6 @@ map_push f (z ∷ zs) e = ap (λ l. f z ∷ l) (map_push f zs e)
 
 no_words : {n m : ℕ} → 0 ≡ n → n ≡ m → 2 ≤ m → ⊥
 no_words a b h = omega (arith, a, b, h)
-
-pub living_bound : (d : Numbers) → living d ≤ length d
-living_bound [] = omega arith
-living_bound (None ∷ ps) = omega (arith, living_bound ps)
-living_bound (Some p ∷ ps) = omega (arith, living_bound ps)
 
 -- a new block has its form
 pub born_formed : (l : Layout) (ds : Cells) (end p : Ptr) (c n : ℕ) → Born l ds end p c n → Formed l c n (words_at ds p)

@@ -6,17 +6,18 @@ use Rattle.ss_base.specs.declared.fault.FaultKind.{FaultKind}
 use Rattle.ss_base.specs.declared.fault.FaultKind.TheVariants.{FiledTwice, NotFiled}
 use Rattle.ss_base.specs.declared.layout.SetLayout.{SetLayout}
 use Rattle.ss_records.specs.declared.records.Records.{Records}
-use Rattle.ss_records.specs.declared.links.Entry.{Entry}
-use Rattle.ss_records.specs.Cells.{number, link, word_at}
+use Rattle.ss_blocks.specs.declared.links.Entry.{Entry}
+use Rattle.ss_blocks.specs.Cells.{number, link, word_at}
 use Rattle.ss_states.specs.State.{State, and_then, members_of, contains, is_filed}
 use Rattle.ss_states.specs.Sets.{joiner, owner, put_before, put_after, less, with_list_of, put_in, put_beside, taken_out}
 use Rattle.ss_states.specs.Lists.{head0, last_or, succ, pred_from, In, NotIn, Distinct}
 use Rattle.ss_records.specs.Places.{entity_at}
-use Rattle.ss_records.specs.Links.{Leads}
+use Rattle.ss_blocks.specs.Links.{Leads}
 use Rattle.ss_records.specs.Slotted.{member_base, owner_base}
 use Rattle.ss_records.specs.Parts.{IsKept, places, Lies, Owns, Joins, Between, Around}
 use Rattle.ss_records.proofs.Splice.{cut, succ_cut, pred_cut, distinct_less, last_splice}
-use Rattle.ss_records.proofs.Filed.{get_there, contains_in}
+use Rattle.ss_blocks.proofs.Entries.{get_there}
+use Rattle.ss_records.proofs.Filed.{contains_in}
 use Rattle.ss_records.proofs.Listed.{put_before_cut, put_after_cut, less_cut, not_in_front}
 use Rattle.ss_records.proofs.Leading.{To, leads, at_target, its_number, its_members, positive, first_to, last_to, next_to, prev_to}
 

@@ -1,25 +1,27 @@
 -- A block that is given back.
-use Rattle.std.proofs.Common.{◌≡◌, ℕ, zero, suc, ◌+◌, ◌-◌, ◌<◌, true, false, List, [], ◌∷◌, map, length, slice_get, slice_set, Option, Some, None, Ok, Err, inl, inr, refl, sym, ap, subst, ◌∙◌, arith}
+use Rattle.std.proofs.Common.{◌≡◌, ℕ, zero, suc, ◌-◌, ◌<◌, true, false, List, [], ◌∷◌, map, length, slice_get, slice_set, Option, Some, None, Ok, Err, inl, inr, refl, sym, ap, subst, ◌∙◌, arith}
 use Rattle.std.specs.Prelude.{ℤ, pos}
 use denote.RawPtr.{Ptr}
 use Rattle.ss_base.specs.declared.layout.Layout.{Layout}
 use Rattle.ss_base.specs.declared.layout.SetLayout.{SetLayout}
 use Rattle.ss_base.specs.declared.layout.Owner.TheVariants.{Class}
-use Rattle.ss_records.specs.declared.store.Address.{Address}
-use Rattle.ss_records.specs.Cells.{Cells, words_at, word_of, without}
+use Rattle.ss_blocks.specs.declared.store.Address.{Address}
+use Rattle.ss_blocks.specs.Cells.{Cells, words_at, word_of, without}
 use Rattle.ss_states.specs.State.{Members, members_of, kind_of, and_then, entity, number_in, in_a_set, owns_members, let_go, destroyed}
 use Rattle.ss_records.specs.Shape.{block_words}
 use Rattle.ss_records.specs.Reading.{class_of, record_of, record_at, records_at}
 use Rattle.ss_records.specs.Kept.{Kept, Formed, IsPermanent, state_of}
-use Rattle.ss_records.specs.Places.{Numbers, Directory, lying, own_or, listing, IsMade, Lists, class_at, living}
-use Rattle.ss_records.proofs.Same.{by_same}
-use Rattle.ss_records.proofs.Puts.{words_without}
+use Rattle.ss_blocks.specs.Places.{Numbers}
+use Rattle.ss_records.specs.Places.{Directory, lying, own_or, listing, IsMade, Lists, class_at}
+use Rattle.ss_blocks.proofs.Same.{by_same}
+use Rattle.ss_blocks.proofs.Puts.{words_without}
 use Rattle.ss_records.proofs.Listing.{listed}
 use Rattle.ss_records.proofs.Keeps.{made_same, entry_is}
 use Rattle.ss_records.proofs.NamesGone.{name_gone}
 use Rattle.ss_states.specs.Lists.{NotIn}
 use Rattle.ss_base.specs.declared.fault.FaultKind.TheVariants.{InASet, OwnsMembers}
-use Rattle.ss_records.proofs.Count.{blocks_without}
+use Rattle.ss_blocks.proofs.Count.{blocks_without}
+use Rattle.ss_blocks.proofs.Entries.{living_gone, length_set}
 
 get_other : (d : Numbers) (i : ℕ) (v : Option Address) (j : ℕ) → (i ≡ j → ⊥) → slice_get (slice_set d i v) j ≡ slice_get d j
 get_other [] i v j n = refl
@@ -32,18 +34,6 @@ get_gone : (d : Numbers) (i : ℕ) (p : Address) → slice_get (slice_set d i No
 get_gone [] i p h = cc
 get_gone (z ∷ zs) zero p h = cc
 get_gone (z ∷ zs) (suc i) p h = get_gone zs i p h
-
-pub living_gone : (d : Numbers) (i : ℕ) (p : Address) → slice_get d i ≡ Some (Some p) → living (slice_set d i None) + 1 ≡ living d
-living_gone [] i p h = cc
-living_gone (None ∷ ps) zero p h = cc
-living_gone (Some q ∷ ps) zero p h = omega arith
-living_gone (None ∷ ps) (suc i) p h = living_gone ps i p h
-living_gone (Some q ∷ ps) (suc i) p h = omega (arith, living_gone ps i p h)
-
-pub length_set : (d : Numbers) (i : ℕ) (v : Option Address) → length (slice_set d i v) ≡ length d
-length_set [] i v = refl
-length_set (z ∷ zs) zero v = refl
-length_set (z ∷ zs) (suc i) v = ap suc (length_set zs i v)
 
 -- what is listed once a number is gone
 dropped : (d : Directory) (i b j : ℕ) (q : Address) → slice_get (listing (lying (slice_set d.numbers i None) d.classes) b) j ≡ Some (Some q) → slice_get (listing d b) j ≡ Some (Some q)

@@ -8,8 +8,8 @@ use Rattle.ss_base.specs.declared.layout.Owner.{Owner}
 use Rattle.ss_base.specs.declared.layout.Owner.TheVariants.{System, Class}
 use Rattle.ss_base.specs.declared.layout.SetLayout.{SetLayout}
 use Rattle.ss_base.specs.declared.layout.Layout.{Layout}
-use Rattle.ss_records.specs.declared.store.Address.{Address}
-use Rattle.ss_records.specs.Cells.{Word, Cells, words_at, put_word}
+use Rattle.ss_blocks.specs.declared.store.Address.{Address}
+use Rattle.ss_blocks.specs.Cells.{Word, Cells, words_at, put_word}
 use Rattle.ss_states.specs.State.{Members}
 use Rattle.ss_records.specs.Shape.{links_start, owned_start, block_words, joins, owned_by, same_owner, count_before, count_sets}
 use Rattle.ss_records.specs.Places.{Directory, listing, Lists, place_in, entity_at, owner_at, class_at}
@@ -17,10 +17,10 @@ use Rattle.ss_records.specs.Kept.{Kept}
 use Rattle.ss_records.specs.Links.{Grounds, OfMember, OfOwner}
 use Rattle.ss_records.specs.Slotted.{member_base, owner_base, slots_of, is_entry, IsOf, MayOwn, OfName, Spares}
 use Rattle.ss_records.specs.Reading.{class_of}
-use Rattle.ss_records.proofs.Same.{same}
+use Rattle.ss_blocks.proofs.Same.{same}
 use Rattle.ss_records.proofs.Listing.{listed, stands}
-use Rattle.ss_records.proofs.Puts.{put_other, length_put}
-use Rattle.ss_records.proofs.Count.{blocks_put}
+use Rattle.ss_blocks.proofs.Puts.{put_other, length_put}
+use Rattle.ss_blocks.proofs.Count.{blocks_put}
 
 count_inside : (p : SetLayout → Bool) (ts : List SetLayout) (s : ℕ) (t : SetLayout) → slice_get ts s ≡ Some t → p t ≡ true → count_before p ts s + 1 ≤ count_sets p ts
 count_inside p [] s t g h = cc

@@ -2,15 +2,15 @@
 use Rattle.std.proofs.Common.{◌≡◌, ℕ, ◌<◌, List, [], ◌∷◌, length, slice_get, Some, refl, sym, ap, subst, ◌∙◌}
 use Rattle.ss_base.specs.declared.layout.SetLayout.{SetLayout}
 use Rattle.ss_records.specs.declared.records.Records.{Records}
-use Rattle.ss_records.specs.declared.links.Entry.{Entry}
-use Rattle.ss_records.specs.Cells.{number, link, word_at}
+use Rattle.ss_blocks.specs.declared.links.Entry.{Entry}
+use Rattle.ss_blocks.specs.Cells.{number, link, word_at}
 use Rattle.ss_states.specs.State.{members_of}
 use Rattle.ss_states.specs.Sets.{less}
 use Rattle.ss_states.specs.Lists.{head0, succ, In, Distinct}
 use Rattle.ss_records.specs.Slotted.{member_base}
-use Rattle.ss_records.specs.Parts.{IsKept, places, Lies, Joins, Around}
+use Rattle.ss_records.specs.Parts.{IsKept, places, Joins, Around}
 use Rattle.ss_records.proofs.Splice.{succ_cut}
-use Rattle.ss_records.proofs.Filed.{get_there}
+use Rattle.ss_blocks.proofs.Entries.{get_there}
 use Rattle.ss_records.proofs.Listed.{less_cut}
 use Rattle.ss_records.proofs.Leading.{next_to}
 use Rattle.ss_records.proofs.Cuts.{lies_there}

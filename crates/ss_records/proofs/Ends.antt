@@ -4,7 +4,7 @@ use Rattle.std.specs.Prelude.{ℤ, pos, Result}
 use Rattle.ss_base.specs.declared.fault.FaultKind.{FaultKind}
 use Rattle.ss_base.specs.declared.fault.FaultKind.TheVariants.{EmptySet}
 use Rattle.ss_records.specs.declared.records.Records.{Records}
-use Rattle.ss_records.specs.declared.links.Entry.{Entry}
+use Rattle.ss_blocks.specs.declared.links.Entry.{Entry}
 use Rattle.ss_states.specs.State.{State, and_then, members_of, contains}
 use Rattle.ss_states.specs.Sets.{joiner, owner, member_in, less, with_list_of, removed}
 use Rattle.ss_states.specs.Disciplines.{take, first_removed, last_removed, member_test}
@@ -12,7 +12,8 @@ use Rattle.ss_states.specs.Lists.{head0, last_or, In}
 use Rattle.ss_records.specs.Slotted.{IsOf}
 use Rattle.ss_records.specs.Parts.{IsKept, state, places, Lies, Joins, Between}
 use Rattle.ss_records.proofs.Splice.{before_in, after_in}
-use Rattle.ss_records.proofs.Filed.{get_there, in_contains}
+use Rattle.ss_blocks.proofs.Entries.{get_there}
+use Rattle.ss_records.proofs.Filed.{in_contains}
 use Rattle.ss_records.proofs.Cuts.{out_done}
 use Rattle.ss_records.proofs.Apart.{sets_apart}
 

@@ -1,18 +1,18 @@
 -- Whether an entity is in a set, by the lists and by its links.
-use Rattle.std.proofs.Common.{◌≡◌, ℕ, zero, suc, Bool, true, false, ◌==◌, List, [], ◌∷◌, length, slice_get, drop, ◌+◌, ◌<◌, Option, Some, None, ◌⊎◌, inl, inr, refl, sym, ap, subst, ◌∙◌, arith}
+use Rattle.std.proofs.Common.{◌≡◌, ℕ, zero, suc, Bool, true, false, ◌==◌, List, [], ◌∷◌, slice_get, drop, ◌+◌, Option, Some, None, ◌⊎◌, inl, inr, refl, sym, ap, subst, ◌∙◌, arith}
 use Rattle.std.specs.Prelude.{◌&&◌, ◌||◌, is_some}
 use denote.RawPtr.{Ptr}
 use Rattle.ss_base.specs.declared.layout.Owner.{Owner}
 use Rattle.ss_base.specs.declared.layout.Owner.TheVariants.{System, Class}
 use Rattle.ss_base.specs.declared.layout.SetLayout.{SetLayout}
 use Rattle.ss_base.specs.declared.layout.Layout.{Layout}
-use Rattle.ss_records.specs.Cells.{number, link, Cells, word_at}
+use Rattle.ss_blocks.specs.Cells.{number, link, Cells, word_at}
 use Rattle.ss_states.specs.State.{Members, members_of, contains, owner_among, owner_of, is_filed, has_members, in_a_set, owns_members, is_owner_class}
 use Rattle.ss_records.specs.Places.{Directory, place_in, entity_at, owner_at}
 use Rattle.ss_records.specs.Kept.{Kept}
 use Rattle.ss_states.specs.Lists.{succ, In, NotIn}
 use Rattle.ss_records.specs.Slotted.{slots_of, IsOf, MayOwn}
-use Rattle.ss_records.proofs.Same.{same, differs, by_same}
+use Rattle.ss_blocks.proofs.Same.{same, differs, by_same}
 use Rattle.ss_records.proofs.Splice.{not_and_in, succ_is, succ_differs}
 use Rattle.ss_records.proofs.Listing.{listed}
 use Rattle.ss_records.proofs.Disjoint.{entry_of}
@@ -133,13 +133,6 @@ pub drop_at : {A : Type 0} (xs : List A) (s : ℕ) (t : A) → slice_get xs s �
 drop_at [] s t g = cc
 drop_at (x ∷ xs) zero t g = let e : x ≡ t = cc in ap (λ y. y ∷ xs) e
 drop_at (x ∷ xs) (suc s) t g = let q : suc s + 1 ≡ suc (s + 1) = omega arith in rw q (drop_at xs s t g)
-
-pub get_there : {A : Type 0} (xs : List A) (s : ℕ) → s < length xs → (t : A) × (slice_get xs s ≡ Some t)
-get_there [] s h = absurd (none s h) where
-  none : (k : ℕ) → k < 0 → ⊥
-  none k x = omega (arith, x)
-get_there (x ∷ xs) zero h = (x, refl)
-get_there (x ∷ xs) (suc s) h = get_there xs s (omega (arith, h))
 
 or_true : (b : Bool) → (b || true) ≡ true
 or_true true = refl

@@ -4,19 +4,20 @@ use Rattle.std.specs.Prelude.{nat_eq}
 use denote.RawPtr.{Ptr}
 use Rattle.ss_base.specs.declared.layout.SetLayout.{SetLayout}
 use Rattle.ss_records.specs.declared.records.Records.{Records}
-use Rattle.ss_records.specs.declared.links.Entry.{Entry}
-use Rattle.ss_records.specs.Cells.{Cells, Memory, IsLink, IsCounter, word_at}
+use Rattle.ss_blocks.specs.declared.links.Entry.{Entry}
+use Rattle.ss_blocks.specs.Cells.{Cells, Memory, IsLink, IsCounter, word_at}
 use Rattle.ss_states.specs.State.{Members, members_of, contains, is_filed, with_members}
 use Rattle.ss_states.specs.Sets.{member_in, owner_in, put_before, less, with_list_of}
 use Rattle.ss_states.specs.Lists.{head0, last_or, In, NotIn, Distinct}
 use Rattle.ss_records.specs.Places.{entity_at, owner_at}
 use Rattle.ss_records.specs.Kept.{Kept, state_of}
-use Rattle.ss_records.specs.Links.{linked_in, unlinked_in, slots_at}
+use Rattle.ss_blocks.specs.Links.{linked_in, unlinked_in, slots_at}
 use Rattle.ss_records.specs.Slotted.{slots_of, member_base, owner_base, IsOf, MayOwn}
 use Rattle.ss_records.specs.Parts.{IsKept, state, places, held, Lies, Owns, Joins, Between, Around}
-use Rattle.ss_records.proofs.Same.{by_same, false_is_not_true}
+use Rattle.ss_blocks.proofs.Same.{by_same, false_is_not_true}
 use Rattle.ss_records.proofs.Splice.{not_in, not_and_in, before_in, after_in, in_left, in_mid, distinct_less}
-use Rattle.ss_records.proofs.Filed.{above_zero, get_there, not_filed_in, contains_in, in_contains}
+use Rattle.ss_blocks.proofs.Entries.{get_there}
+use Rattle.ss_records.proofs.Filed.{above_zero, not_filed_in, contains_in, in_contains}
 use Rattle.ss_records.proofs.Listed.{put_cut, less_cut, not_in_front}
 use Rattle.ss_records.proofs.Leading.{is_link, first_to, last_to, is_counter, next_to, prev_to, owner_to, next_self, prev_self, owner_self}
 use Rattle.ss_records.proofs.Relinked.{kept_linked, state_linked, kept_unlinked, state_unlinked}

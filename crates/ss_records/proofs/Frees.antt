@@ -5,8 +5,8 @@ use denote.RawPtr.{Ptr}
 use Rattle.ss_base.specs.declared.layout.Owner.TheVariants.{Class}
 use Rattle.ss_base.specs.declared.layout.Layout.{Layout}
 use Rattle.ss_records.specs.declared.records.Records.{Records}
-use Rattle.ss_records.specs.declared.store.Address.{Address}
-use Rattle.ss_records.specs.Cells.{Cells}
+use Rattle.ss_blocks.specs.declared.store.Address.{Address}
+use Rattle.ss_blocks.specs.Cells.{Cells}
 use Rattle.ss_states.specs.State.{Members, kind_of, members_of, is_filed, has_members, in_a_set, owns_members}
 use Rattle.ss_records.specs.Places.{Directory, Lists, class_at}
 use Rattle.ss_records.specs.Kept.{Kept, IsPermanent}

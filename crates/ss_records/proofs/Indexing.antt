@@ -6,12 +6,13 @@ use Rattle.ss_base.specs.declared.layout.ClassKind.{ClassKind}
 use Rattle.ss_base.specs.declared.layout.ClassKind.TheVariants.{Permanent, Temporary, Notice}
 use Rattle.ss_base.specs.declared.layout.Layout.{Layout}
 use Rattle.ss_records.specs.declared.records.Records.{Records}
-use Rattle.ss_records.specs.declared.store.Address.{Address}
-use Rattle.ss_records.specs.Cells.{Cells, words_at}
+use Rattle.ss_blocks.specs.declared.store.Address.{Address}
+use Rattle.ss_blocks.specs.Cells.{Cells, words_at}
 use Rattle.ss_states.specs.State.{State, Members, and_then, numbered, of_class, entity, entity_of_kind, kind_of, indexed, indexed_record, records_in}
 use Rattle.ss_records.specs.Reading.{record_of, records_at}
 use Rattle.ss_records.specs.Places.{Made, Directory, class_at}
-use Rattle.ss_records.specs.Kept.{IsPermanent, state_of, row_in, place_or, indexed_place, numbered_place}
+use Rattle.ss_blocks.specs.Places.{row_in}
+use Rattle.ss_records.specs.Kept.{IsPermanent, state_of, place_or, indexed_place, numbered_place}
 use Rattle.ss_records.specs.Parts.{IsKept, state, places, Found}
 use Rattle.ss_records.proofs.Keeps.{read_place, there}
 

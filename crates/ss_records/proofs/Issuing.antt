@@ -5,13 +5,14 @@ use Rattle.std.proofs.lemmas.Bool.{lt-ltb, le-leb}
 use Rattle.std.proofs.lemmas.Int.{ints}
 use lib.Signed.{lt_z}
 use Rattle.ss_base.specs.declared.fault.FaultKind.TheVariants.{CreatedTwice}
-use Rattle.ss_records.specs.declared.store.Address.{Address}
+use Rattle.ss_blocks.specs.declared.store.Address.{Address}
 use Rattle.ss_base.specs.declared.layout.Layout.{Layout}
-use Rattle.ss_records.specs.Cells.{Cells}
+use Rattle.ss_blocks.specs.Cells.{Cells}
 use Rattle.ss_states.specs.State.{State, Members, LAST_NUMBER, MOST_ENTITIES, created, created_all, made_many, with_made, is_made_in}
 use Rattle.ss_records.specs.Reading.{record_at, records_at}
 use Rattle.ss_records.specs.Kept.{state_of}
-use Rattle.ss_records.specs.Places.{Numbers, Made, Directory}
+use Rattle.ss_blocks.specs.Places.{Numbers}
+use Rattle.ss_records.specs.Places.{Made, Directory}
 
 -- the words of a block can be asked for
 pub block_fits : (w : ℕ) → (2 ≤ w) × (w < 2 ^ 32) → (0 < w) × (w * 8 < 2 ^ 63)

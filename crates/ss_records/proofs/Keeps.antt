@@ -7,18 +7,20 @@ use denote.RawPtr.{Ptr}
 use Rattle.ss_base.specs.declared.fault.FaultKind.{FaultKind}
 use Rattle.ss_base.specs.declared.fault.FaultKind.TheVariants.{WrongClass}
 use Rattle.ss_base.specs.declared.layout.Layout.{Layout}
-use Rattle.ss_records.specs.declared.store.Address.{Address}
-use Rattle.ss_records.specs.Cells.{number, Cells, IsNumber, words_at, word_of, word_at}
+use Rattle.ss_blocks.specs.declared.store.Address.{Address}
+use Rattle.ss_blocks.specs.Cells.{number, Cells, IsNumber, words_at, word_of, word_at}
 use Rattle.ss_states.specs.State.{Record, Members, issued_record, numbered, and_then, of_class, of_notice, notice, is_notice, kind_of}
 use Rattle.ss_records.specs.Reading.{plain, class_of, record_of, record_at, records_at}
-use Rattle.ss_records.specs.Kept.{Kept, Written, IsPermanent, Formed, MadeOf, state_of, issued_place, numbered_place}
-use Rattle.ss_records.specs.Places.{Numbers, Made, Directory, IsMade, Lists, class_at}
+use Rattle.ss_blocks.specs.Writes.{Written}
+use Rattle.ss_records.specs.Kept.{Kept, IsPermanent, Formed, MadeOf, state_of, issued_place, numbered_place}
+use Rattle.ss_blocks.specs.Places.{Numbers}
+use Rattle.ss_records.specs.Places.{Made, Directory, IsMade, Lists, class_at}
 use Rattle.ss_records.specs.Shape.{links_start}
 use Rattle.ss_records.specs.Slotted.{OfName}
-use Rattle.ss_records.proofs.Puts.{by_ptr}
+use Rattle.ss_blocks.proofs.Puts.{by_ptr}
 use Rattle.ss_records.proofs.Disjoint.{above_head}
 use Rattle.ss_records.proofs.NamesKept.{names_same}
-use Rattle.ss_records.proofs.Same.{same, differs}
+use Rattle.ss_blocks.proofs.Same.{same, differs}
 
 abbrev pub read_place : Layout → Cells → Result Address FaultKind → Result Record FaultKind
 read_place l cs (Ok p) = Ok (record_of l (words_at cs p.at))

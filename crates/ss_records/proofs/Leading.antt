@@ -6,21 +6,22 @@ use Rattle.ss_base.specs.declared.layout.Owner.{Owner}
 use Rattle.ss_base.specs.declared.layout.Owner.TheVariants.{System, Class}
 use Rattle.ss_base.specs.declared.layout.SetLayout.{SetLayout}
 use Rattle.ss_base.specs.declared.layout.Layout.{Layout}
-use Rattle.ss_records.specs.Cells.{Word, number, counter, link, Cells, IsLink, IsCounter, word_at}
+use Rattle.ss_blocks.specs.Cells.{Word, number, counter, link, Cells, IsLink, IsCounter, word_at}
 use Rattle.ss_states.specs.State.{Members, members_of, owner_of, is_filed}
 use Rattle.ss_states.specs.Sets.{member_in, owner_in, member_class, owner_kind, follower, precursor, members_by, companions}
 use Rattle.ss_records.specs.Reading.{plain}
 use Rattle.ss_records.specs.Places.{Directory, listing, entity_at, owner_at}
 use Rattle.ss_records.specs.Kept.{Kept}
 use Rattle.ss_states.specs.Lists.{head0, last_or, succ, pred_from, In, NotIn}
-use Rattle.ss_records.specs.Links.{Leads}
+use Rattle.ss_blocks.specs.Links.{Leads}
 use Rattle.ss_records.specs.Slotted.{member_base, owner_base, IsOf, MayOwn}
-use Rattle.ss_records.proofs.Same.{by_same}
-use Rattle.ss_records.proofs.Assigns.{get_inside}
+use Rattle.ss_blocks.proofs.Same.{by_same}
+use Rattle.ss_blocks.proofs.Entries.{get_inside}
 use Rattle.ss_records.proofs.Listing.{not_many}
 use Rattle.ss_records.proofs.Splice.{head_is, last_is, succ_is, pred_is, succ_differs}
 use Rattle.ss_records.proofs.Disjoint.{entry_of}
-use Rattle.ss_records.proofs.Filed.{number_at, owner_number_at, above_zero, filed_or_not, get_there}
+use Rattle.ss_blocks.proofs.Entries.{get_there}
+use Rattle.ss_records.proofs.Filed.{number_at, owner_number_at, above_zero, filed_or_not}
 use Rattle.ss_records.proofs.Listed.{follower_is, precursor_is, pred_differs, few}
 
 pub link_same : {p q : Ptr} → link p ≡ link q → p ≡ q

@@ -1,13 +1,14 @@
 -- What the writes of a filing do to the words of the set name, at any slots.
 use Rattle.std.proofs.Common.{◌≡◌, ℕ, ◌+◌, ◌<◌, true, false, cond, ◌==◌, length, inl, inr, refl, sym, ap, subst, ◌∙◌}
 use denote.RawPtr.{Ptr}
-use Rattle.ss_records.specs.Cells.{Word, counter, link, Cells, same_ptr, words_at, word_at, put_word}
-use Rattle.ss_records.specs.Links.{hooked}
-use Rattle.ss_records.specs.Links.{Slots, words_of, Linked, OfMember, OfOwner, Grounds, linked_in}
-use Rattle.ss_records.proofs.Numbers.{same_ptr_refl}
-use Rattle.ss_records.proofs.Same.{same, differs, by_same}
-use Rattle.ss_records.proofs.Puts.{words_put, ptr_differs, length_put, word_with}
-use Rattle.ss_records.proofs.Puts.{put_other}
+use Rattle.ss_blocks.specs.Cells.{Word, counter, link, Cells, same_ptr, words_at, word_at, put_word}
+use Rattle.ss_blocks.specs.Links.{hooked}
+use Rattle.ss_blocks.specs.Links.{Slots, linked_in}
+use Rattle.ss_records.specs.Links.{words_of, Linked, OfMember, OfOwner, Grounds}
+use Rattle.ss_blocks.proofs.Numbers.{same_ptr_refl}
+use Rattle.ss_blocks.proofs.Same.{same, differs, by_same}
+use Rattle.ss_blocks.proofs.Puts.{words_put, ptr_differs, length_put, word_with}
+use Rattle.ss_blocks.proofs.Puts.{put_other}
 
 -- a word that is written, at places that are told apart by numbers
 pub put_here : (at : ℕ → Ptr) (cs : Cells) (x y k : ℕ) (v : Word) → (at x ≡ at y → x ≡ y) → k < length (words_at cs (at y))

@@ -1,10 +1,10 @@
 -- Linking a member in and taking one out keeps the words in step with the lists.
 use Rattle.std.proofs.Common.{◌≡◌, ℕ, ◌+◌, ◌-◌, true, false, cond, ◌==◌, List, ◌∷◌, ◌++◌, length, ◌⊎◌, inl, inr, refl, sym, ap, subst, ◌∙◌, arith}
 use denote.RawPtr.{Ptr}
-use Rattle.ss_records.specs.Cells.{counter, link}
+use Rattle.ss_blocks.specs.Cells.{counter, link}
 use Rattle.ss_states.specs.Lists.{head0, last_or, succ, pred_from, In, NotIn, Distinct, with_list}
 use Rattle.ss_records.specs.Links.{Words, Shows, Linked, Unlinked}
-use Rattle.ss_records.proofs.Same.{same, differs, by_same}
+use Rattle.ss_blocks.proofs.Same.{same, differs, by_same}
 use Rattle.ss_records.proofs.Splice.{succ_splice, pred_splice, in_left, in_mid, in_splice, not_and_in, not_in, before_in, after_in, distinct_splice, distinct_less, length_splice, head_splice, tail_splice, not_in_mid, head_less, tail_less, succ_last, pred_head}
 
 module _ (m m' : Words) (at home : ℕ → Ptr) (alive owns : ℕ → Type 0) (f : ℕ → List ℕ) (o x : ℕ) (xs ys : List ℕ) where

@@ -4,7 +4,7 @@ use Rattle.std.specs.Prelude.{◌&&◌}
 use Rattle.ss_states.specs.State.{Members, members_of, with_members}
 use Rattle.ss_states.specs.Lists.{head0, succ, pred_from, In, NotIn, Distinct, with_list}
 use Rattle.ss_states.specs.Sets.{follower, precursor, put_before, put_after, less}
-use Rattle.ss_records.proofs.Same.{same, differs, by_same}
+use Rattle.ss_blocks.proofs.Same.{same, differs, by_same}
 use Rattle.ss_records.proofs.Splice.{not_and_in, in_left, distinct_less, length_splice, cut, in_or_not, not_in_mid}
 
 both : (b c : Bool) → b ≡ true → c ≡ true → (b && c) ≡ true

@@ -5,18 +5,20 @@ use denote.RawPtr.{Ptr}
 use Rattle.ss_base.specs.declared.layout.ClassLayout.{ClassLayout}
 use Rattle.ss_base.specs.declared.layout.Layout.{Layout}
 use Rattle.ss_base.specs.declared.layout.Owner.TheVariants.{System, Class}
-use Rattle.ss_records.specs.declared.store.Address.{Address}
-use Rattle.ss_records.specs.Cells.{Cells, words_at, blanks, without}
+use Rattle.ss_blocks.specs.declared.store.Address.{Address}
+use Rattle.ss_blocks.specs.Cells.{Cells, words_at, blanks, without}
 use Rattle.ss_states.specs.State.{Members, not_made as unmade, living_numbers, made_entities, living_records}
 use Rattle.ss_records.specs.Shape.{block_words}
 use Rattle.ss_records.specs.Reading.{class_of, record_of, record_at, records_at}
-use Rattle.ss_records.specs.Kept.{Kept, Small, RowsHeld, row_in, state_of}
-use Rattle.ss_records.specs.Places.{Numbers, Made, Directory, lying, IsMade, Lists, living, made_count}
+use Rattle.ss_blocks.specs.Places.{row_in}
+use Rattle.ss_records.specs.Kept.{Kept, Small, RowsHeld, state_of}
+use Rattle.ss_blocks.specs.Places.{Numbers, living}
+use Rattle.ss_records.specs.Places.{Made, Directory, lying, IsMade, Lists, made_count}
 use Rattle.ss_records.specs.Laid.{LaidSystem}
-use Rattle.ss_records.specs.Pages.{in_page}
-use Rattle.ss_records.proofs.Puts.{words_new, words_without}
-use Rattle.ss_records.proofs.Count.{blocks_without}
-use Rattle.ss_records.proofs.Creates.{length-blanks}
+use Rattle.ss_blocks.specs.Pages.{in_page}
+use Rattle.ss_blocks.proofs.Puts.{words_new, words_without}
+use Rattle.ss_blocks.proofs.Count.{blocks_without}
+use Rattle.ss_blocks.proofs.Puts.{length-blanks}
 use Rattle.ss_records.proofs.Listing.{listed}
 use Rattle.ss_records.proofs.Destroys.{not_made}
 use Rattle.ss_records.proofs.NamesGone.{name_first}

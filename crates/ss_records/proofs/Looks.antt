@@ -7,17 +7,17 @@ use mir.Syntax.{w64}
 use denote.RawPtr.{Ptr}
 use Rattle.ss_base.specs.declared.layout.SetLayout.{SetLayout}
 use Rattle.ss_records.specs.declared.records.Records.{Records}
-use Rattle.ss_records.specs.declared.links.Entry.{Entry}
-use Rattle.ss_records.specs.Cells.{number, counter, link, IsCounter, word_at}
+use Rattle.ss_blocks.specs.declared.links.Entry.{Entry}
+use Rattle.ss_blocks.specs.Cells.{number, counter, link, IsCounter, word_at}
 use Rattle.ss_states.specs.State.{and_then, members_of, owner_of, is_filed}
 use Rattle.ss_states.specs.Sets.{joiner, owner, as_number, companions, follower, precursor, first_in, last_in, count_in, next_in, previous_in, owner_of_member}
 use Rattle.ss_states.specs.Lists.{head0, last_or, succ, pred_from, In}
 use Rattle.ss_records.specs.Places.{entity_at, owner_at}
-use Rattle.ss_records.specs.Links.{Leads}
+use Rattle.ss_blocks.specs.Links.{Leads}
 use Rattle.ss_records.specs.Slotted.{member_base, owner_base}
 use Rattle.ss_records.specs.Parts.{IsKept, state, places, Owns, Joins}
-use Rattle.ss_records.proofs.Same.{differs, by_same}
-use Rattle.ss_records.proofs.Filed.{get_there}
+use Rattle.ss_blocks.proofs.Same.{differs, by_same}
+use Rattle.ss_blocks.proofs.Entries.{get_there}
 use Rattle.ss_records.proofs.Leading.{To, leads, its_number, first_to, last_to, is_counter, count_is, count_small, Beside, next_beside, prev_beside, owner_to, filed_is, next_value, prev_value, in_which}
 
 pub as_whole : (n m : ℕ) → n ≡ m → m < 2 ^ 62 → cast_signed w64 n ≡ pos m

@@ -4,21 +4,23 @@ use Rattle.std.specs.Prelude.{replicate}
 use denote.RawPtr.{Ptr}
 use Rattle.ss_base.specs.declared.layout.Layout.{Layout}
 use Rattle.ss_base.specs.declared.layout.Owner.TheVariants.{System, Class}
-use Rattle.ss_records.specs.declared.store.Address.{Address}
-use Rattle.ss_records.specs.Cells.{Cells, words_at, word_of}
+use Rattle.ss_blocks.specs.declared.store.Address.{Address}
+use Rattle.ss_blocks.specs.Cells.{Cells, words_at, word_of}
 use Rattle.ss_states.specs.State.{Record, Members, kind_of, first_record, with_made}
 use Rattle.ss_records.specs.Shape.{block_words}
 use Rattle.ss_records.specs.Reading.{plain, class_of, record_of, record_at, records_at}
 use Rattle.ss_records.specs.Places.{Made, Directory, lying, own_or, listing, IsMade, Lists, class_at, made_count}
 use Rattle.ss_records.specs.Kept.{Kept, Formed, MadeOf, IsPermanent, state_of}
-use Rattle.ss_records.specs.Laid.{Born, NoneAt, Placed, Unchanged, LaidTo}
+use Rattle.ss_blocks.specs.Writes.{NoneAt, Placed, Unchanged}
+use Rattle.ss_records.specs.Laid.{Born, LaidTo}
 use Rattle.ss_records.specs.Slotted.{IsOf}
-use Rattle.ss_records.proofs.Same.{by_same}
+use Rattle.ss_blocks.proofs.Same.{by_same}
 use Rattle.ss_records.proofs.Listing.{unmapped, listed}
 use Rattle.ss_records.proofs.Disjoint.{entry_of, is_of}
 use Rattle.ss_records.proofs.Keeps.{map_same, made_same}
 use Rattle.ss_records.proofs.NamesCreated.{name_born}
-use Rattle.ss_records.proofs.Creates.{off_entry, off_sys, born_formed, record_first, living_bound, few_made}
+use Rattle.ss_blocks.proofs.Entries.{living_bound}
+use Rattle.ss_records.proofs.Creates.{off_entry, off_sys, born_formed, record_first, few_made}
 
 -- a row that is set
 get_row_set : (ms : Made) (c : ℕ) (v : Option (List Address)) (o : Option (List Address)) → slice_get ms c ≡ Some o → slice_get (slice_set ms c v) c ≡ Some v

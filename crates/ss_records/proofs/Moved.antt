@@ -2,7 +2,7 @@
 -- or those of newcomers without lists.
 use Rattle.std.proofs.Common.{◌≡◌, ℕ, List, [], length, ◌⊎◌, inl, inr, sym, ap, subst, ◌∙◌}
 use denote.RawPtr.{Ptr}
-use Rattle.ss_records.specs.Cells.{counter, link}
+use Rattle.ss_blocks.specs.Cells.{counter, link}
 use Rattle.ss_states.specs.Lists.{head0, last_or, succ, pred_from, In, NotIn}
 use Rattle.ss_records.specs.Links.{Words, Shows}
 use Rattle.ss_records.proofs.Splice.{head_is, last_is, succ_is, pred_is, not_and_in}

@@ -5,19 +5,21 @@ use Rattle.ss_base.specs.declared.layout.Owner.{Owner}
 use Rattle.ss_base.specs.declared.layout.Owner.TheVariants.{System, Class}
 use Rattle.ss_base.specs.declared.layout.SetLayout.{SetLayout}
 use Rattle.ss_base.specs.declared.layout.Layout.{Layout}
-use Rattle.ss_records.specs.declared.store.Address.{Address}
-use Rattle.ss_records.specs.Cells.{Cells, words_at, word_of, word_at, link, counter}
+use Rattle.ss_blocks.specs.declared.store.Address.{Address}
+use Rattle.ss_blocks.specs.Cells.{Cells, words_at, word_of, word_at, link, counter}
 use Rattle.ss_states.specs.State.{Members, members_of}
 use Rattle.ss_records.specs.Shape.{owned_start, block_words, count_before, owned_by}
 use Rattle.ss_records.specs.Reading.{class_of}
 use Rattle.ss_records.specs.Places.{Directory, listing, place_in, entity_at, owner_at, class_at}
 use Rattle.ss_records.specs.Kept.{Kept}
-use Rattle.ss_records.specs.Laid.{Born, owned_word, owned_from}
+use Rattle.ss_blocks.specs.Writes.{owned_word, owned_from}
+use Rattle.ss_records.specs.Laid.{Born}
 use Rattle.ss_states.specs.Lists.{In}
-use Rattle.ss_records.specs.Links.{Slots, Words, words_of, OfMember, OfOwner}
+use Rattle.ss_blocks.specs.Links.{Slots}
+use Rattle.ss_records.specs.Links.{Words, words_of, OfMember, OfOwner}
 use Rattle.ss_records.specs.Slotted.{slots_of, IsOf, MayOwn, NameKept}
 use Rattle.ss_records.proofs.Splice.{not_in}
-use Rattle.ss_records.proofs.Fills.{owned_first, owned_last, owned_count}
+use Rattle.ss_blocks.proofs.Fills.{owned_first, owned_last, owned_count}
 use Rattle.ss_records.proofs.Moved.{OldMember, NewMember, OldOwner, NewOwner, shows_moved}
 use Rattle.ss_records.proofs.Disjoint.{member_inside, owner_inside, entry_of, is_of}
 

@@ -5,16 +5,18 @@ use Rattle.ss_base.specs.declared.layout.Owner.{Owner}
 use Rattle.ss_base.specs.declared.layout.Owner.TheVariants.{System, Class}
 use Rattle.ss_base.specs.declared.layout.SetLayout.{SetLayout}
 use Rattle.ss_base.specs.declared.layout.Layout.{Layout}
-use Rattle.ss_records.specs.declared.store.Address.{Address}
-use Rattle.ss_records.specs.Cells.{Cells, words_at, word_of, word_at, link, counter}
+use Rattle.ss_blocks.specs.declared.store.Address.{Address}
+use Rattle.ss_blocks.specs.Cells.{Cells, words_at, word_of, word_at, link, counter}
 use Rattle.ss_states.specs.State.{Members, members_of}
 use Rattle.ss_records.specs.Shape.{owned_start, block_words, count_before, owned_by}
 use Rattle.ss_records.specs.Reading.{class_of}
 use Rattle.ss_records.specs.Places.{Directory, listing, place_in, entity_at, owner_at, class_at}
 use Rattle.ss_records.specs.Kept.{Kept}
-use Rattle.ss_records.specs.Laid.{LaidSystem, owned_from}
+use Rattle.ss_blocks.specs.Writes.{owned_from}
+use Rattle.ss_records.specs.Laid.{LaidSystem}
 use Rattle.ss_states.specs.Lists.{In, NotIn}
-use Rattle.ss_records.specs.Links.{Slots, Words, words_of, OfOwner}
+use Rattle.ss_blocks.specs.Links.{Slots}
+use Rattle.ss_records.specs.Links.{Words, words_of, OfOwner}
 use Rattle.ss_records.specs.Slotted.{owner_base, slots_of, IsOf, MayOwn, NameKept}
 use Rattle.ss_records.proofs.Splice.{not_and_in}
 use Rattle.ss_records.proofs.Moved.{shows_moved}

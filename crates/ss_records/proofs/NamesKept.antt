@@ -5,8 +5,8 @@ use Rattle.ss_base.specs.declared.layout.Owner.{Owner}
 use Rattle.ss_base.specs.declared.layout.Owner.TheVariants.{System, Class}
 use Rattle.ss_base.specs.declared.layout.SetLayout.{SetLayout}
 use Rattle.ss_base.specs.declared.layout.Layout.{Layout}
-use Rattle.ss_records.specs.declared.store.Address.{Address}
-use Rattle.ss_records.specs.Cells.{Cells, word_at}
+use Rattle.ss_blocks.specs.declared.store.Address.{Address}
+use Rattle.ss_blocks.specs.Cells.{Cells, word_at}
 use Rattle.ss_states.specs.State.{Members, members_of}
 use Rattle.ss_records.specs.Places.{Directory, Lists, entity_at, owner_at, class_at}
 use Rattle.ss_records.specs.Kept.{Kept}

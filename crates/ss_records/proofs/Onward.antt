@@ -7,18 +7,19 @@ use Rattle.ss_base.specs.declared.layout.Owner.{Owner}
 use Rattle.ss_base.specs.declared.layout.Owner.TheVariants.{System, Class}
 use Rattle.ss_base.specs.declared.layout.SetLayout.{SetLayout}
 use Rattle.ss_records.specs.declared.records.Records.{Records}
-use Rattle.ss_records.specs.declared.links.Entry.{Entry}
-use Rattle.ss_records.specs.Cells.{number, link, word_at}
+use Rattle.ss_blocks.specs.declared.links.Entry.{Entry}
+use Rattle.ss_blocks.specs.Cells.{number, link, word_at}
 use Rattle.ss_states.specs.State.{members_of, is_filed}
 use Rattle.ss_states.specs.Sets.{joiner, owner, owner_in, owner_by, next_in, previous_in}
 use Rattle.ss_states.specs.Disciplines.{member_test}
 use Rattle.ss_states.specs.Lists.{In}
-use Rattle.ss_records.specs.Links.{Leads}
+use Rattle.ss_blocks.specs.Links.{Leads}
 use Rattle.ss_records.specs.Places.{entity_at}
 use Rattle.ss_records.specs.Slotted.{member_base, MayOwn}
 use Rattle.ss_records.specs.Parts.{IsKept, state, places, Joins}
-use Rattle.ss_records.proofs.Same.{differs}
-use Rattle.ss_records.proofs.Filed.{get_there, in_contains}
+use Rattle.ss_blocks.proofs.Same.{differs}
+use Rattle.ss_blocks.proofs.Entries.{get_there}
+use Rattle.ss_records.proofs.Filed.{in_contains}
 use Rattle.ss_records.proofs.Leading.{its_number, prev_beside}
 use Rattle.ss_records.proofs.Looks.{next_leads, prev_leads, next_small, prev_small, is_filed_value, next_is, prev_is, as_whole, owner_has, owner_small}
 use Rattle.ss_records.proofs.Ends.{tested}

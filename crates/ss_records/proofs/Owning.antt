@@ -6,8 +6,8 @@ use Rattle.ss_base.specs.declared.layout.Owner.TheVariants.{System, Class}
 use Rattle.ss_base.specs.declared.layout.SetLayout.{SetLayout}
 use Rattle.ss_base.specs.declared.layout.Layout.{Layout}
 use Rattle.ss_records.specs.declared.records.Records.{Records}
-use Rattle.ss_records.specs.declared.store.Address.{Address}
-use Rattle.ss_records.specs.Cells.{number, IsNumber, word_at}
+use Rattle.ss_blocks.specs.declared.store.Address.{Address}
+use Rattle.ss_blocks.specs.Cells.{number, IsNumber, word_at}
 use Rattle.ss_states.specs.State.{State, and_then, entity, number_in}
 use Rattle.ss_states.specs.Sets.{member_class, owner_kind, joiner, owner_by, owner}
 use Rattle.ss_records.specs.Reading.{plain}
@@ -16,7 +16,7 @@ use Rattle.ss_records.specs.Slotted.{IsOf, MayOwn}
 use Rattle.ss_records.specs.Parts.{IsKept, state, places, Found, Owns, Joins}
 use Rattle.ss_records.proofs.Listing.{stands}
 use Rattle.ss_records.proofs.Disjoint.{is_of}
-use Rattle.ss_records.proofs.Filed.{get_there}
+use Rattle.ss_blocks.proofs.Entries.{get_there}
 
 module _ (r : Records) (K : IsKept r) (c : ℕ) (x : ℤ) (p : Address) (f : Found r c x p) where
   pub has_number : IsNumber (word_at r.blocks.cells p.at 1)

@@ -8,21 +8,21 @@ use Rattle.ss_base.specs.declared.value.Value.{Value}
 use Rattle.ss_base.specs.declared.value.Value.TheVariants.{Whole}
 use Rattle.ss_base.specs.declared.layout.Mode.TheVariants.{Integer}
 use Rattle.ss_base.specs.declared.layout.SetLayout.{SetLayout}
-use Rattle.ss_records.specs.declared.store.Address.{Address}
+use Rattle.ss_blocks.specs.declared.store.Address.{Address}
 use Rattle.ss_records.specs.declared.records.Records.{Records}
-use Rattle.ss_records.specs.declared.links.Entry.{Entry}
-use Rattle.ss_records.specs.Cells.{number, link, IsNumber, words_at, word_at}
+use Rattle.ss_blocks.specs.declared.links.Entry.{Entry}
+use Rattle.ss_blocks.specs.Cells.{number, link, IsNumber, words_at, word_at}
 use Rattle.ss_states.specs.State.{members_of, modes_of, entity, value_in}
 use Rattle.ss_states.specs.Sets.{member_class}
 use Rattle.ss_states.specs.Disciplines.{value_or_zero}
 use Rattle.ss_states.specs.Lists.{head0, succ, In, Distinct}
 use Rattle.ss_records.specs.Reading.{record_of, value_at}
 use Rattle.ss_records.specs.Places.{Lists, place_in, entity_at, class_at}
-use Rattle.ss_records.specs.Links.{Leads}
+use Rattle.ss_blocks.specs.Links.{Leads}
 use Rattle.ss_records.specs.Slotted.{member_base}
 use Rattle.ss_records.specs.Parts.{IsKept, state, places, held, Lies, Joins, Between}
 use Rattle.ss_records.specs.Passing.{ranks_past, first_where, before_where}
-use Rattle.ss_records.proofs.Filed.{get_there}
+use Rattle.ss_blocks.proofs.Entries.{get_there}
 use Rattle.ss_records.proofs.Listing.{listed}
 use Rattle.ss_records.proofs.Disjoint.{entry_of}
 use Rattle.ss_records.proofs.Assigns.{first_number, is_value}

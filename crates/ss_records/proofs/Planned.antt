@@ -6,7 +6,7 @@ use Rattle.ss_records.specs.declared.plan.Extent.{Extent}
 use Rattle.ss_records.specs.declared.plan.Bases.{Bases}
 use Rattle.ss_records.specs.Slotted.{member_base, owner_base}
 use Rattle.ss_records.specs.Plans.{extent_of, bases_of}
-use Rattle.ss_records.proofs.Same.{by_same}
+use Rattle.ss_blocks.proofs.Same.{by_same}
 use Rattle.ss_records.proofs.Planning.{get_front, get_behind}
 
 pub one_longer : {A : Type 0} (xs ys : List A) (x : A) (n : ℕ) → ys ≡ xs ++ x ∷ [] → length xs ≡ n → length ys ≡ n + 1

@@ -1,5 +1,5 @@
 -- What a plan holds, and how far the words of a layout reach.
-use Rattle.std.proofs.Common.{◌≡◌, ℕ, zero, suc, ◌+◌, ◌^◌, ◌<◌, ◌≤◌, nat_le, Bool, true, false, ◌&&◌, List, [], ◌∷◌, ◌++◌, length, Some, slice_get, refl, ◌∙◌, arith}
+use Rattle.std.proofs.Common.{◌≡◌, ℕ, zero, suc, ◌^◌, ◌<◌, ◌≤◌, nat_le, Bool, true, false, ◌&&◌, List, [], ◌∷◌, ◌++◌, length, Some, slice_get, refl, ◌∙◌, arith}
 use Rattle.std.specs.Prelude.{cond, IsTrue, slice_index_or}
 use Rattle.std.specs.List.{list_all}
 use Rattle.std.proofs.lemmas.Bool.{and_parts, leb-true}
@@ -17,7 +17,7 @@ use Rattle.ss_records.specs.Shape.{links_start, owned_start, joins, owned_by, co
 use Rattle.ss_records.specs.Kept.{Small}
 use Rattle.ss_records.specs.Slotted.{member_base, owner_base}
 use Rattle.ss_records.specs.Plans.{extent_of, bases_of, IsPlan}
-use Rattle.ss_records.proofs.Filed.{get_there}
+use Rattle.ss_blocks.proofs.Entries.{get_there}
 
 one : (b : Bool) → cond b 1 0 ≤ 1
 one true = omega arith

@@ -6,12 +6,12 @@ use mir.Syntax.{w64}
 use Rattle.ss_base.specs.declared.value.Value.{Value}
 use Rattle.ss_base.specs.declared.layout.Mode.{Mode}
 use Rattle.ss_base.specs.declared.layout.Layout.{Layout}
-use Rattle.ss_records.specs.Cells.{Word, number, word_of, with_word}
+use Rattle.ss_blocks.specs.Cells.{Word, number, word_of, with_word}
 use Rattle.ss_states.specs.State.{Record, kind_of, modes_of, is_notice, with_value, with_time}
 use Rattle.ss_records.specs.Shape.{values_end, links_start}
 use Rattle.ss_records.specs.Reading.{plain, value_of, values_from, class_of, record_of}
-use Rattle.ss_records.proofs.Numbers.{length-with_word}
-use Rattle.ss_records.proofs.Puts.{word_other, word_here}
+use Rattle.ss_blocks.proofs.Numbers.{length-with_word}
+use Rattle.ss_blocks.proofs.Puts.{word_other, word_here}
 
 pub number_is : {m n : ℕ} → number m ≡ number n → m ≡ n
 number_is e = ap plain e

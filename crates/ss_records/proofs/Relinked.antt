@@ -3,15 +3,16 @@ use Rattle.std.proofs.Common.{◌≡◌, ℕ, ◌+◌, ◌-◌, ◌==◌, List, 
 use denote.RawPtr.{Ptr}
 use Rattle.ss_base.specs.declared.layout.SetLayout.{SetLayout}
 use Rattle.ss_base.specs.declared.layout.Layout.{Layout}
-use Rattle.ss_records.specs.Cells.{counter, link, Cells, put_word}
+use Rattle.ss_blocks.specs.Cells.{counter, link, Cells, put_word}
 use Rattle.ss_states.specs.State.{Members, members_of, with_members}
 use Rattle.ss_states.specs.Sets.{with_list_of}
 use Rattle.ss_records.specs.Places.{Directory, entity_at, owner_at}
 use Rattle.ss_records.specs.Kept.{Kept, state_of}
 use Rattle.ss_states.specs.Lists.{head0, last_or, In, NotIn, with_list}
-use Rattle.ss_records.specs.Links.{Slots, Shows, words_of, hooked, linked_in, unlinked_in}
+use Rattle.ss_blocks.specs.Links.{Slots, hooked, linked_in, unlinked_in}
+use Rattle.ss_records.specs.Links.{Shows, words_of}
 use Rattle.ss_records.specs.Slotted.{slots_of, IsOf, MayOwn, OfName, Spares}
-use Rattle.ss_records.proofs.Same.{by_same}
+use Rattle.ss_blocks.proofs.Same.{by_same}
 use Rattle.ss_records.proofs.Splice.{in_mid, before_in, after_in, in_left}
 use Rattle.ss_records.proofs.Listed.{members_with, members_other}
 use Rattle.ss_records.proofs.Disjoint.{grounds, spares_none, spares_put}

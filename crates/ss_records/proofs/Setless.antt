@@ -7,7 +7,7 @@ use Rattle.ss_base.specs.declared.layout.SetLayout.{SetLayout}
 use Rattle.ss_states.specs.State.{Members, in_a_set, owns_members, is_owner_class}
 use Rattle.ss_states.specs.Sets.{owner_in}
 use Rattle.ss_records.proofs.Filed.{drop_at}
-use Rattle.ss_records.proofs.Same.{same, by_same, false_is_not_true}
+use Rattle.ss_blocks.proofs.Same.{same, by_same, false_is_not_true}
 use Rattle.ss_records.specs.Shape.{joins, owned_by, same_owner, count_sets}
 
 none_of : (p : SetLayout → Bool) (t : SetLayout) (ts : List SetLayout) → count_sets p (t ∷ ts) ≡ 0 → (p t ≡ false) × (count_sets p ts ≡ 0)

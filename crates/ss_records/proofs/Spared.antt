@@ -4,8 +4,8 @@ use Rattle.std.specs.Prelude.{Option}
 use denote.RawPtr.{Ptr}
 use Rattle.ss_base.specs.declared.layout.SetLayout.{SetLayout}
 use Rattle.ss_base.specs.declared.layout.Layout.{Layout}
-use Rattle.ss_records.specs.declared.store.Address.{Address}
-use Rattle.ss_records.specs.Cells.{Cells, IsNumber, words_at, word_at}
+use Rattle.ss_blocks.specs.declared.store.Address.{Address}
+use Rattle.ss_blocks.specs.Cells.{Cells, IsNumber, words_at, word_at}
 use Rattle.ss_states.specs.State.{Members, kind_of, members_of}
 use Rattle.ss_records.specs.Shape.{links_start}
 use Rattle.ss_records.specs.Reading.{plain, record_of, record_at, records_at}
@@ -13,7 +13,7 @@ use Rattle.ss_records.specs.Places.{Directory, Lists, entity_at, owner_at, class
 use Rattle.ss_records.specs.Kept.{Kept, Formed, MadeOf, IsPermanent}
 use Rattle.ss_records.specs.Links.{Words, Shows, words_of}
 use Rattle.ss_records.specs.Slotted.{slots_of, NameKept, IsOf, MayOwn, OfName, Spares}
-use Rattle.ss_records.proofs.Same.{by_same}
+use Rattle.ss_blocks.proofs.Same.{by_same}
 use Rattle.ss_records.proofs.ReadWords.{record_same}
 use Rattle.ss_records.proofs.Keeps.{map_same, made_same}
 use Rattle.ss_records.proofs.Moved.{shows_moved}

@@ -1,7 +1,7 @@
 -- A list with one member put in: first, last, what follows and what precedes.
 use Rattle.std.proofs.Common.{append-nil, ◌≡◌, ℕ, ◌+◌, cond, ◌==◌, List, [], ◌∷◌, ◌++◌, length, ◌⊎◌, inl, inr, refl, sym, ap, subst, ◌∙◌, arith}
 use Rattle.ss_states.specs.Lists.{head0, last_or, succ, pred_from, In, NotIn, Distinct}
-use Rattle.ss_records.proofs.Same.{same, differs, by_same}
+use Rattle.ss_blocks.proofs.Same.{same, differs, by_same}
 
 pub not_in_left : (y : ℕ) (xs : List ℕ) (x : ℕ) (ys : List ℕ) → NotIn y (xs ++ x ∷ ys) → NotIn y xs
 not_in_left y [] x ys h = tt

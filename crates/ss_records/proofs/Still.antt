@@ -4,11 +4,11 @@ use Rattle.std.proofs.lemmas.Option.{slice_get_within}
 use Rattle.ss_base.specs.declared.layout.Layout.{Layout}
 use Rattle.ss_base.specs.declared.layout.Mode.{Mode}
 use Rattle.ss_records.specs.declared.records.Records.{Records}
-use Rattle.ss_records.specs.declared.links.Entry.{Entry}
+use Rattle.ss_blocks.specs.declared.links.Entry.{Entry}
 use Rattle.ss_states.specs.State.{modes_of, is_filed}
 use Rattle.ss_records.specs.Kept.{Small}
 use Rattle.ss_records.specs.Parts.{IsKept, held, Owns, Joins}
-use Rattle.ss_records.proofs.Same.{false_is_not_true}
+use Rattle.ss_blocks.proofs.Same.{false_is_not_true}
 
 module _ (r q : Records) (h : held q ≡ held r) where
   pub kept_still : IsKept r → IsKept q

@@ -5,15 +5,15 @@ use denote.RawPtr.{Ptr}
 use Rattle.ss_base.specs.declared.layout.Owner.TheVariants.{Class}
 use Rattle.ss_base.specs.declared.layout.SetLayout.{SetLayout}
 use Rattle.ss_base.specs.declared.layout.Layout.{Layout}
-use Rattle.ss_records.specs.declared.store.Address.{Address}
-use Rattle.ss_records.specs.Cells.{Word, number, counter, link, Cells, IsLink, IsCounter, word_at}
+use Rattle.ss_blocks.specs.declared.store.Address.{Address}
+use Rattle.ss_blocks.specs.Cells.{Word, number, counter, link, Cells, IsLink, IsCounter, word_at}
 use Rattle.ss_states.specs.State.{Members, members_of, is_filed, has_members}
 use Rattle.ss_records.specs.Shape.{count_before, count_sets}
 use Rattle.ss_records.specs.Reading.{plain}
 use Rattle.ss_records.specs.Places.{Directory, Lists, listing, place_in, entity_at, owner_at, class_at}
 use Rattle.ss_records.specs.Kept.{Kept}
 use Rattle.ss_records.specs.Slotted.{member_base, owner_base, IsOf, MayOwn}
-use Rattle.ss_records.proofs.Same.{differs, by_same}
+use Rattle.ss_blocks.proofs.Same.{differs, by_same}
 use Rattle.ss_records.proofs.Listing.{stands}
 use Rattle.ss_records.proofs.Disjoint.{is_of}
 use Rattle.ss_records.proofs.Filed.{Next, next_of}

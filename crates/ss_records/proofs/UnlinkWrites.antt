@@ -1,10 +1,11 @@
 -- What the writes of a removal do to the words of the set name.
 use Rattle.std.proofs.Common.{◌≡◌, ℕ, ◌-◌, ◌<◌, true, false, cond, ◌==◌, length, inl, inr, refl, sym, ap, subst, ◌∙◌}
 use denote.RawPtr.{Ptr}
-use Rattle.ss_records.specs.Cells.{counter, link, Cells, words_at, word_at, put_word}
-use Rattle.ss_records.specs.Links.{Slots, hooked, words_of, Unlinked, OfMember, OfOwner, Grounds, unlinked_in}
-use Rattle.ss_records.proofs.Same.{differs, by_same}
-use Rattle.ss_records.proofs.Puts.{length_put, put_other}
+use Rattle.ss_blocks.specs.Cells.{counter, link, Cells, words_at, word_at, put_word}
+use Rattle.ss_blocks.specs.Links.{Slots, hooked, unlinked_in}
+use Rattle.ss_records.specs.Links.{words_of, Unlinked, OfMember, OfOwner, Grounds}
+use Rattle.ss_blocks.proofs.Same.{differs, by_same}
+use Rattle.ss_blocks.proofs.Puts.{length_put, put_other}
 use Rattle.ss_records.proofs.LinkWrites.{put_here}
 
 module _ (w : Slots) (cs : Cells) (at home : ℕ → Ptr) (alive owns : ℕ → Type 0) (g : Grounds w cs at home alive owns) (o a x b n : ℕ) (lo : owns o) (lx : alive x) (la : (a ≡ 0 → ⊥) → alive a) (lb : (b ≡ 0 → ⊥) → alive b) where

@@ -8,10 +8,10 @@ use Rattle.ss_base.specs.declared.value.Value.{Value}
 use Rattle.ss_base.specs.declared.value.Value.TheVariants.{Whole, Text}
 use Rattle.ss_base.specs.declared.layout.Mode.{Mode}
 use Rattle.ss_base.specs.declared.layout.Mode.TheVariants.{Integer, Alpha}
-use Rattle.ss_records.specs.Cells.{Word, number, Cells, IsNumber, word_at, put_word}
+use Rattle.ss_blocks.specs.Cells.{Word, number, Cells, IsNumber, word_at, put_word}
 use Rattle.ss_records.specs.Reading.{plain, value_of, value_at, PutsValue}
-use Rattle.ss_records.proofs.Numbers.{is_number, put_seen}
-use Rattle.ss_records.proofs.Puts.{put_other}
+use Rattle.ss_blocks.proofs.Numbers.{is_number, put_seen}
+use Rattle.ss_blocks.proofs.Puts.{put_other}
 
 pub whole_read : (cs : Cells) (p : Ptr) (k n : ℕ) (m : Mode) (v : Value) → v ≡ Whole (cast_signed w64 n) → word_at cs p k ≡ number n → m ≡ Integer → v ≡ value_at m cs p k
 whole_read cs p k n m v e h is =

@@ -1,5 +1,5 @@
 -- What holds between the blocks and the state of a heap.
-use Rattle.std.specs.Prelude.{◌≡◌, ℕ, zero, suc, ◌+◌, ◌<◌, ◌≤◌, ◌^◌, IsTrue, List, [], map, length, ℤ, pos, negsuc, Option, Some, None, Result, Ok, Err, slice_get}
+use Rattle.std.specs.Prelude.{◌≡◌, ℕ, zero, suc, ◌+◌, ◌<◌, ◌≤◌, ◌^◌, IsTrue, List, map, length, ℤ, pos, negsuc, Option, Some, None, Result, Ok, Err, slice_get}
 use denote.RawPtr.{Ptr}
 use Rattle.ss_base.specs.declared.fault.FaultKind.{FaultKind}
 use Rattle.ss_base.specs.declared.fault.FaultKind.TheVariants.{NoEntity, NeverCreated, DestroyedEntity, Index}
@@ -8,12 +8,13 @@ use Rattle.ss_base.specs.declared.layout.ClassKind.TheVariants.{Permanent, Tempo
 use Rattle.ss_base.specs.declared.layout.Layout.{Layout}
 use Rattle.ss_base.specs.declared.layout.Owner.TheVariants.{System, Class}
 use Rattle.ss_base.specs.Layout.{is_sound}
-use Rattle.ss_records.specs.declared.store.Address.{Address}
-use Rattle.ss_records.specs.Cells.{Word, number, Cells, IsNumber, words_at, word_of}
+use Rattle.ss_blocks.specs.declared.store.Address.{Address}
+use Rattle.ss_blocks.specs.Cells.{Word, number, Cells, IsNumber, words_at, word_of}
 use Rattle.ss_states.specs.State.{Record, State, Members, entity, kind_of, modes_of}
 use Rattle.ss_records.specs.Shape.{links_start, block_words}
 use Rattle.ss_records.specs.Reading.{record_at, records_at}
-use Rattle.ss_records.specs.Places.{Numbers, Made, Directory, IsMade, Lists, class_at, living, made_count}
+use Rattle.ss_blocks.specs.Places.{Numbers, living}
+use Rattle.ss_records.specs.Places.{Made, Directory, IsMade, Lists, class_at, made_count}
 use Rattle.ss_records.specs.Slotted.{NameKept}
 use Rattle.ss_base.specs.declared.layout.SetLayout.{SetLayout}
 
@@ -36,12 +37,6 @@ pub record Small (l : Layout) : Type 0 where
   pub classes : length l.classes ≤ 2 ^ 20
   pub sets : length l.sets ≤ 2 ^ 20
   pub fields : (c : ℕ) → length (modes_of l c) ≤ 2 ^ 20
-
--- only the block at p has changed
-pub record Written (cs ds : Cells) (p : Ptr) : Type 0 where
-  pub others : (q : Ptr) → (p ≡ q → ⊥) → words_at ds q ≡ words_at cs q
-  pub size : length (words_at ds p) ≡ length (words_at cs p)
-  pub count : length ds ≡ length cs
 
 -- the words of the block of the entity n of the class c
 pub record Formed (l : Layout) (c n : ℕ) (ws : List Word) : Type 0 where
@@ -82,11 +77,6 @@ pub record RowsHeld (l : Layout) (cs : Cells) (sys : Ptr) (ms : Made) : Type 0 w
   pub apart : (c b i j : ℕ) (ps qs : List Address) (p q : Address) → slice_get ms c ≡ Some (Some ps) → slice_get ms b ≡ Some (Some qs) → slice_get ps i ≡ Some p → slice_get qs j ≡ Some q → p.at ≡ q.at → (i ≡ j) × (c ≡ b)
   pub off_system : (i : ℕ) (p : Address) → IsMade ms i p → p.at ≡ sys → ⊥
   pub counted : length cs ≡ made_count ms + 1
-
-abbrev pub row_in : Option (Option (List Address)) → List Address
-row_in None = []
-row_in (Some None) = []
-row_in (Some (Some ps)) = ps
 
 abbrev pub place_or : Option Address → Result Address FaultKind
 place_or None = Err Index

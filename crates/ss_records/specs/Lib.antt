@@ -2,13 +2,10 @@ pub use Rattle.ss_states.specs.Lists
 pub use Rattle.ss_states.specs.State
 pub use Rattle.ss_states.specs.Sets
 pub mod Added
-pub mod Cells
 pub mod Classed
 pub mod Kept
 pub mod Laid
 pub mod Links
-pub mod Ownership
-pub mod Pages
 pub mod Parts
 pub mod Passing
 pub mod Places

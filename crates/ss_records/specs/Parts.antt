@@ -1,12 +1,12 @@
 -- The parts of a heap, and what its contracts see of them.
 use Rattle.std.specs.Prelude.{◌≡◌, ℕ, suc, ℤ, pos, List, ◌∷◌, ◌++◌, length, slice_get, Some, Ok}
-use Rattle.ss_records.specs.declared.store.Address.{Address}
+use Rattle.ss_blocks.specs.declared.store.Address.{Address}
 use Rattle.ss_records.specs.declared.records.Records.{Records}
-use Rattle.ss_records.specs.declared.links.Entry.{Entry}
+use Rattle.ss_blocks.specs.declared.links.Entry.{Entry}
 use Rattle.ss_states.specs.State.{State, Heaped, entity, notice, members_of}
 use Rattle.ss_states.specs.Sets.{member_class, owner_kind}
 use Rattle.ss_states.specs.Lists.{head0, last_or}
-use Rattle.ss_records.specs.Cells.{words_at}
+use Rattle.ss_blocks.specs.Cells.{words_at}
 use Rattle.ss_records.specs.Reading.{record_of}
 use Rattle.ss_records.specs.Kept.{Kept, state_of}
 use Rattle.ss_records.specs.Places.{Directory, lying, Lists, class_at, entity_at, owner_at}

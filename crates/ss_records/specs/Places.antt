@@ -3,12 +3,10 @@ use Rattle.std.specs.Prelude.{◌≡◌, ℕ, zero, suc, ◌+◌, List, [], ◌�
 use denote.RawPtr.{Ptr, null_ptr}
 use Rattle.ss_base.specs.declared.layout.Owner.{Owner}
 use Rattle.ss_base.specs.declared.layout.Owner.TheVariants.{System, Class}
-use Rattle.ss_records.specs.declared.store.Address.{Address}
-use Rattle.ss_records.specs.Cells.{Cells, words_at}
+use Rattle.ss_blocks.specs.declared.store.Address.{Address}
+use Rattle.ss_blocks.specs.Cells.{Cells, words_at}
 use Rattle.ss_records.specs.Reading.{class_of}
-
-abbrev pub Numbers : Type 0
-Numbers = List (Option Address)
+use Rattle.ss_blocks.specs.Places.{Numbers}
 
 -- the permanent entities of each class by index, none until they are made
 abbrev pub Made : Type 0
@@ -61,11 +59,6 @@ owner_at sys d (Class c) n = entity_at sys d c n
 -- the class that the words of a block give
 abbrev pub class_at : Cells → Address → ℕ
 class_at cs p = class_of (words_at cs p.at)
-
-abbrev pub living : Numbers → ℕ
-living [] = 0
-living (None ∷ ps) = living ps
-living (Some p ∷ ps) = suc (living ps)
 
 -- how many permanent entities there are
 abbrev pub made_count : Made → ℕ

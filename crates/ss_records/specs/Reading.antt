@@ -12,8 +12,8 @@ use Rattle.ss_base.specs.declared.layout.Mode.{Mode}
 use Rattle.ss_base.specs.declared.layout.Mode.TheVariants.{Integer, Alpha}
 use Rattle.ss_base.specs.declared.layout.Layout.{Layout}
 use Rattle.ss_base.specs.Layout.{mode_of}
-use Rattle.ss_records.specs.declared.store.Address.{Address}
-use Rattle.ss_records.specs.Cells.{Word, blank, number, counter, link, Cells, words_at, word_of, word_at, put_word}
+use Rattle.ss_blocks.specs.declared.store.Address.{Address}
+use Rattle.ss_blocks.specs.Cells.{Word, blank, number, counter, link, Cells, words_at, word_of, word_at, put_word}
 use Rattle.ss_states.specs.State.{Record, kind_of, modes_of, is_notice}
 use Rattle.ss_records.specs.Shape.{values_end}
 

@@ -5,12 +5,13 @@ use Rattle.ss_base.specs.declared.layout.Owner.{Owner}
 use Rattle.ss_base.specs.declared.layout.Owner.TheVariants.{System, Class}
 use Rattle.ss_base.specs.declared.layout.SetLayout.{SetLayout}
 use Rattle.ss_base.specs.declared.layout.Layout.{Layout}
-use Rattle.ss_records.specs.declared.store.Address.{Address}
-use Rattle.ss_records.specs.Cells.{Cells, words_at, word_at}
+use Rattle.ss_blocks.specs.declared.store.Address.{Address}
+use Rattle.ss_blocks.specs.Cells.{Cells, words_at, word_at}
 use Rattle.ss_states.specs.State.{Members, members_of}
 use Rattle.ss_records.specs.Shape.{links_start, owned_start, joins, owned_by, count_before}
 use Rattle.ss_records.specs.Places.{Directory, listing, entity_at, owner_at, class_at}
-use Rattle.ss_records.specs.Links.{Slots, Shows, words_of, OfMember, OfOwner}
+use Rattle.ss_blocks.specs.Links.{Slots}
+use Rattle.ss_records.specs.Links.{Shows, words_of, OfMember, OfOwner}
 
 abbrev pub member_base : Layout → ℕ → SetLayout → ℕ
 member_base l s t = links_start l t.member + 3 * count_before (joins t.member) l.sets s

@@ -5,10 +5,10 @@ ghost use Rattle.ss_states.specs.Disciplines.{first_removed, last_removed, membe
 ghost use Rattle.ss_states.specs.Sets.{joiner, owner, less, with_list_of, put_in, put_beside, taken_out, filed_first, filed_last, filed_before, filed_after, removed};
 ghost use Rattle.ss_records.specs.Parts.{IsKept, state, held, Owns, Joins, Between, Around};
 
-use crate::links::Entry;
 use crate::records::Records;
 use crate::sets;
 use ss_base::FaultKind;
+use ss_blocks::Entry;
 
 // An owner of a set, and one that may be in the set.
 #[derive(Clone, Copy)]

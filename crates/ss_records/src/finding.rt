@@ -1,17 +1,17 @@
 // Where the block of an entity lies, by its number.
 ghost use Rattle.std.specs.Prelude.{◌≡◌, ◌<◌, length, MatchResult, IfSome, Ok, Err, slice_get};
 ghost use Rattle.ss_states.specs.State.{entity, notice, numbered, and_then, of_class, kind_of, is_notice};
-ghost use Rattle.ss_records.specs.Cells.{words_at};
+ghost use Rattle.ss_blocks.specs.Cells.{words_at};
 ghost use Rattle.ss_records.specs.Reading.{record_of};
-ghost use Rattle.ss_records.specs.Kept.{numbered_place, indexed_place, row_in, IsPermanent};
+ghost use Rattle.ss_blocks.specs.Places.{row_in};
+ghost use Rattle.ss_records.specs.Kept.{numbered_place, indexed_place, IsPermanent};
 ghost use Rattle.ss_records.specs.Places.{class_at};
 ghost use Rattle.ss_records.specs.Parts.{IsKept, state, Found, FoundNotice};
 ghost use Rattle.ss_records.specs.Classed.{HasClass};
 
 use crate::records::Records;
-use crate::shape::CLASS;
-use crate::store::Address;
 use ss_base::{ClassKind, FaultKind};
+use ss_blocks::{Address, CLASS};
 
 impl Records {
     // The block of a creation number.

@@ -2,23 +2,16 @@
 #![tactic(auto)]
 
 pub(crate) mod attributes;
-pub(crate) mod directory;
 pub(crate) mod filing;
 pub(crate) mod finding;
 mod heap;
 pub(crate) mod laying;
-pub(crate) mod links;
 pub(crate) mod notes;
-pub(crate) mod page;
-pub(crate) mod pages;
 pub(crate) mod placing;
 pub(crate) mod plan;
 pub(crate) mod records;
-pub(crate) mod register;
-pub(crate) mod row;
 pub(crate) mod sets;
 pub(crate) mod shape;
-pub(crate) mod store;
 pub(crate) mod ties;
 pub(crate) mod words;
 

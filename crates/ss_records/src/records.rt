@@ -2,7 +2,7 @@
 ghost use Rattle.std.specs.Prelude.{◌≡◌, ℕ, ◌+◌, ◌-◌, ◌*◌, ◌^◌, ◌<◌, ◌≤◌, length, MatchResult, IfOk, IfSome, Ok, Err, Some, None, slice_get, true, false, ⊤, suc};
 ghost use Rattle.ss_states.specs.State.{kind_of, modes_of, is_notice, first_state, living_numbers, living_records, value_in, time_in, in_a_set, owns_members, destroyed, created, created_all, with_made, assigned, timed, RefusedFor};
 ghost use Rattle.ss_states.specs.Sets.{owner_kind};
-ghost use Rattle.ss_records.specs.Cells.{words_at};
+ghost use Rattle.ss_blocks.specs.Cells.{words_at};
 ghost use Rattle.ss_base.specs.Layout.{mode_of};
 ghost use Rattle.ss_records.specs.Shape.{values_end};
 ghost use Rattle.ss_records.specs.Kept.{Kept, Small, IsPermanent, RowsHeld};
@@ -10,15 +10,14 @@ ghost use Rattle.ss_records.specs.Places.{class_at, lying};
 ghost use Rattle.ss_records.specs.Parts.{IsKept, state};
 ghost use Rattle.ss_records.specs.Added.{Added};
 
-use crate::directory::Directory;
 use crate::notes::Notes;
-use crate::page::PAGE;
 use crate::plan::Plan;
-use crate::row::{self, Row};
-use crate::shape::{CLASS, value_start};
-use crate::store::{Address, Blocks};
-use crate::{laying, placing, ties};
+use crate::shape::value_start;
+use crate::{attributes, laying, placing, ties};
 use ss_base::{FaultKind, Layout, Mode, Owner, Refused, Value, plus};
+use ss_blocks::placing::{give_places_back, place_all};
+use ss_blocks::row::{self, Row};
+use ss_blocks::{Address, Blocks, CLASS, Directory, PAGE};
 use std::alloc::{AllocError, Global};
 
 /// The greatest creation number.
@@ -127,7 +126,7 @@ impl Records {
             Ok(place) => {
                 let mode = self.layout.mode(class, field);
                 let k = value_start(field);
-                Ok(self.blocks.value(place, k, mode))
+                Ok(attributes::value(&self.blocks, place, k, mode))
             }
             Err(fault) => Err(fault),
         }
@@ -152,7 +151,7 @@ impl Records {
         match self.find(class, r) {
             Ok(place) => {
                 let k = value_start(field);
-                self.blocks.set_value(place, k, value);
+                attributes::set_value(&mut self.blocks, place, k, value);
                 Ok(())
             }
             Err(fault) => Err(fault),
@@ -170,7 +169,7 @@ impl Records {
         match self.near(class, r) {
             Some(place) => {
                 let k = value_start(field);
-                Some(self.blocks.whole(place, k))
+                Some(attributes::whole(&self.blocks, place, k))
             }
             None => self.whole_apart(class, field, r),
         }
@@ -188,7 +187,7 @@ impl Records {
         match self.find(class, r) {
             Ok(place) => {
                 let k = value_start(field);
-                Some(self.blocks.whole(place, k))
+                Some(attributes::whole(&self.blocks, place, k))
             }
             Err(_) => None,
         }
@@ -209,7 +208,7 @@ impl Records {
         match self.near(class, r) {
             Some(place) => {
                 let k = value_start(field);
-                self.blocks.set_whole(place, k, n);
+                attributes::set_whole(&mut self.blocks, place, k, n);
                 true
             }
             None => self.set_whole_apart(class, field, r, n),
@@ -232,7 +231,7 @@ impl Records {
         match self.find(class, r) {
             Ok(place) => {
                 let k = value_start(field);
-                self.blocks.set_whole(place, k, n);
+                attributes::set_whole(&mut self.blocks, place, k, n);
                 true
             }
             Err(_) => false,
@@ -256,10 +255,10 @@ impl Records {
             return false;
         };
         let k = value_start(field);
-        let Ok(sum) = plus(self.blocks.whole(place, k), n) else {
+        let Ok(sum) = plus(attributes::whole(&self.blocks, place, k), n) else {
             return false;
         };
-        self.blocks.set_whole(place, k, sum);
+        attributes::set_whole(&mut self.blocks, place, k, sum);
         true
     }
 
@@ -409,7 +408,7 @@ impl Records {
         ensures touches { self.new.blocks.total ≡ self.old.blocks.total + self.new.blocks.touches }
     {
         let words = self.layout.block_words(Owner::Class(class));
-        let Ok(places) = placing::place_all(&mut self.blocks, alloc, words, count) else {
+        let Ok(places) = place_all(&mut self.blocks, alloc, words, count) else {
             return Err(AllocError);
         };
         placing::lay_all(&mut self.blocks, &self.layout, &places, class, self.system);
@@ -545,7 +544,7 @@ fn give_rows_back(
     for class in 0..permanents.len() {
         let words = layout.block_words(Owner::Class(class));
         let places = permanents[class].places();
-        placing::give_places_back(blocks, alloc, places, words);
+        give_places_back(blocks, alloc, places, words);
     }
 }
 

@@ -8,12 +8,12 @@ ghost use Rattle.ss_records.specs.Kept.{IsPermanent};
 ghost use Rattle.ss_records.specs.Parts.{IsKept, state, Owns, Joins};
 ghost use Rattle.ss_records.specs.Passing.{ranks_past, first_where, before_where};
 
-use crate::directory::Directory;
-use crate::links::Entry;
+use crate::attributes;
 use crate::plan::Plan;
 use crate::records::Records;
-use crate::shape::{NUMBER, value_start};
+use crate::shape::value_start;
 use ss_base::{ClassKind, FaultKind, Mode, Owner, Value};
+use ss_blocks::{Directory, Entry, NUMBER};
 
 /// What is read of a member of a set at once.
 #[derive(Clone, Copy)]
@@ -237,7 +237,7 @@ impl Records {
                 let number = self.blocks.number(place, NUMBER);
                 let mode = self.layout.mode(class, field);
                 let k = value_start(field);
-                let value = self.blocks.value(place, k, mode);
+                let value = attributes::value(&self.blocks, place, k, mode);
                 let base = self.layout.member_base(s);
                 let next = self.blocks.follow(place, base);
                 Ok(Member {
@@ -270,7 +270,7 @@ impl Records {
             Ok(place) => {
                 let number = self.blocks.number(place, NUMBER);
                 let k = value_start(field);
-                let value = self.blocks.whole(place, k);
+                let value = attributes::whole(&self.blocks, place, k);
                 let base = self.layout.member_base(s);
                 let next = self.blocks.follow(place, base);
                 Ok(WholeMember {
@@ -342,7 +342,7 @@ impl Records {
         ensures { result ≡ ranks_past (state self.now) (member_class self.now.layout s) field high (Value.Whole own) member.number }
     {
         let k = value_start(field);
-        is_after(self.blocks.whole(member.place, k), own, high)
+        is_after(attributes::whole(&self.blocks, member.place, k), own, high)
     }
 
     /// The member that precedes x in its set, 0 where there is none: a touch.

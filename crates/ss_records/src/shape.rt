@@ -7,11 +7,7 @@ ghost use Rattle.ss_records.specs.Slotted.{member_base, owner_base};
 
 use ss_base::{ClassKind, Layout, Mode, Owner, SetLayout};
 
-/// The words of every block that name its class and its number, and the first word after them.
-pub(crate) const CLASS: usize = 0;
-
-pub(crate) const NUMBER: usize = 1;
-
+/// The first word of a block after those that name its class and its number.
 pub(crate) const VALUES: usize = 2;
 
 /// Where the two words of an attribute stand: here and next to it.

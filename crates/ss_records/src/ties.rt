@@ -5,13 +5,11 @@ ghost use Rattle.ss_states.specs.State.{in_a_set, owns_members, is_filed, has_me
 ghost use Rattle.ss_records.specs.Kept.{Kept};
 ghost use Rattle.ss_records.specs.Places.{class_at, lying};
 
-use crate::directory::Directory;
 use crate::notes::Notes;
 use crate::plan::Plan;
-use crate::row::Row;
-use crate::shape::NUMBER;
-use crate::store::{Address, Blocks};
 use ss_base::Owner;
+use ss_blocks::row::Row;
+use ss_blocks::{Address, Blocks, Directory, NUMBER};
 
 /// Whether the entity is in a set of the name s: a touch.
 pub(crate) fn filed_in(

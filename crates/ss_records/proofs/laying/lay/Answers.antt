@@ -1,8 +1,9 @@
 use Rattle.std.proofs.Common.{◌+◌, ◌*◌, arith, subst}
 use Rattle.ss_base.specs.declared.layout.Owner.TheVariants.{Class}
 use Rattle.ss_records.specs.Shape.{links_start, owned_start}
-use Rattle.ss_records.specs.Laid.{Filled, zeros, links_to, owned_from}
-use Rattle.ss_records.proofs.Fills.{blank_above, laid_from}
+use Rattle.ss_blocks.specs.Writes.{Filled, zeros, links_to, owned_from}
+use Rattle.ss_blocks.proofs.Fills.{blank_above}
+use Rattle.ss_records.proofs.Fills.{laid_from}
 use Rattle.ss_records.proofs.laying.lay.Goals as goal
 
 pub fill_numbers-requires-clause-room : goal.fill_numbers-requires-clause-room

@@ -1,6 +1,7 @@
 use Rattle.std.proofs.Common.{◌+◌, ◌*◌, arith, subst}
-use Rattle.ss_records.specs.Laid.{Filled, owned_from}
-use Rattle.ss_records.proofs.Fills.{blank_above, laid_system_from}
+use Rattle.ss_blocks.specs.Writes.{Filled, owned_from}
+use Rattle.ss_blocks.proofs.Fills.{blank_above}
+use Rattle.ss_records.proofs.Fills.{laid_system_from}
 use Rattle.ss_records.proofs.laying.lay_system.Goals as goal
 
 pub fill_owned-requires-clause-room : goal.fill_owned-requires-clause-room

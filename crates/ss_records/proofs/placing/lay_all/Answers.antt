@@ -1,8 +1,9 @@
 use Rattle.std.proofs.Common.{◌≡◌, length, ap, subst, ◌∙◌, arith}
-use Rattle.ss_records.specs.Cells.{word_of}
+use Rattle.ss_blocks.specs.Cells.{word_of}
 use Rattle.ss_records.specs.Laid.{LaidTo}
-use Rattle.ss_records.proofs.Creates.{word_blank, length-blanks}
-use Rattle.ss_records.proofs.Makings.{place_at, laid_none, laid_more}
+use Rattle.ss_blocks.proofs.Puts.{word_blank, length-blanks}
+use Rattle.ss_blocks.proofs.Placings.{place_at}
+use Rattle.ss_records.proofs.Makings.{laid_none, laid_more}
 use Rattle.ss_records.proofs.placing.lay_all.Goals as goal
 
 pub loop-i-init : goal.loop-i-init

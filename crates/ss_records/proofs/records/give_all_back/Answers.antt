@@ -1,10 +1,11 @@
 use Rattle.std.proofs.Common.{◌≡◌, ℕ, inl, drop, ◌+◌, ◌*◌, ◌/◌, ◌<◌, ◌≤◌, length, slice_get, None, sym, ap, subst, ◌∙◌, arith}
 use Rattle.ss_base.specs.declared.layout.Owner.TheVariants.{Class}
-use Rattle.ss_records.specs.Cells.{IsNumber, word_of}
-use Rattle.ss_records.specs.Places.{lying, class_at, living}
+use Rattle.ss_blocks.specs.Cells.{IsNumber, word_of}
+use Rattle.ss_blocks.specs.Places.{living}
+use Rattle.ss_records.specs.Places.{lying, class_at}
 use Rattle.ss_records.specs.Reading.{plain, class_of}
-use Rattle.ss_records.specs.Pages.{in_page}
-use Rattle.ss_records.proofs.Paging.{quot, rem}
+use Rattle.ss_blocks.specs.Pages.{in_page}
+use Rattle.ss_blocks.proofs.Paging.{quot, rem}
 use Rattle.ss_records.proofs.Living.{Left, living_drop, rows_held, is_there, left_given, left_past}
 use Rattle.ss_records.proofs.records.give_all_back.Goals as goal
 use Rattle.ss_records.proofs.records.give_all_back.Goals.{in-Some, in-None, then-holds+else-loop-i-test, else-holds}

@@ -1,7 +1,7 @@
 use Rattle.std.proofs.Common.{◌≡◌, ℕ, ◌+◌, ◌≤◌, length, slice_get, Some, refl, sym, ap, subst, ◌∙◌, arith}
 use Rattle.ss_records.proofs.Indexing.{of_row}
 use Rattle.ss_records.proofs.Living.{made_drop, made_step}
-use Rattle.ss_records.proofs.Makings.{place_at}
+use Rattle.ss_blocks.proofs.Placings.{place_at}
 use Rattle.ss_records.proofs.records.give_rows_back.Goals as goal
 
 past : (x y : ℕ) → x + 1 ≤ y → x ≡ y → ⊥

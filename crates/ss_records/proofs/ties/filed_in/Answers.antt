@@ -1,9 +1,9 @@
 use Rattle.std.proofs.Common.{inl, ◌≡◌, sym, ap, subst, ◌∙◌}
 use Rattle.std.specs.Prelude.{not, nat_eq}
-use Rattle.ss_records.specs.Cells.{IsNumber, word_at}
+use Rattle.ss_blocks.specs.Cells.{IsNumber, word_at}
 use Rattle.ss_states.specs.State.{is_filed}
 use Rattle.ss_records.specs.Places.{lying}
-use Rattle.ss_records.proofs.Filed.{get_there}
+use Rattle.ss_blocks.proofs.Entries.{get_there}
 use Rattle.ss_records.proofs.Tied.{may_next, next_number, filed_value}
 use Rattle.ss_records.proofs.ties.filed_in.Goals as goal
 

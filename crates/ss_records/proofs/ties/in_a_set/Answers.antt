@@ -1,10 +1,11 @@
 use Rattle.std.proofs.Common.{◌<◌, ◌+◌, ◌==◌, drop, length, inl, sym, ap, subst, ◌∙◌, arith}
 use Rattle.ss_records.specs.Kept.{Kept}
 use Rattle.ss_records.specs.Places.{class_at, lying}
-use Rattle.ss_records.proofs.Filed.{get_there, in_here, in_not_filed, in_other}
+use Rattle.ss_blocks.proofs.Entries.{get_there}
+use Rattle.ss_records.proofs.Filed.{in_here, in_not_filed, in_other}
 use Rattle.ss_records.proofs.Still.{early_room, last_look}
 use Rattle.ss_records.proofs.Setless.{in_none, counts_one, counts_none}
-use Rattle.ss_records.proofs.Same.{same, differs}
+use Rattle.ss_blocks.proofs.Same.{same, differs}
 use Rattle.ss_records.specs.Shape.{joins}
 use Rattle.ss_records.proofs.ties.in_a_set.Goals as goal
 use Rattle.ss_records.proofs.ties.in_a_set.Goals.{then-member_class-class+else-filed_in+else-left-eq0-2, else-member_class-class}

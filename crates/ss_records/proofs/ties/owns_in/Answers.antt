@@ -1,9 +1,9 @@
 use Rattle.std.proofs.Common.{inl, ◌≡◌, ◌+◌, sym, ap, subst, ◌∙◌}
 use Rattle.std.specs.Prelude.{not, nat_eq}
-use Rattle.ss_records.specs.Cells.{word_at}
+use Rattle.ss_blocks.specs.Cells.{word_at}
 use Rattle.ss_states.specs.State.{has_members, members_of}
 use Rattle.ss_records.specs.Places.{lying}
-use Rattle.ss_records.proofs.Filed.{get_there}
+use Rattle.ss_blocks.proofs.Entries.{get_there}
 use Rattle.ss_records.proofs.Tied.{may_count, owns_value}
 use Rattle.ss_records.proofs.ties.owns_in.Goals as goal
 

@@ -2,7 +2,8 @@ use Rattle.std.proofs.Common.{◌≡◌, ℕ, ◌+◌, ◌<◌, drop, length, in
 use Rattle.ss_records.specs.Kept.{Kept}
 use Rattle.ss_base.specs.declared.layout.Owner.TheVariants.{Class}
 use Rattle.ss_records.specs.Places.{class_at, lying}
-use Rattle.ss_records.proofs.Filed.{get_there, owns_here, owns_not, owns_other, class_of_owner}
+use Rattle.ss_blocks.proofs.Entries.{get_there}
+use Rattle.ss_records.proofs.Filed.{owns_here, owns_not, owns_other, class_of_owner}
 use Rattle.ss_records.proofs.Still.{later_room, last_look}
 use Rattle.ss_records.proofs.Setless.{owns_none, as_owner, counts_one, counts_none}
 use Rattle.ss_records.specs.Shape.{owned_by}

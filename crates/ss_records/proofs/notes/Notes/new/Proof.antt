@@ -17,7 +17,7 @@ use denote.Steps.{nothing}
 use denote.Triple.Entry.{alive}
 use denote.Triple.Walked.{Stays, walk_of}
 use Rattle.std.proofs.raw_atomic.Walks.{proved_at, leaves}
-use Rattle.ss_records.proofs.Values.{plainly, none_made}
+use Rattle.ss_blocks.proofs.Values.{plainly, none_made}
 use Rattle.ss_records.specs.contracts.notes.Notes as S
 use Rattle.ss_records.specs.contracts.notes.Notes.new.{ended, clauses}
 use Rattle.ss_records.specs.contracts.notes.Notes.new.Key.{name as #self}

@@ -2,7 +2,7 @@ use Rattle.std.proofs.Common.{◌≡◌, ◌<◌, ◌≤◌, length, slice_get, 
 use Rattle.ss_base.specs.declared.layout.Layout.{Layout}
 use Rattle.ss_records.specs.declared.plan.Bases.{Bases}
 use Rattle.ss_records.specs.Slotted.{owner_base}
-use Rattle.ss_records.proofs.Filed.{get_there}
+use Rattle.ss_blocks.proofs.Entries.{get_there}
 use Rattle.ss_records.proofs.Planning.{set_within, bases_are, owner_reach}
 use Rattle.ss_records.proofs.plan.Plan.owner_base.Goals as goal
 

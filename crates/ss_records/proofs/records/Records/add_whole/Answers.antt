@@ -30,7 +30,7 @@ set_whole-requires-clause-second c =
 pub returns-clause-kept : goal.returns-clause-kept
 returns-clause-kept c =
     let r = c.args.self.now in let f = c.in-Some.ensures in
-    kept_assigned r.layout r.blocks.cells r.system.at (places r) r.notes.lists c.requires.kept f.index c.in-Some.place f.entry c.args.class f.class _ f.is f.entity c.args.field c.value_start-k.result c.value_start-k.ensures.at _ c.requires.mode c.set_whole.new.self.cells c.set_whole.ensures.written
+    kept_assigned r.layout r.blocks.cells r.system.at (places r) r.notes.lists c.requires.kept f.index c.in-Some.place f.entry c.args.class f.class _ f.is f.entity c.args.field c.value_start-k.result c.value_start-k.ensures.at _ c.requires.mode c.set_whole.new.blocks.cells c.set_whole.ensures.written
 
 pub returns-clause-done : goal.returns-clause-done
 returns-clause-done c = λ _.
@@ -38,16 +38,16 @@ returns-clause-done c = λ _.
     let before : to_z w64 (of_z w64 c.whole.result) ≡ c.whole.result = search rules in
     let by : to_z w64 (of_z w64 c.args.n) ≡ c.args.n = search rules in
     let sum : to_z w64 (of_z w64 c.in-Ok.sum) ≡ c.in-Ok.sum = search rules in
-    let written = subst (λ z. PutsValue r.blocks.cells c.set_whole.new.self.cells c.in-Some.place.at c.value_start-k.result (Whole z)) sum c.set_whole.ensures.written in
+    let written = subst (λ z. PutsValue r.blocks.cells c.set_whole.new.blocks.cells c.in-Some.place.at c.value_start-k.result (Whole z)) sum c.set_whole.ensures.written in
     record {
       before = c.whole.result;
       sum = c.in-Ok.sum;
       is = is_value r.layout r.blocks.cells r.system.at (places r) r.notes.lists c.requires.kept f.index c.in-Some.place f.entry c.args.class f.class c.args.r f.is f.entity c.args.field c.value_start-k.result c.value_start-k.ensures.at Integer c.requires.mode ∙ ap Ok (sym c.whole.ensures);
       adds = (λ i. plus_of (sym before i) (sym by i)) ∙ sym c.in-Ok.ensures;
-      gives = is_assigned r.layout r.blocks.cells r.system.at (places r) r.notes.lists c.requires.kept f.index c.in-Some.place f.entry c.args.class f.class c.args.r f.is f.entity c.args.field c.value_start-k.result c.value_start-k.ensures.at (Whole c.in-Ok.sum) c.requires.mode c.set_whole.new.self.cells written;
+      gives = is_assigned r.layout r.blocks.cells r.system.at (places r) r.notes.lists c.requires.kept f.index c.in-Some.place f.entry c.args.class f.class c.args.r f.is f.entity c.args.field c.value_start-k.result c.value_start-k.ensures.at (Whole c.in-Ok.sum) c.requires.mode c.set_whole.new.blocks.cells written;
     }
 
 pub returns-clause-blocks : goal.returns-clause-blocks
 returns-clause-blocks c =
     let r = c.args.self.now in let f = c.in-Some.ensures in
-    length_assigned r.layout r.blocks.cells r.system.at (places r) r.notes.lists c.requires.kept f.index c.in-Some.place f.entry c.args.class f.class _ f.is f.entity c.args.field c.value_start-k.result c.value_start-k.ensures.at _ c.requires.mode c.set_whole.new.self.cells c.set_whole.ensures.written
+    length_assigned r.layout r.blocks.cells r.system.at (places r) r.notes.lists c.requires.kept f.index c.in-Some.place f.entry c.args.class f.class _ f.is f.entity c.args.field c.value_start-k.result c.value_start-k.ensures.at _ c.requires.mode c.set_whole.new.blocks.cells c.set_whole.ensures.written

@@ -1,5 +1,5 @@
 use Rattle.std.proofs.Common.{◌<◌, length, sym, subst, ◌∙◌, arith}
-use Rattle.ss_records.specs.Cells.{words_at}
+use Rattle.ss_blocks.specs.Cells.{words_at}
 use Rattle.ss_records.proofs.Living.{nothing_left}
 use Rattle.ss_records.proofs.records.Records.close.Goals as goal
 

@@ -4,12 +4,13 @@ use Rattle.std.proofs.lemmas.Int.{ints}
 use Rattle.std.specs.Int.{cast_signed}
 use mir.Syntax.{w64}
 use Rattle.ss_records.specs.Laid.{Laid}
-use Rattle.ss_records.specs.Cells.{blanks}
+use Rattle.ss_blocks.specs.Cells.{blanks}
 use Rattle.ss_states.specs.State.{LAST_NUMBER}
 use Rattle.ss_records.specs.Kept.{Kept, state_of}
 use Rattle.ss_records.specs.Parts.{places}
-use Rattle.ss_records.proofs.Puts.{words_new}
-use Rattle.ss_records.proofs.Creates.{word_blank, length-blanks, room_for_one, kept_created, is_created}
+use Rattle.ss_blocks.proofs.Puts.{words_new}
+use Rattle.ss_blocks.proofs.Puts.{word_blank, length-blanks}
+use Rattle.ss_records.proofs.Creates.{room_for_one, kept_created, is_created}
 use Rattle.ss_records.proofs.Issuing.{block_fits, at_rest, rests, one_left}
 use Rattle.ss_records.proofs.records.Records.create.Goals as goal
 

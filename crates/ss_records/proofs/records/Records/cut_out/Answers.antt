@@ -1,5 +1,5 @@
 use Rattle.std.proofs.Common.{◌≡◌, ◌+◌, ◌++◌, refl, sym, ap, ◌∙◌}
-use Rattle.ss_records.specs.Cells.{link, number, word_at}
+use Rattle.ss_blocks.specs.Cells.{link, number, word_at}
 use Rattle.ss_states.specs.State.{State}
 use Rattle.ss_states.specs.Sets.{with_list_of}
 use Rattle.ss_records.specs.Parts.{state, held}

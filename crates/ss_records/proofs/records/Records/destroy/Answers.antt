@@ -5,7 +5,7 @@ use Rattle.std.specs.Int.{cast_signed, cast_unsigned}
 use mir.Syntax.{w64}
 use Rattle.ss_base.specs.declared.layout.Owner.TheVariants.{Class}
 use Rattle.ss_records.specs.declared.records.Records.{Records}
-use Rattle.ss_records.specs.Cells.{without, words_at}
+use Rattle.ss_blocks.specs.Cells.{without, words_at}
 use Rattle.ss_records.specs.Places.{lying, class_at}
 use Rattle.ss_records.specs.Shape.{block_words}
 use Rattle.ss_records.specs.Kept.{Kept, state_of}

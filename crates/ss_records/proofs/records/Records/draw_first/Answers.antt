@@ -2,7 +2,7 @@ use Rattle.std.proofs.Common.{◌≡◌, ◌+◌, [], refl, sym, ap, ◌∙◌, 
 use Rattle.std.specs.Int.{cast_signed}
 use Rattle.std.proofs.lemmas.Int.{ints}
 use mir.Syntax.{w64}
-use Rattle.ss_records.specs.Cells.{link, number, counter, word_at}
+use Rattle.ss_blocks.specs.Cells.{link, number, counter, word_at}
 use Rattle.ss_states.specs.State.{members_of}
 use Rattle.ss_states.specs.Sets.{with_list_of, first_in}
 use Rattle.ss_records.specs.Parts.{state}

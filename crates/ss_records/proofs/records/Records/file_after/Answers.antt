@@ -1,7 +1,7 @@
 use Rattle.std.proofs.Common.{◌≡◌, [], ◌∷◌, ◌++◌, refl, sym, ap, ◌∙◌}
 use Rattle.std.proofs.lemmas.Int.{to_z-of_z}
 use Rattle.ss_records.specs.declared.records.Records.{Records}
-use Rattle.ss_records.specs.Cells.{link, number, word_at}
+use Rattle.ss_blocks.specs.Cells.{link, number, word_at}
 use Rattle.ss_states.specs.State.{State, members_of, contains}
 use Rattle.ss_states.specs.Sets.{with_list_of, put_beside, put_after}
 use Rattle.ss_records.specs.Parts.{state, held}

@@ -1,5 +1,5 @@
 use Rattle.std.proofs.Common.{◌≡◌, ◌+◌, sym, ◌∙◌}
-use Rattle.ss_records.specs.Cells.{link, number, word_at}
+use Rattle.ss_blocks.specs.Cells.{link, number, word_at}
 use Rattle.ss_records.proofs.Looks.{owner_leads, owner_has}
 use Rattle.ss_records.proofs.Files.{not_among, among_by}
 use Rattle.ss_records.proofs.records.Records.is_in.Goals as goal

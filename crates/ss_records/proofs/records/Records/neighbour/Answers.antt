@@ -1,7 +1,7 @@
 use Rattle.std.proofs.Common.{rules, ◌≡◌, ◌+◌, w64, to_z, of_z, sym, ap, subst, ◌∙◌, arith}
 use Rattle.std.proofs.lemmas.Int.{ints}
-use Rattle.ss_records.specs.Cells.{link, number, word_at}
-use Rattle.ss_records.specs.Links.{Leads}
+use Rattle.ss_blocks.specs.Cells.{link, number, word_at}
+use Rattle.ss_blocks.specs.Links.{Leads}
 use Rattle.ss_records.proofs.Looks.{owner_leads, owner_small, owner_has}
 use Rattle.ss_records.proofs.Onward.{beside_leads, beside_small, beside_filed, beside_value, in_its}
 use Rattle.ss_records.specs.declared.records.Records.{Records}

@@ -3,13 +3,13 @@ use Rattle.std.specs.Prelude.{replicate}
 use Rattle.std.proofs.lemmas.Result.{IfOk-at_ok, MatchResult-at_ok}
 use Rattle.ss_base.specs.declared.layout.Layout.{Layout}
 use Rattle.ss_base.specs.declared.layout.Owner.TheVariants.{System}
-use Rattle.ss_records.specs.Cells.{blanks}
+use Rattle.ss_blocks.specs.Cells.{blanks}
 use Rattle.ss_states.specs.State.{first_state}
 use Rattle.ss_records.specs.Shape.{block_words}
 use Rattle.ss_records.specs.Kept.{Small}
 use Rattle.ss_records.specs.Laid.{LaidSystem}
-use Rattle.ss_records.proofs.Puts.{words_new}
-use Rattle.ss_records.proofs.Creates.{word_blank, length-blanks}
+use Rattle.ss_blocks.proofs.Puts.{words_new}
+use Rattle.ss_blocks.proofs.Puts.{word_blank, length-blanks}
 use Rattle.ss_records.proofs.Living.{kept_first, none_made}
 use Rattle.ss_records.proofs.records.Records.new.Goals as goal
 

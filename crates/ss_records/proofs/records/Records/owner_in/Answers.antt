@@ -1,6 +1,6 @@
 use Rattle.std.proofs.Common.{◌≡◌, ◌+◌, sym, ◌∙◌, arith, refl, ap}
 use Rattle.std.proofs.lemmas.Int.{ints, to_z-of_z}
-use Rattle.ss_records.specs.Cells.{link, number, word_at}
+use Rattle.ss_blocks.specs.Cells.{link, number, word_at}
 use Rattle.ss_records.proofs.Looks.{owner_leads, owner_small, owner_value}
 use Rattle.ss_records.specs.Parts.{state, held}
 use Rattle.ss_records.proofs.Files.{unmoved, looked}

@@ -4,8 +4,8 @@ use Rattle.ss_base.specs.declared.value.Value.TheVariants.{Whole}
 use Rattle.ss_states.specs.State.{members_of}
 use Rattle.ss_states.specs.Sets.{member_class}
 use Rattle.ss_records.specs.declared.records.Records.{Records}
-use Rattle.ss_records.specs.Cells.{word_at}
-use Rattle.ss_records.specs.Links.{Leads}
+use Rattle.ss_blocks.specs.Cells.{word_at}
+use Rattle.ss_blocks.specs.Links.{Leads}
 use Rattle.ss_records.specs.Parts.{state}
 use Rattle.ss_records.specs.Passing.{ranks_past, first_where}
 use Rattle.ss_records.proofs.Looks.{first_leads}

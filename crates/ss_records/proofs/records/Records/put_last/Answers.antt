@@ -1,8 +1,7 @@
 use Rattle.std.proofs.Common.{◌≡◌, ◌+◌, false, [], refl, sym, ◌∙◌, arith}
-use Rattle.ss_records.specs.Cells.{link, number, counter, word_at}
-use Rattle.ss_records.specs.declared.records.Records.{Records}
+use Rattle.ss_blocks.specs.Cells.{link, number, counter, word_at}
 use Rattle.ss_states.specs.State.{members_of, is_filed}
-use Rattle.ss_records.proofs.Same.{by_same}
+use Rattle.ss_blocks.proofs.Same.{by_same}
 use Rattle.ss_records.proofs.Looks.{next_leads, last_leads, counts, how_many, how_many_small, is_filed_value}
 use Rattle.ss_records.proofs.Files.{owner_words, member_words, before_word, kept_in, state_in}
 use Rattle.ss_records.proofs.Cuts.{at_last}

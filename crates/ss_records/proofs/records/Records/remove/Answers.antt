@@ -1,6 +1,6 @@
 use Rattle.std.proofs.Common.{◌≡◌, ◌+◌, ◌++◌, refl, sym, ap, ◌∙◌}
 use Rattle.std.proofs.lemmas.Int.{to_z-of_z}
-use Rattle.ss_records.specs.Cells.{link, number, word_at}
+use Rattle.ss_blocks.specs.Cells.{link, number, word_at}
 use Rattle.ss_states.specs.State.{State}
 use Rattle.ss_states.specs.Sets.{with_list_of, taken_out}
 use Rattle.ss_records.specs.Parts.{state, held}

@@ -24,17 +24,17 @@ set_value-requires-clause-room c = omega (arith, c.value_start-k.ensures.bound)
 pub returns-in-Ok-clause-kept : goal.returns-in-Ok-clause-kept
 returns-in-Ok-clause-kept c =
     let r = c.args.self.now in let f = c.in-Ok.ensures.found in
-    kept_assigned r.layout r.blocks.cells r.system.at (places r) r.notes.lists c.requires.kept f.index c.in-Ok.place f.entry c.args.class f.class _ f.is f.entity c.args.field c.value_start-k.result c.value_start-k.ensures.at c.args.value c.requires.mode c.set_value.new.self.cells c.set_value.ensures.written
+    kept_assigned r.layout r.blocks.cells r.system.at (places r) r.notes.lists c.requires.kept f.index c.in-Ok.place f.entry c.args.class f.class _ f.is f.entity c.args.field c.value_start-k.result c.value_start-k.ensures.at c.args.value c.requires.mode c.set_value.new.blocks.cells c.set_value.ensures.written
 
 pub returns-in-Ok-clause-done : goal.returns-in-Ok-clause-done
 returns-in-Ok-clause-done c =
     let r = c.args.self.now in let fits = c.ranges.r in let f = simp to_z-of_z at c.in-Ok.ensures.found in
-    is_assigned r.layout r.blocks.cells r.system.at (places r) r.notes.lists c.requires.kept f.index c.in-Ok.place f.entry c.args.class f.class c.args.r f.is f.entity c.args.field c.value_start-k.result c.value_start-k.ensures.at c.args.value c.requires.mode c.set_value.new.self.cells c.set_value.ensures.written
+    is_assigned r.layout r.blocks.cells r.system.at (places r) r.notes.lists c.requires.kept f.index c.in-Ok.place f.entry c.args.class f.class c.args.r f.is f.entity c.args.field c.value_start-k.result c.value_start-k.ensures.at c.args.value c.requires.mode c.set_value.new.blocks.cells c.set_value.ensures.written
 
 pub returns-in-Ok-clause-blocks : goal.returns-in-Ok-clause-blocks
 returns-in-Ok-clause-blocks c =
     let r = c.args.self.now in let f = c.in-Ok.ensures.found in
-    length_assigned r.layout r.blocks.cells r.system.at (places r) r.notes.lists c.requires.kept f.index c.in-Ok.place f.entry c.args.class f.class _ f.is f.entity c.args.field c.value_start-k.result c.value_start-k.ensures.at c.args.value c.requires.mode c.set_value.new.self.cells c.set_value.ensures.written
+    length_assigned r.layout r.blocks.cells r.system.at (places r) r.notes.lists c.requires.kept f.index c.in-Ok.place f.entry c.args.class f.class _ f.is f.entity c.args.field c.value_start-k.result c.value_start-k.ensures.at c.args.value c.requires.mode c.set_value.new.blocks.cells c.set_value.ensures.written
 
 pub find-requires-clause-kept : goal.find-requires-clause-kept
 find-requires-clause-kept c = c.requires.kept

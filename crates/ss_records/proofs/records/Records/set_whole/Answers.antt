@@ -22,15 +22,15 @@ set_whole-requires-clause-second c =
 pub returns-in-Some-clause-kept : goal.returns-in-Some-clause-kept
 returns-in-Some-clause-kept c =
     let r = c.args.self.now in let f = c.in-Some.ensures in
-    kept_assigned r.layout r.blocks.cells r.system.at (places r) r.notes.lists c.requires.kept f.index c.in-Some.place f.entry c.args.class f.class _ f.is f.entity c.args.field c.value_start-k.result c.value_start-k.ensures.at _ c.requires.mode c.set_whole.new.self.cells c.set_whole.ensures.written
+    kept_assigned r.layout r.blocks.cells r.system.at (places r) r.notes.lists c.requires.kept f.index c.in-Some.place f.entry c.args.class f.class _ f.is f.entity c.args.field c.value_start-k.result c.value_start-k.ensures.at _ c.requires.mode c.set_whole.new.blocks.cells c.set_whole.ensures.written
 
 pub returns-in-Some-clause-done : goal.returns-in-Some-clause-done
 returns-in-Some-clause-done c =
     let r = c.args.self.now in let fits = c.ranges.r in let few = c.ranges.n in let f = simp to_z-of_z at c.in-Some.ensures in
     let w = simp to_z-of_z at c.set_whole.ensures.written in
-    λ _. is_assigned r.layout r.blocks.cells r.system.at (places r) r.notes.lists c.requires.kept f.index c.in-Some.place f.entry c.args.class f.class c.args.r f.is f.entity c.args.field c.value_start-k.result c.value_start-k.ensures.at (Whole c.args.n) c.requires.mode c.set_whole.new.self.cells w
+    λ _. is_assigned r.layout r.blocks.cells r.system.at (places r) r.notes.lists c.requires.kept f.index c.in-Some.place f.entry c.args.class f.class c.args.r f.is f.entity c.args.field c.value_start-k.result c.value_start-k.ensures.at (Whole c.args.n) c.requires.mode c.set_whole.new.blocks.cells w
 
 pub returns-in-Some-clause-blocks : goal.returns-in-Some-clause-blocks
 returns-in-Some-clause-blocks c =
     let r = c.args.self.now in let f = c.in-Some.ensures in
-    length_assigned r.layout r.blocks.cells r.system.at (places r) r.notes.lists c.requires.kept f.index c.in-Some.place f.entry c.args.class f.class _ f.is f.entity c.args.field c.value_start-k.result c.value_start-k.ensures.at _ c.requires.mode c.set_whole.new.self.cells c.set_whole.ensures.written
+    length_assigned r.layout r.blocks.cells r.system.at (places r) r.notes.lists c.requires.kept f.index c.in-Some.place f.entry c.args.class f.class _ f.is f.entity c.args.field c.value_start-k.result c.value_start-k.ensures.at _ c.requires.mode c.set_whole.new.blocks.cells c.set_whole.ensures.written

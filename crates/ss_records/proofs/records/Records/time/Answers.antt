@@ -2,7 +2,7 @@ use Rattle.std.proofs.Common.{◌≡◌, ℕ, inl, Ok, w64, sym, ap, subst, ◌�
 use Rattle.std.specs.Prelude.{ℤ}
 use Rattle.std.proofs.lemmas.Int.{to_z-of_z}
 use Rattle.ss_states.specs.State.{time_in}
-use Rattle.ss_records.specs.Cells.{word_at, number}
+use Rattle.ss_blocks.specs.Cells.{word_at, number}
 use Rattle.ss_records.specs.Parts.{places, state}
 use Rattle.ss_records.proofs.Assigns.{time_number, is_timed, is_time}
 use Rattle.ss_records.proofs.records.Records.time.Goals as goal

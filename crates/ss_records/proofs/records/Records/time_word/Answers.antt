@@ -1,5 +1,5 @@
 use Rattle.std.proofs.Common.{inl, ap, subst, sym}
-use Rattle.ss_records.specs.Cells.{IsNumber}
+use Rattle.ss_blocks.specs.Cells.{IsNumber}
 use Rattle.ss_records.specs.Reading.{plain}
 use Rattle.ss_records.proofs.Assigns.{notice_inside}
 use Rattle.ss_records.proofs.records.Records.time_word.Goals as goal

@@ -1,0 +1,15 @@
+pub mod Calls
+pub mod Count
+pub mod Cutting
+pub mod Entries
+pub mod Fills
+pub mod Memory
+pub mod Numbers
+pub mod Paging
+pub mod Placings
+pub mod Puts
+pub mod Rising
+pub mod Same
+pub mod Sharing
+pub mod Values
+pub mod WordKinds

@@ -1,0 +1,5 @@
+use Rattle.ss_blocks.proofs.Rising.{rises_none}
+use Rattle.ss_blocks.proofs.pages.PageMap.new.Goals as goal
+
+pub invariant_of-result : goal.invariant_of-result
+invariant_of-result c = rw c.new.ensures.items rises_none
