@@ -32,7 +32,7 @@ impl Model for Directory {
 }
 
 impl Directory {
-    /// No number.
+    /// No number. The error comes where memory was refused.
     pub fn new(alloc: Global) -> Result<Directory, AllocError>
         ensures { MatchResult result (λ d. d.places ≡ []) (λ _. ⊤) }
     {
@@ -153,7 +153,8 @@ impl Directory {
         }
     }
 
-    /// The place of the next number, which is remembered.
+    /// The place of the next number, which is remembered. After the error, which comes where memory was refused, the
+    /// places are as they were.
     #[inline(always)]
     pub fn push(&mut self, place: Address) -> Result<(), AllocError>
         requires room { length self.old.places < 2 ^ 62 }
@@ -166,7 +167,7 @@ impl Directory {
         Ok(())
     }
 
-    /// Lets go of the entry i.
+    /// Lets go of the entry i, which stays a number that was issued.
     #[inline(always)]
     pub fn clear(&mut self, i: usize)
         requires { (p : Address) × (slice_get self.old.places i ≡ Some (Some p)) }

@@ -6,7 +6,7 @@ ghost use Rattle.ss_blocks.specs.Writes.{Filled, head_word, zeros, links_to, own
 use crate::head::{CLASS, NUMBER};
 use crate::store::{Address, Blocks};
 
-/// Zeros. The first few words are written one by one, which takes less than a loop.
+/// Zeros from one word up to another. The first few are written one by one, which takes less than a loop.
 #[inline(always)]
 pub fn fill_numbers(blocks: &mut Blocks, place: Address, from: usize, to: usize)
     requires order { from ≤ to }
@@ -96,13 +96,7 @@ fn fill_rest(blocks: &mut Blocks, place: Address, from: usize, to: usize)
 
 /// Links of so many sets that lead to one place, three words each: three touches each, which are counted beside it.
 #[inline(always)]
-pub fn fill_links(
-    blocks: &mut Blocks,
-    place: Address,
-    from: usize,
-    count: usize,
-    target: Address,
-)
+pub fn fill_links(blocks: &mut Blocks, place: Address, from: usize, count: usize, target: Address)
     requires room { from + 3 * count ≤ length (words_at blocks.old.cells place.at) }
     requires blank { (k : ℕ) → from ≤ k → k < from + 3 * count → word_at blocks.old.cells place.at k ≡ blank }
     requires small { from + 3 * count < 2 ^ 64 }
@@ -119,13 +113,7 @@ pub fn fill_links(
 
 /// Sets without a member, three words each: three touches each, which are counted beside it.
 #[inline(always)]
-pub fn fill_owned(
-    blocks: &mut Blocks,
-    place: Address,
-    from: usize,
-    count: usize,
-    end: Address,
-)
+pub fn fill_owned(blocks: &mut Blocks, place: Address, from: usize, count: usize, end: Address)
     requires room { from + 3 * count ≤ length (words_at blocks.old.cells place.at) }
     requires blank { (k : ℕ) → from ≤ k → k < from + 3 * count → word_at blocks.old.cells place.at k ≡ blank }
     requires small { from + 3 * count < 2 ^ 64 }

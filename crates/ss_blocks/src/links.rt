@@ -10,7 +10,9 @@ use crate::store::{Address, Blocks};
 /// An entity by its block and its number. The system has the number 0.
 #[derive(Clone, Copy)]
 pub struct Entry {
+    /// Where its block lies.
     pub place: Address,
+    /// What the block names as its number.
     pub number: u64,
 }
 

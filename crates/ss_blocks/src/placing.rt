@@ -8,13 +8,8 @@ ghost use Rattle.ss_blocks.specs.Writes.{NoneAt, Placed, Unchanged};
 use crate::store::{Address, Blocks};
 use std::alloc::{AllocError, Global};
 
-/// Gives back the blocks at these places, of so many words each.
-pub fn give_places_back(
-    blocks: &mut Blocks,
-    alloc: &Global,
-    places: &[Address],
-    words: usize,
-)
+/// Gives back the blocks at these places, of so many words each. The others stay as they are.
+pub fn give_places_back(blocks: &mut Blocks, alloc: &Global, places: &[Address], words: usize)
     requires words { 0 < words }
     requires size { (i : ℕ) (p : Address) → slice_get places.now i ≡ Some p → length (words_at blocks.old.cells p.at) ≡ words }
     requires apart { (i j : ℕ) (p q : Address) → slice_get places.now i ≡ Some p → slice_get places.now j ≡ Some q → p.at ≡ q.at → i ≡ j }
@@ -49,7 +44,8 @@ fn place_next(
     }
 }
 
-/// Places so many blocks, or none.
+/// Places so many blocks of so many words each, which are blank. After the error, which comes where memory was refused,
+/// no block is left of them.
 pub fn place_all(
     blocks: &mut Blocks,
     alloc: &Global,

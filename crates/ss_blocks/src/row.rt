@@ -58,7 +58,7 @@ impl Row {
     }
 }
 
-/// The rows of so many classes whose entities are not made.
+/// The rows of so many classes whose entities are not made. The error comes where memory was refused.
 pub fn not_made(alloc: Global, count: usize) -> Result<Vec<Row>, AllocError>
     ensures { MatchResult result (λ rows. rows.items ≡ replicate count None) (λ _. ⊤) }
 {

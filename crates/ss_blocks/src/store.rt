@@ -1,4 +1,4 @@
-// The functions with a pointer.
+// The functions with a pointer, and the blocks as all others see them.
 ghost use Rattle.std.specs.Prelude.{◌≡◌, ℕ, ◌+◌, ◌*◌, ◌^◌, ◌<◌, List, [], ◌∷◌, length, MatchResult, IfOk};
 ghost use Rattle.ss_blocks.specs.Cells.{Word, blank, number, counter, link, Cells, words_at, word_at, put_word, without, blanks, IsNumber, IsCounter, IsLink, MayBeNumber, MayBeCounter, MayBeLink};
 ghost use Rattle.ss_blocks.specs.Ownership.{store_owns, store_lent};
@@ -6,7 +6,7 @@ ghost use Rattle.ss_blocks.specs.Ownership.{store_owns, store_lent};
 use std::alloc::{AllocError, Allocator, Global};
 use std::marker::Model;
 
-/// Where a block lies. It owns nothing: its words are read and written by the calls of `Blocks` alone.
+/// Where a block lies. It owns nothing: the words there are read and written by the calls of `Blocks` alone.
 pub struct Address {
     /// The first word of the block.
     pub at: *mut u64,
@@ -128,8 +128,9 @@ impl Store {
     }
 }
 
-/// The blocks, with the counts of what was done: touches are reads and writes of links, ends and counts
-/// of members.
+/// The blocks, of words of 64 bits, with the counts of what was done: touches are reads and writes of links, ends and
+/// counts of members. A contract sees the words of each block, the touches since they were last set, and all touches so
+/// far, which no call sets. A word keeps its kind from its first write on.
 pub struct Blocks {
     store: Store,
     touches: u64,
@@ -160,7 +161,7 @@ impl Blocks {
         }
     }
 
-    /// One new block of so many words, and no other.
+    /// One new block of so many words, and no other. The error comes where memory was refused.
     pub fn with_one(alloc: &Global, words: usize) -> Result<(Blocks, Address), AllocError>
         requires size { (0 < words) × (words * 8 < 2 ^ 63) }
         ensures { IfOk result (λ b. (b.0.cells ≡ (b.1.at, blanks words) ∷ []) × (b.0.touches ≡ 0)) }
@@ -225,7 +226,8 @@ impl Blocks {
         self.touches += count;
     }
 
-    /// A new block of so many words.
+    /// A new block of so many words, which are blank. After the error, which comes where memory was refused, all is as it
+    /// was.
     pub fn place(&mut self, alloc: &Global, words: usize) -> Result<Address, AllocError>
         requires size { (0 < words) × (words * 8 < 2 ^ 63) }
         requires room { length self.old.cells + 1 < 2 ^ 64 }
@@ -237,7 +239,7 @@ impl Blocks {
         Ok(place)
     }
 
-    /// Gives a block of so many words back.
+    /// Gives a block of so many words back. The others stay as they are.
     #[tactic(auto, using(crate::proofs::Count::blocks_without))]
     pub fn give_back(&mut self, alloc: &Global, place: Address, words: usize)
         requires size { (length (words_at self.old.cells place.at) ≡ words) × (0 < words) }
@@ -248,7 +250,7 @@ impl Blocks {
         self.placed -= 1;
     }
 
-    /// A number in a block.
+    /// The number in the word k of a block. It is no touch.
     pub fn number(&self, place: Address, k: usize) -> u64
         requires { IsNumber (word_at self.now.cells place.at k) }
         ensures { word_at self.now.cells place.at k ≡ number result }
@@ -256,7 +258,7 @@ impl Blocks {
         self.store.number(place, k)
     }
 
-    /// Writes a number.
+    /// Writes a number into the word k of a block. It is no touch.
     #[tactic(auto, using(crate::proofs::Count::blocks_put))]
     pub fn set_number(&mut self, place: Address, k: usize, value: u64)
         requires { (k < length (words_at self.old.cells place.at)) × MayBeNumber (word_at self.old.cells place.at k) }
@@ -266,7 +268,7 @@ impl Blocks {
         self.store.set_number(place, k, value);
     }
 
-    /// A count of members: one touch.
+    /// The count of members in the word k of a block: one touch.
     pub fn count(&mut self, place: Address, k: usize) -> u64
         requires word { IsCounter (word_at self.old.cells place.at k) }
         requires room { self.old.touches + 1 < 2 ^ 64 }
@@ -288,7 +290,7 @@ impl Blocks {
         self.store.set_count(place, k, value);
     }
 
-    /// Where a link leads: one touch.
+    /// Where the link in the word k of a block leads: one touch.
     pub fn link(&mut self, place: Address, k: usize) -> Address
         requires word { IsLink (word_at self.old.cells place.at k) }
         requires room { self.old.touches + 1 < 2 ^ 64 }
@@ -311,7 +313,7 @@ impl Blocks {
         store.link(place, k)
     }
 
-    /// A count of members: one touch, which is counted beside it.
+    /// The count of members in the word k of a block: one touch, which is counted beside it.
     pub fn peek_count(&mut self, place: Address, k: usize) -> u64
         requires word { IsCounter (word_at self.old.cells place.at k) }
         ensures word { word_at self.old.cells place.at k ≡ counter result }
