@@ -3,5 +3,6 @@ mod First
 mod Counting
 mod Bursts
 mod Resting
+mod Onward
 mod Turning
 mod Telling
