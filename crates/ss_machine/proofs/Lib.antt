@@ -1,6 +1,7 @@
 mod Found
 mod First
 mod Counting
+mod Left
 mod Bursts
 mod Resting
 mod Onward
