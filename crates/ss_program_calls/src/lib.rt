@@ -1,7 +1,5 @@
-//! Worked examples of the program's commands, and of what the engine tells.
+//! Worked examples of the program's commands.
 #![tactic(auto)]
 
 #[cfg(test)]
 mod commands;
-#[cfg(test)]
-mod engine;
