@@ -4,7 +4,7 @@ ghost use Rattle.std.specs.Prelude.{◌≡◌, ◌+◌, ◌<◌, ◌^◌, ℕ, L
 ghost use Rattle.ss_base.specs.declared.layout.RankKey.{RankKey as KeySeen};
 ghost use Rattle.ss_meaning.specs.Events.{begun};
 ghost use Rattle.ss_machine_code.specs.Machine.{act};
-ghost use Rattle.ss_store.specs.Events.{coming_meant};
+ghost use Rattle.ss_scheduling.specs.Events.{coming_meant};
 ghost use Rattle.ss_working.specs.Effects.{Rests};
 ghost use Rattle.ss_runner.specs.Beginning.{BeganAs, Saves};
 ghost use Rattle.ss_working.specs.Holding.{store_of, core_of, Told};
@@ -15,7 +15,8 @@ use ss_code::code::Code;
 use ss_machine_code::instruction::Instruction;
 use ss_population::trouble::{Trouble, Unmade};
 use ss_program::expression::Variable;
-use ss_store::coming::{Event, Fate};
+use ss_scheduling::coming;
+use ss_scheduling::coming::{Event, Fate, next_event};
 use ss_working::working::{Outcome, Working};
 use std::alloc::AllocError;
 
@@ -38,7 +39,7 @@ fn begin_event(working: &mut Working, event: Event) -> Result<Result<(), Trouble
     ensures rests { IfOk result (λ answer. Rests working.old working.new) }
     ensures store { IfOk result (λ answer. (ties : List KeySeen) (input : List ℕ) → BeganAs answer event.rank working.new.given.items (begun (coming_meant event ties (store_of working.old input))) (store_of working.new input)) }
 {
-    match working.scene.begin_event(event, &mut working.given) {
+    match coming::begin_event(&mut working.scene, event, &mut working.given) {
         Err(Unmade::Memory) => Err(AllocError),
         Err(Unmade::Fault(kind)) => Ok(Err(Trouble::Fault(kind))),
         Err(Unmade::Misfit) => Ok(Err(Trouble::Misfit)),
@@ -51,7 +52,7 @@ pub fn take_event(working: &mut Working, code: &Code) -> Result<Outcome, AllocEr
     requires { working.old.place + 1 < 2 ^ 64 }
     ensures { IfOk result (λ outcome. (input : List ℕ) → Told outcome (act code.now Instruction.TakeEvent (core_of working.old input)) (core_of working.new input)) }
 {
-    let Some(event) = working.scene.next_event() else {
+    let Some(event) = next_event(&mut working.scene) else {
         return Ok(Outcome::Missing);
     };
     match begin_event(working, event)? {

@@ -12,6 +12,8 @@ ghost use Rattle.ss_working.specs.Holding.{core_of, Told};
 use ss_base::{Line, Value};
 use ss_machine_code::instruction::Instruction;
 use ss_population::trouble::Trouble;
+use ss_scheduling::scheduling;
+use ss_scheduling::scheduling::time_at;
 use ss_store::scene::Scene;
 use ss_working::effects::{made, made_value};
 use ss_working::working::{Outcome, Working};
@@ -46,7 +48,7 @@ pub fn make_notice(
     let Some(values) = working.operands.last(given) else {
         return Ok(Outcome::Missing);
     };
-    let notice = working.scene.make_notice(class, values, time.value);
+    let notice = scheduling::make_notice(&mut working.scene, class, values, time.value);
     working.operands.forget(given);
     working.operands.push(Value::Whole(time.value))?;
     let answer = made_value(notice)?;
@@ -64,9 +66,7 @@ pub fn file_notice(working: &mut Working, class: usize, line: Line) -> Result<Ou
     let Some(time) = working.operands.pop_number() else {
         return Ok(Outcome::Missing);
     };
-    let filed = working
-        .scene
-        .file_notice(working.alloc, class, x, time.value);
+    let filed = scheduling::file_notice(&mut working.scene, working.alloc, class, x, time.value);
     let answer = made(filed)?;
     Ok(working.settle(answer, line))
 }
@@ -90,9 +90,14 @@ pub fn reschedule(
     let Some(values) = working.operands.last(given) else {
         return Ok(Outcome::Missing);
     };
-    let filed = working
-        .scene
-        .reschedule(working.alloc, class, x, values, time.value);
+    let filed = scheduling::reschedule(
+        &mut working.scene,
+        working.alloc,
+        class,
+        x,
+        values,
+        time.value,
+    );
     working.operands.forget(given);
     let _ = working.operands.pop();
     let answer = made(filed)?;
@@ -124,7 +129,7 @@ pub fn next_event(working: &mut Working, back: usize) -> Outcome
 fn due_at(scene: &Scene, later: bool, value: Value) -> Result<Value, Trouble>
     ensures { (s : StoreSeen) → turned Whole (due_at later value (with_seen s scene.now)) ≡ told result }
 {
-    match scene.time_at(later, value) {
+    match time_at(scene, later, value) {
         Ok(time) => Ok(Value::Whole(time)),
         Err(trouble) => Err(trouble),
     }

@@ -6,9 +6,7 @@ pub mod Once
 pub mod Recounting
 pub mod Fitting
 pub mod Joined
-pub mod Stepping
-pub mod Taking
-pub mod Passing
+pub mod Finding
 pub mod Noting
 pub mod Rehoming
 pub mod Starting

@@ -2,8 +2,6 @@
 use Rattle.std.specs.Prelude.{◌≡◌, ℕ, slice_get, List, ℤ, pos, Option, Some, None, Result, Ok, Err}
 use Rattle.ss_base.specs.declared.fault.FaultKind.{FaultKind}
 use Rattle.ss_base.specs.declared.fault.FaultKind.TheVariants.{CreatedTwice, Overflow}
-use Rattle.ss_base.specs.declared.fault.Refused.{Refused}
-use Rattle.ss_base.specs.declared.fault.Refused.TheVariants as refusals
 use Rattle.ss_base.specs.declared.layout.Mode.{Mode}
 use Rattle.ss_base.specs.Plain.{PlainLayout}
 use Rattle.ss_base.specs.declared.layout.Discipline.{Discipline}
@@ -96,12 +94,6 @@ Grows f old new (Ok u) = (s : Store) → f (with_seen s old) ≡ Ok (with_seen s
 Grows f old new (Err (unmade.Fault kind)) = ((s : Store) → f (with_seen s old) ≡ told {A = Store} (Err (Fault kind))) × (new ≡ old)
 Grows f old new (Err unmade.Misfit) = ((s : Store) → f (with_seen s old) ≡ told {A = Store} (Err Misfit)) × (new ≡ old)
 Grows f old new (Err unmade.Memory) = new ≡ old
-
--- what a call that needs memory comes to
-abbrev pub settled : Result (Unit {0}) Refused → Result (Unit {0}) Unmade
-settled (Ok u) = Ok u
-settled (Err (refusals.Fault kind)) = Err (unmade.Fault kind)
-settled (Err refusals.Memory) = Err unmade.Memory
 
 -- a new entity by its number, or why there is none, as a value
 abbrev pub as_value : Made → Result Value Unmade

@@ -9,7 +9,7 @@ ghost use Rattle.ss_meaning.specs.Places.{is_of_mode, assigned_attribute};
 ghost use Rattle.ss_population.specs.Told.{numbered};
 ghost use Rattle.ss_records.specs.Classed.{HasClass};
 ghost use Rattle.ss_classes.specs.Layouts.{class_in, kind_at};
-ghost use Rattle.ss_store.specs.Seen.{Looks, Changes, Notes, Makes, Grows, IsEarlier, as_value, settled, count_open, number_made, created_all_known, mode_at, with_seen};
+ghost use Rattle.ss_store.specs.Seen.{Looks, Changes, Notes, Makes, Grows, IsEarlier, as_value, count_open, number_made, created_all_known, mode_at, with_seen};
 
 use crate::scene::Scene;
 use ss_base::{ClassKind, FaultKind, Mode, Refused, Value};
@@ -17,21 +17,23 @@ use ss_classes::{class_kind, field_mode, fits, is_permanent, is_single};
 use ss_population::known::{Known, known_number};
 use ss_population::trouble::{Trouble, Unmade, number_of};
 
-// A new entity by its number, or why there is none.
+/// A new entity by its number, or why there is none.
 #[derive(Clone, Copy)]
-pub(crate) enum Made {
+pub enum Made {
+    /// Its number.
     Number(i64),
-    // The last number was given.
+    /// The last number was given.
     Last,
+    /// Its class is of another kind.
     Misfit,
-    // Memory was refused.
+    /// Memory was refused.
     Wanting,
 }
 
 impl Scene {
-    // The kind of a class, where the layout has it.
+    /// The kind of a class, where the layout has it.
     #[inline(always)]
-    pub(crate) fn kind(&self, class: usize) -> Option<ClassKind>
+    pub fn kind(&self, class: usize) -> Option<ClassKind>
         ensures { result ≡ kind_at self.now.heap.layout class }
     {
         class_kind(self.population.layout(), class)
@@ -78,9 +80,9 @@ impl Scene {
         }
     }
 
-    // A number as that of an entity of a class that comes and goes.
+    /// A number as that of an entity of a class that comes and goes. Faults: 1 to 4.
     #[inline(always)]
-    pub(crate) fn find_by_number(&self, class: usize, known: Known) -> Result<Known, Trouble>
+    pub fn find_by_number(&self, class: usize, known: Known) -> Result<Known, Trouble>
         ensures { Looks (entity class (Whole known.number)) self.now (numbered result) }
     {
         if self.is_near(class, known) {
@@ -89,9 +91,9 @@ impl Scene {
         self.find_apart(class, known)
     }
 
-    // The entity of a class that a value refers to.
+    /// The entity of a class that a value refers to. Faults: 1 to 5.
     #[inline(always)]
-    pub(crate) fn find(&self, class: usize, x: Value) -> Result<Known, Trouble>
+    pub fn find(&self, class: usize, x: Value) -> Result<Known, Trouble>
         ensures { Looks (entity class x) self.now (numbered result) }
     {
         match known_number(x) {
@@ -122,14 +124,9 @@ impl Scene {
         }
     }
 
-    // The value of an attribute by its number in the class, of an entity by its number.
+    /// The value of an attribute by its number in the class, of an entity by its number. Faults: 1 to 5.
     #[inline(always)]
-    pub(crate) fn field_value(
-        &self,
-        class: usize,
-        field: usize,
-        known: Known,
-    ) -> Result<Value, Trouble>
+    pub fn field_value(&self, class: usize, field: usize, known: Known) -> Result<Value, Trouble>
         ensures { Looks (attribute class field (Whole known.number)) self.now result }
     {
         if self.mode(class, field).is_none() {
@@ -141,9 +138,9 @@ impl Scene {
         }
     }
 
-    // The value of an attribute by its number in the class.
+    /// The value of an attribute by its number in the class. Faults: 1 to 5.
     #[inline(always)]
-    pub(crate) fn value_of(&self, class: usize, field: usize, x: Value) -> Result<Value, Trouble>
+    pub fn value_of(&self, class: usize, field: usize, x: Value) -> Result<Value, Trouble>
         ensures { Looks (attribute class field x) self.now result }
     {
         match known_number(x) {
@@ -208,9 +205,10 @@ impl Scene {
         }
     }
 
-    // Assigns a value to an attribute by its number in the class.
+    /// Assigns a value to an attribute by its number in the class. Faults: 1 to 5; then 14 where a history of the attribute is full,
+    /// and it is assigned the value.
     #[inline(always)]
-    pub(crate) fn set_value_of(
+    pub fn set_value_of(
         &mut self,
         class: usize,
         field: usize,
@@ -275,9 +273,9 @@ impl Scene {
         }
     }
 
-    // The same by a call.
+    /// The number of a new entity of a class, whose histories start, by a call.
     #[inline(never)]
-    pub(crate) fn create_apart(&mut self, class: usize) -> Made
+    pub fn create_apart(&mut self, class: usize) -> Made
         ensures { Makes (made_one class) self.old self.new (as_value result) }
     {
         self.create_number(class)
@@ -300,9 +298,9 @@ impl Scene {
         }
     }
 
-    // An entity goes by its number, and its histories end, whether or not it is pending.
+    /// An entity goes by its number, and its histories end, whether or not it is pending. Faults: 1 to 4, then 9 and 10.
     #[inline(always)]
-    pub(crate) fn remove_known(&mut self, class: usize, known: Known) -> Result<(), Trouble>
+    pub fn remove_known(&mut self, class: usize, known: Known) -> Result<(), Trouble>
         ensures { Changes (gone class (Whole known.number)) self.old self.new result }
     {
         if !self.is_single(class) {
@@ -321,7 +319,7 @@ impl Scene {
 
     /// An entity goes, and its histories end, whether or not it is pending. Faults: 1 to 4, then 9 and 10.
     #[inline(never)]
-    pub(crate) fn remove_entity(&mut self, class: usize, x: Value) -> Result<(), Trouble>
+    pub fn remove_entity(&mut self, class: usize, x: Value) -> Result<(), Trouble>
         ensures { Changes (gone class x) self.old self.new result }
     {
         match known_number(x) {
@@ -422,16 +420,5 @@ impl Scene {
             Err(Refused::Fault(kind)) => Err(Unmade::Fault(kind)),
             Err(Refused::Memory) => Err(Unmade::Memory),
         }
-    }
-}
-
-// What a call that needs memory comes to.
-pub(crate) fn settled(answer: Result<(), Refused>) -> Result<(), Unmade>
-    ensures { result ≡ settled answer }
-{
-    match answer {
-        Ok(()) => Ok(()),
-        Err(Refused::Fault(kind)) => Err(Unmade::Fault(kind)),
-        Err(Refused::Memory) => Err(Unmade::Memory),
     }
 }

@@ -3,14 +3,12 @@
 #![tactic(auto)]
 
 pub mod at_once;
-pub mod coming;
 pub mod entities;
 pub mod filing;
 mod members;
 mod pending;
 mod removing;
 pub mod scene;
-mod scheduling;
 mod sets;
 mod statistics;
 

@@ -1,7 +1,7 @@
 //! TIME.V, and the notices that are pending.
 
 ghost use Rattle.std.specs.Prelude.{◌≡◌};
-ghost use Rattle.ss_meaning.specs.Events.{clock, unscheduled};
+ghost use Rattle.ss_meaning.specs.Events.{clock, is_awaited, unscheduled};
 ghost use Rattle.ss_meaning.specs.Store.{Store as StoreSeen};
 ghost use Rattle.ss_store.specs.Seen.{Changes, cancelled_known, with_seen};
 
@@ -35,5 +35,13 @@ impl Scene {
     {
         let known = self.find(class, x)?;
         self.cancel_known(known)
+    }
+
+    /// Whether a notice is pending.
+    pub fn is_awaited(&mut self) -> bool
+        ensures value { (s : StoreSeen) → is_awaited (with_seen s self.old) ≡ result }
+        ensures same { self.new ≡ self.old }
+    {
+        self.timeline.least().is_some()
     }
 }

@@ -21,10 +21,13 @@ use std::marker::Model;
 /// that are pending, and the histories that statistics are taken of.
 #[derive(Drop)]
 pub struct Scene {
-    pub(crate) population: Population,
+    /// The entities and their sets.
+    pub population: Population,
     pub(crate) disciplines: Vec<Discipline>,
-    pub(crate) notices: Vec<NoticeClass>,
-    pub(crate) timeline: Timeline,
+    /// The classes of notices, by their ranks.
+    pub notices: Vec<NoticeClass>,
+    /// TIME.V, the notices that are pending, and the histories.
+    pub timeline: Timeline,
     // Memory was refused to an entity that was to be made at once.
     pub(crate) is_wanting: bool,
 }

@@ -1,4 +1,4 @@
-use Rattle.ss_store.proofs.Taking.{found_near}
+use Rattle.ss_store.proofs.Finding.{found_near}
 use Rattle.ss_store.proofs.scene.Scene.find_by_number.Goals as goal
 
 pub returns-then-is_near : goal.returns-then-is_near

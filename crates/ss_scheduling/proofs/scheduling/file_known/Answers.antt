@@ -1,0 +1,15 @@
+use Rattle.std.proofs.Common.{rules, ◌≡◌, ℤ, sym, subst, to_z, of_z, w64}
+use Rattle.ss_base.specs.declared.value.Value.TheVariants.{Whole}
+use Rattle.ss_meaning.specs.Events.{filed_notice}
+use Rattle.ss_store.specs.Seen.{Grows}
+use Rattle.ss_scheduling.specs.Scheduled.{filing_of}
+use Rattle.ss_scheduling.proofs.scheduling.file_known.Goals as goal
+
+pub returns : goal.returns
+returns c =
+    let time = c.args.time in
+    let n = c.args.notice.number in
+    let old = c.args.scene.now in let new = c.file_apart.new.scene in
+    let same : to_z w64 (of_z w64 time) ≡ time = search rules in
+    subst (Grows (filed_notice c.args.class (Whole n) time) old new) (sym c.as_told.ensures)
+    (subst (λ (t : ℤ). Grows (filed_notice c.args.class (Whole n) t) old new (filing_of c.file_apart.result)) same c.file_apart.ensures)

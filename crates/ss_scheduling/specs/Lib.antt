@@ -1,0 +1,2 @@
+pub mod Scheduled
+pub mod Events
