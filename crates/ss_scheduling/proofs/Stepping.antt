@@ -11,14 +11,14 @@ use Rattle.ss_events.specs.SortKey.{SortKey}
 use Rattle.ss_events.specs.PendingList.{is_pending}
 use Rattle.ss_meaning.specs.Values.{Trouble as Meant, if_ok, turned, sure, unless_fault}
 use Rattle.ss_meaning.specs.Store.{Notices, Store}
-use Rattle.ss_meaning.specs.Entities.{entity, attribute}
-use Rattle.ss_meaning.specs.Events.{Ranked, ranked, ties_of, prepared, filed_notice, rescheduled}
+use Rattle.ss_meaning.specs.Entities.{entity, attribute, made_one}
+use Rattle.ss_meaning.specs.Events.{Ranked, ranked, ties_of, prepared, made_notice, filed_notice, rescheduled}
 use Rattle.ss_population.specs.declared.trouble.Trouble.{Trouble}
 use Rattle.ss_population.specs.declared.trouble.Trouble.TheVariants.{Fault, Misfit}
 use Rattle.ss_population.specs.declared.trouble.Unmade.{Unmade}
 use Rattle.ss_population.specs.declared.trouble.Unmade.TheVariants as unmade
 use Rattle.ss_population.specs.Told.{told, meant}
-use Rattle.ss_store.specs.Seen.{Seen, with_seen, Changes, Grows}
+use Rattle.ss_store.specs.Seen.{Seen, with_seen, Changes, Makes, Grows}
 use Rattle.ss_scheduling.specs.Scheduled.{Leads, Forms, Goes, Finds, put_there, lacking, key_ranked, key_meant, IsUntied, scheduled_known, scheduled_anew}
 
 -- ## Steps
@@ -47,6 +47,12 @@ goes_on f g old mid new (Ok u) e h = λ s. ap (λ r. if_ok r g) (e s) ∙ h s
 goes_on f g old mid new (Err (unmade.Fault kind)) e h = λ s. ap (λ r. if_ok r g) (e s) ∙ h.0 s
 goes_on f g old mid new (Err unmade.Misfit) e h = λ s. ap (λ r. if_ok r g) (e s) ∙ h.0 s
 goes_on f g old mid new (Err unmade.Memory) e h = λ s. e s ∙ ap (λ m. Ok (with_seen s m)) (sym h)
+
+-- no notice is made
+pub not_made : (class : ℕ) (given : List Value) (t : ℤ) (old new : Seen) (u : Unmade) → Makes {A = Value} (made_one class) old new (Err u) → Forms {A = Value} (made_notice class given t) old new (Err u)
+not_made class given t old new (unmade.Fault kind) h = λ s. ap (λ r. if_ok {B = Value × Store} r (λ b. turned (λ (r : Store). (b.0, r)) (prepared class b.0 given t b.1))) (h.0 s)
+not_made class given t old new unmade.Misfit h = λ s. ap (λ r. if_ok {B = Value × Store} r (λ b. turned (λ (r : Store). (b.0, r)) (prepared class b.0 given t b.1))) (h.0 s)
+not_made class given t old new unmade.Memory h = h
 
 -- operations that are alike there
 pub goes_alike : (f g first : Store → OkOr Store Meant) (old new : Seen) (r : OkOr (Unit {0}) Unmade) → ((s : Store) → f (with_seen s old) ≡ g (with_seen s old)) → Goes g first old new r → Goes f first old new r

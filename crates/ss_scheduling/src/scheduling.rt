@@ -4,12 +4,12 @@ ghost use Rattle.std.specs.Prelude.{◌≡◌, true, [], List, Some, Ok, Err, If
 ghost use Rattle.ss_base.specs.declared.value.Value.TheVariants.{Whole};
 ghost use Rattle.ss_classes.specs.Ranks.{ranked_at};
 ghost use Rattle.ss_events.specs.declared.key.Tie.{Tie as TieSeen};
-ghost use Rattle.ss_meaning.specs.Entities.{attribute};
+ghost use Rattle.ss_meaning.specs.Entities.{attribute, made_one};
 ghost use Rattle.ss_meaning.specs.Events.{time_at, not_past, endowed, prepared, made_notice, ties_of, filed_notice, rescheduled};
 ghost use Rattle.ss_meaning.specs.Places.{assigned_attribute};
 ghost use Rattle.ss_meaning.specs.Values.{turned};
 ghost use Rattle.ss_store.specs.AtOnce.{Does};
-ghost use Rattle.ss_store.specs.Seen.{Looks, Notes, Grows};
+ghost use Rattle.ss_store.specs.Seen.{Looks, Notes, Makes, Grows, as_value};
 ghost use Rattle.ss_scheduling.specs.Scheduled.{Leads, Forms, Goes, Finds, AddsTie, IsTied, put_there, lacking, moment_of, time_after, filing_of, key_ranked, key_meant, as_whole, settled, HasNoTies, IsUntied, scheduled_known, scheduled_anew};
 
 use ss_base::{FaultKind, RankKey, Refused, Value, plus};
@@ -46,9 +46,20 @@ fn in_one(answer: Result<(), Unmade>) -> Filed
     }
 }
 
-// The same the other way round.
+// Whether it was done.
 #[inline(always)]
-fn as_told(filed: Filed) -> Result<(), Unmade>
+fn is_done(filed: Filed) -> bool
+    ensures { result ≡ true → filed ≡ Filed.Done }
+{
+    match filed {
+        Filed::Done => true,
+        _ => false,
+    }
+}
+
+// The same the other way round.
+#[inline(never)]
+fn told_apart(filed: Filed) -> Result<(), Unmade>
     ensures { result ≡ filing_of filed }
 {
     match filed {
@@ -57,6 +68,17 @@ fn as_told(filed: Filed) -> Result<(), Unmade>
         Filed::Misfit => Err(Unmade::Misfit),
         Filed::Wanting => Err(Unmade::Memory),
     }
+}
+
+// The same, told at once where it was done.
+#[inline(always)]
+fn as_told(filed: Filed) -> Result<(), Unmade>
+    ensures { result ≡ filing_of filed }
+{
+    if is_done(filed) {
+        return Ok(());
+    }
+    told_apart(filed)
 }
 
 // Whether a class of notices has no ties.
@@ -234,6 +256,49 @@ fn prepare(
     }
 }
 
+// The number of what was made, if something was.
+#[inline(always)]
+fn number_in(made: Made) -> Option<i64>
+    ensures { IfSome result (λ n. made ≡ Made.Number n) }
+{
+    match made {
+        Made::Number(number) => Some(number),
+        _ => None,
+    }
+}
+
+// The number of what was made, or why there is none.
+#[inline(never)]
+fn made_apart(made: Made) -> Result<i64, Unmade>
+    ensures { as_whole result ≡ as_value made }
+{
+    match made {
+        Made::Number(number) => Ok(number),
+        Made::Last => Err(Unmade::Fault(FaultKind::Overflow)),
+        Made::Misfit => Err(Unmade::Misfit),
+        Made::Wanting => Err(Unmade::Memory),
+    }
+}
+
+// The same, told at once where something was made.
+#[inline(always)]
+fn as_made(made: Made) -> Result<i64, Unmade>
+    ensures { as_whole result ≡ as_value made }
+{
+    match number_in(made) {
+        Some(number) => Ok(number),
+        None => made_apart(made),
+    }
+}
+
+// The number of a new entity of a class, whose histories start.
+#[inline(always)]
+fn created(scene: &mut Scene, class: usize) -> Result<i64, Unmade>
+    ensures { Makes (made_one class) scene.old scene.new (as_whole result) }
+{
+    as_made(scene.create_apart(class))
+}
+
 /// The number of a new notice of a class, with values for its first attributes and its TIME.A. Faults: 14 after the last
 /// number, or where a history of an attribute is full. Want of memory changes nothing; where the values do not fit, the
 /// notice is made.
@@ -246,16 +311,14 @@ pub fn notice_number(
 ) -> Result<i64, Unmade>
     ensures { Forms (made_notice class given.now time) scene.old scene.new (as_whole result) }
 {
-    match scene.create_apart(class) {
-        Made::Number(number) => {
+    match created(scene, class) {
+        Ok(number) => {
             match prepare(scene, class, &Value::Whole(number), given, time) {
                 Ok(()) => Ok(number),
                 Err(trouble) => Err(lacking(trouble)),
             }
         }
-        Made::Last => Err(Unmade::Fault(FaultKind::Overflow)),
-        Made::Misfit => Err(Unmade::Misfit),
-        Made::Wanting => Err(Unmade::Memory),
+        Err(unmade) => Err(unmade),
     }
 }
 

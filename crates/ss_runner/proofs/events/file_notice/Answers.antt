@@ -12,7 +12,7 @@ returns c = λ code input.
     let class = c.args.class in
     let x = c.in-Some.x in
     let t = c.in-Some-pop_number.time.value in
-    let new = c.file_notice-filed.new.self in
+    let new = c.file_notice-filed.new.scene in
     let made = c.in_ok-answer.answer in
     let same : to_z w64 (of_z w64 t) ≡ t = search rules in
     c.settle.ensures input (core_of old input) _ _ _ (refl, kept_below old (c.in-Some-pop_number.ensures.below ∙ c.in-Some.ensures.below)) refl

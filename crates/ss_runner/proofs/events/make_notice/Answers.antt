@@ -25,7 +25,7 @@ returns c =
     let vs = c.in-Some-last.values.now in
     let t = c.in-Some.time.value in
     let rest = drop c.args.given one.here in
-    let new = c.make_notice-notice.new.self in
+    let new = c.make_notice-notice.new.scene in
     let made = c.in_ok-answer.answer in
     let taken : Taken = record { them = vs; rest = rest } in
     let off : take_off c.args.given one.here [] ≡ Some taken = search rules in

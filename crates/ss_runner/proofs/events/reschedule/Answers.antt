@@ -23,7 +23,7 @@ returns c = λ code input.
     let t = c.in-Some.time.value in
     let over = drop c.args.given one.here in
     let rest = drop (c.args.given + 1) one.here in
-    let new = c.reschedule-filed.new.self in
+    let new = c.reschedule-filed.new.scene in
     let made = c.in_ok-answer.answer in
     let taken : Taken = record { them = vs; rest = over } in
     let off : take_off c.args.given one.here [] ≡ Some taken = search rules in
