@@ -278,6 +278,20 @@ impl Scene {
     pub fn create_apart(&mut self, class: usize) -> Made
         ensures { Makes (made_one class) self.old self.new (as_value result) }
     {
+        match self.create_at_once(class) {
+            Some(number) => Made::Number(number),
+            None => self.create_slowly(class),
+        }
+    }
+
+    // The same where it did not go well at once.
+    #[inline(never)]
+    fn create_slowly(&mut self, class: usize) -> Made
+        ensures { Makes (made_one class) self.old self.new (as_value result) }
+    {
+        if self.is_wanting {
+            return Made::Wanting;
+        }
         self.create_number(class)
     }
 
