@@ -13,6 +13,7 @@ pub data Word : Type 0 where
 abbrev pub Block : Type 0
 Block = Ptr × List Word
 
+-- the blocks that are placed
 abbrev pub Cells : Type 0
 Cells = List Block
 
@@ -45,6 +46,7 @@ abbrev pub put_word : Cells → Ptr → ℕ → Word → Cells
 put_word [] p k x = []
 put_word (c ∷ cs) p k x = cond (same_ptr c.0 p) ((c.0, with_word c.1 k x) ∷ cs) (c ∷ put_word cs p k x)
 
+-- the word k of the block at p
 abbrev pub word_at : Cells → Ptr → ℕ → Word
 word_at cs p k = word_of (words_at cs p) k
 
@@ -53,6 +55,7 @@ abbrev pub without : Cells → Ptr → Cells
 without [] p = []
 without (c ∷ cs) p = cond (same_ptr c.0 p) cs (c ∷ without cs p)
 
+-- n words that nothing was written to
 abbrev pub blanks : ℕ → List Word
 blanks zero = []
 blanks (suc n) = blank ∷ blanks n

@@ -17,11 +17,12 @@ pub record Filled (cs ds : Cells) (p : Ptr) (from to : ℕ) (f : ℕ → Word) :
   pub below : (k : ℕ) → k < from → word_at ds p k ≡ word_at cs p k
   pub above : (k : ℕ) → to ≤ k → word_at ds p k ≡ word_at cs p k
 
--- the class and the number
+-- the first two words: the class and the number
 abbrev pub head_word : ℕ → ℕ → ℕ → Word
 head_word c n zero = number c
 head_word c n (suc k) = number n
 
+-- words that are 0
 abbrev pub zeros : ℕ → Word
 zeros k = number 0
 
@@ -36,9 +37,11 @@ owned_word end (suc zero) = link end
 owned_word end (suc (suc zero)) = counter 0
 owned_word end (suc (suc (suc k))) = owned_word end k
 
+-- the same where those words begin at `from`
 abbrev pub owned_from : Ptr → ℕ → ℕ → Word
 owned_from end from k = owned_word end (k - from)
 
+-- none of these places is q
 abbrev pub NoneAt : List Address → Ptr → Type 0
 NoneAt ps q = (i : ℕ) (p : Address) → slice_get ps i ≡ Some p → p.at ≡ q → ⊥
 
