@@ -57,7 +57,7 @@ fn is_done(filed: Filed) -> bool
     }
 }
 
-// The same the other way round.
+// What filing a notice came to, the other way round.
 #[inline(never)]
 fn told_apart(filed: Filed) -> Result<(), Unmade>
     ensures { result ≡ filing_of filed }
