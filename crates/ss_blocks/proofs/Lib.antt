@@ -11,5 +11,6 @@ pub mod Puts
 pub mod Rising
 pub mod Same
 pub mod Sharing
+pub mod Sparing
 pub mod Values
 pub mod WordKinds

@@ -3,4 +3,5 @@ pub mod Links
 pub mod Ownership
 pub mod Pages
 pub mod Places
+pub mod Spares
 pub mod Writes

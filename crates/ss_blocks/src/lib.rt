@@ -10,6 +10,7 @@ mod pages;
 pub mod placing;
 mod register;
 pub mod row;
+mod spares;
 mod store;
 
 pub use directory::Directory;

@@ -3,6 +3,7 @@ ghost use Rattle.std.specs.Prelude.{◌≡◌, ℕ, ◌+◌, ◌*◌, ◌^◌, �
 ghost use Rattle.ss_blocks.specs.Cells.{Word, blank, number, counter, link, Cells, words_at, word_at, put_word, without, blanks, IsNumber, IsCounter, IsLink, MayBeNumber, MayBeCounter, MayBeLink};
 ghost use Rattle.ss_blocks.specs.Ownership.{store_owns, store_lent};
 
+use crate::spares::Spares;
 use std::alloc::{AllocError, Allocator, Global};
 use std::marker::Model;
 
@@ -24,9 +25,9 @@ impl Clone for Address {
 
 impl Copy for Address {}
 
-/// The owner of all blocks. It takes no space.
+/// An owner of blocks. It takes no space.
 #[derive(Drop)]
-struct Store {
+pub(crate) struct Store {
     ghost cells: { Cells },
     ghost total: { ℕ },
 }
@@ -38,11 +39,16 @@ impl Model for Store {
 }
 
 impl Store {
-    fn new() -> Store
+    pub(crate) fn new() -> Store
         ensures { (result.cells ≡ []) × (result.total ≡ 0) }
     {
         Store {}
     }
+
+    /// Lets go of a store without blocks.
+    pub(crate) fn close(self)
+        requires { self.cells ≡ [] }
+    {}
 
     fn place(&mut self, alloc: &Global, words: usize) -> Result<Address, AllocError>
         requires { (0 < words) × (words * 8 < 2 ^ 63) }
@@ -56,7 +62,13 @@ impl Store {
         }
     }
 
-    fn give_back(&mut self, alloc: &Global, place: Address, words: usize)
+    /// Gives a block of so many words to another owner, to whom they are blank.
+    pub(crate) fn pass(&mut self, to: &mut Store, _place: Address, _words: usize)
+        requires { (length (words_at self.old.cells _place.at) ≡ _words) × (0 < _words) }
+        ensures { ((self.new.cells ≡ without self.old.cells _place.at) × (self.new.total ≡ self.old.total)) × (words_at to.old.cells _place.at ≡ []) × (to.new.cells ≡ (_place.at, blanks _words) ∷ to.old.cells) × (to.new.total ≡ to.old.total) }
+    {}
+
+    pub(crate) fn give_back(&mut self, alloc: &Global, place: Address, words: usize)
         requires { (length (words_at self.old.cells place.at) ≡ words) × (0 < words) }
         ensures { (self.new.cells ≡ without self.old.cells place.at) × (self.new.total ≡ self.old.total) }
     {
@@ -135,6 +147,7 @@ pub struct Blocks {
     store: Store,
     touches: u64,
     placed: u64,
+    spares: Spares,
 }
 
 impl Model for Blocks {
@@ -158,6 +171,7 @@ impl Blocks {
             store: Store::new(),
             touches: 0,
             placed: 0,
+            spares: Spares::new(),
         }
     }
 
@@ -170,21 +184,24 @@ impl Blocks {
         match blocks.place(alloc, words) {
             Ok(place) => Ok((blocks, place)),
             Err(e) => {
-                blocks.close();
+                blocks.close(alloc);
                 Err(e)
             }
         }
     }
 
-    /// Lets go of the store once no block is left.
-    pub fn close(self)
+    /// Lets go of the store once no block is left, and of the blocks that were kept.
+    pub fn close(self, alloc: &Global)
         requires { self.cells ≡ [] }
     {
         let Blocks {
-            store: _store,
+            store,
             touches: _,
             placed: _,
+            spares,
         } = self;
+        store.close();
+        spares.close(alloc);
     }
 
     /// How many blocks are placed and not given back.
@@ -234,19 +251,25 @@ impl Blocks {
         ensures placed { MatchResult result (λ p. (words_at self.old.cells p.at ≡ []) × (self.new.cells ≡ (p.at, blanks words) ∷ self.old.cells)) (λ _. self.new.cells ≡ self.old.cells) }
         ensures touches { (self.new.touches ≡ self.old.touches) × (self.new.total ≡ self.old.total) }
     {
-        let place = self.store.place(alloc, words)?;
+        let place = match self.spares.take(&mut self.store, words) {
+            Some(place) => place,
+            None => self.store.place(alloc, words)?,
+        };
         self.placed += 1;
         Ok(place)
     }
 
-    /// Gives a block of so many words back. The others stay as they are.
+    /// Gives a block of so many words back. The others stay as they are. One of less than 32 words is kept for the next of its size,
+    /// if no other is.
     #[tactic(auto, using(crate::proofs::Count::blocks_without))]
     pub fn give_back(&mut self, alloc: &Global, place: Address, words: usize)
         requires size { (length (words_at self.old.cells place.at) ≡ words) × (0 < words) }
         ensures cells { self.new.cells ≡ without self.old.cells place.at }
         ensures touches { (self.new.touches ≡ self.old.touches) × (self.new.total ≡ self.old.total) }
     {
-        self.store.give_back(alloc, place, words);
+        if !self.spares.keep(&mut self.store, place, words) {
+            self.store.give_back(alloc, place, words);
+        }
         self.placed -= 1;
     }
 
