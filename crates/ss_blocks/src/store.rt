@@ -3,7 +3,7 @@ ghost use Rattle.std.specs.Prelude.{◌≡◌, ℕ, ◌+◌, ◌*◌, ◌^◌, �
 ghost use Rattle.ss_blocks.specs.Cells.{Word, blank, number, counter, link, Cells, words_at, word_at, put_word, without, blanks, IsNumber, IsCounter, IsLink, MayBeNumber, MayBeCounter, MayBeLink};
 ghost use Rattle.ss_blocks.specs.Ownership.{store_owns, store_lent};
 
-use crate::spares::Spares;
+use crate::spares::{Reserve, Spares};
 use std::alloc::{AllocError, Allocator, Global};
 use std::marker::Model;
 
@@ -148,6 +148,7 @@ pub struct Blocks {
     touches: u64,
     placed: u64,
     spares: Spares,
+    reserve: Reserve,
 }
 
 impl Model for Blocks {
@@ -172,6 +173,7 @@ impl Blocks {
             touches: 0,
             placed: 0,
             spares: Spares::new(),
+            reserve: Reserve::new(),
         }
     }
 
@@ -199,9 +201,11 @@ impl Blocks {
             touches: _,
             placed: _,
             spares,
+            reserve,
         } = self;
         store.close();
         spares.close(alloc);
+        reserve.close(alloc);
     }
 
     /// How many blocks are placed and not given back.
@@ -251,7 +255,24 @@ impl Blocks {
         ensures placed { MatchResult result (λ p. (words_at self.old.cells p.at ≡ []) × (self.new.cells ≡ (p.at, blanks words) ∷ self.old.cells)) (λ _. self.new.cells ≡ self.old.cells) }
         ensures touches { (self.new.touches ≡ self.old.touches) × (self.new.total ≡ self.old.total) }
     {
-        let place = match self.spares.take(&mut self.store, words) {
+        match self.spares.take(&mut self.store, words) {
+            Some(place) => {
+                self.placed += 1;
+                Ok(place)
+            }
+            None => self.place_anew(alloc, words),
+        }
+    }
+
+    // The same without a look at the spare block of that size.
+    #[inline(never)]
+    fn place_anew(&mut self, alloc: &Global, words: usize) -> Result<Address, AllocError>
+        requires size { (0 < words) × (words * 8 < 2 ^ 63) }
+        requires room { length self.old.cells + 1 < 2 ^ 64 }
+        ensures placed { MatchResult result (λ p. (words_at self.old.cells p.at ≡ []) × (self.new.cells ≡ (p.at, blanks words) ∷ self.old.cells)) (λ _. self.new.cells ≡ self.old.cells) }
+        ensures touches { (self.new.touches ≡ self.old.touches) × (self.new.total ≡ self.old.total) }
+    {
+        let place = match self.reserve.take(&mut self.store, words) {
             Some(place) => place,
             None => self.store.place(alloc, words)?,
         };
@@ -260,14 +281,29 @@ impl Blocks {
     }
 
     /// Gives a block of so many words back. The others stay as they are. One of less than 32 words is kept for the next of its size,
-    /// if no other is.
+    /// if fewer than nine are.
     #[tactic(auto, using(crate::proofs::Count::blocks_without))]
     pub fn give_back(&mut self, alloc: &Global, place: Address, words: usize)
         requires size { (length (words_at self.old.cells place.at) ≡ words) × (0 < words) }
         ensures cells { self.new.cells ≡ without self.old.cells place.at }
         ensures touches { (self.new.touches ≡ self.old.touches) × (self.new.total ≡ self.old.total) }
     {
-        if !self.spares.keep(&mut self.store, place, words) {
+        if self.spares.keep(&mut self.store, place, words) {
+            self.placed -= 1;
+            return;
+        }
+        self.let_go(alloc, place, words);
+    }
+
+    // The same where the spare block of that size is there.
+    #[inline(never)]
+    #[tactic(auto, using(crate::proofs::Count::blocks_without))]
+    fn let_go(&mut self, alloc: &Global, place: Address, words: usize)
+        requires size { (length (words_at self.old.cells place.at) ≡ words) × (0 < words) }
+        ensures cells { self.new.cells ≡ without self.old.cells place.at }
+        ensures touches { (self.new.touches ≡ self.old.touches) × (self.new.total ≡ self.old.total) }
+    {
+        if !self.reserve.keep(&mut self.store, place, words) {
             self.store.give_back(alloc, place, words);
         }
         self.placed -= 1;
