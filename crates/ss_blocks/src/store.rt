@@ -249,6 +249,7 @@ impl Blocks {
 
     /// A new block of so many words, which are blank. After the error, which comes where memory was refused, all is as it
     /// was.
+    #[inline(always)]
     pub fn place(&mut self, alloc: &Global, words: usize) -> Result<Address, AllocError>
         requires size { (0 < words) × (words * 8 < 2 ^ 63) }
         requires room { length self.old.cells + 1 < 2 ^ 64 }
@@ -282,6 +283,7 @@ impl Blocks {
 
     /// Gives a block of so many words back. The others stay as they are. One of less than 32 words is kept for the next of its size,
     /// if fewer than nine are.
+    #[inline(always)]
     #[tactic(auto, using(crate::proofs::Count::blocks_without))]
     pub fn give_back(&mut self, alloc: &Global, place: Address, words: usize)
         requires size { (length (words_at self.old.cells place.at) ≡ words) × (0 < words) }
