@@ -1,7 +1,7 @@
 -- Entries in slots, of which most are told by the marks in their places: what each call keeps.
 use Rattle.std.proofs.Common.{map, ◌≡◌, ◌≢◌, ℕ, zero, suc, ◌+◌, ◌*◌, ◌/◌, ◌%◌, ◌<◌, ℤ, pos, Bool, true, false, cond, ltb, List, [], ◌∷◌, ◌++◌, length, get_or, set, swap, int_eq, Some, None, refl, sym, ap, subst, ◌∙◌, ⊎_elim, arith}
 use Rattle.std.specs.Prelude.{◌==◌}
-use Rattle.std.proofs.lemmas.Bool.{cases_eq}
+use Rattle.std.proofs.lemmas.Bool.{cases_eq, lt-ltb}
 use Rattle.std.proofs.lemmas.Bool.Decides.{nat_tests}
 use Rattle.std.proofs.lemmas.List.{length-map, map_push, set-get_or, get_or_append_left, get_or_push, same_lists}
 use lib.ListN.{get_or-map}
@@ -25,7 +25,7 @@ by_test false e f n h k = k
 pub notice_in : (m : Mark) (n : ℤ) (w : Entry) → (entry_in m n w).notice ≡ n
 notice_in m n w = by_test (m.order == untold) (record { key = w.key; number = w.number; notice = n }) (told_by m n) n refl refl
 
-told_test : (o : ℕ) → o ≢ untold → (o == untold) ≡ false
+pub told_test : (o : ℕ) → o ≢ untold → (o == untold) ≡ false
 told_test o h = grind (arith, nat_tests)
 
 untold_test : (o : ℕ) → o ≡ untold → (o == untold) ≡ true
@@ -62,6 +62,18 @@ told_again e n h =
 
 pub told_small : (e : Entry) → (order_of e ≡ untold → ⊥) → order_of e < told_ranks * told_numbers
 told_small e h = let it = told_all e h in omega (arith, it.1, it.2, it.3)
+
+-- the mark of what a mark tells
+told_order : (o : ℕ) → o < told_ranks * told_numbers → cond (ltb (o / told_numbers) told_ranks) (cond (ltb (o % told_numbers) told_numbers) (o / told_numbers * told_numbers + o % told_numbers) untold) untold ≡ o
+told_order o lt =
+    (λ i. cond (lt-ltb (o / told_numbers) told_ranks (omega (arith, lt)) i) (cond (lt-ltb (o % told_numbers) told_numbers (omega arith) i) (o / told_numbers * told_numbers + o % told_numbers) untold) untold)
+    ∙ omega arith
+
+pub told_mark : (m : Mark) (n : ℤ) → m.order < told_ranks * told_numbers → mark_of (told_by m n) ≡ m
+told_mark m n lt = λ i. record { time = m.time; order = told_order m.order lt i }
+
+pub told_tells : (o : ℕ) → o < told_ranks * told_numbers → o ≢ untold
+told_tells o lt = omega (arith, lt)
 
 -- an entry from its own mark
 pub in_again : (e w : Entry) → (order_of e ≡ untold → w ≡ e) → entry_in (mark_of e) e.notice w ≡ e

@@ -11,3 +11,4 @@ pub mod Standing
 pub mod Times
 pub mod Kept
 pub mod Held
+pub mod Pushed

@@ -1,5 +1,5 @@
 -- Each step of an entry that rises or sinks in a heap.
-use Rattle.std.proofs.Common.{◌≡◌, ℕ, ◌+◌, ◌-◌, ◌*◌, ◌/◌, ◌<◌, ◌≤◌, ◌^◌, zero, suc, true, false, List, length, get_or, swap, refl, sym, ap, subst, ⊎_elim, arith, [], ◌∷◌, ◌++◌, length-append, pow-suc, pow_pos, pow_mono, pow-add}
+use Rattle.std.proofs.Common.{◌≡◌, ◌∙◌, ℕ, ◌+◌, ◌-◌, ◌*◌, ◌/◌, ◌<◌, ◌≤◌, ◌^◌, zero, suc, true, false, List, length, get_or, swap, refl, sym, ap, subst, ⊎_elim, arith, [], ◌∷◌, ◌++◌, length-append, pow-suc, pow_pos, pow_mono, pow-add}
 use Rattle.std.specs.List.Sorted.{IsPermutation}
 use Rattle.std.specs.List.{swap_remove}
 use Rattle.std.proofs.lemmas.List.Sorted.{IsPermutation-sym, IsPermutation-to_front, IsPermutation-cons, IsPermutation-swap_remove, IsPermutation-refl, IsPermutation-swap, IsPermutation-trans, length_permutation}
@@ -9,7 +9,7 @@ use Rattle.std.proofs.lemmas.Grind.{pow_more}
 use Rattle.std.proofs.lemmas.Bool.{cases_lt}
 use Rattle.std.proofs.Math.Nat.{mul-le-mul_right}
 use Rattle.ss_events.specs.declared.entry.Entry.{Entry}
-use Rattle.ss_events.specs.HeapEntries.{HeapEntries}
+use Rattle.ss_events.specs.HeapEntries.{HeapEntries, but_one}
 use Rattle.ss_events.specs.HeapOrder.{IsChild, IsHeap, IsUnderParent, IsOverChildren, IsHeapBut, IsFirstChild}
 use Rattle.ss_events.specs.Order.{comes_before}
 use Rattle.ss_events.specs.Sifting.{Raises, CostsToRaise, Lowers, CostsToLower, Mends, CostsToMend, IsLogarithmic}
@@ -139,6 +139,32 @@ rising_rests old was new from at some r f entries comparisons moves = (
     grows = omega (arith, r.moves);
   },
 )
+
+-- the same of one that comes before its parent, once the two were compared
+pub record Outranking (old new : HeapEntries) (from at parent : ℕ) : Type 0 where
+  pub rising : Rising (but_one old) (but_one new) from at
+  pub some : 0 < at
+  pub parent_is : parent ≡ (at - 1) / 4
+  pub before : (d : Entry) → comes_before (get_or new.entries at d) (get_or new.entries parent d) ≡ true
+  pub compared : 0 < new.comparisons
+
+pub passes_parent : (old was new : HeapEntries) (from at parent : ℕ) → Outranking old was from at parent → new ≡ record was { entries = swap was.entries at parent; moves = was.moves + 2 } → Rising (but_one old) new from parent
+passes_parent old was new from at parent p is =
+    subst (Rising (but_one old) new from) (sym p.parent_is)
+    (rising_steps (but_one old) (but_one was) new from at p.some p.rising
+    (λ d. subst (λ q. comes_before (get_or was.entries at d) (get_or was.entries q d) ≡ true) p.parent_is (p.before d))
+    (ap (λ h. h.entries) is ∙ ap (swap was.entries at) p.parent_is)
+    (omega (arith, ap (λ h. h.comparisons) is, p.compared))
+    (ap (λ h. h.moves) is))
+
+pub outranks : (old was new : HeapEntries) (from at : ℕ) → 0 < at → Rising (but_one old) was from at → ((d : Entry) → comes_before (get_or was.entries at d) (get_or was.entries ((at - 1) / 4) d) ≡ true) → new ≡ record was { comparisons = was.comparisons + 1 } → Outranking old new from at ((at - 1) / 4)
+outranks old was new from at some r t is = record {
+  rising = let back : was.comparisons + 1 - 1 ≡ was.comparisons = omega arith in subst (λ h. Rising (but_one old) h from at) (sym (ap but_one is ∙ (λ i. record was { comparisons = back i }))) r;
+  some = some;
+  parent_is = refl;
+  before = subst (λ es. (d : Entry) → comes_before (get_or es at d) (get_or es ((at - 1) / 4) d) ≡ true) (sym (ap (λ h. h.entries) is)) t;
+  compared = omega (arith, ap (λ h. h.comparisons) is);
+}
 
 -- ---- sinking
 

@@ -1,5 +1,5 @@
 -- What a contract sees of the heap.
-use Rattle.std.specs.Prelude.{◌≡◌, ℕ, ℤ, List, ◌∷◌, map, slice_index_or}
+use Rattle.std.specs.Prelude.{◌≡◌, ℕ, ◌-◌, ℤ, List, ◌∷◌, map, slice_index_or}
 use Rattle.std.specs.List.{swap_remove}
 use Rattle.std.specs.List.Sorted.{IsPermutation}
 use Rattle.ss_events.specs.declared.entry.Entry.{Entry}
@@ -9,6 +9,10 @@ pub record HeapEntries : Type 0 where
   pub entries : List Entry
   pub comparisons : ℕ
   pub moves : ℕ
+
+-- the same with a comparison fewer
+abbrev pub but_one : HeapEntries → HeapEntries
+but_one h = record h { comparisons = h.comparisons - 1 }
 
 -- the notices of entries, in their order
 abbrev pub notices_of : List Entry → List ℤ

@@ -8,43 +8,25 @@ use crate::entry::Heap;
 /// The first child of the entry at a place. Counts at most three comparisons.
 #[inline(always)]
 pub fn first_child(heap: &mut Heap, at: usize) -> Option<usize>
+    requires within { at < length heap.old.entries }
     requires countable { heap.old.comparisons + 3 < 2 ^ 64 }
     ensures child { MatchOption result (length heap.old.entries ≤ 4 * at + 1) (IsFirstChild comes_before heap.old.entries at) }
     ensures entries { heap.new.entries ≡ heap.old.entries }
     ensures comparisons { heap.new.comparisons ≤ heap.old.comparisons + (if is_some result then 3 else 0) }
     ensures moves { heap.new.moves ≡ heap.old.moves }
 {
-    if at > heap.len() / 4 {
+    let last = heap.len() - 1;
+    if at < last / 4 {
+        return Some(heap.first_of_four(4 * at + 1));
+    }
+    let many = last % 4;
+    if at > last / 4 || many == 0 {
         return None;
     }
-    let first = 4 * at + 1;
-    if first >= heap.len() {
-        return None;
-    }
-    let many = heap.len() - first;
-    if many < 4 {
-        return Some(first_of_few(heap, first, many));
-    }
-    Some(first_of_four(heap, first))
+    Some(first_of_few(heap, 4 * at + 1, many))
 }
 
-// The first of the entries in four places from this one on.
-#[inline(always)]
-fn first_of_four(heap: &mut Heap, from: usize) -> usize
-    requires within { from + 4 ≤ length heap.old.entries }
-    requires small { from + 4 < 2 ^ 64 }
-    requires countable { heap.old.comparisons + 3 < 2 ^ 64 }
-    ensures first { IsFirstAmong comes_before heap.old.entries from (from + 4) result }
-    ensures entries { heap.new.entries ≡ heap.old.entries }
-    ensures comparisons { heap.new.comparisons ≤ heap.old.comparisons + 3 }
-    ensures moves { heap.new.moves ≡ heap.old.moves }
-{
-    let left = first_of(heap, from, from + 1);
-    let right = first_of(heap, from + 2, from + 3);
-    first_of(heap, left, right)
-}
-
-// The same of one place, or two or three.
+// The first of the entries in a place, or two or three, from this one on.
 fn first_of_few(heap: &mut Heap, from: usize, many: usize) -> usize
     requires some { 0 < many }
     requires few { many < 4 }

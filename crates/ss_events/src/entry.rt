@@ -20,9 +20,9 @@ use std::marker::Model;
 pub const MOST_SCHEDULINGS: u64 = 4_611_686_018_427_387_903;
 
 // The ranks and the numbers of schedulings of which an order tells are below these.
-const TOLD_RANKS: usize = 65_536;
+pub(crate) const TOLD_RANKS: usize = 65_536;
 
-const TOLD_NUMBERS: u64 = 140_737_488_355_328;
+pub(crate) const TOLD_NUMBERS: u64 = 140_737_488_355_328;
 
 // An order that tells nothing.
 const UNTOLD: u64 = u64::MAX;

@@ -1,9 +1,9 @@
-ghost use Rattle.std.specs.Prelude.{◌≡◌, ℕ, ◌+◌, ◌*◌, ◌<◌, ◌≤◌, IfOk, IfErr, OnOk, OnErr, Ok, Err, Some, slice_get, length, map, IsTrue, ◌↔◌};
+ghost use Rattle.std.specs.Prelude.{◌≡◌, ℕ, ◌+◌, ◌*◌, ◌<◌, ◌≤◌, true, false, [], IfOk, IfErr, OnOk, OnErr, Ok, Err, Some, slice_get, length, map, IsTrue, ◌↔◌};
 ghost use Rattle.ss_events.specs.Shape.{shape_of};
 
-use crate::entry::{Heap, Key, MOST_SCHEDULINGS};
+use crate::entry::{Heap, Key, MOST_SCHEDULINGS, TOLD_NUMBERS, TOLD_RANKS};
 use crate::key::{self, Tie, TieShape};
-use crate::sift::{insert, take_out};
+use crate::sift::{insert, insert_told, take_out};
 use ss_base::{FaultKind, Refused};
 use std::alloc::{AllocError, Global};
 use std::marker::Model;
@@ -85,6 +85,29 @@ impl Pending {
         insert(&mut self.heap, key, number, notice)?;
         self.schedulings += 1;
         Ok(())
+    }
+
+    /// The same of a notice without ties, where there is room for it, it is found at once to be not pending, and its rank and the
+    /// number of schedulings are not very great; and says whether it did. If not, the list is as it was.
+    #[inline(always)]
+    pub fn schedule_at_once(&mut self, time: i64, rank: usize, notice: i64) -> bool
+        ensures done { result ≡ true → scheduled (record { time = time; rank = rank; ties = [] }) notice self.old.list ≡ Ok self.new.list }
+        ensures kept { result ≡ false → self.new.list ≡ self.old.list }
+
+        ensures comparisons { self.new.comparisons ≤ 3 * binary_digits (length self.old.list.entries) }
+        ensures moves { self.new.moves ≤ 3 * binary_digits (length self.old.list.entries) + 4 }
+        ensures moved { result ≡ true → 0 < self.new.moves }
+        ensures compared { result ≡ true → 0 < length self.old.list.entries → 0 < self.new.comparisons }
+    {
+        self.heap.reset_counts();
+        if rank >= TOLD_RANKS || self.schedulings >= TOLD_NUMBERS {
+            return false;
+        }
+        if !insert_told(&mut self.heap, time, rank, self.schedulings, notice) {
+            return false;
+        }
+        self.schedulings += 1;
+        true
     }
 
     /// Cancels a notice that is pending. Refused with the list as it was where it isn't (`NotScheduled`).

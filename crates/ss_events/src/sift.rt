@@ -1,11 +1,13 @@
 // How entries go into a heap in order and come out of it.
-ghost use Rattle.std.specs.Prelude.{false, ◌∷◌, OnOk, OnErr, ℕ, ◌≡◌, ◌<◌, ◌≤◌, ◌^◌, length};
-ghost use Rattle.ss_events.specs.HeapEntries.{notices_of, TakesOut};
+ghost use Rattle.std.specs.Prelude.{true, false, [], ◌∷◌, OnOk, OnErr, ℕ, ◌≡◌, ◌<◌, ◌≤◌, ◌-◌, ◌/◌, ◌^◌, length, slice_index_or};
+ghost use Rattle.ss_events.specs.declared.entry.Entry.{Entry};
+ghost use Rattle.ss_events.specs.HeapEntries.{notices_of, but_one, TakesOut};
 ghost use Rattle.std.specs.Ordering.{int_eq};
 ghost use Rattle.std.specs.List.{list_any};
 ghost use Rattle.std.specs.List.Sorted.{IsPermutation};
 ghost use Rattle.ss_events.specs.HeapOrder.{IsHeap};
 ghost use Rattle.ss_events.specs.Order.{comes_before};
+ghost use Rattle.ss_events.specs.Slots.{told_ranks, told_numbers};
 ghost use Rattle.ss_events.specs.Sifting.{Raises, CostsToRaise, Lowers, CostsToLower, Mends, CostsToMend, IsLogarithmic};
 
 use crate::children::first_child;
@@ -28,6 +30,30 @@ pub fn insert(heap: &mut Heap, key: Key, number: u64, notice: i64) -> Result<(),
     heap.push(key, number, notice)?;
     raise(heap, place);
     Ok(())
+}
+
+/// Puts an entry of a notice without ties into a heap in order, of a rank and a number that an order tells, where there is room for
+/// it and the notice is found to be new at once; and says whether it did. If not, the entries are what they were. Counts anew.
+#[inline(always)]
+pub fn insert_told(heap: &mut Heap, time: i64, rank: usize, number: u64, notice: i64) -> bool
+    requires order { IsHeap comes_before heap.old.entries }
+    requires rank { rank < told_ranks }
+    requires number { number < told_numbers }
+    ensures order { IsHeap comes_before heap.new.entries }
+    ensures done { result ≡ true → IsPermutation (record { key = record { time = time; rank = rank; ties = [] }; number = number; notice = notice } ∷ heap.old.entries) heap.new.entries }
+    ensures fresh { result ≡ true → list_any (int_eq notice) (notices_of heap.old.entries) ≡ false }
+    ensures kept { result ≡ false → heap.new.entries ≡ heap.old.entries }
+    ensures work { IsLogarithmic (length heap.old.entries) heap.new }
+    ensures moved { result ≡ true → 0 < heap.new.moves }
+    ensures compared { result ≡ true → 0 < length heap.old.entries → 0 < heap.new.comparisons }
+{
+    heap.reset_counts();
+    let place = heap.len();
+    if !heap.push_told(time, rank, number, notice) {
+        return false;
+    }
+    raise(heap, place);
+    true
 }
 
 /// Takes the entry out of a place of a heap in order, and answers its time and its notice. Counts anew.
@@ -61,22 +87,48 @@ fn mend(heap: &mut Heap, at: usize)
 }
 
 // Lets the entry at a place rise until its parent doesn't come after it. Answers its place.
-fn raise(heap: &mut Heap, mut at: usize) -> usize
+#[inline(always)]
+fn raise(heap: &mut Heap, at: usize) -> usize
     requires within { at < length heap.old.entries }
     requires comparisons { heap.old.comparisons < 2 ^ 32 }
     requires moves { heap.old.moves < 2 ^ 32 }
     ensures raises { Raises heap.old.entries heap.new.entries at result }
     ensures cost { CostsToRaise heap.old heap.new at result }
 {
-    while at > 0 {
-        let parent = (at - 1) / 4;
+    if at == 0 {
+        return at;
+    }
+    let parent = (at - 1) / 4;
+    if !heap.is_before(at, parent) {
+        return at;
+    }
+    raise_past(heap, at, parent)
+}
+
+// The same of one that comes before its parent, once the two were compared.
+#[inline(never)]
+fn raise_past(heap: &mut Heap, mut at: usize, mut parent: usize) -> usize
+    requires within { at < length heap.old.entries }
+    requires some { 0 < at }
+    requires parent { parent ≡ (at - 1) / 4 }
+    requires before { (d : Entry) → comes_before (slice_index_or heap.old.entries at d) (slice_index_or heap.old.entries parent d) ≡ true }
+    requires compared { 0 < heap.old.comparisons }
+    requires comparisons { heap.old.comparisons ≤ 2 ^ 32 }
+    requires moves { heap.old.moves < 2 ^ 32 }
+    ensures raises { Raises heap.old.entries heap.new.entries at result }
+    ensures cost { CostsToRaise (but_one heap.old) heap.new at result }
+{
+    loop {
+        heap.swap(at, parent);
+        at = parent;
+        if at == 0 {
+            return at;
+        }
+        parent = (at - 1) / 4;
         if !heap.is_before(at, parent) {
             return at;
         }
-        heap.swap(at, parent);
-        at = parent;
     }
-    at
 }
 
 // Lets the entry at a place sink until no child comes before it.

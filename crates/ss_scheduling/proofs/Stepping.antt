@@ -1,5 +1,5 @@
 -- Operations in several steps.
-use Rattle.std.proofs.Common.{◌≡◌, ℕ, ℤ, false, List, [], ◌∷◌, ◌++◌, Option, Some, None, Ok, Err, refl, ap, sym, ◌∙◌}
+use Rattle.std.proofs.Common.{◌≡◌, ℕ, ℤ, Bool, true, false, List, [], ◌∷◌, ◌++◌, Option, Some, None, Ok, Err, refl, ap, sym, ◌∙◌}
 use Rattle.std.specs.Prelude.{slice_get, Result as OkOr}
 use Rattle.std.specs.Option.{option_map}
 use Rattle.std.proofs.lemmas.List.{append_assoc}
@@ -18,6 +18,7 @@ use Rattle.ss_population.specs.declared.trouble.Trouble.TheVariants.{Fault, Misf
 use Rattle.ss_population.specs.declared.trouble.Unmade.{Unmade}
 use Rattle.ss_population.specs.declared.trouble.Unmade.TheVariants as unmade
 use Rattle.ss_population.specs.Told.{told, meant}
+use Rattle.ss_store.specs.AtOnce.{Does}
 use Rattle.ss_store.specs.Seen.{Seen, with_seen, Changes, Makes, Grows}
 use Rattle.ss_scheduling.specs.Scheduled.{Leads, Forms, Goes, Finds, put_there, lacking, key_ranked, key_meant, IsUntied, scheduled_known, scheduled_anew}
 
@@ -135,6 +136,11 @@ module _ (class : ℕ) (x : Value) (t : ℤ) where
     filed new key (Err (unmade.Fault kind)) k h = (λ s. key_filed key k s ∙ h.0 s, h.1)
     filed new key (Err unmade.Misfit) k h = (λ s. key_filed key k s ∙ h.0 s, h.1)
     filed new key (Err unmade.Memory) k h = h
+
+    -- the same where it is told whether it was
+    pub filed_at_once : (new : Seen) (key : SortKey) (b : Bool) → Finds (key_meant class x t) e (Ok key) → Does (scheduled_known key n) b e new → Does (filed_notice class x t) b e new
+    filed_at_once new key true k h = λ s. key_filed key k s ∙ h s
+    filed_at_once new key false k h = h
 
     -- SCHEDULE THE of a notice that is not pending
     pub again : (given : List Value) (new : Seen) (r : OkOr (Unit {0}) Unmade) → is_pending n e.pending.entries ≡ false → Goes (scheduled_anew class x given t) (prepared class x given t) e new r → Goes (rescheduled class x given t) (prepared class x given t) e new r

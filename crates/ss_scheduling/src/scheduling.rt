@@ -573,6 +573,33 @@ fn file_apart(scene: &mut Scene, alloc: Global, class: usize, notice: Known, tim
     in_one(file_pending(scene, alloc, class, notice, time))
 }
 
+// A notice without ties is pending for a time and by a rank, by its number, where it is found at once that nothing is in the way; and
+// says whether it is. If not, nothing has changed.
+#[inline(always)]
+fn schedule_untied(scene: &mut Scene, rank: usize, notice: Known, time: i64) -> bool
+    ensures { Does (scheduled_known (record { time = time; rank = rank; ties = [] }) notice.number) result scene.old scene.new }
+{
+    if scene.timeline.schedule_at_once(time, rank, notice.number) {
+        return true;
+    }
+    false
+}
+
+// A notice of a class without ties is filed among those that are pending, by its number, where it is found at once that nothing is in
+// the way; and says whether it was. If not, nothing has changed.
+#[inline(never)]
+fn file_at_once(scene: &mut Scene, class: usize, notice: Known, time: i64) -> bool
+    ensures { Does (filed_notice class (Whole notice.number) time) result scene.old scene.new }
+{
+    if !scene.is_near(class, notice) {
+        return false;
+    }
+    match rank_untied(scene, class) {
+        Some(rank) => schedule_untied(scene, rank, notice, time),
+        None => false,
+    }
+}
+
 /// A notice is filed among those that are pending, by its number: for this time, by the rank of its class and the values
 /// that the attributes which break ties have now. Faults: 1 to 4, then 13 where the time is before TIME.V, then 11, then
 /// 14 after the last scheduling. Want of memory changes nothing.
@@ -586,6 +613,9 @@ pub fn file_known(
 ) -> Result<(), Unmade>
     ensures { Grows (filed_notice class (Whole notice.number) time) scene.old scene.new result }
 {
+    if file_at_once(scene, class, notice, time) {
+        return Ok(());
+    }
     as_told(file_apart(scene, alloc, class, notice, time))
 }
 

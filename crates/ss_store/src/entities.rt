@@ -1,13 +1,12 @@
 //! Entities: references, attributes, how many of a class there are, creating and destroying.
 
-ghost use Rattle.std.specs.Prelude.{◌≡◌, true, pos};
+ghost use Rattle.std.specs.Prelude.{◌≡◌, true, pos, Ok};
 ghost use Rattle.ss_base.specs.declared.value.Value.TheVariants.{Whole};
 ghost use Rattle.ss_meaning.specs.Entities.{is_single, is_permanent, entity, attribute, time_of, made_count, made_one, gone, without};
 ghost use Rattle.ss_meaning.specs.Events.{with_time};
 ghost use Rattle.ss_meaning.specs.Store.{Store as StoreSeen};
 ghost use Rattle.ss_meaning.specs.Places.{is_of_mode, assigned_attribute};
 ghost use Rattle.ss_population.specs.Told.{numbered};
-ghost use Rattle.ss_records.specs.Classed.{HasClass};
 ghost use Rattle.ss_classes.specs.Layouts.{class_in, kind_at};
 ghost use Rattle.ss_store.specs.Seen.{Looks, Changes, Notes, Makes, Grows, IsEarlier, as_value, count_open, number_made, created_all_known, mode_at, with_seen};
 
@@ -69,10 +68,10 @@ impl Scene {
         self.find_known(class, known)
     }
 
-    // Whether a number is that of an entity of a class, where that is found at once.
+    /// Whether a number is that of an entity of a class, where that is found at once.
     #[inline(always)]
-    fn is_near(&self, class: usize, known: Known) -> bool
-        ensures { result ≡ true → HasClass self.now.heap known.number class }
+    pub fn is_near(&self, class: usize, known: Known) -> bool
+        ensures { result ≡ true → Looks (entity class (Whole known.number)) self.now (Ok known.number) }
     {
         match self.population.class_near(known.number) {
             Some(found) => found == class,

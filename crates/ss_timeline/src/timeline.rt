@@ -113,6 +113,16 @@ impl Timeline {
         self.pending.schedule(key, notice)
     }
 
+    /// A notice without ties is pending for a time and by the rank of its class, where it is found at once that nothing is in the way;
+    /// and says whether it is. If not, nothing has changed.
+    #[inline(always)]
+    pub fn schedule_at_once(&mut self, time: i64, rank: usize, notice: i64) -> bool
+        ensures done { result ≡ true → Schedules (record { time = time; rank = rank; ties = [] }) notice self.old self.new (Ok tt) }
+        ensures kept { result ≡ false → self.new ≡ self.old }
+    {
+        time >= self.time && self.pending.schedule_at_once(time, rank, notice)
+    }
+
     /// A notice is pending no longer. Faults: 12.
     pub fn cancel(&mut self, notice: i64) -> Result<(), FaultKind>
         ensures { MatchResult result (λ _. (cancelled notice self.old.pending ≡ Ok self.new.pending) × (self.new ≡ record self.old { pending = self.new.pending })) (λ e. (cancelled notice self.old.pending ≡ Err e) × (self.new ≡ self.old)) }

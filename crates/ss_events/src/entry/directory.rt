@@ -1,5 +1,5 @@
 // Where the slot of a notice is looked for.
-ghost use Rattle.std.specs.Prelude.{◌≡◌, ◌≢◌, ℕ, ℤ, OnOk};
+ghost use Rattle.std.specs.Prelude.{◌≡◌, ◌≢◌, ℕ, ℤ, true, false, OnOk};
 ghost use Rattle.ss_events.specs.Slots.{Leads, no_slot, cell_of, first_guess, second_guess};
 
 use std::alloc::{AllocError, Global};
@@ -101,6 +101,22 @@ impl Directory {
             return Ok(());
         }
         self.note_in_map(notice, slot)
+    }
+
+    /// The same of a notice whose cell shows that it is new here, and says whether that is so. If not, nothing has changed.
+    #[inline(always)]
+    pub(crate) fn note_at_once(&mut self, notice: i64, slot: usize) -> bool
+        ensures fresh { result ≡ true → (first_guess self.old notice ≡ no_slot) × (second_guess self.old notice ≡ no_slot) }
+        ensures noted { result ≡ true → Leads self.new notice slot }
+        ensures others { (n : ℤ) → (s : ℕ) → n ≢ notice → s ≢ no_slot → Leads self.old n s → Leads self.new n s }
+        ensures kept { result ≡ false → self.new ≡ self.old }
+    {
+        let cell = self.cell(notice);
+        if cell < self.cells.len() && self.cells[cell] == FREE && self.others.is_empty() {
+            self.cells[cell] = slot;
+            return true;
+        }
+        false
     }
 
     // The same, whatever the notice's cell names.

@@ -1,10 +1,11 @@
 // Entries in places: none of them moves while it changes places.
-ghost use Rattle.std.specs.Prelude.{false, pos, ◌≢◌, ◌==◌, slice_set, ◌≡◌, ◌<◌, ◌≤◌, ◌++◌, ◌∷◌, [], length, swap, slice_index, slice_index_or, nat_lt, vec_len, if◌then◌else◌, IfOk, OnOk, OnErr, position, is_some};
+ghost use Rattle.std.specs.Prelude.{true, false, pos, ℕ, ◌+◌, ◌*◌, ◌^◌, ◌≢◌, ◌==◌, slice_set, ◌≡◌, ◌<◌, ◌≤◌, ◌++◌, ◌∷◌, [], length, swap, slice_index, slice_index_or, nat_lt, vec_len, if◌then◌else◌, IfOk, OnOk, OnErr, position, is_some};
 ghost use Rattle.std.specs.Ordering.{int_eq};
 ghost use Rattle.std.specs.List.{swap_remove, list_any, IsDistinct};
 ghost use Rattle.ss_events.specs.declared.entry.Entry.{Entry};
+ghost use Rattle.ss_events.specs.declared.entry.places.Stand.{Stand as StandSeen};
 ghost use Rattle.ss_events.specs.HeapEntries.{notices_of, event_of, Removes};
-ghost use Rattle.ss_events.specs.Slots.{slots_in, by_place, no_entry, no_mark, mark_of, place_of, IsPaired, AreWithin, AreLed, exchanged, untold, order_of, IsBut, with_notices};
+ghost use Rattle.ss_events.specs.Slots.{slots_in, by_place, no_entry, no_mark, mark_of, place_of, IsPaired, AreWithin, AreLed, exchanged, untold, order_of, IsBut, told_by, told_ranks, told_numbers, with_notices};
 
 use super::directory::Directory;
 use super::{Entry, Mark, UNTOLD, mark_of, told_by};
@@ -13,8 +14,8 @@ use std::marker::Model;
 
 // What stands in a place: a slot, and what tells in which order its entry comes.
 #[derive(Clone, Copy)]
-struct Stand {
-    mark: Mark,
+pub(super) struct Stand {
+    pub(super) mark: Mark,
     slot: usize,
 }
 
@@ -94,6 +95,17 @@ impl Places {
         self.stands[place].mark
     }
 
+    /// What stands in four places from this one on.
+    #[inline(always)]
+    pub(super) fn four(&self, from: usize) -> &[Stand]
+        requires within { from + 4 ≤ length self.now }
+        requires small { from + 4 < 2 ^ 64 }
+        ensures four { length result.now ≡ 4 }
+        ensures marks { (k : ℕ) → k < 4 → (s : StandSeen) (d : Entry) → (slice_index_or result.now k s).mark ≡ mark_of (slice_index_or self.now (from + k) d) }
+    {
+        &self.stands[from..from + 4]
+    }
+
     /// The time and the notice of the entry in a place.
     #[inline(always)]
     pub(crate) fn event(&self, place: usize) -> (i64, i64)
@@ -144,6 +156,29 @@ impl Places {
         self.notices[slot] = entry.notice;
         keep(&mut self.entries, slot, entry, mark);
         Ok(())
+    }
+
+    /// Puts an entry that its mark tells into the next place, where there is room for it and its notice is found to be new at
+    /// once; and says whether it did. If not, nothing has changed.
+    #[inline(always)]
+    pub(crate) fn push_told(&mut self, mark: Mark, notice: i64) -> bool
+        requires told { mark.order < told_ranks * told_numbers }
+        ensures done { result ≡ true → self.new ≡ self.old ++ told_by mark notice ∷ [] }
+        ensures fresh { result ≡ true → list_any (int_eq notice) (notices_of self.old) ≡ false }
+        ensures kept { result ≡ false → self.new ≡ self.old }
+    {
+        let next = self.count;
+        if next >= self.stands.len() || next >= self.directory.cells() / 2 {
+            return false;
+        }
+        let slot = self.stands[next].slot;
+        if !self.directory.note_at_once(notice, slot) {
+            return false;
+        }
+        self.stands[next] = Stand { mark, slot };
+        self.count = next + 1;
+        self.notices[slot] = notice;
+        true
     }
 
     /// Lets the entries of two places change places.

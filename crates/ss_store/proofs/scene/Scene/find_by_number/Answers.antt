@@ -1,5 +1,4 @@
-use Rattle.ss_store.proofs.Finding.{found_near}
 use Rattle.ss_store.proofs.scene.Scene.find_by_number.Goals as goal
 
 pub returns-then-is_near : goal.returns-then-is_near
-returns-then-is_near c = found_near c.args.self.now c.args.known.number c.args.class (c.is_near.ensures c.if-is_near.true)
+returns-then-is_near c = c.is_near.ensures c.if-is_near.true
