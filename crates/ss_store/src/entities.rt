@@ -278,6 +278,9 @@ impl Scene {
     pub fn create_apart(&mut self, class: usize) -> Made
         ensures { Makes (made_one class) self.old self.new (as_value result) }
     {
+        if !self.is_single(class) {
+            return self.create_slowly(class);
+        }
         match self.create_at_once(class) {
             Some(number) => Made::Number(number),
             None => self.create_slowly(class),
@@ -320,6 +323,15 @@ impl Scene {
         if !self.is_single(class) {
             return Err(Trouble::Misfit);
         }
+        self.remove_single(class, known)
+    }
+
+    // The same of a class whose entities come and go one by one.
+    #[inline(always)]
+    fn remove_single(&mut self, class: usize, known: Known) -> Result<(), Trouble>
+        requires single { is_single (class_in self.old.heap.layout class) ≡ true }
+        ensures { Changes (gone class (Whole known.number)) self.old self.new result }
+    {
         let owns = self.population.owns_set(class);
         match self.population.destroy(class, known.number) {
             Ok(()) => {
@@ -365,7 +377,19 @@ impl Scene {
         if !self.is_single(class) {
             return Err(self.earlier(class, known, Trouble::Misfit));
         }
-        self.remove_known(class, known)
+        self.remove_single(class, known)
+    }
+
+    /// The same of a class whose entities come and go one by one.
+    #[inline(always)]
+    pub fn destroy_single(&mut self, class: usize, known: Known) -> Result<(), Trouble>
+        requires single { is_single (class_in self.old.heap.layout class) ≡ true }
+        ensures { Changes (without class (Whole known.number)) self.old self.new result }
+    {
+        if self.timeline.is_scheduled(known.number) {
+            return Err(self.earlier(class, known, Trouble::Fault(FaultKind::Scheduled)));
+        }
+        self.remove_single(class, known)
     }
 
     /// An entity goes, and its histories end, as DESTROY says. Faults: 1 to 4, then 21, then 9 and 10.

@@ -13,8 +13,7 @@ returns-in-Ok-clause-made c =
     let n = c.in-Ok.number in let class = c.args.class in
     let old = the_view c.self.inside in
     let x : to_z w64 (of_z w64 n) ≡ n = search rules in
-    let yes : is_single (class_in c.args.self.now.heap.layout class) ≡ true = search rules in
-    let single = subst (λ (e : Seen). is_single (class_in e.heap.layout class) ≡ true) (sym c.self.view_is) yes in
+    let single = subst (λ (e : Seen). is_single (class_in e.heap.layout class) ≡ true) (sym c.self.view_is) c.requires.single in
     let starts = (c.bears.ensures c.if-bears.false old.heap.layout class c.owns_set.ensures).starts (int_eq n) old.time in
     rw x (subst (λ (e : Seen). Draws (made_one class) e (record old { heap = c.create.new.self }) (Some n)) c.self.view_is (spared_made class n old c.create.new.self single c.in-Ok.ensures starts))
 

@@ -22,5 +22,5 @@ pub returns : goal.returns
 returns c =
     let e = c.args.self.now in let class = c.args.class in let n = c.args.known.number in
     let free : is_pending n e.pending.entries ≡ false = search rules in
-    changes_alike (without class (Whole n)) (gone class (Whole n)) e c.remove_known.new.self c.remove_known.result
-    (λ s. gone_once e class n s free (sym c.is_single.ensures ∙ c.if-not-is_single.false)) c.remove_known.ensures
+    changes_alike (without class (Whole n)) (gone class (Whole n)) e c.remove_single.new.self c.remove_single.result
+    (λ s. gone_once e class n s free (sym c.is_single.ensures ∙ c.if-not-is_single.false)) c.remove_single.ensures
