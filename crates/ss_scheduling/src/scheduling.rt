@@ -587,7 +587,7 @@ fn schedule_untied(scene: &mut Scene, rank: usize, notice: Known, time: i64) -> 
 
 // A notice of a class without ties is filed among those that are pending, by its number, where it is found at once that nothing is in
 // the way; and says whether it was. If not, nothing has changed.
-#[inline(never)]
+#[inline(always)]
 fn file_at_once(scene: &mut Scene, class: usize, notice: Known, time: i64) -> bool
     ensures { Does (filed_notice class (Whole notice.number) time) result scene.old scene.new }
 {
