@@ -12,4 +12,5 @@ pub mod Places
 pub mod Plans
 pub mod Reading
 pub mod Shape
+pub mod Skimming
 pub mod Slotted

@@ -1,5 +1,5 @@
 -- A walk along a set that passes over some of its members.
-use Rattle.std.specs.Prelude.{◌≡◌, ℕ, suc, ℤ, Bool, true, Ok, if◌then◌else◌}
+use Rattle.std.specs.Prelude.{◌≡◌, ℕ, zero, suc, ℤ, Bool, true, Ok, if◌then◌else◌}
 use Rattle.std.specs.Ordering.{match_ordering, int_cmp}
 use Rattle.ss_base.specs.declared.value.Value.TheVariants.{Whole}
 use Rattle.ss_states.specs.State.{State, value_in}
@@ -14,7 +14,7 @@ is_passed f v = match_ordering (int_cmp v f.number) f.less f.same f.more
 
 -- so many steps lead from one number to another
 abbrev pub Steps : (step : ℤ → ℤ → Type 0) → ℕ → (x y : ℤ) → Type 0
-Steps step 0 x y = x ≡ y
+Steps step zero x y = x ≡ y
 Steps step (suc k) x y = (z : ℤ) × (Steps step k x z × step z y)
 
 module _ (st : State) (s : ℕ) (o : ℤ) (reverse : Bool) (f : Filter) where
