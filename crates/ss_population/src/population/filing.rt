@@ -1,10 +1,13 @@
 //! Filing and removing.
 
-ghost use Rattle.std.specs.Prelude.{◌≡◌, ◌<◌, length, true, false, IsTrue, IfSome, MatchResult, Ok, Err, None};
+ghost use Rattle.std.specs.Prelude.{◌≡◌, ◌<◌, ◌≤◌, ◌^◌, length, true, false, IsTrue, IfSome, MatchResult, Ok, Err, None, Some, slice_get};
+ghost use Rattle.ss_base.specs.declared.layout.Mode.TheVariants.{Integer};
 ghost use Rattle.ss_meaning.specs.Sets.{beside, is_fit, end_removed};
 ghost use Rattle.ss_meaning.specs.Values.{due, where_fit};
 ghost use Rattle.ss_population.specs.Told.{meant};
 ghost use Rattle.ss_records.specs.Sets.{count_in, filed_first, filed_last, filed_before, filed_after, removed};
+ghost use Rattle.ss_records.specs.Skimming.{IsSkimmed};
+ghost use Rattle.ss_records.specs.State.{modes_of};
 ghost use Rattle.ss_sets.specs.Disciplines.{Fits, filed, first_removed, last_removed, member_test};
 
 use crate::population::Population;
