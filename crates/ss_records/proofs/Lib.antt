@@ -37,6 +37,7 @@ pub mod ReadWords
 pub mod Relinked
 pub mod Remembered
 pub mod Setless
+pub mod Skims
 pub mod Spared
 pub mod Splice
 pub mod Still

@@ -68,7 +68,7 @@ module _ (r : Records) (K : IsKept r) (s : ℕ) (q : Entry) (j : Joins r s q) (f
   is_number = subst (λ z. IsNumber (word_at r.blocks.cells z k)) (sym place.5)
       (first_number r.layout r.blocks.cells r.system.at (places r) r.notes.lists K place.0 place.1 place.3 class place.4 (pos q.number) (ap pos place.2) its_entity f k start Integer mode)
 
-  its_value : value_in (state r) class f (pos q.number) ≡ Ok (value_at Integer r.blocks.cells q.place.at k)
+  pub its_value : value_in (state r) class f (pos q.number) ≡ Ok (value_at Integer r.blocks.cells q.place.at k)
   its_value = is_value r.layout r.blocks.cells r.system.at (places r) r.notes.lists K place.0 place.1 place.3 class place.4 (pos q.number) (ap pos place.2) its_entity f k start Integer mode
       ∙ ap (λ z. Ok (value_at Integer r.blocks.cells z k)) (sym place.5)
 

@@ -6,10 +6,12 @@ pub mod Classed
 pub mod Kept
 pub mod Laid
 pub mod Links
+pub mod Looked
 pub mod Parts
 pub mod Passing
 pub mod Places
 pub mod Plans
 pub mod Reading
 pub mod Shape
+pub mod Skimming
 pub mod Slotted

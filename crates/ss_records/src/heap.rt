@@ -1,4 +1,4 @@
-ghost use Rattle.std.specs.Prelude.{◌≡◌, ◌+◌, ◌<◌, ◌≤◌, true, false, if◌then◌else◌, length, pos, MatchResult, IfSome, Ok, Err, Some, None, IsOk, slice_get, ⊤, ℕ};
+ghost use Rattle.std.specs.Prelude.{◌≡◌, ◌+◌, ◌*◌, ◌^◌, ◌<◌, ◌≤◌, true, false, if◌then◌else◌, length, pos, MatchResult, IfSome, Ok, Err, Some, None, IsOk, slice_get, ⊤, ℕ};
 ghost use Rattle.ss_base.specs.Layout.{mode_of};
 ghost use Rattle.ss_base.specs.declared.layout.Owner.TheVariants.{Class};
 ghost use Rattle.ss_states.specs.State.{State, first_state, known_in, known_notice_in, kind_of, modes_of, value_in, time_in, created, created_all, destroyed, assigned, timed, RefusedFor, living_numbers, living_records};
@@ -7,10 +7,12 @@ ghost use Rattle.ss_states.specs.Sets.{member_class, owner, owner_kind, first_in
 ghost use Rattle.ss_records.specs.Added.{Added};
 ghost use Rattle.ss_records.specs.Classed.{HasClass};
 ghost use Rattle.ss_records.specs.Kept.{IsPermanent};
+ghost use Rattle.ss_records.specs.Skimming.{IsSkimmed};
 ghost use Rattle.ss_records.specs.Passing.{ranks_past, first_where, before_where};
 
 use crate::records::Records;
 use crate::sets::{Member, WholeMember};
+use crate::skimming::{Filter, Skimmed};
 use ss_base::{FaultKind, Layout, Mode, Refused, Value};
 use std::alloc::{AllocError, Global};
 use std::marker::Model;
@@ -337,6 +339,32 @@ impl Heap {
     {
         self.records.start();
         self.records.onward(set, o, x, reverse)
+    }
+
+    /// Walks along the set of an owner from the member x on, or in reverse, past members that a filter passes over, and at most `most`
+    /// of all, the one that it comes to among them: an `onward` and a `value` for each, with one look for x. None where x is not in that
+    /// set or not of the class of the filter, or there is a fault, and it may give up elsewhere too.
+    #[inline(always)]
+    pub fn skim(
+        &mut self,
+        set: usize,
+        o: i64,
+        x: i64,
+        reverse: bool,
+        filter: &Filter,
+        most: u64,
+    ) -> Option<Skimmed>
+        requires set { set < length self.old.state.layout.sets }
+        requires mode { slice_get (modes_of self.old.state.layout filter.now.class) filter.now.field ≡ Some Mode.Integer }
+        requires some { 1 ≤ most }
+        requires few { most < 2 ^ 32 }
+        ensures found { IfSome result (λ k. IsSkimmed self.old.state set o reverse filter.now x k) }
+        ensures within { IfSome result (λ k. k.passed < most) }
+        ensures same { self.new.state ≡ self.old.state }
+        ensures touches { (self.new.touches ≤ 2 * most) × (self.new.total ≡ self.old.total + self.new.touches) }
+    {
+        self.records.start();
+        self.records.skim(set, o, x, reverse, filter, most)
     }
 
     /// The owner whose set of this name x is in, if any. Faults: 1 to 5.

@@ -12,9 +12,11 @@ pub(crate) mod plan;
 pub(crate) mod records;
 pub(crate) mod sets;
 pub(crate) mod shape;
+pub(crate) mod skimming;
 pub(crate) mod ties;
 pub(crate) mod words;
 
 pub use heap::Heap;
 pub use sets::{Member, WholeMember};
 pub use shape::kind;
+pub use skimming::{Filter, Skimmed};

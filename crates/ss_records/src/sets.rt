@@ -402,7 +402,7 @@ impl Records {
 
     // What x means as one that may be in a set, where it is likely to come next.
     #[inline(always)]
-    fn expected_joiner(&self, s: usize, x: i64) -> Option<Entry>
+    pub(crate) fn expected_joiner(&self, s: usize, x: i64) -> Option<Entry>
         requires kept { IsKept self.now }
         requires set { s < length self.now.layout.sets }
         ensures { IfSome result (λ e. Joins self.now s e × (joiner (state self.now) s x ≡ Ok e.number)) }
@@ -461,7 +461,7 @@ impl Records {
     // Remembers a member of a set, and that the one that follows it, if there is one, is likely to come next: where their class
     // is not permanent.
     #[inline(always)]
-    fn pass(&mut self, s: usize, member: Entry, next: Entry)
+    pub(crate) fn pass(&mut self, s: usize, member: Entry, next: Entry)
         requires kept { IsKept self.old }
         requires set { s < length self.old.layout.sets }
         requires joins { Joins self.old s member }
@@ -530,7 +530,7 @@ fn is_after(its: i64, own: i64, high: bool) -> bool
 
 // Where the link to the member that follows stands, or in reverse that to the one that precedes.
 #[inline(always)]
-fn beside(base: usize, reverse: bool) -> usize
+pub(crate) fn beside(base: usize, reverse: bool) -> usize
     requires { base ≤ 5242883 }
     ensures { result ≡ (if reverse then base + 1 else base) }
 {

@@ -14,3 +14,4 @@ pub mod Figured
 pub mod Going
 mod Renoting
 pub mod Making
+pub mod Skims

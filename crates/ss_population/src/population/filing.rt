@@ -1,16 +1,20 @@
 //! Filing and removing.
 
-ghost use Rattle.std.specs.Prelude.{◌≡◌, ◌<◌, length, true, false, IsTrue, IfSome, MatchResult, Ok, Err, None};
+ghost use Rattle.std.specs.Prelude.{◌≡◌, ◌<◌, ◌≤◌, ◌^◌, length, true, false, IsTrue, IfSome, MatchResult, Ok, Err, None, Some, slice_get};
+ghost use Rattle.ss_base.specs.declared.layout.Mode.TheVariants.{Integer};
 ghost use Rattle.ss_meaning.specs.Sets.{beside, is_fit, end_removed};
 ghost use Rattle.ss_meaning.specs.Values.{due, where_fit};
 ghost use Rattle.ss_population.specs.Told.{meant};
 ghost use Rattle.ss_records.specs.Sets.{count_in, filed_first, filed_last, filed_before, filed_after, removed};
+ghost use Rattle.ss_records.specs.Skimming.{IsSkimmed};
+ghost use Rattle.ss_records.specs.State.{modes_of};
 ghost use Rattle.ss_sets.specs.Disciplines.{Fits, filed, first_removed, last_removed, member_test};
 
 use crate::population::Population;
 use crate::trouble::{Trouble, or_trouble};
 use ss_base::{Discipline, FaultKind};
 use ss_meaning::program::statement::End;
+use ss_records::{Filter, Skimmed};
 use ss_sets::{file, fits, is_in, remove_first, remove_last};
 
 impl Population {
@@ -209,5 +213,29 @@ impl Population {
         ensures same { self.new ≡ self.old }
     {
         self.heap.onward(set, o, n, reverse)
+    }
+
+    /// Walks along the set of an owner from the member x on, or in reverse, past members that a filter passes over, and at most `most`
+    /// of all, the one that it comes to among them. None where x is not in that set or not of the class of the filter, or there is a
+    /// fault, and it may give up elsewhere too.
+    #[inline(always)]
+    pub fn skim(
+        &mut self,
+        set: usize,
+        o: i64,
+        n: i64,
+        reverse: bool,
+        filter: &Filter,
+        most: u64,
+    ) -> Option<Skimmed>
+        requires set { set < length self.old.layout.sets }
+        requires mode { slice_get (modes_of self.old.layout filter.now.class) filter.now.field ≡ Some Integer }
+        requires some { 1 ≤ most }
+        requires few { most < 2 ^ 32 }
+        ensures found { IfSome result (λ k. IsSkimmed self.old set o reverse filter.now n k) }
+        ensures within { IfSome result (λ k. k.passed < most) }
+        ensures same { self.new ≡ self.old }
+    {
+        self.heap.skim(set, o, n, reverse, filter, most)
     }
 }
