@@ -141,6 +141,81 @@ fn equals_come_out_in_order_of_scheduling(rt: HostRuntime) {
     assert!(rt; keep_their_order(rt.alloc(), listed(rt.alloc(), &PLAIN_ALONE)));
 }
 
+// A hundred notices, of which the later are scheduled first, numbered behind so many.
+fn line_up_behind(alloc: Global, pending: &mut Pending, before: i64) -> Result<(), Refused> {
+    for number in 1i64..101 {
+        let time = 101i64.wrapping_sub(number);
+        schedule(alloc, pending, (time, 0, &[]), before.wrapping_add(number))?;
+    }
+    Ok(())
+}
+
+// Three hundred, three at each of a hundred times.
+fn line_up(alloc: Global, pending: &mut Pending) -> Result<(), Refused> {
+    line_up_behind(alloc, pending, 0)?;
+    line_up_behind(alloc, pending, 100)?;
+    line_up_behind(alloc, pending, 200)
+}
+
+// Whether the first, one in the middle and the last of those at a time are cancelled, and one of them is scheduled again.
+fn are_cancelled(alloc: Global, pending: &mut Pending) -> bool {
+    for notice in [100, 199, 298] {
+        let was_scheduled = pending.is_scheduled(notice);
+        if !was_scheduled || pending.cancel(notice).is_err() || pending.is_scheduled(notice) {
+            return false;
+        }
+    }
+    pending.cancel(199) == Err(FaultKind::NotScheduled)
+        && schedule(alloc, pending, (2, 0, &[]), 199).is_ok()
+        && schedule(alloc, pending, (2, 0, &[]), 299)
+            == Err(Refused::Fault(FaultKind::AlreadyScheduled))
+}
+
+// What comes out first then.
+static FIRST_TIMES: [(i64, i64); 7] = [
+    (1, 200),
+    (1, 300),
+    (2, 99),
+    (2, 299),
+    (2, 199),
+    (3, 98),
+    (3, 198),
+];
+
+// Whether it does, and then the three of each later time.
+fn come_out_by_times(pending: &mut Pending) -> bool {
+    for next in &FIRST_TIMES {
+        if pending.take() != Some(*next) || !is_short(pending) {
+            return false;
+        }
+    }
+    for time in 4i64..101 {
+        for before in [101i64, 201, 301] {
+            let next = (time, before.wrapping_sub(time));
+            if pending.take() != Some(next) || !is_short(pending) {
+                return false;
+            }
+        }
+    }
+    pending.take().is_none()
+}
+
+fn keep_their_lines(alloc: Global, list: Result<Pending, AllocError>) -> bool {
+    match list {
+        Ok(mut pending) => {
+            line_up(alloc, &mut pending).is_ok()
+                && are_cancelled(alloc, &mut pending)
+                && come_out_by_times(&mut pending)
+        }
+        Err(_) => false,
+    }
+}
+
+#[test]
+fn many_at_each_of_many_times_come_out_in_order(rt: HostRuntime) {
+    assert!(rt; keep_their_lines(rt.alloc(), listed(rt.alloc(), &PLAIN_ALONE)));
+}
+
 // A notice of the first class at time 9.
 fn at_nine<'a>(notice: i64) -> Call<'a> {
     Call::Schedule {

@@ -1,5 +1,5 @@
 -- The entries of a heap stand for those of an event list, before and after each call.
-use Rattle.std.proofs.Common.{◌≡◌, ℕ, ◌+◌, ◌<◌, ℤ, Bool, true, false, not, cond, ◌||◌, nat_eq, List, [], ◌∷◌, ◌++◌, fold, length, get_or, position, None, Some, refl, sym, ap, subst, ◌∙◌, ◌⊎◌, ⊎_elim, inl, inr, arith}
+use Rattle.std.proofs.Common.{◌≡◌, ℕ, ◌+◌, ◌-◌, ◌<◌, ◌≤◌, ℤ, Bool, true, false, not, cond, ◌||◌, nat_eq, List, [], ◌∷◌, ◌++◌, fold, length, get_or, position, None, Some, refl, sym, ap, subst, ◌∙◌, ◌⊎◌, ⊎_elim, inl, inr, arith}
 use Rattle.std.specs.Ordering.{int_eq}
 use Rattle.std.specs.List.{list_any, IsDistinct, AllByRecursion, All}
 use Rattle.std.specs.List.Sorted.{IsPermutation}
@@ -9,7 +9,8 @@ use Rattle.std.proofs.lemmas.List.Elements.{All-cons, All-tail, recursion_from_A
 use Rattle.std.proofs.lemmas.Map.Keys.{IsDistinct-IsPermutation, IsDistinct-head, IsDistinct-tail, IsDistinct-cons}
 use Rattle.std.proofs.lemmas.Bool.{cases_lt, cases_Bool}
 use Rattle.ss_events.specs.declared.entry.Entry.{Entry}
-use Rattle.ss_events.specs.HeapEntries.{HeapEntries, notices_of}
+use Rattle.ss_events.specs.HeapEntries.{HeapEntries, all_of, notices_of, IsLed, AreBehind}
+use Rattle.ss_events.specs.Slots.{no_entry}
 use Rattle.ss_events.specs.Sifting.{IsLogarithmic}
 use Rattle.ss_events.specs.HeapOrder.{IsHeap}
 use Rattle.ss_events.specs.Order.{comes_before}
@@ -17,7 +18,9 @@ use Rattle.ss_events.specs.PendingList.{PendingList, scheduling_limit, is_pendin
 use Rattle.ss_events.specs.InOrder.{put, in_order, numbers_of, IsAgenda}
 use Rattle.ss_events.proofs.EntryOrder.{entries_rank, tied_numbers}
 use Rattle.ss_events.proofs.Heaps.{first}
-use Rattle.std.proofs.lemmas.List.{get_or_default, nil_from_length, get_or-map, length-map}
+use Rattle.ss_events.proofs.Sifts.{digits_mono}
+use Rattle.std.proofs.lemmas.List.{get_or_default, nil_from_length, get_or-map, length-map, length-append, map-append, get_or_append_left, get_or-append_right}
+use Rattle.std.proofs.lemmas.List.Folds.{list_any-append}
 use Rattle.std.proofs.lemmas.List.Quantifiers.{position-Some}
 use Rattle.std.specs.Option.{option_map, option_map_or}
 use Rattle.std.proofs.lemmas.Bool.Decides.{nat_tests}
@@ -114,18 +117,32 @@ one_each (f ∷ fs) x y r m n e = ⊎_elim
     (λ rest. ⊎_elim (λ is. absurd (omega (arith, e, r.0 x rest, ap (λ z. z.number) is))) (λ later. one_each fs x y r.1 rest later e) n)
     m
 
-module _ (old : List Entry) (count : ℕ) (a : IsAgenda old count) where
-  -- the first of the heap is the least
-  pub least_first : (x : Entry) → 0 < length old → x ≡ get_or old 0 x → least (in_order old) ≡ Some x
-  least_first x some is = least_is x (in_order old)
-      (in_order-member old x (member_at old 0 x some (sym is)))
-      (λ y m.
-      let c = place_of old y (member-in_order old y m) in
-      let h = first comes_before entries_rank old a.order c.0 c.0 (omega arith) c.1 y in
-      let top : get_or old 0 y ≡ x = get_or_default old 0 y x some ∙ sym is in
-      (λ i. comes_before (sym c.2 i) (sym top i)) ∙ h)
-      (λ y m e. one_each (in_order old) y x (rising-in_order old (apart_from_distinct old a.numbers)) m (in_order-member old x (member_at old 0 x some (sym is))) e)
+-- the first head is the least, where each of the others comes behind a head
+pub least_first : (heads followers : List Entry) (count : ℕ) → IsAgenda heads (heads ++ followers) count → AreBehind heads followers → (x : Entry) → 0 < length heads → x ≡ get_or heads 0 x → least (in_order (heads ++ followers)) ≡ Some x
+least_first heads followers count a behind x some is =
+    let old = heads ++ followers in
+    let here : get_or old 0 x ≡ x = get_or_append_left heads followers x 0 some ∙ sym is in
+    let long : length old ≡ length heads + length followers = length-append heads followers in
+    let among : Member x old = member_at old 0 x (omega arith) here in
+    let head : (k : ℕ) (y : Entry) → k < length heads → comes_before (get_or heads k y) x ≡ false
+    = (λ k y within. ap (comes_before (get_or heads k y)) (is ∙ get_or_default heads 0 x y some) ∙ first comes_before entries_rank heads a.order k k (omega arith) within y) in
+    least_is x (in_order old)
+    (in_order-member old x among)
+    (λ y m.
+    let c = place_of old y (member-in_order old y m) in
+    ⊎_elim
+    (λ lt. ap (λ z. comes_before z x) (sym c.2 ∙ get_or_append_left heads followers y c.0 lt) ∙ head c.0 y lt)
+    (λ past.
+    let k = c.0 - length heads in
+    let read : get_or followers k y ≡ y = sym (get_or-append_right heads followers (length heads) c.0 y refl past) ∙ c.2 in
+    let led : IsLed heads y = subst (IsLed heads) read (behind k y (omega (arith, past, c.1, long))) in
+    entries_rank.chain y (get_or heads led.place y) x
+    (entries_rank.one_way (get_or heads led.place y) y (led.before y))
+    (head led.place y led.within))
+    (cases_lt c.0 (length heads)))
+    (λ y m e. one_each (in_order old) y x (rising-in_order old (apart_from_distinct old a.numbers)) m (in_order-member old x among) e)
 
+module _ (heads old : List Entry) (count : ℕ) (a : IsAgenda heads old count) where
   module _ (e : Entry) (numbered : e.number ≡ count) where
     new_number : AllByRecursion (λ m. nat_eq e.number m ≡ false) (numbers_of old)
     new_number = below old (recursion_from_All (λ x. x.number < count) old a.numbered)
@@ -144,8 +161,8 @@ module _ (old : List Entry) (count : ℕ) (a : IsAgenda old count) where
         sym (in_order-permutation (e ∷ old) new numbers_after p)
         ∙ put_last e (in_order old) (λ x m. omega (arith, at_member (λ y. y.number < count) old x a.numbered (member-in_order old x m)))
 
-    pub agenda-inserted : (new : List Entry) → IsHeap comes_before new → IsPermutation (e ∷ old) new → list_any (int_eq e.notice) (notices_of old) ≡ false → count < scheduling_limit → IsAgenda new (count + 1)
-    agenda-inserted new h p fresh room = record {
+    pub agenda-inserted : (tops new : List Entry) → IsHeap comes_before tops → IsPermutation (e ∷ old) new → list_any (int_eq e.notice) (notices_of old) ≡ false → count < scheduling_limit → IsAgenda tops new (count + 1)
+    agenda-inserted tops new h p fresh room = record {
       order = h;
       notices = IsDistinct-IsPermutation int_eq int_flips (notices_of (e ∷ old)) (notices_of new) (IsPermutation-map (λ x. x.notice) (e ∷ old) new p)
           (IsDistinct-cons int_eq e.notice (notices_of old) (none_any (int_eq e.notice) (notices_of old) fresh) a.notices);
@@ -161,8 +178,8 @@ module _ (old : List Entry) (count : ℕ) (a : IsAgenda old count) where
     numbers_before : IsDistinct nat_eq (numbers_of (x ∷ new))
     numbers_before = numbers-permutation old (x ∷ new) p a.numbers
 
-    pub agenda-taken : IsHeap comes_before new → IsAgenda new count
-    agenda-taken h = record {
+    pub agenda-taken : (tops : List Entry) → IsHeap comes_before tops → IsAgenda tops new count
+    agenda-taken tops h = record {
       order = h;
       notices = IsDistinct-tail int_eq x.notice (notices_of new) notices_before;
       numbers = IsDistinct-tail nat_eq x.number (numbers_of new) numbers_before;
@@ -179,40 +196,57 @@ module _ (old : List Entry) (count : ℕ) (a : IsAgenda old count) where
         ∙ sym (without-put notice x (in_order new) t)
         ∙ ap (without notice) (sym (in_order-permutation old (x ∷ new) a.numbers p))
 
--- ---- a heap whose entries stand for the entries of a list
+-- ---- heads and followers that stand for the entries of a list
 
-module _ (heap : List Entry) (entries : List Entry) (view : in_order heap ≡ entries) where
-  pub found-pending : (anew : List Entry) (z notice : ℤ) (b : Bool) → anew ≡ heap → z ≡ notice → b ≡ list_any (int_eq z) (notices_of anew) → b ≡ is_pending notice entries
-  found-pending anew z notice b same is h =
-      h ∙ (λ i. list_any (int_eq (is i)) (notices_of (same i)))
-      ∙ any-notices notice heap ∙ sym (pending-in_order notice heap) ∙ ap (is_pending notice) view
+notices-append : (es fs : List Entry) → notices_of (es ++ fs) ≡ notices_of es ++ notices_of fs
+notices-append es fs = map-append (λ (e : Entry). e.notice) es fs
 
-  pub as_long : (anew : List Entry) → anew ≡ heap → length anew ≡ length entries
-  as_long anew same = ap length same ∙ sym (length-in_order heap) ∙ ap length view
+pub any-append : (z : ℤ) (es fs : List Entry) → list_any (int_eq z) (notices_of (es ++ fs)) ≡ (list_any (int_eq z) (notices_of es) || list_any (int_eq z) (notices_of fs))
+any-append z es fs = ap (list_any (int_eq z)) (notices-append es fs) ∙ list_any-append (int_eq z) (notices_of es) (notices_of fs)
+
+module _ (h : HeapEntries) (entries : List Entry) (view : in_order (all_of h) ≡ entries) where
+  pub found-pending : (anew : HeapEntries) (z notice : ℤ) (b : Bool) → all_of anew ≡ all_of h → z ≡ notice → b ≡ (list_any (int_eq z) (notices_of anew.entries) || list_any (int_eq z) (notices_of anew.followers)) → b ≡ is_pending notice entries
+  found-pending anew z notice b same is found =
+      found ∙ sym (any-append z anew.entries anew.followers) ∙ (λ i. list_any (int_eq (is i)) (notices_of (same i)))
+      ∙ any-notices notice (all_of h) ∙ sym (pending-in_order notice (all_of h)) ∙ ap (is_pending notice) view
+
+  pub as_long : length h.entries ≤ length entries
+  as_long = omega (arith, sym (length-in_order (all_of h)) ∙ ap length view, length-append h.entries h.followers)
 
   -- the work is measured by the entries of the list
-  pub work_of : (anew : List Entry) (new : HeapEntries) → anew ≡ heap → IsLogarithmic (length anew) new → IsLogarithmic (length entries) new
-  work_of anew new same w = subst (λ n. IsLogarithmic n new) (as_long anew same) w
+  pub work_of : (heads : List Entry) (new : HeapEntries) → heads ≡ h.entries → IsLogarithmic (length heads) new → IsLogarithmic (length entries) new
+  work_of heads new same w =
+      let more = digits_mono (length heads) (length entries) (omega (arith, as_long, ap length same)) in
+      record { comparisons = omega (arith, w.comparisons, more); moves = omega (arith, w.moves, more) }
+
+  -- where there is an entry there is a head
+  pub some_head : AreBehind h.entries h.followers → 0 < length entries → 0 < length h.entries
+  some_head behind some = ⊎_elim
+      (λ lt. lt)
+      (λ none.
+      let long = sym (length-in_order (all_of h)) ∙ ap length view in
+      let follower : 0 < length h.followers = omega (arith, none, long, length-append h.entries h.followers) in
+      let led = behind 0 no_entry follower in omega (arith, led.within))
+      (cases_lt 0 (length h.entries))
 
 -- ---- the answers of `least` and `take`
 
-module _ (heap : List Entry) (p : PendingList) (view : in_order heap ≡ p.entries) where
-  -- where the heap is empty
-  pub none_left : length heap ≡ 0 → p.entries ≡ []
-  unfolding in_order
-  none_left e = sym view ∙ ap in_order (nil_from_length heap e)
+module _ (h : HeapEntries) (p : PendingList) (view : in_order (all_of h) ≡ p.entries) (behind : AreBehind h.entries h.followers) where
+  -- where there is no head
+  pub none_left : length h.entries ≡ 0 → p.entries ≡ []
+  none_left e = nil_from_length p.entries (⊎_elim (λ some. absurd (omega (arith, e, some_head h p.entries view behind some))) (λ none. omega (arith, none)) (cases_lt 0 (length p.entries)))
 
-  pub next-none : length heap ≡ 0 → next p ≡ None
+  pub next-none : length h.entries ≡ 0 → next p ≡ None
   next-none e = ap (λ es. option_map (λ (x : Entry). (x.key.time, x.notice)) (least es)) (none_left e)
 
-  pub after_next-none : length heap ≡ 0 → after_next p ≡ p
+  pub after_next-none : length h.entries ≡ 0 → after_next p ≡ p
   after_next-none e =
       let is = none_left e in
       ap (λ es. record p { entries = option_map_or (λ (x : Entry). without x.notice p.entries) (least es) [] }) is ∙ ap (λ es. record p { entries = es }) (sym is)
 
-  module _ (count : ℕ) (a : IsAgenda heap count) (x : Entry) (some : 0 < length heap) (is : x ≡ get_or heap 0 x) where
+  module _ (count : ℕ) (a : IsAgenda h.entries (all_of h) count) (x : Entry) (some : 0 < length h.entries) (is : x ≡ get_or h.entries 0 x) where
     least_now : least p.entries ≡ Some x
-    least_now = ap least (sym view) ∙ least_first heap count a x some is
+    least_now = ap least (sym view) ∙ least_first h.entries h.followers count a behind x some is
 
     pub next-first : next p ≡ Some (x.key.time, x.notice)
     next-first = ap (option_map (λ (e : Entry). (e.key.time, e.notice))) least_now
@@ -233,8 +267,8 @@ unfolding IsDistinct
 none_apart e = tt
 
 -- an empty heap stands for an empty list
-pub agenda-none : (es : List Entry) → es ≡ [] → IsAgenda es 0
-agenda-none es e = subst (λ l. IsAgenda l 0) (sym e)
+pub agenda-none : (es fs : List Entry) → es ≡ [] → fs ≡ [] → IsAgenda es (es ++ fs) 0
+agenda-none es fs e f = subst (λ (l : List Entry × List Entry). IsAgenda l.0 (l.0 ++ l.1) 0) (λ i. (sym e i, sym f i))
     record {
       order = record { order = λ p k child k_in d. absurd (omega (arith, k_in)) };
       notices = none_apart int_eq;

@@ -155,6 +155,16 @@ module _ {X : Type 0} (before : X → X → Bool) where
           (o.chain _ _ _ (h.order i k ik (omega arith) d) (h.order p i pi within d));
     }
 
+    -- another element in the place of one
+    pub followed_but : IsStrictWeakOrder before → IsHeap before xs → IsHeapBut before (set xs i x) i
+    followed_but o h = record {
+      others = λ p k pk k_in p_i k_i d.
+          along _ _ _ _ (get_or-set_other xs i k x d k_i) (get_or-set_other xs i p x d p_i) (h.order p k pk (omega (arith, k_in, length-set xs i x)) d);
+      across = λ p k pi ik k_in d.
+          along _ _ _ _ (get_or-set_other xs i k x d (omega (arith, ik.from))) (get_or-set_other xs i p x d (omega (arith, pi.from)))
+          (o.chain _ _ _ (h.order i k ik (omega (arith, k_in, length-set xs i x)) d) (h.order p i pi within d));
+    }
+
     -- the last element itself is taken
     pub removed_last : i + 1 ≡ length xs → IsHeap before xs → IsHeap before (swap_remove xs i x)
     removed_last last h = record {

@@ -1,8 +1,9 @@
 -- Each step of an entry that rises or sinks in a heap.
-use Rattle.std.proofs.Common.{◌≡◌, ◌∙◌, ℕ, ◌+◌, ◌-◌, ◌*◌, ◌/◌, ◌<◌, ◌≤◌, ◌^◌, zero, suc, true, false, List, length, get_or, swap, refl, sym, ap, subst, ⊎_elim, arith, [], ◌∷◌, ◌++◌, length-append, pow-suc, pow_pos, pow_mono, pow-add}
+use Rattle.std.proofs.Common.{◌≡◌, ◌∙◌, ℕ, ◌+◌, ◌-◌, ◌*◌, ◌/◌, ◌<◌, ◌≤◌, ◌^◌, zero, suc, true, false, List, length, get_or, set, swap, refl, sym, ap, subst, ⊎_elim, arith, [], ◌∷◌, ◌++◌, length-append, pow-suc, pow_mono, pow-add}
 use Rattle.std.specs.List.Sorted.{IsPermutation}
 use Rattle.std.specs.List.{swap_remove}
 use Rattle.std.proofs.lemmas.List.Sorted.{IsPermutation-sym, IsPermutation-to_front, IsPermutation-cons, IsPermutation-swap_remove, IsPermutation-refl, IsPermutation-swap, IsPermutation-trans, length_permutation}
+use Rattle.std.proofs.lemmas.List.{length-set}
 use Rattle.std.proofs.lemmas.List.Edits.{length-swap}
 use Rattle.std.proofs.lemmas.Nat.{pow_below}
 use Rattle.std.proofs.lemmas.Grind.{pow_more}
@@ -15,8 +16,8 @@ use Rattle.ss_events.specs.Order.{comes_before}
 use Rattle.ss_events.specs.Sifting.{Raises, CostsToRaise, Lowers, CostsToLower, Mends, CostsToMend, IsLogarithmic}
 use Rattle.ss_events.specs.Digits.{binary_digits}
 use Rattle.std.specs.Int.Digits.{digits_of, number_from_digits}
-use Rattle.std.proofs.lemmas.Int.Digits.{number_lt, number_digits_of, all_below_base_digits_of}
-use Rattle.ss_events.proofs.Heaps.{up_but, up_over, down_but, down_under, rests, leaf, closes, pushed, removed_but, removed_last, long-swap_remove}
+use Rattle.std.proofs.lemmas.Int.Digits.{number_lt, number_digits_of, all_below_base_digits_of, length-digits_of-le}
+use Rattle.ss_events.proofs.Heaps.{up_but, up_over, down_but, down_under, rests, leaf, closes, pushed, followed_but, removed_but, removed_last, long-swap_remove}
 use Rattle.ss_events.proofs.EntryOrder.{entries_rank}
 
 -- ---- powers of four
@@ -58,6 +59,7 @@ pub record Rising (old new : HeapEntries) (from at : ℕ) : Type 0 where
   pub comparisons : new.comparisons ≡ old.comparisons + levels
   pub moves : new.moves ≡ old.moves + 2 * levels
   pub some : at < from → 0 < levels
+  pub followers : new.followers ≡ old.followers
 
 pub rising_few : (old new : HeapEntries) (from at : ℕ) → Rising old new from at → from < 2 ^ 64 → (new.comparisons ≤ old.comparisons + 64) × (new.moves ≤ old.moves + 128)
 rising_few old new from at r small =
@@ -76,10 +78,11 @@ rising_begins old from within = record {
   comparisons = omega arith;
   moves = omega arith;
   some = λ lt. absurd (omega arith);
+  followers = refl;
 }
 
 module _ (old was new : HeapEntries) (from at : ℕ) (some : 0 < at) (r : Rising old was from at) (t : (d : Entry) → comes_before (get_or was.entries at d) (get_or was.entries ((at - 1) / 4) d) ≡ true)
-    (entries : new.entries ≡ swap was.entries at ((at - 1) / 4)) (comparisons : new.comparisons ≡ was.comparisons + 1) (moves : new.moves ≡ was.moves + 2) where
+    (entries : new.entries ≡ swap was.entries at ((at - 1) / 4)) (comparisons : new.comparisons ≡ was.comparisons + 1) (moves : new.moves ≡ was.moves + 2) (followers : new.followers ≡ was.followers) where
   child : IsChild ((at - 1) / 4) at
   child = record { from = omega arith; to = omega arith }
 
@@ -95,6 +98,7 @@ module _ (old was new : HeapEntries) (from at : ℕ) (some : 0 < at) (r : Rising
     comparisons = omega (arith, r.comparisons);
     moves = omega (arith, r.moves);
     some = λ lt. omega arith;
+    followers = followers ∙ r.followers;
   }
 
 -- it stands at the top
@@ -115,12 +119,13 @@ rising_tops old new from at top r = (
     moves = omega (arith, r.moves);
     some = λ some. r.some (omega arith);
     grows = omega (arith, r.moves);
+    followers = r.followers;
   },
 )
 
 -- its parent doesn't come after it
-pub rising_rests : (old was new : HeapEntries) (from at : ℕ) → 0 < at → Rising old was from at → ((d : Entry) → comes_before (get_or was.entries at d) (get_or was.entries ((at - 1) / 4) d) ≡ false) → new.entries ≡ was.entries → new.comparisons ≡ was.comparisons + 1 → new.moves ≡ was.moves → Raises old.entries new.entries from at × CostsToRaise old new from at
-rising_rests old was new from at some r f entries comparisons moves = (
+pub rising_rests : (old was new : HeapEntries) (from at : ℕ) → 0 < at → Rising old was from at → ((d : Entry) → comes_before (get_or was.entries at d) (get_or was.entries ((at - 1) / 4) d) ≡ false) → new.entries ≡ was.entries → new.comparisons ≡ was.comparisons + 1 → new.moves ≡ was.moves → new.followers ≡ was.followers → Raises old.entries new.entries from at × CostsToRaise old new from at
+rising_rests old was new from at some r f entries comparisons moves followers = (
   subst (λ es. Raises old.entries es from at) (sym entries)
       record {
         permutation = r.permutation;
@@ -137,6 +142,7 @@ rising_rests old was new from at some r f entries comparisons moves = (
     moves = omega (arith, r.moves);
     some = λ h. omega arith;
     grows = omega (arith, r.moves);
+    followers = followers ∙ r.followers;
   },
 )
 
@@ -155,7 +161,8 @@ passes_parent old was new from at parent p is =
     (λ d. subst (λ q. comes_before (get_or was.entries at d) (get_or was.entries q d) ≡ true) p.parent_is (p.before d))
     (ap (λ h. h.entries) is ∙ ap (swap was.entries at) p.parent_is)
     (omega (arith, ap (λ h. h.comparisons) is, p.compared))
-    (ap (λ h. h.moves) is))
+    (ap (λ h. h.moves) is)
+    (ap (λ h. h.followers) is))
 
 pub outranks : (old was new : HeapEntries) (from at : ℕ) → 0 < at → Rising (but_one old) was from at → ((d : Entry) → comes_before (get_or was.entries at d) (get_or was.entries ((at - 1) / 4) d) ≡ true) → new ≡ record was { comparisons = was.comparisons + 1 } → Outranking old new from at ((at - 1) / 4)
 outranks old was new from at some r t is = record {
@@ -177,6 +184,7 @@ pub record Sinking (old new : HeapEntries) (from at : ℕ) : Type 0 where
   pub quadrupled : (3 * from + 1) * 4 ^ levels ≤ 3 * at + 1
   pub comparisons : new.comparisons ≤ old.comparisons + 4 * levels
   pub moves : new.moves ≤ old.moves + 2 * levels
+  pub followers : new.followers ≡ old.followers
 
 pub sinking_few : (old new : HeapEntries) (from at : ℕ) → Sinking old new from at → length old.entries < 2 ^ 64 → (new.comparisons ≤ old.comparisons + 256) × (new.moves ≤ old.moves + 128)
 sinking_few old new from at r small =
@@ -192,6 +200,7 @@ sinking_begins old from within = record {
   quadrupled = omega arith;
   comparisons = omega arith;
   moves = omega arith;
+  followers = refl;
 }
 
 -- four times as far at four times the power
@@ -201,7 +210,7 @@ quadruples from at c k child h =
     rw (pow_more 4 k) (omega arith)
 
 module _ (old was new : HeapEntries) (from at c : ℕ) (r : Sinking old was from at) (best : IsFirstChild comes_before was.entries at c) (t : (d : Entry) → comes_before (get_or was.entries c d) (get_or was.entries at d) ≡ true)
-    (entries : new.entries ≡ swap was.entries at c) (comparisons : new.comparisons ≤ was.comparisons + 4) (moves : new.moves ≡ was.moves + 2) where
+    (entries : new.entries ≡ swap was.entries at c) (comparisons : new.comparisons ≤ was.comparisons + 4) (moves : new.moves ≡ was.moves + 2) (followers : new.followers ≡ was.followers) where
   pub sinking_steps : Sinking old new from c
   sinking_steps = record {
     permutation = IsPermutation-trans old.entries was.entries new.entries r.permutation (IsPermutation-swap was.entries new.entries at c r.within best.within entries);
@@ -211,10 +220,11 @@ module _ (old was new : HeapEntries) (from at c : ℕ) (r : Sinking old was from
     quadrupled = quadruples from at c r.levels best.child r.quadrupled;
     comparisons = omega (arith, r.comparisons);
     moves = omega (arith, r.moves);
+    followers = followers ∙ r.followers;
   }
 
-pub sinking_leaf : (old was new : HeapEntries) (from at : ℕ) → Sinking old was from at → length was.entries ≤ 4 * at + 1 → new.entries ≡ was.entries → new.comparisons ≤ was.comparisons → new.moves ≡ was.moves → Lowers old.entries new.entries from × CostsToLower old new from
-sinking_leaf old was new from at r le entries comparisons moves = (
+pub sinking_leaf : (old was new : HeapEntries) (from at : ℕ) → Sinking old was from at → length was.entries ≤ 4 * at + 1 → new.entries ≡ was.entries → new.comparisons ≤ was.comparisons → new.moves ≡ was.moves → new.followers ≡ was.followers → Lowers old.entries new.entries from × CostsToLower old new from
+sinking_leaf old was new from at r le entries comparisons moves followers = (
   subst (λ es. Lowers old.entries es from) (sym entries)
       record {
         permutation = r.permutation;
@@ -225,11 +235,12 @@ sinking_leaf old was new from at r le entries comparisons moves = (
     quadrupled = omega (arith, r.quadrupled, r.within, length_permutation old.entries was.entries r.permutation);
     comparisons = omega (arith, r.comparisons);
     moves = omega (arith, r.moves);
+    followers = followers ∙ r.followers;
   },
 )
 
-pub sinking_rests : (old was new : HeapEntries) (from at c : ℕ) → Sinking old was from at → IsFirstChild comes_before was.entries at c → ((d : Entry) → comes_before (get_or was.entries c d) (get_or was.entries at d) ≡ false) → new.entries ≡ was.entries → new.comparisons ≤ was.comparisons + 4 → new.moves ≡ was.moves → Lowers old.entries new.entries from × CostsToLower old new from
-sinking_rests old was new from at c r best f entries comparisons moves = (
+pub sinking_rests : (old was new : HeapEntries) (from at c : ℕ) → Sinking old was from at → IsFirstChild comes_before was.entries at c → ((d : Entry) → comes_before (get_or was.entries c d) (get_or was.entries at d) ≡ false) → new.entries ≡ was.entries → new.comparisons ≤ was.comparisons + 4 → new.moves ≡ was.moves → new.followers ≡ was.followers → Lowers old.entries new.entries from × CostsToLower old new from
+sinking_rests old was new from at c r best f entries comparisons moves followers = (
   subst (λ es. Lowers old.entries es from) (sym entries)
       record {
         permutation = r.permutation;
@@ -240,6 +251,7 @@ sinking_rests old was new from at c r best f entries comparisons moves = (
     quadrupled = omega (arith, quadruples from at c r.levels best.child r.quadrupled, best.within, length_permutation old.entries was.entries r.permutation);
     comparisons = omega (arith, r.comparisons);
     moves = omega (arith, r.moves);
+    followers = followers ∙ r.followers;
   },
 )
 
@@ -285,6 +297,7 @@ cost_up old new at to within u = record {
   fits = omega (arith, u.quartered);
   comparisons = omega (arith, u.comparisons);
   moves = u.moves;
+  followers = u.followers;
 }
 
 pub cost_down : (old was new : HeapEntries) (at to : ℕ) → length was.entries ≡ length old.entries → CostsToRaise old was at to → CostsToLower was new at → CostsToMend old new
@@ -295,6 +308,7 @@ cost_down old was new at to long u l =
       fits = rw (pow-add 4 u.levels l.levels) (omega (arith, l.quadrupled));
       comparisons = omega (arith, u.comparisons, l.comparisons);
       moves = omega (arith, u.moves, l.moves);
+      followers = l.followers ∙ u.followers;
     }
 
 -- a new entry that rose from the end
@@ -312,10 +326,39 @@ module _ (old put new : List Entry) (entry : Entry) (from to : ℕ) (is : put �
   pub inserted_all : IsPermutation (entry ∷ old) new
   inserted_all = IsPermutation-trans (entry ∷ old) (old ++ entry ∷ []) new (IsPermutation-sym (old ++ entry ∷ []) (entry ∷ old) (IsPermutation-to_front old entry)) r.permutation
 
-pub insert_work : (old new : HeapEntries) (held from to : ℕ) → old.comparisons ≡ 0 → old.moves ≡ 1 → from ≡ held → CostsToRaise old new from to → IsLogarithmic held new
-insert_work old new held from to none one last u =
+-- one or more have a digit
+one_digit : (held : ℕ) → 1 ≤ held → 1 ≤ binary_digits held
+one_digit held one =
+    ⊎_elim (λ lt. let low : 2 ^ binary_digits held ≤ 2 ^ 0 = pow_mono {j = 0} (omega arith) in absurd (omega (arith, low, below_power held))) (λ le. le) (cases_lt (binary_digits held) 1)
+
+-- the more there are the more digits
+pub digits_mono : (less more : ℕ) → less ≤ more → binary_digits less ≤ binary_digits more
+digits_mono less more le = length-digits_of-le 2 (binary_digits more) less (omega arith) (omega (arith, below_power more))
+
+pub insert_work : (old new : HeapEntries) (held from to : ℕ) → old.comparisons ≤ from → old.comparisons ≤ 1 → old.moves ≡ 1 → from ≡ held → CostsToRaise old new from to → IsLogarithmic held new
+insert_work old new held from to none one moved last u =
     let few = levels_digits u.levels held (omega (arith, u.quartered)) in
-    record { comparisons = omega (arith, u.comparisons); moves = omega (arith, u.moves) }
+    record {
+      comparisons = ⊎_elim
+          (λ lt. omega (arith, u.comparisons, one_digit held (omega arith)))
+          (λ le. omega (arith, u.comparisons, few))
+          (cases_lt 0 held);
+      moves = omega (arith, u.moves);
+    }
+
+-- one that was not put anywhere
+pub tried_work : (new : HeapEntries) (held : ℕ) → new.comparisons ≤ held → new.comparisons ≤ 1 → new.moves ≡ 0 → IsLogarithmic held new
+tried_work new held none one moved = record {
+  comparisons = ⊎_elim
+      (λ lt. omega (arith, one_digit held (omega arith)))
+      (λ le. omega arith)
+      (cases_lt 0 held);
+  moves = omega arith;
+}
+
+-- one that only went behind another
+pub append_work : (new : HeapEntries) (held : ℕ) → 0 < held → new.comparisons ≡ 1 → new.moves ≡ 1 → IsLogarithmic held new
+append_work new held some one moved = record { comparisons = omega (arith, one_digit held some); moves = omega arith }
 
 -- an entry that was taken out of a heap, where the last entry took its place
 module _ (old mid : List Entry) (at : ℕ) (entry : Entry) (within : at < length old) (is : entry ≡ get_or old at entry) (rest : mid ≡ swap_remove old at entry) where
@@ -334,8 +377,24 @@ module _ (old mid : List Entry) (at : ℕ) (entry : Entry) (within : at < length
   pub taken_mended : (new : List Entry) → Mends mid new at → IsPermutation old (entry ∷ new)
   taken_mended new m = IsPermutation-trans old (entry ∷ mid) (entry ∷ new) taken_all (IsPermutation-cons entry mid new m.permutation)
 
-pub take_work : (old new : HeapEntries) (held : ℕ) → old.comparisons ≡ 0 → old.moves ≤ 1 → length old.entries + 1 ≡ held → CostsToMend old new → IsLogarithmic held new
+-- the same for one that went where the next of its line took its place
+module _ (old mid : List Entry) (at : ℕ) (next : Entry) (within : at < length old) (rest : mid ≡ set old at next) where
+  pub followed_long : length mid ≡ length old
+  followed_long = ap length rest ∙ length-set old at next
+
+  pub followed_heap : IsHeap comes_before old → IsHeapBut comes_before mid at
+  followed_heap h = subst (λ es. IsHeapBut comes_before es at) (sym rest) (followed_but comes_before old at next within entries_rank h)
+
+pub take_work : (old new : HeapEntries) (held : ℕ) → old.comparisons ≡ 0 → old.moves ≤ 1 → length old.entries ≤ held → CostsToMend old new → IsLogarithmic held new
 take_work old new held none one less u =
     let few = levels_digits u.levels held (omega (arith, u.fits)) in
-    let two = two_digits held (omega (arith, u.fits, squares u.levels, pow_pos (2 * u.levels))) in
-    record { comparisons = omega (arith, u.comparisons); moves = omega (arith, u.moves) }
+    record {
+      comparisons = ⊎_elim
+          (λ lt.
+          let low : 2 ^ 2 ≤ 2 ^ (2 * u.levels) = pow_mono {i = 2} (omega arith) in
+          let two = two_digits held (omega (arith, u.fits, squares u.levels, low)) in
+          omega (arith, u.comparisons))
+          (λ le. omega (arith, u.comparisons))
+          (cases_lt 0 u.levels);
+      moves = omega (arith, u.moves);
+    }

@@ -1,14 +1,29 @@
 -- What a contract sees of the heap.
-use Rattle.std.specs.Prelude.{◌≡◌, ℕ, ◌-◌, ℤ, List, ◌∷◌, map, slice_index_or}
-use Rattle.std.specs.List.{swap_remove}
+use Rattle.std.specs.Prelude.{◌≡◌, ◌⊎◌, ℕ, ◌-◌, ◌<◌, ℤ, true, List, ◌∷◌, ◌++◌, map, length, slice_index_or, slice_set}
+use Rattle.std.specs.List.{swap_remove, All}
 use Rattle.std.specs.List.Sorted.{IsPermutation}
 use Rattle.ss_events.specs.declared.entry.Entry.{Entry}
+use Rattle.ss_events.specs.Order.{comes_before}
 
--- the entries by place, and how many comparisons of two keys and how many moves of an entry were counted
+-- the first of each line, by place, and all that stand behind another one
+pub record Lines : Type 0 where
+  pub heads : List Entry
+  pub followers : List Entry
+
+-- the same, and how many comparisons of two keys and how many moves of an entry were counted
 pub record HeapEntries : Type 0 where
   pub entries : List Entry
+  pub followers : List Entry
   pub comparisons : ℕ
   pub moves : ℕ
+
+-- the heads and the others, without what was counted
+abbrev pub lines_of : HeapEntries → Lines
+lines_of h = record { heads = h.entries; followers = h.followers }
+
+-- all entries
+abbrev pub all_of : HeapEntries → List Entry
+all_of h = h.entries ++ h.followers
 
 -- the same with a comparison fewer
 abbrev pub but_one : HeapEntries → HeapEntries
@@ -22,16 +37,40 @@ notices_of es = map (λ e. e.notice) es
 abbrev pub event_of : Entry → ℤ × ℤ
 event_of e = (e.key.time, e.notice)
 
--- the entry went out of the place `at`, into which the last one moved; this is its time and its notice
-pub record Removes (old new : List Entry) (at : ℕ) (event : ℤ × ℤ) : Type 0 where
-  pub entry : Entry
-  pub there : entry ≡ slice_index_or old at entry
-  pub is : event ≡ event_of entry
-  pub rest : new ≡ swap_remove old at entry
+-- one of the heads comes before the entry
+pub record IsLed (heads : List Entry) (e : Entry) : Type 0 where
+  pub place : ℕ
+  pub within : place < length heads
+  pub before : (d : Entry) → comes_before (slice_index_or heads place d) e ≡ true
 
--- the same, with the others in whatever places
-pub record TakesOut (old new : List Entry) (at : ℕ) (event : ℤ × ℤ) : Type 0 where
+-- each that stands behind another comes behind one of the heads
+abbrev pub AreBehind : List Entry → List Entry → Type 0
+AreBehind heads followers = All (IsLed heads) followers
+
+-- the entry that stood behind another is the first of its line now, in the place `at`
+pub record Advances (old new : Lines) (at : ℕ) : Type 0 where
+  pub next : Entry
+  pub heads : new.heads ≡ slice_set old.heads at next
+  pub followers : IsPermutation old.followers (next ∷ new.followers)
+
+-- the entry went out of the place `at`, into which the next of its line came, or the last head, where its line had no other; this
+-- is its time and its notice
+pub record Removes (old new : Lines) (at : ℕ) (event : ℤ × ℤ) : Type 0 where
   pub entry : Entry
-  pub there : entry ≡ slice_index_or old at entry
+  pub there : entry ≡ slice_index_or old.heads at entry
   pub is : event ≡ event_of entry
-  pub rest : IsPermutation old (entry ∷ new)
+  pub rest : (new ≡ record old { heads = swap_remove old.heads at entry }) ⊎ Advances old new at
+
+-- one that stood behind another went out, and had this notice
+pub record Leaves (old new : Lines) (notice : ℤ) : Type 0 where
+  pub entry : Entry
+  pub noticed : entry.notice ≡ notice
+  pub heads : new.heads ≡ old.heads
+  pub followers : IsPermutation old.followers (entry ∷ new.followers)
+
+-- the entry went out, with the others in whatever places
+pub record TakesOut (old new : HeapEntries) (at : ℕ) (event : ℤ × ℤ) : Type 0 where
+  pub entry : Entry
+  pub there : entry ≡ slice_index_or old.entries at entry
+  pub is : event ≡ event_of entry
+  pub rest : IsPermutation (all_of old) (entry ∷ all_of new)

@@ -22,9 +22,9 @@ in_order (e ∷ es) = put e (in_order es)
 abbrev pub numbers_of : List Entry → List ℕ
 numbers_of es = map (λ e. e.number) es
 
--- what is true of the entries of an event list's heap, after so many schedulings
-pub record IsAgenda (entries : List Entry) (schedulings : ℕ) : Type 0 where
-  pub order : IsHeap comes_before entries
+-- what is true of the entries of an event list's heap, after so many schedulings, where these are the heads of lines
+pub record IsAgenda (heads entries : List Entry) (schedulings : ℕ) : Type 0 where
+  pub order : IsHeap comes_before heads
   pub notices : IsDistinct int_eq (notices_of entries)
   pub numbers : IsDistinct nat_eq (numbers_of entries)
   pub numbered : All (λ e. e.number < schedulings) entries

@@ -24,6 +24,7 @@ pub record CostsToRaise (old new : HeapEntries) (from to : ℕ) : Type 0 where
   pub moves : new.moves ≤ old.moves + 2 * levels
   pub some : 0 < from → 0 < levels
   pub grows : old.moves ≤ new.moves
+  pub followers : new.followers ≡ old.followers
 
 -- the entry at `from`, which was under its parent, sank until all were in order
 pub record Lowers (old new : List Entry) (from : ℕ) : Type 0 where
@@ -36,6 +37,7 @@ pub record CostsToLower (old new : HeapEntries) (from : ℕ) : Type 0 where
   pub quadrupled : (3 * from + 1) * 4 ^ levels ≤ 3 * length old.entries
   pub comparisons : new.comparisons ≤ old.comparisons + 4 * levels
   pub moves : new.moves ≤ old.moves + 2 * levels
+  pub followers : new.followers ≡ old.followers
 
 -- the entry at `from` was put in order
 pub record Mends (old new : List Entry) (from : ℕ) : Type 0 where
@@ -48,6 +50,7 @@ pub record CostsToMend (old new : HeapEntries) : Type 0 where
   pub fits : 4 ^ levels ≤ 3 * length old.entries
   pub comparisons : new.comparisons ≤ old.comparisons + 4 * levels
   pub moves : new.moves ≤ old.moves + 2 * levels
+  pub followers : new.followers ≡ old.followers
 
 -- the work of one change to a heap that held so many entries
 pub record IsLogarithmic (held : ℕ) (new : HeapEntries) : Type 0 where

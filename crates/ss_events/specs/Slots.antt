@@ -1,20 +1,15 @@
--- How pending entries stand in slots, and the slots in places.
-use Rattle.std.specs.Prelude.{◌≡◌, ◌⊎◌, ◌==◌, ℕ, ◌+◌, ◌*◌, ◌/◌, ◌%◌, ◌^◌, ◌<◌, ◌≤◌, ℤ, pos, Bool, true, false, List, [], ◌∷◌, map, length, take, slice_index, slice_index_or, slice_set, nat_lt, bit_and, Option, Some, None, if◌then◌else◌}
+-- Entries in slots. Each stands in a place, or behind another one in a line, whose first stands in a place.
+use Rattle.std.specs.Prelude.{◌≡◌, ◌≢◌, ◌⊎◌, ◌==◌, ℕ, ◌+◌, ◌*◌, ◌/◌, ◌%◌, ◌^◌, ◌<◌, ◌≤◌, ℤ, pos, Bool, true, false, List, [], ◌∷◌, map, length, take, slice_index_or, slice_set, nat_lt, nat_le, bit_and, if◌then◌else◌}
 use Rattle.std.specs.Int.{w64, cast_unsigned}
 use Rattle.std.specs.Map.{lookup}
 use Rattle.std.specs.Option.{unwrap_or}
 use Rattle.std.specs.Ordering.{int_eq}
-use Rattle.std.specs.List.{IsDistinct}
 use Rattle.ss_events.specs.declared.key.Tie.{Tie}
 use Rattle.ss_events.specs.declared.entry.Entry.{Entry}
 use Rattle.ss_events.specs.declared.entry.Mark.{Mark}
 use Rattle.ss_events.specs.declared.entry.directory.Directory.{Directory}
+use Rattle.ss_events.specs.declared.entry.places.Slot.{Slot}
 use Rattle.ss_events.specs.declared.entry.places.Stand.{Stand}
-use Rattle.ss_events.specs.HeapEntries.{notices_of}
-
--- what stands in each place, where `slots` says by place in which slot it stands; `d` is read of no slot that is there
-abbrev pub by_place : {X : Type 0} → X → List X → List ℕ → List X
-by_place d xs slots = map (λ s. slice_index_or xs s d) slots
 
 -- in place of an entry, where a slot isn't there
 abbrev pub no_entry : Entry
@@ -65,50 +60,46 @@ told_by m notice = record { key = record { time = m.time; rank = m.order / told_
 abbrev pub entry_in : Mark → ℤ → Entry → Entry
 entry_in m notice whole = if m.order == untold then record { key = whole.key; number = whole.number; notice = notice } else told_by m notice
 
--- the same of all slots
-abbrev pub entries_in : List Mark → List ℤ → List Entry → List Entry
-entries_in [] ns ws = []
-entries_in (m ∷ ms) [] ws = []
-entries_in (m ∷ ms) (n ∷ ns) [] = []
-entries_in (m ∷ ms) (n ∷ ns) (w ∷ ws) = entry_in m n w ∷ entries_in ms ns ws
-
--- entries of which nothing is known but their notices
-abbrev pub with_notices : List ℤ → List Entry
-with_notices ns = map (λ n. record no_entry { notice = n }) ns
-
--- the marks of entries, in their order
-abbrev pub marks_of : List Entry → List Mark
-marks_of es = map mark_of es
-
--- the slots in places, in their order
-abbrev pub slots_in : List Stand → List ℕ
-slots_in stands = map (λ s. s.slot) stands
-
--- the mark of what stands in the place of each slot
-abbrev pub marks_by_slot : List Stand → List ℕ → List Mark
-marks_by_slot stands places = by_place no_mark (map (λ s. s.mark) stands) places
-
--- the entries by slot
-abbrev pub kept : List Stand → List ℕ → List ℤ → List Entry → List Entry
-kept stands places notices wholes = entries_in (marks_by_slot stands places) notices wholes
-
--- the marks of what stands in the first few places
-abbrev pub marks_in : ℕ → List Stand → List Mark
-marks_in count stands = take count (map (λ s. s.mark) stands)
-
--- each place of `there` leads to a place from which `back` leads to it
-abbrev pub LeadsBack : List ℕ → List ℕ → Type 0
-LeadsBack there back = (k : ℕ) → k < length there → (slice_index there k < length there) × (slice_index back (slice_index there k) ≡ k)
-
--- each of two lists leads back from where the other leads
-pub record IsPaired (slots places : List ℕ) : Type 0 where
-  pub long : length places ≡ length slots
-  pub there : LeadsBack slots places
-  pub back : LeadsBack places slots
-
 -- the greatest number, which no slot has
 abbrev pub no_slot : ℕ
 no_slot = 18446744073709551615
+
+-- what is added to a slot to say that an entry stands behind the one there
+abbrev pub behind : ℕ
+behind = 9223372036854775808
+
+-- in place of what is kept in a slot, where it isn't there
+abbrev pub no_kept : Slot
+no_kept = record { notice = pos 0; mark = no_mark; next = no_slot; at = 0 }
+
+-- what is kept in a slot
+abbrev pub kept : List Slot → ℕ → Slot
+kept slots s = slice_index_or slots s no_kept
+
+-- in place of what stands in a place, where that isn't there
+abbrev pub no_stand : Stand
+no_stand = record { mark = no_mark; slot = 0 }
+
+-- what stands in a place
+abbrev pub stand : List Stand → ℕ → Stand
+stand stands k = slice_index_or stands k no_stand
+
+-- an entry stands in one of so many places, or behind another
+abbrev pub IsTaken : ℕ → Slot → Type 0
+IsTaken count x = (x.at < count) ⊎ (behind ≤ x.at)
+
+-- the entry in a slot
+abbrev pub entry_at : List Slot → List Entry → ℕ → Entry
+entry_at slots wholes s = entry_in (kept slots s).mark (kept slots s).notice (slice_index_or wholes s no_entry)
+
+-- the entries in the first few places
+abbrev pub heads : ℕ → List Slot → List Entry → List Stand → List Entry
+heads count slots wholes stands = map (λ t. entry_at slots wholes t.slot) (take count stands)
+
+-- the entries that stand behind another, by slot
+abbrev pub followers : List Slot → List Entry
+followers [] = []
+followers (x ∷ xs) = if nat_le behind x.at then told_by x.mark x.notice ∷ followers xs else followers xs
 
 -- the number of the cell of a notice
 abbrev pub cell_of : Directory → ℤ → ℕ
@@ -126,49 +117,47 @@ second_guess d notice = unwrap_or (lookup (int_eq notice) d.others.entries) no_s
 abbrev pub Leads : Directory → ℤ → ℕ → Type 0
 Leads d notice slot = (first_guess d notice ≡ slot) ⊎ (second_guess d notice ≡ slot)
 
--- there are all of these slots among so many
-abbrev pub AreWithin : List ℕ → ℕ → Type 0
-AreWithin slots n = (k : ℕ) → k < length slots → slice_index slots k < n
+-- no two entries have one notice
+abbrev pub AreDistinct : ℕ → List Slot → Type 0
+AreDistinct count slots = (s t : ℕ) → s < length slots → t < length slots → IsTaken count (kept slots s) → IsTaken count (kept slots t) → (kept slots s).notice ≡ (kept slots t).notice → s ≡ t
 
--- each of these slots is one of the two that are named for the notice of its entry
-abbrev pub AreLed : Directory → List Entry → List ℕ → Type 0
-AreLed d entries slots = (k : ℕ) → k < length slots → Leads d (slice_index_or entries (slice_index slots k) no_entry).notice (slice_index slots k)
+-- the directory leads to the notice of each
+abbrev pub AreLed : Directory → ℕ → List Slot → Type 0
+AreLed d count slots = (s : ℕ) → s < length slots → IsTaken count (kept slots s) → Leads d (kept slots s).notice s
 
--- the place of a slot, if it is one of those in use and its entry has the notice
-abbrev pub place_of : List Entry → List ℕ → ℕ → ℕ → ℤ → Option ℕ
-place_of entries places standing slot notice =
-    if nat_lt slot (length places) then
-    (if nat_lt (slice_index places slot) standing then
-    (if int_eq (slice_index_or entries slot no_entry).notice notice then Some (slice_index places slot) else None)
-    else None)
-    else None
+-- the entry in the slot p is the one before that in s: both are told by their marks, come at one time, p before s
+pub record IsBefore (count : ℕ) (slots : List Slot) (p s : ℕ) : Type 0 where
+  pub within : p < length slots
+  pub taken : IsTaken count (kept slots p)
+  pub next : (kept slots p).next ≡ s
+  pub time : (kept slots p).mark.time ≡ (kept slots s).mark.time
+  pub order : (kept slots p).mark.order < (kept slots s).mark.order
+  pub told : (kept slots s).mark.order < told_ranks * told_numbers
 
--- `entries` say by slot what stands there, `marks` by place what tells of its entry, `slots` by place which slot stands
--- there, with the free ones behind, and `places` where each slot is among these. No two entries by place have one notice, and
--- the directory leads to each
-pub record IsPlaced (entries : List Entry) (slots places : List ℕ) (marks : List Mark) (directory : Directory) : Type 0 where
-  pub long : length slots ≡ length entries
-  pub paired : IsPaired slots places
-  pub within : length marks ≤ length slots
-  pub marked : marks ≡ marks_of (by_place no_entry entries (take (length marks) slots))
-  pub distinct : IsDistinct int_eq (notices_of (by_place no_entry entries (take (length marks) slots)))
-  pub led : AreLed directory entries (take (length marks) slots)
+-- `slots` say what is kept by slot, with `wholes` the entries that their marks do not tell, as far as any was kept, and `stands`
+-- what stands by place: in `count` places the first of each line, and behind them so many slots that are free. Each slot stands in
+-- its place, or behind another slot. No two entries have one notice, and the directory leads to each
+pub record AreHeld (count free : ℕ) (slots : List Slot) (wholes : List Entry) (stands : List Stand) (directory : Directory) : Type 0 where
+  pub many : length stands ≡ length slots
+  pub few : count + free ≤ length stands
+  pub small : length slots < behind
+  pub there : (k : ℕ) → k < count + free → ((stand stands k).slot < length slots) × ((kept slots (stand stands k).slot).at ≡ k)
+  pub back : (s : ℕ) → s < length slots → (kept slots s).at < behind → ((kept slots s).at < count + free) × ((stand stands (kept slots s).at).slot ≡ s)
+  pub marked : (k : ℕ) → k < count → (stand stands k).mark ≡ (kept slots (stand stands k).slot).mark
+  pub fits : (s : ℕ) → s < length slots → IsTaken count (kept slots s) → (kept slots s).mark ≡ mark_of (entry_at slots wholes s)
+  pub next : (s : ℕ) → s < length slots → IsTaken count (kept slots s) → (kept slots s).next ≢ no_slot → ((kept slots s).next < length slots) × ((kept slots (kept slots s).next).at ≡ behind + s)
+  pub before : (s p : ℕ) → s < length slots → (kept slots s).at ≡ behind + p → IsBefore count slots p s
+  pub distinct : AreDistinct count slots
+  pub led : AreLed directory count slots
 
--- the same of so many places
-pub record AreStanding (count : ℕ) (entries : List Entry) (stands : List Stand) (places : List ℕ) (directory : Directory) : Type 0 where
-  pub few : count ≤ length stands
-  pub placed : IsPlaced entries (slots_in stands) places (marks_in count stands) directory
+-- the slot s with another place
+abbrev pub at_put : List Slot → ℕ → ℕ → List Slot
+at_put slots s place = slice_set slots s (record (kept slots s) { at = place })
 
--- there are as many notices and entries as slots, and so many places are taken
-pub record AreHeld (count : ℕ) (notices : List ℤ) (wholes : List Entry) (stands : List Stand) (places : List ℕ) (directory : Directory) : Type 0 where
-  pub noticed : length notices ≡ length places
-  pub whole : length wholes ≡ length places
-  pub standing : AreStanding count (kept stands places notices wholes) stands places directory
+-- the slot s with another one behind it
+abbrev pub next_put : List Slot → ℕ → ℕ → List Slot
+next_put slots s next = slice_set slots s (record (kept slots s) { next = next })
 
--- what stands in the first few places
-abbrev pub standing : ℕ → List Entry → List Stand → List Entry
-standing count entries stands = by_place no_entry entries (take (length (marks_in count stands)) (slots_in stands))
-
--- the places by slot, once the slots in the places a and b have changed places
-abbrev pub exchanged : List ℕ → List ℕ → ℕ → ℕ → List ℕ
-exchanged slots places a b = slice_set (slice_set places (slice_index slots b) a) (slice_index slots a) b
+-- what is kept by slot, once what stands in the places a and b has changed places
+abbrev pub exchanged : List Stand → List Slot → ℕ → ℕ → List Slot
+exchanged stands slots a b = at_put (at_put slots (stand stands b).slot a) (stand stands a).slot b

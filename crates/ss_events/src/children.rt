@@ -12,6 +12,7 @@ pub fn first_child(heap: &mut Heap, at: usize) -> Option<usize>
     requires countable { heap.old.comparisons + 3 < 2 ^ 64 }
     ensures child { MatchOption result (length heap.old.entries ≤ 4 * at + 1) (IsFirstChild comes_before heap.old.entries at) }
     ensures entries { heap.new.entries ≡ heap.old.entries }
+    ensures followers { heap.new.followers ≡ heap.old.followers }
     ensures comparisons { heap.new.comparisons ≤ heap.old.comparisons + (if is_some result then 3 else 0) }
     ensures moves { heap.new.moves ≡ heap.old.moves }
 {
@@ -35,6 +36,7 @@ fn first_of_few(heap: &mut Heap, from: usize, many: usize) -> usize
     requires countable { heap.old.comparisons + 3 < 2 ^ 64 }
     ensures first { IsFirstAmong comes_before heap.old.entries from (from + many) result }
     ensures entries { heap.new.entries ≡ heap.old.entries }
+    ensures followers { heap.new.followers ≡ heap.old.followers }
     ensures comparisons { heap.new.comparisons ≤ heap.old.comparisons + 3 }
     ensures moves { heap.new.moves ≡ heap.old.moves }
 {

@@ -2,7 +2,7 @@
 //!
 //! Nothing but this module reads a key, and none of its functions hands an entry out. So two keys are compared and an
 //! entry is put into a place only by `Heap`, which counts it.
-ghost use Rattle.std.specs.Prelude.{◌≡◌, ◌<◌, ◌*◌, pos, IfOk, IsTrue, ◌↔◌, int_lt, map};
+ghost use Rattle.std.specs.Prelude.{◌≡◌, ◌<◌, ◌*◌, [], pos, IfOk, IfSome, IsTrue, ◌↔◌, int_lt, map};
 ghost use Rattle.ss_events.specs.PendingList.{FitsClass};
 ghost use Rattle.ss_events.specs.Slots.{is_tied, no_entry, no_mark, order_of, mark_of, told_by, told_ranks, told_numbers};
 
@@ -13,6 +13,7 @@ mod places;
 
 use crate::key::{Tie, TieShape, fits_class};
 pub use heap::Heap;
+pub(crate) use places::MANY;
 use std::alloc::{AllocError, Global};
 use std::marker::Model;
 
@@ -73,6 +74,16 @@ impl Key {
         ensures { result ≡ int_lt self.now.time moment }
     {
         self.time < moment
+    }
+
+    /// The time and the rank, where there are no ties.
+    pub(crate) fn untied(&self) -> Option<(i64, usize)>
+        ensures { IfSome result (λ r. self.now ≡ record { time = r.0; rank = r.1; ties = [] }) }
+    {
+        if is_tied(&self.ties) {
+            return None;
+        }
+        Some((self.time, self.rank))
     }
 
     #[inline(always)]

@@ -24,13 +24,14 @@ pub struct Pending {
 impl Model for Pending {
     ghost use Rattle.std.specs.Prelude.{map};
     ghost use Rattle.ss_events.specs.PendingList.{CountedList};
+    ghost use Rattle.ss_events.specs.HeapEntries.{all_of};
     ghost use Rattle.ss_events.specs.InOrder.{in_order, IsAgenda};
 
     ghost Value = { CountedList };
 
-    ghost view = { λ p. record { list = record { entries = in_order p.heap.entries; schedulings = p.schedulings; classes = map (λ shapes. shapes.items) p.classes.items }; comparisons = p.heap.comparisons; moves = p.heap.moves } };
+    ghost view = { λ p. record { list = record { entries = in_order (all_of p.heap); schedulings = p.schedulings; classes = map (λ shapes. shapes.items) p.classes.items }; comparisons = p.heap.comparisons; moves = p.heap.moves } };
 
-    ghost invariant = { λ p. IsAgenda p.heap.entries p.schedulings };
+    ghost invariant = { λ p. IsAgenda p.heap.entries (all_of p.heap) p.schedulings };
 }
 
 impl Pending {
@@ -75,12 +76,13 @@ impl Pending {
         ensures compared { OnOk result (0 < length self.old.list.entries → 0 < self.new.comparisons) }
     {
         self.heap.reset_counts();
-        if self.heap.find(notice).is_some() {
+        if self.heap.holds(notice) {
             return Err(Refused::Fault(FaultKind::AlreadyScheduled));
         }
         if self.schedulings == MOST_SCHEDULINGS {
             return Err(Refused::Fault(FaultKind::Overflow));
         }
+        self.heap.are_behind();
         let number = self.schedulings;
         insert(&mut self.heap, key, number, notice)?;
         self.schedulings += 1;
@@ -103,6 +105,7 @@ impl Pending {
         if rank >= TOLD_RANKS || self.schedulings >= TOLD_NUMBERS {
             return false;
         }
+        self.heap.are_behind();
         if !insert_told(&mut self.heap, time, rank, self.schedulings, notice) {
             return false;
         }
@@ -120,11 +123,14 @@ impl Pending {
         ensures moves { self.new.moves ≤ 3 * binary_digits (length self.old.list.entries) + 4 }
     {
         self.heap.reset_counts();
-        let Some(at) = self.heap.find(notice) else {
-            return Err(FaultKind::NotScheduled);
-        };
-        let _event = take_out(&mut self.heap, at);
-        Ok(())
+        if let Some(at) = self.heap.find(notice) {
+            let _event = take_out(&mut self.heap, at);
+            return Ok(());
+        }
+        if self.heap.remove_behind(notice) {
+            return Ok(());
+        }
+        Err(FaultKind::NotScheduled)
     }
 
     /// The time and the notice that come out next, where one is pending.
@@ -136,9 +142,13 @@ impl Pending {
     {
         self.heap.reset_counts();
         if self.heap.len() == 0 {
+            self.heap.are_behind();
             return None;
         }
-        Some(self.heap.first())
+        self.heap.are_behind();
+        let event = self.heap.first();
+        self.heap.look_ahead();
+        Some(event)
     }
 
     /// Takes out what comes next, where a notice is pending, and answers its time and the notice.
@@ -151,8 +161,10 @@ impl Pending {
     {
         self.heap.reset_counts();
         if self.heap.len() == 0 {
+            self.heap.are_behind();
             return None;
         }
+        self.heap.are_behind();
         Some(take_out(&mut self.heap, 0))
     }
 
@@ -162,9 +174,10 @@ impl Pending {
         ensures { result ≡ is_pending notice self.now.list.entries }
     {
         if self.heap.len() == 0 {
+            self.heap.are_behind();
             return false;
         }
-        self.heap.find(notice).is_some()
+        self.heap.holds(notice)
     }
 
     /// How often the last call that takes `&mut self` compared two keys.

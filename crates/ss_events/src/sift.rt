@@ -1,7 +1,7 @@
 // How entries go into a heap in order and come out of it.
 ghost use Rattle.std.specs.Prelude.{true, false, [], ◌∷◌, OnOk, OnErr, ℕ, ◌≡◌, ◌<◌, ◌≤◌, ◌-◌, ◌/◌, ◌^◌, length, slice_index_or};
 ghost use Rattle.ss_events.specs.declared.entry.Entry.{Entry};
-ghost use Rattle.ss_events.specs.HeapEntries.{notices_of, but_one, TakesOut};
+ghost use Rattle.ss_events.specs.HeapEntries.{all_of, notices_of, but_one, AreBehind, TakesOut};
 ghost use Rattle.std.specs.Ordering.{int_eq};
 ghost use Rattle.std.specs.List.{list_any};
 ghost use Rattle.std.specs.List.Sorted.{IsPermutation};
@@ -11,21 +11,33 @@ ghost use Rattle.ss_events.specs.Slots.{told_ranks, told_numbers};
 ghost use Rattle.ss_events.specs.Sifting.{Raises, CostsToRaise, Lowers, CostsToLower, Mends, CostsToMend, IsLogarithmic};
 
 use crate::children::first_child;
-use crate::entry::{Heap, Key};
+use crate::entry::{Heap, Key, MANY, TOLD_NUMBERS, TOLD_RANKS};
 use std::alloc::AllocError;
 
 /// Puts an entry of a notice into a heap in order. Counts anew.
 pub fn insert(heap: &mut Heap, key: Key, number: u64, notice: i64) -> Result<(), AllocError>
     requires order { IsHeap comes_before heap.old.entries }
-    requires fresh { list_any (int_eq notice) (notices_of heap.old.entries) ≡ false }
+    requires apart { list_any (int_eq notice) (notices_of heap.old.entries) ≡ false }
+    requires fresh { list_any (int_eq notice) (notices_of heap.old.followers) ≡ false }
     ensures order { IsHeap comes_before heap.new.entries }
-    ensures ok { OnOk result (IsPermutation (record { key = key; number = number; notice = notice } ∷ heap.old.entries) heap.new.entries) }
-    ensures err { OnErr result (heap.new.entries ≡ heap.old.entries) }
+    ensures ok { OnOk result (IsPermutation (record { key = key; number = number; notice = notice } ∷ all_of heap.old) (all_of heap.new)) }
+    ensures err_entries { OnErr result (heap.new.entries ≡ heap.old.entries) }
+    ensures err_followers { OnErr result (heap.new.followers ≡ heap.old.followers) }
     ensures work { IsLogarithmic (length heap.old.entries) heap.new }
     ensures moved { OnOk result (0 < heap.new.moves) }
     ensures compared { OnOk result (0 < length heap.old.entries → 0 < heap.new.comparisons) }
 {
     heap.reset_counts();
+    heap.make_room()?;
+    if let Some((time, rank)) = key.untied()
+        && rank < TOLD_RANKS
+        && number < TOLD_NUMBERS
+    {
+        if insert_told(heap, time, rank, number, notice) {
+            return Ok(());
+        }
+        heap.reset_counts();
+    }
     let place = heap.len();
     heap.push(key, number, notice)?;
     raise(heap, place);
@@ -40,15 +52,20 @@ pub fn insert_told(heap: &mut Heap, time: i64, rank: usize, number: u64, notice:
     requires rank { rank < told_ranks }
     requires number { number < told_numbers }
     ensures order { IsHeap comes_before heap.new.entries }
-    ensures done { result ≡ true → IsPermutation (record { key = record { time = time; rank = rank; ties = [] }; number = number; notice = notice } ∷ heap.old.entries) heap.new.entries }
-    ensures fresh { result ≡ true → list_any (int_eq notice) (notices_of heap.old.entries) ≡ false }
-    ensures kept { result ≡ false → heap.new.entries ≡ heap.old.entries }
+    ensures done { result ≡ true → IsPermutation (record { key = record { time = time; rank = rank; ties = [] }; number = number; notice = notice } ∷ all_of heap.old) (all_of heap.new) }
+    ensures apart { result ≡ true → list_any (int_eq notice) (notices_of heap.old.entries) ≡ false }
+    ensures fresh { result ≡ true → list_any (int_eq notice) (notices_of heap.old.followers) ≡ false }
+    ensures kept_entries { result ≡ false → heap.new.entries ≡ heap.old.entries }
+    ensures kept_followers { result ≡ false → heap.new.followers ≡ heap.old.followers }
     ensures work { IsLogarithmic (length heap.old.entries) heap.new }
     ensures moved { result ≡ true → 0 < heap.new.moves }
     ensures compared { result ≡ true → 0 < length heap.old.entries → 0 < heap.new.comparisons }
 {
     heap.reset_counts();
     let place = heap.len();
+    if place >= MANY && heap.append_told(time, rank, number, notice) {
+        return true;
+    }
     if !heap.push_told(time, rank, number, notice) {
         return false;
     }
@@ -61,7 +78,7 @@ pub fn take_out(heap: &mut Heap, at: usize) -> (i64, i64)
     requires order { IsHeap comes_before heap.old.entries }
     requires within { at < length heap.old.entries }
     ensures order { IsHeap comes_before heap.new.entries }
-    ensures taken { TakesOut heap.old.entries heap.new.entries at result }
+    ensures taken { TakesOut heap.old heap.new at result }
     ensures work { IsLogarithmic (length heap.old.entries) heap.new }
 {
     heap.reset_counts();

@@ -112,7 +112,10 @@ impl Directory {
         ensures kept { result ≡ false → self.new ≡ self.old }
     {
         let cell = self.cell(notice);
-        if cell < self.cells.len() && self.cells[cell] == FREE && self.others.is_empty() {
+        if cell < self.cells.len()
+            && self.cells[cell] == FREE
+            && self.second_guess(notice) == FREE
+        {
             self.cells[cell] = slot;
             return true;
         }

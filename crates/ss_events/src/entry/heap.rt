@@ -1,9 +1,10 @@
 // The entries of the event list in the places of a heap.
-ghost use Rattle.std.specs.Prelude.{true, false, pos, ◌≤◌, ℕ, ◌≡◌, ◌<◌, ◌+◌, ◌++◌, ◌∷◌, ◌^◌, ◌==◌, if◌then◌else◌, [], length, swap, slice_get, slice_index_or, OnOk, OnErr, Some, None, IfSome, position, is_some};
+ghost use Rattle.std.specs.Prelude.{true, false, ◌||◌, ◌*◌, ◌≤◌, ℕ, ◌≡◌, ◌<◌, ◌+◌, ◌++◌, ◌∷◌, ◌^◌, ◌==◌, if◌then◌else◌, [], length, swap, slice_get, slice_index_or, OnOk, OnErr, Some, None, IfSome, position, is_some};
 ghost use Rattle.std.specs.Ordering.{int_eq};
-ghost use Rattle.std.specs.List.{swap_remove, list_any};
+ghost use Rattle.std.specs.List.{list_any};
+ghost use Rattle.std.specs.List.Sorted.{IsPermutation};
 ghost use Rattle.ss_events.specs.declared.entry.Entry.{Entry};
-ghost use Rattle.ss_events.specs.HeapEntries.{notices_of, event_of, Removes};
+ghost use Rattle.ss_events.specs.HeapEntries.{lines_of, notices_of, event_of, Removes, Leaves, AreBehind};
 ghost use Rattle.ss_events.specs.HeapOrder.{IsFirstOf, IsFirstAmong};
 ghost use Rattle.ss_events.specs.Order.{comes_before};
 ghost use Rattle.ss_events.specs.Slots.{mark_of, told_ranks, told_numbers};
@@ -15,7 +16,7 @@ use super::{Entry, Key, Mark, TOLD_NUMBERS, UNTOLD};
 use std::alloc::{AllocError, Global};
 use std::marker::Model;
 
-/// Entries in places from 0 on, with the place of each notice.
+/// Entries in lines, whose heads stand in places from 0 on.
 ///
 /// It counts each comparison of two keys and each write of an entry into a place.
 #[derive(Drop)]
@@ -30,12 +31,12 @@ impl Model for Heap {
 
     ghost Value = { HeapEntries };
 
-    ghost view = { λ h. record { entries = h.entries; comparisons = h.comparisons; moves = h.moves } };
+    ghost view = { λ h. record { entries = h.entries.heads; followers = h.entries.followers; comparisons = h.comparisons; moves = h.moves } };
 }
 
 impl Heap {
     pub(crate) fn new(alloc: Global) -> Heap
-        ensures { result ≡ record { entries = []; comparisons = 0; moves = 0 } }
+        ensures { result ≡ record { entries = []; followers = []; comparisons = 0; moves = 0 } }
     {
         Heap {
             entries: Places::new(alloc),
@@ -70,7 +71,23 @@ impl Heap {
         self.moves = 0;
     }
 
-    /// The place of the entry of a notice.
+    /// Each entry that stands behind another one comes behind the head of its line. It does nothing.
+    #[inline(always)]
+    pub(crate) fn are_behind(&self)
+        ensures { AreBehind self.now.entries self.now.followers }
+    {
+        self.entries.are_behind();
+    }
+
+    /// Whether there is an entry of a notice.
+    #[inline(always)]
+    pub(crate) fn holds(&self, notice: i64) -> bool
+        ensures { result ≡ (list_any (int_eq notice) (notices_of self.now.entries) || list_any (int_eq notice) (notices_of self.now.followers)) }
+    {
+        self.entries.holds(notice)
+    }
+
+    /// The place of the entry of a notice, where it is the head of a line.
     pub(crate) fn find(&self, notice: i64) -> Option<usize>
         ensures place { result ≡ position (int_eq notice) (notices_of self.now.entries) }
         ensures found { is_some result ≡ list_any (int_eq notice) (notices_of self.now.entries) }
@@ -84,6 +101,15 @@ impl Heap {
         ensures { (d : Entry) → result ≡ event_of (slice_index_or self.now.entries 0 d) }
     {
         self.entries.event(0)
+    }
+
+    /// Reads what stands behind the entry in the first place, so that it is at hand when that is taken out. Nothing changes.
+    #[inline(always)]
+    pub(crate) fn look_ahead(&mut self)
+        requires { 0 < length self.old.entries }
+        ensures { self.new ≡ self.old }
+    {
+        self.entries.look_ahead();
     }
 
     /// Whether the entry at place `a` comes out before that at `b`. Counts a comparison.
@@ -143,9 +169,17 @@ impl Heap {
         self.entries.swap(a, b);
     }
 
+    /// Makes room for one more entry.
+    pub(crate) fn make_room(&mut self) -> Result<(), AllocError>
+        ensures { self.new ≡ self.old }
+    {
+        self.entries.make_room()
+    }
+
     /// Puts an entry of a notice into the next place. Counts a move.
     pub(crate) fn push(&mut self, key: Key, number: u64, notice: i64) -> Result<(), AllocError>
-        requires fresh { list_any (int_eq notice) (notices_of self.old.entries) ≡ false }
+        requires apart { list_any (int_eq notice) (notices_of self.old.entries) ≡ false }
+        requires fresh { list_any (int_eq notice) (notices_of self.old.followers) ≡ false }
         requires countable { self.old.moves + 1 < 2 ^ 64 }
         ensures ok { OnOk result (self.new ≡ record self.old { entries = self.old.entries ++ record { key = key; number = number; notice = notice } ∷ []; moves = self.old.moves + 1 }) }
         ensures err { OnErr result (self.new ≡ self.old) }
@@ -167,29 +201,79 @@ impl Heap {
         requires number { number < told_numbers }
         requires countable { self.old.moves + 1 < 2 ^ 64 }
         ensures done { result ≡ true → self.new ≡ record self.old { entries = self.old.entries ++ record { key = record { time = time; rank = rank; ties = [] }; number = number; notice = notice } ∷ []; moves = self.old.moves + 1 } }
-        ensures fresh { result ≡ true → list_any (int_eq notice) (notices_of self.old.entries) ≡ false }
+        ensures apart { result ≡ true → list_any (int_eq notice) (notices_of self.old.entries) ≡ false }
+        ensures fresh { result ≡ true → list_any (int_eq notice) (notices_of self.old.followers) ≡ false }
         ensures kept { result ≡ false → self.new ≡ self.old }
     {
-        let order = rank as u64 * TOLD_NUMBERS + number;
-        if !self.entries.push_told(Mark { time, order }, notice) {
+        if !self
+            .entries
+            .push_told(told_mark(time, rank, number), notice)
+        {
             return false;
         }
         self.count_move();
         true
     }
 
-    /// Takes the entry out of a place, into which the last one moves, and answers its time and its notice. Counts that
-    /// move.
+    /// Puts such an entry behind the last of a line of its time, where one is found that comes before it; and says whether it did.
+    /// Counts a comparison, and a move where it did. If not, nothing else has changed.
+    #[inline(always)]
+    pub(crate) fn append_told(&mut self, time: i64, rank: usize, number: u64, notice: i64) -> bool
+        requires rank { rank < told_ranks }
+        requires number { number < told_numbers }
+        requires comparable { self.old.comparisons + 1 < 2 ^ 64 }
+        requires countable { self.old.moves + 1 < 2 ^ 64 }
+        ensures entries { self.new.entries ≡ self.old.entries }
+        ensures done { result ≡ true → IsPermutation (record { key = record { time = time; rank = rank; ties = [] }; number = number; notice = notice } ∷ self.old.followers) self.new.followers }
+        ensures apart { result ≡ true → list_any (int_eq notice) (notices_of self.old.entries) ≡ false }
+        ensures fresh { result ≡ true → list_any (int_eq notice) (notices_of self.old.followers) ≡ false }
+        ensures moved { result ≡ true → self.new.moves ≡ self.old.moves + 1 }
+        ensures compared { result ≡ true → self.new.comparisons ≡ self.old.comparisons + 1 }
+        ensures kept { result ≡ false → self.new ≡ record self.old { comparisons = self.old.comparisons + 1 } }
+    {
+        let mark = told_mark(time, rank, number);
+        self.comparisons += 1;
+        if !self.entries.append_told(mark, notice) {
+            return false;
+        }
+        self.count_move();
+        true
+    }
+
+    /// Takes the entry out of a place, into which the next of its line moves, or else the last head, and answers its time and its
+    /// notice. Counts that move.
     pub(crate) fn remove(&mut self, at: usize) -> (i64, i64)
         requires within { at < length self.old.entries }
         requires countable { self.old.moves + 1 < 2 ^ 64 }
-        ensures removed { Removes self.old.entries self.new.entries at result }
+        ensures removed { Removes (lines_of self.old) (lines_of self.new) at result }
         ensures comparisons { self.new.comparisons ≡ self.old.comparisons }
-        ensures moves { self.new.moves ≡ (if at + 1 == length self.old.entries then self.old.moves else self.old.moves + 1) }
+        ensures moves { self.new.moves ≡ self.old.moves + 1 }
     {
-        let last = self.entries.len() - 1;
-        self.moves += u64::from(at != last);
+        self.count_move();
         self.entries.remove(at)
+    }
+
+    /// Takes out the entry of a notice where it stands behind another one, and says whether it did. If not, nothing has changed.
+    pub(crate) fn remove_behind(&mut self, notice: i64) -> bool
+        ensures found { result ≡ list_any (int_eq notice) (notices_of self.old.followers) }
+        ensures left { result ≡ true → Leaves (lines_of self.old) (lines_of self.new) notice }
+        ensures counts { (self.new.comparisons ≡ self.old.comparisons) × (self.new.moves ≡ self.old.moves) }
+        ensures kept { result ≡ false → self.new ≡ self.old }
+    {
+        self.entries.remove_behind(notice)
+    }
+}
+
+// The mark of an entry without ties, of a rank and a number that an order tells.
+#[inline(always)]
+fn told_mark(time: i64, rank: usize, number: u64) -> Mark
+    requires rank { rank < told_ranks }
+    requires number { number < told_numbers }
+    ensures { result ≡ record { time = time; order = rank * told_numbers + number } }
+{
+    Mark {
+        time,
+        order: rank as u64 * TOLD_NUMBERS + number,
     }
 }
 
@@ -200,10 +284,10 @@ fn first_of(entries: &Places, four: &[Stand], from: usize, left: usize, right: u
     requires apart { left < right }
     requires right { right < 4 }
     requires four { length four.now ≡ 4 }
-    requires within { from + 4 ≤ length entries.now }
+    requires within { from + 4 ≤ length entries.now.heads }
     requires small { from + 4 < 2 ^ 64 }
-    requires marks { (k : ℕ) → k < 4 → (s : StandSeen) (d : Entry) → (slice_index_or four.now k s).mark ≡ mark_of (slice_index_or entries.now (from + k) d) }
-    ensures { IsFirstOf comes_before entries.now (from + left) (from + right) (from + result) }
+    requires marks { (k : ℕ) → k < 4 → (s : StandSeen) (d : Entry) → (slice_index_or four.now k s).mark ≡ mark_of (slice_index_or entries.now.heads (from + k) d) }
+    ensures { IsFirstOf comes_before entries.now.heads (from + left) (from + right) (from + result) }
 {
     let is_right = is_before_in(entries, four, from, right, left);
     left + usize::from(is_right) * (right - left)
@@ -215,10 +299,10 @@ fn is_before_in(entries: &Places, four: &[Stand], from: usize, a: usize, b: usiz
     requires a { a < 4 }
     requires b { b < 4 }
     requires four { length four.now ≡ 4 }
-    requires within { from + 4 ≤ length entries.now }
+    requires within { from + 4 ≤ length entries.now.heads }
     requires small { from + 4 < 2 ^ 64 }
-    requires marks { (k : ℕ) → k < 4 → (s : StandSeen) (d : Entry) → (slice_index_or four.now k s).mark ≡ mark_of (slice_index_or entries.now (from + k) d) }
-    ensures { (d : Entry) → result ≡ comes_before (slice_index_or entries.now (from + a) d) (slice_index_or entries.now (from + b) d) }
+    requires marks { (k : ℕ) → k < 4 → (s : StandSeen) (d : Entry) → (slice_index_or four.now k s).mark ≡ mark_of (slice_index_or entries.now.heads (from + k) d) }
+    ensures { (d : Entry) → result ≡ comes_before (slice_index_or entries.now.heads (from + a) d) (slice_index_or entries.now.heads (from + b) d) }
 {
     let (early, late) = (four[a].mark, four[b].mark);
     if early.time != late.time {
@@ -233,9 +317,9 @@ fn is_before_in(entries: &Places, four: &[Stand], from: usize, a: usize, b: usiz
 // Whether the entry at place `a` comes out before that at `b`, whose marks do not tell.
 #[inline(never)]
 fn is_tied_before(entries: &Places, a: usize, b: usize) -> bool
-    requires a_within { a < length entries.now }
-    requires b_within { b < length entries.now }
-    ensures { (d : Entry) → result ≡ comes_before (slice_index_or entries.now a d) (slice_index_or entries.now b d) }
+    requires a_within { a < length entries.now.heads }
+    requires b_within { b < length entries.now.heads }
+    ensures { (d : Entry) → result ≡ comes_before (slice_index_or entries.now.heads a d) (slice_index_or entries.now.heads b d) }
 {
     if entries.mark(a).order == UNTOLD {
         return is_before_told_or_not(entries.whole(a), entries, b);
@@ -246,8 +330,8 @@ fn is_tied_before(entries: &Places, a: usize, b: usize) -> bool
 
 // The same of an entry and that at a place.
 fn is_before_told_or_not(entry: &Entry, entries: &Places, b: usize) -> bool
-    requires { b < length entries.now }
-    ensures { (d : Entry) → result ≡ comes_before entry.now (slice_index_or entries.now b d) }
+    requires { b < length entries.now.heads }
+    ensures { (d : Entry) → result ≡ comes_before entry.now (slice_index_or entries.now.heads b d) }
 {
     if entries.mark(b).order == UNTOLD {
         return comes_before(entry, entries.whole(b));

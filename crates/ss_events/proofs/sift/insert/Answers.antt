@@ -1,34 +1,72 @@
-use Rattle.std.proofs.Common.{◌≡◌, ◌∷◌, ◌++◌, [], ◌∙◌, ap, length, arith, ℤ, to_z-of_z}
+use Rattle.std.proofs.Common.{◌≡◌, ◌∷◌, ◌++◌, [], ◌∙◌, List, IsPermutation, ap, sym, subst, length, ℤ, arith, to_z-of_z}
+use Rattle.std.proofs.lemmas.List.Sorted.{IsPermutation-append_left}
 use Rattle.ss_events.specs.declared.entry.Entry.{Entry}
+use Rattle.ss_events.specs.HeapEntries.{HeapEntries, all_of}
 use Rattle.ss_events.proofs.Sifts.{inserted, inserted_all, insert_work}
 use Rattle.ss_events.proofs.sift.insert.Goals as goal
+use Rattle.ss_events.proofs.sift.insert.Goals.{in-Some+then-rank-lt-TOLD_RANKS+then-number-lt-TOLD_NUMBERS+else-insert_told, in_default}
+
+-- nothing was put anywhere yet, and nothing counted
+record Ready (old heap : HeapEntries) : Type 0 where
+  entries : heap.entries ≡ old.entries
+  followers : heap.followers ≡ old.followers
+  uncompared : heap.comparisons ≡ 0
+  unmoved : heap.moves ≡ 0
+
+ready : (c : goal.After-raise) → Ready c.args.heap.now c.match-untied.heap
+ready c =
+    let anew = c.make_room.ensures ∙ c.reset_counts.ensures in
+    elim c.match-untied.branch [
+      | in-Some+then-rank-lt-TOLD_RANKS+then-number-lt-TOLD_NUMBERS+else-insert_told w ↦
+          let is = w.heap-is ∙ w.reset_counts-2.ensures in
+          let tried = w.insert_told.ensures in record {
+            entries = ap (λ h. h.entries) is ∙ tried.kept_entries w.if-insert_told.false ∙ ap (λ h. h.entries) anew;
+            followers = ap (λ h. h.followers) is ∙ tried.kept_followers w.if-insert_told.false ∙ ap (λ h. h.followers) anew;
+            uncompared = ap (λ h. h.comparisons) is;
+            unmoved = ap (λ h. h.moves) is;
+          }
+      | in_default w ↦
+          let is = w.heap-is ∙ anew in record {
+            entries = ap (λ h. h.entries) is;
+            followers = ap (λ h. h.followers) is;
+            uncompared = ap (λ h. h.comparisons) is;
+            unmoved = ap (λ h. h.moves) is;
+          }
+    ]
 
 -- the new entry
 abbrev its : (c : goal.After-raise) → Entry
 its c = record { key = c.args.key; number = c.args.number; notice = c.args.notice }
 
--- the entries with the new one behind them
+-- the heads with the new one behind them
 put : (c : goal.After-raise) → c.push.new.self.entries ≡ c.args.heap.now.entries ++ its c ∷ []
 put c =
     ap (λ h. h.entries) c.in_ok-push.ensures.ok
-    ∙ ap (λ (z : ℤ). c.reset_counts.new.self.entries ++ record { key = c.args.key; number = c.args.number; notice = z } ∷ []) (to_z-of_z c.ranges.notice)
-    ∙ ap (λ h. h.entries ++ its c ∷ []) c.reset_counts.ensures
+    ∙ ap (λ (z : ℤ). c.match-untied.heap.entries ++ record { key = c.args.key; number = c.args.number; notice = z } ∷ []) (to_z-of_z c.ranges.notice)
+    ∙ ap (λ es. es ++ its c ∷ []) (ready c).entries
 
 -- its place
 last : (c : goal.After-raise) → c.len-place.result ≡ length c.args.heap.now.entries
-last c = c.len-place.ensures ∙ ap (λ h. length h.entries) c.reset_counts.ensures
+last c = c.len-place.ensures ∙ ap length (ready c).entries
+
+-- those behind others
+others : (c : goal.After-raise) → c.raise.new.heap.followers ≡ c.args.heap.now.followers
+others c = c.raise.ensures.cost.followers ∙ ap (λ h. h.followers) c.in_ok-push.ensures.ok ∙ (ready c).followers
 
 pub returns-clause-order : goal.returns-clause-order
 returns-clause-order c = inserted c.args.heap.now.entries c.push.new.self.entries c.raise.new.heap.entries (its c) c.len-place.result c.raise.result (put c) (last c) c.raise.ensures.raises c.requires.order
 
 pub returns-clause-ok : goal.returns-clause-ok
-returns-clause-ok c = inserted_all c.args.heap.now.entries c.push.new.self.entries c.raise.new.heap.entries (its c) c.len-place.result c.raise.result (put c) (last c) c.raise.ensures.raises
+returns-clause-ok c =
+    let heads = inserted_all c.args.heap.now.entries c.push.new.self.entries c.raise.new.heap.entries (its c) c.len-place.result c.raise.result (put c) (last c) c.raise.ensures.raises in
+    subst (λ (fs : List Entry). IsPermutation (its c ∷ all_of c.args.heap.now) (c.raise.new.heap.entries ++ fs)) (sym (others c))
+    (IsPermutation-append_left c.args.heap.now.followers (its c ∷ c.args.heap.now.entries) c.raise.new.heap.entries heads)
 
 pub returns-clause-work : goal.returns-clause-work
 returns-clause-work c =
     let pushed = c.in_ok-push.ensures.ok in
-    let anew = c.reset_counts.ensures in
     insert_work c.push.new.self c.raise.new.heap (length c.args.heap.now.entries) c.len-place.result c.raise.result
-    (omega (arith, ap (λ h. h.comparisons) pushed, ap (λ h. h.comparisons) anew))
-    (omega (arith, ap (λ h. h.moves) pushed, ap (λ h. h.moves) anew))
+    (omega (arith, ap (λ h. h.comparisons) pushed, (ready c).uncompared))
+    (omega (arith, ap (λ h. h.comparisons) pushed, (ready c).uncompared))
+    (omega (arith, ap (λ h. h.moves) pushed, (ready c).unmoved))
     (last c) c.raise.ensures.cost

@@ -21,11 +21,12 @@ loop-child-preserved c =
     (ap (λ h. h.entries) c.swap.ensures ∙ ap (λ h. swap h.entries c.loop-child.at c.in-Some.child) looked ∙ ap (λ es. swap es c.loop-child.at c.in-Some.child) found.entries)
     (omega (arith, ap (λ h. h.comparisons) c.swap.ensures, ap (λ h. h.comparisons) looked, found.comparisons))
     (omega (arith, ap (λ h. h.moves) c.swap.ensures, ap (λ h. h.moves) looked, found.moves))
+    (ap (λ h. h.followers) c.swap.ensures ∙ ap (λ h. h.followers) looked ∙ found.followers)
 
 pub returns-in_default-clause-cost : goal.returns-in_default-clause-cost
 returns-in_default-clause-cost c =
     let found = c.in_default.ensures in
-    (sinking_leaf c.args.heap.now c.loop-child.heap c.first_child.new.heap c.args.at c.loop-child.at c.loop-child.invariant found.child found.entries (omega (arith, found.comparisons)) found.moves).1
+    (sinking_leaf c.args.heap.now c.loop-child.heap c.first_child.new.heap c.args.at c.loop-child.at c.loop-child.invariant found.child found.entries (omega (arith, found.comparisons)) found.moves found.followers).1
 
 pub returns-then-not-is_before-clause-lowers : goal.returns-then-not-is_before-clause-lowers
 returns-then-not-is_before-clause-lowers c =
@@ -35,7 +36,8 @@ returns-then-not-is_before-clause-lowers c =
     (λ d. subst (λ es. comes_before (get_or es c.in-Some.child d) (get_or es c.loop-child.at d) ≡ false) found.entries (sym (c.if-not-is_before.ensures.value d)))
     (ap (λ h. h.entries) looked ∙ found.entries)
     (omega (arith, ap (λ h. h.comparisons) looked, found.comparisons))
-    (ap (λ h. h.moves) looked ∙ found.moves)).0
+    (ap (λ h. h.moves) looked ∙ found.moves)
+    (ap (λ h. h.followers) looked ∙ found.followers)).0
 
 pub returns-then-not-is_before-clause-cost : goal.returns-then-not-is_before-clause-cost
 returns-then-not-is_before-clause-cost c =
@@ -45,4 +47,5 @@ returns-then-not-is_before-clause-cost c =
     (λ d. subst (λ es. comes_before (get_or es c.in-Some.child d) (get_or es c.loop-child.at d) ≡ false) found.entries (sym (c.if-not-is_before.ensures.value d)))
     (ap (λ h. h.entries) looked ∙ found.entries)
     (omega (arith, ap (λ h. h.comparisons) looked, found.comparisons))
-    (ap (λ h. h.moves) looked ∙ found.moves)).1
+    (ap (λ h. h.moves) looked ∙ found.moves)
+    (ap (λ h. h.followers) looked ∙ found.followers)).1

@@ -1,63 +1,56 @@
-use Rattle.std.proofs.Common.{◌≡◌, ◌+◌, ◌≤◌, ◌∙◌, ap, get_or, length, arith, ◌==◌, if◌then◌else◌, ℕ, Bool, true, false}
-use Rattle.std.specs.List.{swap_remove}
-use Rattle.ss_events.proofs.Sifts.{taken_long, taken_all, taken_last, taken_but, taken_mended, take_work}
+use Rattle.std.proofs.Common.{◌≡◌, ℕ, ℤ, ◌∷◌, ◌++◌, ◌∙◌, ap, length, List, IsPermutation, sym, subst, arith}
+use Rattle.std.proofs.lemmas.List.Sorted.{IsPermutation-append_left, IsPermutation-cons, IsPermutation-trans}
+use Rattle.ss_events.specs.declared.entry.Entry.{Entry}
+use Rattle.ss_events.specs.HeapEntries.{HeapEntries, Lines, Removes, lines_of, all_of}
+use Rattle.ss_events.proofs.Sifts.{take_work}
+use Rattle.ss_events.proofs.Taken.{removed_few, removed_heap, removed_end, removed_all}
 use Rattle.ss_events.proofs.sift.take_out.Goals as goal
 
-one_more : (b : Bool) (n : ℕ) → n ≡ 0 → (if b then n else n + 1) ≤ 1
-one_more true n e = omega arith
-one_more false n e = omega arith
+-- what went, of the entries that there were
+went : (old anew : HeapEntries) (mid : Lines) (at : ℕ) (event : ℤ × ℤ) → anew ≡ record old { comparisons = 0; moves = 0 } → Removes (lines_of anew) mid at event → Removes (lines_of old) mid at event
+went old anew mid at event is r = subst (λ (h : HeapEntries). Removes (lines_of h) mid at event) is r
 
 pub returns-then-at-len-clause-order : goal.returns-then-at-len-clause-order
 returns-then-at-len-clause-order c =
-    let old = c.args.heap.now.entries in
-    let went = c.remove-event.ensures.removed in
-    let entry = went.entry in
-    let anew = c.reset_counts.ensures in
-    let rest = went.rest ∙ ap (λ h. swap_remove h.entries c.args.at entry) anew in
-    let value = went.there ∙ ap (λ h. get_or h.entries c.args.at entry) anew in
-    c.mend.ensures.mends.heap (taken_but old c.remove-event.new.self.entries c.args.at entry c.requires.within value rest c.requires.order)
+    let r = went c.args.heap.now c.reset_counts.new.self (lines_of c.remove-event.new.self) c.args.at c.remove-event.result c.reset_counts.ensures c.remove-event.ensures.removed in
+    c.mend.ensures.mends.heap (removed_heap (lines_of c.args.heap.now) (lines_of c.remove-event.new.self) c.args.at c.remove-event.result c.requires.within r c.requires.order)
 
 pub returns-then-at-len-clause-taken : goal.returns-then-at-len-clause-taken
 returns-then-at-len-clause-taken c =
-    let old = c.args.heap.now.entries in
-    let went = c.remove-event.ensures.removed in
-    let entry = went.entry in
-    let anew = c.reset_counts.ensures in
-    let rest = went.rest ∙ ap (λ h. swap_remove h.entries c.args.at entry) anew in
-    let value = went.there ∙ ap (λ h. get_or h.entries c.args.at entry) anew in
-    record { entry = entry; there = value; is = went.is; rest = taken_mended old c.remove-event.new.self.entries c.args.at entry c.requires.within value rest c.mend.new.heap.entries c.mend.ensures.mends }
+    let r = went c.args.heap.now c.reset_counts.new.self (lines_of c.remove-event.new.self) c.args.at c.remove-event.result c.reset_counts.ensures c.remove-event.ensures.removed in
+    let mid = c.remove-event.new.self in
+    let new = c.mend.new.heap in
+    let others : IsPermutation (mid.entries ++ mid.followers) (new.entries ++ new.followers)
+    = subst (λ (fs : List Entry). IsPermutation (mid.entries ++ mid.followers) (new.entries ++ fs)) (sym c.mend.ensures.cost.followers) (IsPermutation-append_left mid.followers mid.entries new.entries c.mend.ensures.mends.permutation) in
+    record {
+      entry = r.entry;
+      there = r.there;
+      is = r.is;
+      rest = IsPermutation-trans (all_of c.args.heap.now) (r.entry ∷ all_of mid) (r.entry ∷ all_of new)
+          (removed_all (lines_of c.args.heap.now) (lines_of mid) c.args.at c.remove-event.result c.requires.within r) (IsPermutation-cons r.entry (all_of mid) (all_of new) others);
+    }
 
 pub returns-then-at-len-clause-work : goal.returns-then-at-len-clause-work
 returns-then-at-len-clause-work c =
-    let old = c.args.heap.now.entries in
-    let went = c.remove-event.ensures.removed in
-    let entry = went.entry in
     let anew = c.reset_counts.ensures in
-    let rest = went.rest ∙ ap (λ h. swap_remove h.entries c.args.at entry) anew in
-    let value = went.there ∙ ap (λ h. get_or h.entries c.args.at entry) anew in
-    let moved = one_more (c.args.at + 1 == length c.reset_counts.new.self.entries) c.reset_counts.new.self.moves (ap (λ h. h.moves) anew) in
-    take_work c.remove-event.new.self c.mend.new.heap (length old)
+    let r = went c.args.heap.now c.reset_counts.new.self (lines_of c.remove-event.new.self) c.args.at c.remove-event.result anew c.remove-event.ensures.removed in
+    take_work c.remove-event.new.self c.mend.new.heap (length c.args.heap.now.entries)
     (c.remove-event.ensures.comparisons ∙ ap (λ h. h.comparisons) anew)
-    (omega (arith, c.remove-event.ensures.moves, moved))
-    (taken_long old c.remove-event.new.self.entries c.args.at entry c.requires.within value rest)
+    (omega (arith, c.remove-event.ensures.moves, ap (λ h. h.moves) anew))
+    (removed_few (lines_of c.args.heap.now) (lines_of c.remove-event.new.self) c.args.at c.remove-event.result c.requires.within r)
     c.mend.ensures.cost
 
 pub returns-else-at-len-clause-order : goal.returns-else-at-len-clause-order
 returns-else-at-len-clause-order c =
-    let old = c.args.heap.now.entries in
-    let went = c.remove-event.ensures.removed in
-    let entry = went.entry in
-    let anew = c.reset_counts.ensures in
-    let rest = went.rest ∙ ap (λ h. swap_remove h.entries c.args.at entry) anew in
-    let value = went.there ∙ ap (λ h. get_or h.entries c.args.at entry) anew in
-    taken_last old c.remove-event.new.self.entries c.args.at entry c.requires.within value rest (omega arith) c.requires.order
+    let r = went c.args.heap.now c.reset_counts.new.self (lines_of c.remove-event.new.self) c.args.at c.remove-event.result c.reset_counts.ensures c.remove-event.ensures.removed in
+    removed_end (lines_of c.args.heap.now) (lines_of c.remove-event.new.self) c.args.at c.remove-event.result c.requires.within r (omega (arith, c.if-at-len.false, c.len.ensures)) c.requires.order
 
 pub returns-else-at-len-clause-taken : goal.returns-else-at-len-clause-taken
 returns-else-at-len-clause-taken c =
-    let old = c.args.heap.now.entries in
-    let went = c.remove-event.ensures.removed in
-    let entry = went.entry in
-    let anew = c.reset_counts.ensures in
-    let rest = went.rest ∙ ap (λ h. swap_remove h.entries c.args.at entry) anew in
-    let value = went.there ∙ ap (λ h. get_or h.entries c.args.at entry) anew in
-    record { entry = entry; there = value; is = went.is; rest = taken_all old c.remove-event.new.self.entries c.args.at entry c.requires.within value rest }
+    let r = went c.args.heap.now c.reset_counts.new.self (lines_of c.remove-event.new.self) c.args.at c.remove-event.result c.reset_counts.ensures c.remove-event.ensures.removed in
+    record {
+      entry = r.entry;
+      there = r.there;
+      is = r.is;
+      rest = removed_all (lines_of c.args.heap.now) (lines_of c.remove-event.new.self) c.args.at c.remove-event.result c.requires.within r;
+    }

@@ -19,5 +19,5 @@ pub returns : goal.returns
 returns c =
     let is_right = c.is_before_in-is_right.result in
     let from = c.args.from in
-    subst (IsFirstOf comes_before c.args.entries.now (from + c.args.left) (from + c.args.right)) (moved from c.args.left c.args.right c.from.result)
-    (first_by comes_before entries_rank c.args.entries.now (from + c.args.left) (from + c.args.right) c.from.result is_right (omega (arith, c.requires.apart)) (one_if is_right c.from.result c.from.ensures) c.is_before_in-is_right.ensures)
+    subst (IsFirstOf comes_before c.args.entries.now.heads (from + c.args.left) (from + c.args.right)) (moved from c.args.left c.args.right c.from.result)
+    (first_by comes_before entries_rank c.args.entries.now.heads (from + c.args.left) (from + c.args.right) c.from.result is_right (omega (arith, c.requires.apart)) (one_if is_right c.from.result c.from.ensures) c.is_before_in-is_right.ensures)

@@ -10,7 +10,7 @@ pub told-told-requires-clause-told : goal.told-told-requires-clause-told
 told-told-requires-clause-told c = λ d is. c.if-mark.false (ap (λ (m : Mark). m.order) (c.mark.ensures d) ∙ is)
 
 pub returns-then-mark : goal.returns-then-mark
-returns-then-mark c = λ d. c.is_before_told_or_not.ensures d ∙ but_before c.whole.result.now (get_or c.args.entries.now c.args.a d) (get_or c.args.entries.now c.args.b d) (c.whole.ensures d)
+returns-then-mark c = λ d. c.is_before_told_or_not.ensures d ∙ but_before c.whole.result.now (get_or c.args.entries.now.heads c.args.a d) (get_or c.args.entries.now.heads c.args.b d) (c.whole.ensures d)
 
 pub returns : goal.returns
-returns c = λ d. c.is_before_told_or_not-2.ensures d ∙ but_before c.told-told.result (get_or c.args.entries.now c.args.a d) (get_or c.args.entries.now c.args.b d) (c.told-told.ensures d)
+returns c = λ d. c.is_before_told_or_not-2.ensures d ∙ but_before c.told-told.result (get_or c.args.entries.now.heads c.args.a d) (get_or c.args.entries.now.heads c.args.b d) (c.told-told.ensures d)

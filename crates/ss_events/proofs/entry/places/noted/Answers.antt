@@ -1,46 +1,38 @@
-use Rattle.std.proofs.Common.{rules, to_z, of_z, w64, ◌≡◌, ℤ, pos, ◌<◌, ◌∙◌, length, get_or, subst, sym, ap, arith}
-use Rattle.std.proofs.lemmas.List.{get_or_default, length-map, take_all}
-use lib.ListN.{get_or-map as get_or-mapped}
-use Rattle.ss_events.specs.declared.entry.Entry.{Entry}
-use Rattle.ss_events.specs.declared.entry.places.Stand.{Stand}
-use Rattle.ss_events.specs.Slots.{slots_in, with_notices, no_entry, no_mark, Leads, AreLed, AreWithin}
-use Rattle.ss_events.proofs.Standing.{noticed, led_more, slot_of}
+use Rattle.std.proofs.Common.{rules, w64, to_z, of_z, pos, ◌≡◌, ◌<◌, ◌∙◌, ⊎_elim, inl, inr, get_or, subst, sym, ap, arith}
+use Rattle.std.proofs.lemmas.Bool.{cases_eq}
+use Rattle.std.proofs.lemmas.List.{get_or_default}
+use Rattle.ss_events.specs.declared.entry.places.Slot.{Slot}
+use Rattle.ss_events.specs.Slots.{no_kept, no_slot, kept, IsTaken, Leads}
+use Rattle.ss_events.proofs.Grown.{led_more}
 use Rattle.ss_events.proofs.entry.places.noted.Goals as goal
+use Rattle.ss_events.proofs.entry.places.noted.Goals.{then-it-count+in_ok-note, then-it-count-via-then-it-count, then-it-count-via-else-it-count+then-it-ge-BEHIND, else-it-count+else-it-ge-BEHIND}
 
-pub loop-k-preserved : goal.loop-k-preserved
-loop-k-preserved c =
-    let ns = c.args.notices.now.items in
-    let es = with_notices ns in
-    let long_es : length es ≡ length ns = length-map ns (λ (n : ℤ). record no_entry { notice = n }) in
-    let ss = c.args.stands.now in
-    let zs = slots_in ss in
-    let k = c.loop-k.k in
-    let z : Stand = record { mark = no_mark; slot = 0 } in
-    let slot = (get_or ss k z).slot in
-    let g = c.note.new.self in
-    let long : length zs ≡ length ss = length-map ss (λ (s : Stand). s.slot) in
-    let k_in : k < length zs = omega (arith, c.loop-k-test.true, long) in
-    let is : get_or zs k 0 ≡ slot = slot_of ss k z (omega (arith, c.loop-k-test.true)) in
-    let within : AreWithin zs (length es) = (λ j j_in. omega (arith, c.requires.within j j_in, c.args.notices.now.ok.0, long_es)) in
-    let there : slot < length ns = omega (arith, within k k_in, is, long_es) in
-    let same : to_z w64 (of_z w64 c.index.result.now) ≡ c.index.result.now = search rules in
-    let its_notice : to_z w64 (of_z w64 c.index.result.now) ≡ noticed es (get_or zs k 0)
-    = same ∙ c.index.ensures ∙ get_or_default ns slot c.index.result.now (pos 0) there ∙ sym (ap (λ (x : Entry). x.notice) (get_or-mapped (λ (n : ℤ). record no_entry { notice = n }) ns slot (pos 0))) ∙ ap (noticed es) (sym is) in
-    led_more c.loop-k.directory g es zs k k_in c.requires.distinct within
-    (omega (arith, c.args.notices.now.ok.0, c.args.notices.now.ok.1, c.args.notices.now.small, long_es)) c.loop-k.invariant
-    (subst (λ s. Leads g (noticed es (get_or zs k 0)) s) (sym is) (subst (λ m. Leads g m slot) its_notice c.in_ok-note.ensures.noted))
-    (λ m t other apart led. c.note.ensures.others m t (λ same_notice. other (same_notice ∙ its_notice)) apart led)
-
-pub returns : goal.returns
-returns c =
-    let ss = c.args.stands.now in
-    let past = take_all c.loop-k.k (slots_in ss) (omega (arith, c.loop-k-test.false, length-map ss (λ (s : Stand). s.slot))) in
-    subst (AreLed c.loop-k.directory (with_notices c.args.notices.now.items)) past c.loop-k.invariant
-
-pub index-requires : goal.index-requires
-index-requires c =
-    let ss = c.args.stands.now in
-    let z : Stand = record { mark = no_mark; slot = 0 } in
-    let k = c.loop-k.k in
-    let k_in : k < length (slots_in ss) = omega (arith, c.loop-k-test.true, length-map ss (λ (s : Stand). s.slot)) in
-    omega (arith, c.requires.within k k_in, slot_of ss k z (omega (arith, c.loop-k-test.true)), c.args.notices.now.ok.0)
+pub loop-slot-preserved : goal.loop-slot-preserved
+loop-slot-preserved c =
+    let slots = c.args.slots.now in
+    let k = c.loop-slot.slot in
+    let x : Slot = get_or slots k (record { notice = pos 0; mark = record { time = pos 0; order = 0 }; next = 0; at = 0 }) in
+    let is : x ≡ kept slots k = get_or_default slots k (record { notice = pos 0; mark = record { time = pos 0; order = 0 }; next = 0; at = 0 }) no_kept c.loop-slot-test.true in
+    elim c.if-it-count.branch [
+      | then-it-count+in_ok-note w ↦
+          let small : k < no_slot = search rules in
+          let fits : to_z w64 (of_z w64 x.notice) ≡ x.notice = search rules in
+          let same : to_z w64 (of_z w64 x.notice) ≡ (kept slots k).notice = fits ∙ ap (λ (y : Slot). y.notice) is in
+          let taken : IsTaken c.args.count (kept slots k) = elim w.then-it-count.branch [
+            | then-it-count-via-then-it-count v ↦ inl (omega (arith, v.if-it-count.true, ap (λ (y : Slot). y.at) is))
+            | then-it-count-via-else-it-count+then-it-ge-BEHIND v ↦ inr (omega (arith, v.if-it-ge-BEHIND.true, ap (λ (y : Slot). y.at) is))
+          ] in
+          λ s lt its. subst (λ d. Leads d (kept slots s).notice s) (sym w.directory-is)
+          (led_more c.args.count slots c.loop-slot.directory w.note.new.self k c.requires c.loop-slot-test.true small c.loop-slot.invariant taken
+          (subst (λ n. Leads w.note.new.self n k) same w.in_ok-note.ensures.noted)
+          (λ n t other apart led. w.note.ensures.others n t (λ e. other (e ∙ same)) apart led)
+          s lt its)
+      | else-it-count+else-it-ge-BEHIND w ↦ λ s lt its. subst (λ d. Leads d (kept slots s).notice s) (sym w.directory-is)
+          (⊎_elim
+          (λ e. absurd (⊎_elim
+          (λ less. omega (arith, less, w.if-it-count.false, ap (λ (y : Slot). y.at) is, ap (λ n. (kept slots n).at) e))
+          (λ more. omega (arith, more, w.if-it-ge-BEHIND.false, ap (λ (y : Slot). y.at) is, ap (λ n. (kept slots n).at) e))
+          its))
+          (λ other. c.loop-slot.invariant s (omega (arith, lt, other)) its)
+          (cases_eq s k))
+    ]

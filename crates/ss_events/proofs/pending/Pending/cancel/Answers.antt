@@ -1,42 +1,102 @@
-use Rattle.std.proofs.Common.{◌≡◌, ◌∷◌, ◌∙◌, true, List, Ok, length, map, ap, subst, sym, to_z-of_z, IsPermutation}
+use Rattle.std.proofs.Common.{◌≡◌, ◌∷◌, ◌∙◌, ◌||◌, ◌++◌, Bool, true, false, refl, List, Ok, length, map, int_eq, to_z, of_z, w64, ap, subst, sym, to_z-of_z, IsPermutation}
+use Rattle.std.specs.List.{list_any}
+use Rattle.std.specs.Cmp.{int_eq_equiv}
+use Rattle.std.proofs.lemmas.Bool.{or_from}
+use Rattle.std.proofs.lemmas.List.Sorted.{IsPermutation-append_right, IsPermutation-middle, IsPermutation-trans}
 use Rattle.ss_events.specs.declared.entry.Entry.{Entry}
+use Rattle.ss_events.specs.HeapEntries.{HeapEntries, lines_of, all_of, notices_of, Leaves}
+use Rattle.ss_events.specs.HeapOrder.{IsHeap}
+use Rattle.ss_events.specs.Order.{comes_before}
 use Rattle.ss_events.specs.PendingList.{is_pending, without}
 use Rattle.ss_events.specs.Sifting.{IsLogarithmic}
 use Rattle.ss_events.proofs.Agendas.{found-pending, found-at, agenda-taken, in_order-taken, work_of}
 use Rattle.ss_events.proofs.Outcomes.{cancelled-pending, cancelled-none}
 use Rattle.ss_events.proofs.pending.Pending.cancel.Goals as goal
 
-pub returns-in_default-clause-refused : goal.returns-in_default-clause-refused
-returns-in_default-clause-refused c =
-    let p = c.args.self.now.list in
-    let known = found-pending c.self.inside.heap.entries p.entries (ap (λ v. v.list.entries) c.self.view_is) c.reset_counts.new.self.entries _ c.args.notice _ (ap (λ h. h.entries) c.reset_counts.ensures) (to_z-of_z c.ranges.notice) c.in_default.ensures.found in
-    cancelled-none c.args.notice p (sym known)
+or_left : (a b : Bool) → a ≡ true → (a || b) ≡ true
+or_left a b e = ap (λ x. x || b) e
+
+or_right : (a b : Bool) → b ≡ true → (a || b) ≡ true
+or_right true b e = refl
+or_right false b e = e
 
 -- the entry that went and the others are those of the heap
-all : (c : goal.After-take_out-event) → IsPermutation c.self.inside.heap.entries (c.take_out-event.ensures.taken.entry ∷ c.take_out-event.new.heap.entries)
-all c = subst (λ (es : List Entry). IsPermutation es (c.take_out-event.ensures.taken.entry ∷ c.take_out-event.new.heap.entries)) (ap (λ h. h.entries) c.reset_counts.ensures) c.take_out-event.ensures.taken.rest
+all : (c : goal.After-take_out-event) → IsPermutation (all_of c.self.inside.heap) (c.take_out-event.ensures.taken.entry ∷ all_of c.take_out-event.new.heap)
+all c = subst (λ (h : HeapEntries). IsPermutation (all_of h) (c.take_out-event.ensures.taken.entry ∷ all_of c.take_out-event.new.heap)) c.reset_counts.ensures c.take_out-event.ensures.taken.rest
+
+pub invariant_of-self : goal.invariant_of-self
+invariant_of-self c =
+    agenda-taken c.self.inside.heap.entries (all_of c.self.inside.heap) c.self.inside.schedulings c.self.invariant c.take_out-event.ensures.taken.entry (all_of c.take_out-event.new.heap) (all c)
+    c.take_out-event.new.heap.entries c.take_out-event.ensures.order
 
 -- it is pending
 pending : (c : goal.After-take_out-event) → is_pending c.args.notice c.args.self.now.list.entries ≡ true
-pending c = sym (found-pending c.self.inside.heap.entries c.args.self.now.list.entries (ap (λ v. v.list.entries) c.self.view_is) c.reset_counts.new.self.entries _ c.args.notice true (ap (λ h. h.entries) c.reset_counts.ensures) (to_z-of_z c.ranges.notice) c.in-Some.ensures.found)
+pending c =
+    let z = to_z w64 (of_z w64 c.args.notice) in
+    sym (found-pending c.self.inside.heap c.args.self.now.list.entries (ap (λ v. v.list.entries) c.self.view_is) c.reset_counts.new.self z c.args.notice true (ap all_of c.reset_counts.ensures) (to_z-of_z c.ranges.notice)
+    (sym (or_left (list_any (int_eq z) (notices_of c.reset_counts.new.self.entries)) (list_any (int_eq z) (notices_of c.reset_counts.new.self.followers)) (sym c.in-Some.ensures.found))))
 
-pub invariant_of-self-2 : goal.invariant_of-self-2
-invariant_of-self-2 c = agenda-taken c.self.inside.heap.entries c.self.inside.schedulings c.self.invariant c.take_out-event.ensures.taken.entry c.take_out-event.new.heap.entries (all c) c.take_out-event.ensures.order
-
-pub returns-clause-ok : goal.returns-clause-ok
-returns-clause-ok c =
+pub returns-in-Some-clause-ok : goal.returns-in-Some-clause-ok
+returns-in-Some-clause-ok c =
     let entry = c.take_out-event.ensures.taken.entry in
     let its = found-at c.reset_counts.new.self.entries _ c.args.notice c.in-Some.at entry (to_z-of_z c.ranges.notice) c.in-Some.ensures.place c.take_out-event.ensures.taken.there in
-    let rest = in_order-taken c.self.inside.heap.entries c.self.inside.schedulings c.self.invariant entry c.take_out-event.new.heap.entries (all c) c.args.notice its in
+    let rest = in_order-taken c.self.inside.heap.entries (all_of c.self.inside.heap) c.self.inside.schedulings c.self.invariant entry (all_of c.take_out-event.new.heap) (all c) c.args.notice its in
     cancelled-pending c.args.notice c.args.self.now.list (pending c)
     ∙ ap (λ v. Ok (record v.list { entries = without c.args.notice v.list.entries })) (sym c.self.view_is)
     ∙ ap (λ es. Ok (record { entries = es; schedulings = c.self.inside.schedulings; classes = map (λ shapes. shapes.items) c.self.inside.classes.items })) (sym rest)
 
 work : (c : goal.After-take_out-event) → IsLogarithmic (length c.args.self.now.list.entries) c.take_out-event.new.heap
-work c = work_of c.self.inside.heap.entries c.args.self.now.list.entries (ap (λ v. v.list.entries) c.self.view_is) c.reset_counts.new.self.entries c.take_out-event.new.heap (ap (λ h. h.entries) c.reset_counts.ensures) c.take_out-event.ensures.work
+work c = work_of c.self.inside.heap c.args.self.now.list.entries (ap (λ v. v.list.entries) c.self.view_is) c.reset_counts.new.self.entries c.take_out-event.new.heap (ap (λ h. h.entries) c.reset_counts.ensures) c.take_out-event.ensures.work
 
-pub returns-clause-comparisons : goal.returns-clause-comparisons
-returns-clause-comparisons c = (work c).comparisons
+pub returns-in-Some-clause-comparisons : goal.returns-in-Some-clause-comparisons
+returns-in-Some-clause-comparisons c = (work c).comparisons
 
-pub returns-clause-moves : goal.returns-clause-moves
-returns-clause-moves c = (work c).moves
+pub returns-in-Some-clause-moves : goal.returns-in-Some-clause-moves
+returns-in-Some-clause-moves c = (work c).moves
+
+-- ---- one that stood behind another
+
+-- it left
+left : (c : goal.Then-remove_behind) → Leaves (lines_of c.reset_counts.new.self) (lines_of c.remove_behind.new.self) (to_z w64 (of_z w64 c.args.notice))
+left c = c.remove_behind.ensures.left c.if-remove_behind.true
+
+same_heads : (c : goal.Then-remove_behind) → c.remove_behind.new.self.entries ≡ c.self.inside.heap.entries
+same_heads c = (left c).heads ∙ ap (λ h. h.entries) c.reset_counts.ensures
+
+-- the entry that left and the others are those of the heap
+all_behind : (c : goal.Then-remove_behind) → IsPermutation (all_of c.self.inside.heap) ((left c).entry ∷ all_of c.remove_behind.new.self)
+all_behind c =
+    let l = left c in
+    let heads = c.self.inside.heap.entries in
+    let fs = c.self.inside.heap.followers in
+    let gs = c.remove_behind.new.self.followers in
+    let rest : IsPermutation fs (l.entry ∷ gs) = subst (λ (h : HeapEntries). IsPermutation h.followers (l.entry ∷ gs)) c.reset_counts.ensures l.followers in
+    let to_front : IsPermutation (heads ++ fs) (l.entry ∷ (heads ++ gs)) =
+    IsPermutation-trans (heads ++ fs) (heads ++ l.entry ∷ gs) (l.entry ∷ (heads ++ gs)) (IsPermutation-append_right heads fs (l.entry ∷ gs) rest) (IsPermutation-middle heads l.entry gs) in
+    subst (λ (es : List Entry). IsPermutation (heads ++ fs) (l.entry ∷ (es ++ gs))) (sym (same_heads c)) to_front
+
+pub invariant_of-self-then-remove_behind : goal.invariant_of-self-then-remove_behind
+invariant_of-self-then-remove_behind c =
+    agenda-taken c.self.inside.heap.entries (all_of c.self.inside.heap) c.self.inside.schedulings c.self.invariant (left c).entry (all_of c.remove_behind.new.self) (all_behind c)
+    c.remove_behind.new.self.entries (subst (IsHeap comes_before) (sym (same_heads c)) c.self.invariant.order)
+
+pub returns-then-remove_behind-clause-ok : goal.returns-then-remove_behind-clause-ok
+returns-then-remove_behind-clause-ok c =
+    let z = to_z w64 (of_z w64 c.args.notice) in
+    let l = left c in
+    let known = found-pending c.self.inside.heap c.args.self.now.list.entries (ap (λ v. v.list.entries) c.self.view_is) c.reset_counts.new.self z c.args.notice true (ap all_of c.reset_counts.ensures) (to_z-of_z c.ranges.notice)
+    (sym (or_right (list_any (int_eq z) (notices_of c.reset_counts.new.self.entries)) (list_any (int_eq z) (notices_of c.reset_counts.new.self.followers)) (sym (sym c.if-remove_behind.true ∙ c.remove_behind.ensures.found)))) in
+    let its : int_eq c.args.notice l.entry.notice ≡ true = ap (int_eq c.args.notice) (l.noticed ∙ to_z-of_z c.ranges.notice) ∙ int_eq_equiv.refl c.args.notice in
+    let rest = in_order-taken c.self.inside.heap.entries (all_of c.self.inside.heap) c.self.inside.schedulings c.self.invariant l.entry (all_of c.remove_behind.new.self) (all_behind c) c.args.notice its in
+    cancelled-pending c.args.notice c.args.self.now.list (sym known)
+    ∙ ap (λ v. Ok (record v.list { entries = without c.args.notice v.list.entries })) (sym c.self.view_is)
+    ∙ ap (λ es. Ok (record { entries = es; schedulings = c.self.inside.schedulings; classes = map (λ shapes. shapes.items) c.self.inside.classes.items })) (sym rest)
+
+-- ---- none
+
+pub returns-clause-refused : goal.returns-clause-refused
+returns-clause-refused c =
+    let z = to_z w64 (of_z w64 c.args.notice) in
+    let known = found-pending c.self.inside.heap c.args.self.now.list.entries (ap (λ v. v.list.entries) c.self.view_is) c.reset_counts.new.self z c.args.notice false (ap all_of c.reset_counts.ensures) (to_z-of_z c.ranges.notice)
+    (sym (or_from (list_any (int_eq z) (notices_of c.reset_counts.new.self.entries)) (list_any (int_eq z) (notices_of c.reset_counts.new.self.followers)) (sym c.in_default.ensures.found) (sym c.remove_behind.ensures.found ∙ c.if-remove_behind.false))) in
+    cancelled-none c.args.notice c.args.self.now.list (sym known)

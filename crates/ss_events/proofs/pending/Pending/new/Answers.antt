@@ -1,12 +1,13 @@
 use Rattle.std.proofs.Common.{◌∙◌, [], map, ap}
+use Rattle.ss_events.specs.HeapEntries.{all_of}
 use Rattle.ss_events.specs.InOrder.{in_order}
 use Rattle.ss_events.proofs.Agendas.{agenda-none}
 use Rattle.ss_events.proofs.pending.Pending.new.Goals as goal
 
 pub invariant_of-result : goal.invariant_of-result
-invariant_of-result c = agenda-none c.new.result.entries (ap (λ h. h.entries) c.new.ensures)
+invariant_of-result c = agenda-none c.new.result.entries c.new.result.followers (ap (λ h. h.entries) c.new.ensures) (ap (λ h. h.followers) c.new.ensures)
 
 pub returns : goal.returns
 unfolding in_order
-returns c = ap (λ h. record { list = record { entries = in_order h.entries; schedulings = 0; classes = map (λ shapes. shapes.items) c.in_ok-copied.field-0.items }; comparisons = h.comparisons; moves = h.moves }) c.new.ensures
+returns c = ap (λ h. record { list = record { entries = in_order (all_of h); schedulings = 0; classes = map (λ shapes. shapes.items) c.in_ok-copied.field-0.items }; comparisons = h.comparisons; moves = h.moves }) c.new.ensures
     ∙ ap (λ shapes. record { list = record { entries = []; schedulings = 0; classes = shapes }; comparisons = 0; moves = 0 }) c.in_ok-copied.ensures

@@ -1,26 +1,37 @@
-use Rattle.std.proofs.Common.{◌<◌, ◌∷◌, ◌∙◌, List, Some, length, map, get_or, ap, subst, sym, arith, IsPermutation}
+use Rattle.std.proofs.Common.{◌<◌, ◌∷◌, ◌∙◌, Some, length, map, get_or, ap, subst, sym, arith, IsPermutation}
 use Rattle.std.specs.Cmp.{int_eq_equiv}
-use Rattle.ss_events.specs.declared.entry.Entry.{Entry}
+use Rattle.ss_events.specs.HeapEntries.{HeapEntries, all_of, AreBehind}
 use Rattle.ss_events.specs.PendingList.{without}
 use Rattle.ss_events.specs.InOrder.{in_order}
 use Rattle.ss_events.specs.Sifting.{IsLogarithmic}
 use Rattle.ss_events.proofs.Agendas.{next-none, after_next-none, next-first, after_next-first, agenda-taken, in_order-taken, work_of}
 use Rattle.ss_events.proofs.pending.Pending.take.Goals as goal
 
+-- where no head is
+none_behind : (c : goal.After-are_behind) → AreBehind c.self.inside.heap.entries c.self.inside.heap.followers
+none_behind c = subst (λ (h : HeapEntries). AreBehind h.entries h.followers) c.reset_counts.ensures c.are_behind.ensures
+
 pub returns-then-len-eq0-clause-next : goal.returns-then-len-eq0-clause-next
-returns-then-len-eq0-clause-next c = sym (next-none c.self.inside.heap.entries c.args.self.now.list (ap (λ v. v.list.entries) c.self.view_is) (omega (arith, ap (λ h. length h.entries) c.reset_counts.ensures)))
+returns-then-len-eq0-clause-next c =
+    sym (next-none c.self.inside.heap c.args.self.now.list (ap (λ v. v.list.entries) c.self.view_is) (none_behind c) (omega (arith, ap (λ h. length h.entries) c.reset_counts.ensures)))
 
 pub returns-then-len-eq0-clause-rest : goal.returns-then-len-eq0-clause-rest
 returns-then-len-eq0-clause-rest c =
-    ap (λ h. record { entries = in_order h.entries; schedulings = c.self.inside.schedulings; classes = map (λ shapes. shapes.items) c.self.inside.classes.items }) c.reset_counts.ensures
+    ap (λ h. record { entries = in_order (all_of h); schedulings = c.self.inside.schedulings; classes = map (λ shapes. shapes.items) c.self.inside.classes.items }) c.reset_counts.ensures
     ∙ ap (λ v. v.list) c.self.view_is
-    ∙ sym (after_next-none c.self.inside.heap.entries c.args.self.now.list (ap (λ v. v.list.entries) c.self.view_is) (omega (arith, ap (λ h. length h.entries) c.reset_counts.ensures)))
+    ∙ sym (after_next-none c.self.inside.heap c.args.self.now.list (ap (λ v. v.list.entries) c.self.view_is) (none_behind c) (omega (arith, ap (λ h. length h.entries) c.reset_counts.ensures)))
+
+behind : (c : goal.After-take_out) → AreBehind c.self.inside.heap.entries c.self.inside.heap.followers
+behind c = subst (λ (h : HeapEntries). AreBehind h.entries h.followers) c.reset_counts.ensures c.are_behind-2.ensures
+
+-- the entry that went and the others are those of the heap
+all : (c : goal.After-take_out) → IsPermutation (all_of c.self.inside.heap) (c.take_out.ensures.taken.entry ∷ all_of c.take_out.new.heap)
+all c = subst (λ (h : HeapEntries). IsPermutation (all_of h) (c.take_out.ensures.taken.entry ∷ all_of c.take_out.new.heap)) c.reset_counts.ensures c.take_out.ensures.taken.rest
 
 pub invariant_of-self-2 : goal.invariant_of-self-2
 invariant_of-self-2 c =
     let taken = c.take_out.ensures.taken in
-    let all = subst (λ (es : List Entry). IsPermutation es (taken.entry ∷ c.take_out.new.heap.entries)) (ap (λ h. h.entries) c.reset_counts.ensures) taken.rest in
-    agenda-taken c.self.inside.heap.entries c.self.inside.schedulings c.self.invariant taken.entry c.take_out.new.heap.entries all c.take_out.ensures.order
+    agenda-taken c.self.inside.heap.entries (all_of c.self.inside.heap) c.self.inside.schedulings c.self.invariant taken.entry (all_of c.take_out.new.heap) (all c) c.take_out.new.heap.entries c.take_out.ensures.order
 
 pub returns-clause-next : goal.returns-clause-next
 returns-clause-next c =
@@ -29,7 +40,7 @@ returns-clause-next c =
     let some : 0 < length c.self.inside.heap.entries = omega (arith, ap (λ h. length h.entries) anew) in
     let first = taken.there ∙ ap (λ h. get_or h.entries 0 taken.entry) anew in
     ap Some taken.is
-    ∙ sym (next-first c.self.inside.heap.entries c.args.self.now.list (ap (λ v. v.list.entries) c.self.view_is) c.self.inside.schedulings c.self.invariant taken.entry some first)
+    ∙ sym (next-first c.self.inside.heap c.args.self.now.list (ap (λ v. v.list.entries) c.self.view_is) (behind c) c.self.inside.schedulings c.self.invariant taken.entry some first)
 
 pub returns-clause-rest : goal.returns-clause-rest
 returns-clause-rest c =
@@ -38,14 +49,13 @@ returns-clause-rest c =
     let entry = taken.entry in
     let some : 0 < length c.self.inside.heap.entries = omega (arith, ap (λ h. length h.entries) anew) in
     let first = taken.there ∙ ap (λ h. get_or h.entries 0 entry) anew in
-    let all = subst (λ (es : List Entry). IsPermutation es (entry ∷ c.take_out.new.heap.entries)) (ap (λ h. h.entries) anew) taken.rest in
-    let rest = in_order-taken c.self.inside.heap.entries c.self.inside.schedulings c.self.invariant entry c.take_out.new.heap.entries all entry.notice (int_eq_equiv.refl entry.notice) in
+    let rest = in_order-taken c.self.inside.heap.entries (all_of c.self.inside.heap) c.self.inside.schedulings c.self.invariant entry (all_of c.take_out.new.heap) (all c) entry.notice (int_eq_equiv.refl entry.notice) in
     ap (λ es. record { entries = es; schedulings = c.self.inside.schedulings; classes = map (λ shapes. shapes.items) c.self.inside.classes.items }) rest
     ∙ ap (λ v. record v.list { entries = without entry.notice v.list.entries }) c.self.view_is
-    ∙ sym (after_next-first c.self.inside.heap.entries c.args.self.now.list (ap (λ v. v.list.entries) c.self.view_is) c.self.inside.schedulings c.self.invariant entry some first)
+    ∙ sym (after_next-first c.self.inside.heap c.args.self.now.list (ap (λ v. v.list.entries) c.self.view_is) (behind c) c.self.inside.schedulings c.self.invariant entry some first)
 
 work : (c : goal.After-take_out) → IsLogarithmic (length c.args.self.now.list.entries) c.take_out.new.heap
-work c = work_of c.self.inside.heap.entries c.args.self.now.list.entries (ap (λ v. v.list.entries) c.self.view_is) c.reset_counts.new.self.entries c.take_out.new.heap (ap (λ h. h.entries) c.reset_counts.ensures) c.take_out.ensures.work
+work c = work_of c.self.inside.heap c.args.self.now.list.entries (ap (λ v. v.list.entries) c.self.view_is) c.reset_counts.new.self.entries c.take_out.new.heap (ap (λ h. h.entries) c.reset_counts.ensures) c.take_out.ensures.work
 
 pub returns-clause-comparisons : goal.returns-clause-comparisons
 returns-clause-comparisons c = (work c).comparisons

@@ -6,11 +6,11 @@ use Rattle.ss_events.proofs.entry.heap.Heap.find.Goals as goal
 pub returns-clause-place : goal.returns-clause-place
 returns-clause-place c =
     c.find.ensures.place
-    ∙ (λ i. position (int_eq (to_z-of_z c.ranges.notice i)) (notices_of c.self.inside.entries))
+    ∙ (λ i. position (int_eq (to_z-of_z c.ranges.notice i)) (notices_of c.self.inside.entries.heads))
     ∙ ap (λ h. position (int_eq c.args.notice) (notices_of h.entries)) c.self.view_is
 
 pub returns-clause-found : goal.returns-clause-found
 returns-clause-found c =
     c.find.ensures.found
-    ∙ (λ i. list_any (int_eq (to_z-of_z c.ranges.notice i)) (notices_of c.self.inside.entries))
+    ∙ (λ i. list_any (int_eq (to_z-of_z c.ranges.notice i)) (notices_of c.self.inside.entries.heads))
     ∙ ap (λ h. list_any (int_eq c.args.notice) (notices_of h.entries)) c.self.view_is

@@ -8,7 +8,7 @@ use Rattle.ss_events.proofs.entry.heap.Heap.first_of_four.Goals as goal
 
 pub returns-clause-first : goal.returns-clause-first
 returns-clause-first c =
-    let xs = c.self.inside.entries in
+    let xs = c.self.inside.entries.heads in
     let from = c.args.from in
     let left = c.first_of-left in
     let right = c.first_of-right in

@@ -1,54 +1,74 @@
-use Rattle.std.proofs.Common.{◌≡◌, ◌∙◌, length, int_eq, to_z-of_z, sym, ap}
-use Rattle.ss_events.specs.HeapEntries.{notices_of}
-use Rattle.ss_events.specs.Slots.{slots_in, marks_in, marks_by_slot, with_notices, kept, place_of, first_guess, second_guess}
-use Rattle.std.specs.List.{position, list_any}
-use Rattle.ss_events.proofs.Standing.{marks_long, told_first, told_second}
-use Rattle.ss_events.proofs.Kept.{notices-entries, long-marks, same_place}
+use Rattle.std.proofs.Common.{to_z, of_z, w64, to_z-of_z, ◌≡◌, ◌≢◌, ◌<◌, ◌≤◌, ◌∙◌, false, ℕ, ℤ, List, length, Some, int_eq, position, is_some, sym, subst, ap, ⊎_elim, arith}
+use Rattle.std.specs.List.{list_any}
+use Rattle.std.proofs.lemmas.List.{get_or_default}
+use Rattle.ss_events.specs.declared.entry.places.Slot.{Slot}
+use Rattle.ss_events.specs.HeapEntries.{Lines, notices_of}
+use Rattle.ss_events.specs.Slots.{kept, no_kept, behind, IsTaken}
+use Rattle.ss_events.proofs.Seen.{position_there, head_has, no_head_has, position_nowhere, notice-free}
 use Rattle.ss_events.proofs.entry.places.Places.find.Goals as goal
+use Rattle.ss_events.proofs.entry.places.Places.find.Goals.{After-index, After-from_residual}
 
-pub returns-then-is_some-clause-place : goal.returns-then-is_some-clause-place
-returns-then-is_some-clause-place c =
-    let first : c.place_of-found.result ≡ place_of (kept c.self.inside.stands.items c.self.inside.places.items c.self.inside.notices.items c.self.inside.entries.items) c.self.inside.places.items (length (marks_in c.self.inside.count c.self.inside.stands.items)) (first_guess c.self.inside.directory c.args.notice) c.args.notice = c.place_of-found.ensures
-    ∙ (λ i. place_of (with_notices (c.deref.ensures.value i)) (c.deref-2.ensures.value i) (sym (marks_long c.self.inside.count c.self.inside.stands.items c.self.invariant.standing.few) i) (c.first_guess-first.ensures i) (to_z-of_z c.ranges.notice i))
-    ∙ (λ i. place_of (with_notices c.self.inside.notices.items) c.self.inside.places.items (length (marks_in c.self.inside.count c.self.inside.stands.items)) (first_guess c.self.inside.directory (to_z-of_z c.ranges.notice i)) c.args.notice)
-    ∙ same_place (kept c.self.inside.stands.items c.self.inside.places.items c.self.inside.notices.items c.self.inside.entries.items) c.self.inside.notices.items c.self.inside.places.items (length (marks_in c.self.inside.count c.self.inside.stands.items)) (first_guess c.self.inside.directory c.args.notice) c.args.notice (notices-entries (marks_by_slot c.self.inside.stands.items c.self.inside.places.items) c.self.inside.notices.items c.self.inside.entries.items (c.self.invariant.noticed ∙ sym (long-marks c.self.inside.stands.items c.self.inside.places.items)) (c.self.invariant.whole ∙ sym (long-marks c.self.inside.stands.items c.self.inside.places.items))) in
-    (told_first (kept c.self.inside.stands.items c.self.inside.places.items c.self.inside.notices.items c.self.inside.entries.items) (slots_in c.self.inside.stands.items) c.self.inside.places.items (marks_in c.self.inside.count c.self.inside.stands.items) c.self.inside.directory c.self.invariant.standing.placed
-    c.args.notice c.place_of-found.result first (sym c.is_some.ensures ∙ c.if-is_some.true)).0
-    ∙ ap (λ l. position (int_eq c.args.notice) (notices_of l)) c.self.view_is
+-- no slot has the notice
+none : (c : After-from_residual) → (s : ℕ) → s < length c.self.inside.slots.items → IsTaken c.self.inside.count (kept c.self.inside.slots.items s) → (kept c.self.inside.slots.items s).notice ≢ c.args.notice
+none c =
+    subst (λ (n : ℤ). (s : ℕ) → s < length c.self.inside.slots.items → IsTaken c.self.inside.count (kept c.self.inside.slots.items s) → (kept c.self.inside.slots.items s).notice ≢ n) (to_z-of_z c.ranges.notice)
+    (subst (λ (xs : List Slot). (s : ℕ) → s < length xs → IsTaken c.self.inside.count (kept xs s) → (kept xs s).notice ≢ to_z w64 (of_z w64 c.args.notice)) c.deref.ensures.value c.in_err-slot.ensures)
 
-pub returns-then-is_some-clause-found : goal.returns-then-is_some-clause-found
-returns-then-is_some-clause-found c =
-    let first : c.place_of-found.result ≡ place_of (kept c.self.inside.stands.items c.self.inside.places.items c.self.inside.notices.items c.self.inside.entries.items) c.self.inside.places.items (length (marks_in c.self.inside.count c.self.inside.stands.items)) (first_guess c.self.inside.directory c.args.notice) c.args.notice = c.place_of-found.ensures
-    ∙ (λ i. place_of (with_notices (c.deref.ensures.value i)) (c.deref-2.ensures.value i) (sym (marks_long c.self.inside.count c.self.inside.stands.items c.self.invariant.standing.few) i) (c.first_guess-first.ensures i) (to_z-of_z c.ranges.notice i))
-    ∙ (λ i. place_of (with_notices c.self.inside.notices.items) c.self.inside.places.items (length (marks_in c.self.inside.count c.self.inside.stands.items)) (first_guess c.self.inside.directory (to_z-of_z c.ranges.notice i)) c.args.notice)
-    ∙ same_place (kept c.self.inside.stands.items c.self.inside.places.items c.self.inside.notices.items c.self.inside.entries.items) c.self.inside.notices.items c.self.inside.places.items (length (marks_in c.self.inside.count c.self.inside.stands.items)) (first_guess c.self.inside.directory c.args.notice) c.args.notice (notices-entries (marks_by_slot c.self.inside.stands.items c.self.inside.places.items) c.self.inside.notices.items c.self.inside.entries.items (c.self.invariant.noticed ∙ sym (long-marks c.self.inside.stands.items c.self.inside.places.items)) (c.self.invariant.whole ∙ sym (long-marks c.self.inside.stands.items c.self.inside.places.items))) in
-    (told_first (kept c.self.inside.stands.items c.self.inside.places.items c.self.inside.notices.items c.self.inside.entries.items) (slots_in c.self.inside.stands.items) c.self.inside.places.items (marks_in c.self.inside.count c.self.inside.stands.items) c.self.inside.directory c.self.invariant.standing.placed
-    c.args.notice c.place_of-found.result first (sym c.is_some.ensures ∙ c.if-is_some.true)).1
-    ∙ ap (λ l. list_any (int_eq c.args.notice) (notices_of l)) c.self.view_is
+nowhere : (c : After-from_residual) → list_any (int_eq c.args.notice) (notices_of c.args.self.now.heads) ≡ false
+nowhere c =
+    ap (λ (l : Lines). list_any (int_eq c.args.notice) (notices_of l.heads)) (sym c.self.view_is)
+    ∙ (notice-free c.self.inside.count c.self.inside.free c.self.inside.slots.items c.self.inside.entries.items c.self.inside.stands.items c.self.inside.directory c.self.invariant c.args.notice (none c)).0
 
--- what the first slot that is named told
-first : (c : goal.After-place_of) → c.place_of-found.result ≡ place_of (kept c.self.inside.stands.items c.self.inside.places.items c.self.inside.notices.items c.self.inside.entries.items) c.self.inside.places.items (length (marks_in c.self.inside.count c.self.inside.stands.items)) (first_guess c.self.inside.directory c.args.notice) c.args.notice
-first c = c.place_of-found.ensures
-    ∙ (λ i. place_of (with_notices (c.deref.ensures.value i)) (c.deref-2.ensures.value i) (sym (marks_long c.self.inside.count c.self.inside.stands.items c.self.invariant.standing.few) i) (c.first_guess-first.ensures i) (to_z-of_z c.ranges.notice i))
-    ∙ (λ i. place_of (with_notices c.self.inside.notices.items) c.self.inside.places.items (length (marks_in c.self.inside.count c.self.inside.stands.items)) (first_guess c.self.inside.directory (to_z-of_z c.ranges.notice i)) c.args.notice)
-    ∙ same_place (kept c.self.inside.stands.items c.self.inside.places.items c.self.inside.notices.items c.self.inside.entries.items) c.self.inside.notices.items c.self.inside.places.items (length (marks_in c.self.inside.count c.self.inside.stands.items)) (first_guess c.self.inside.directory c.args.notice) c.args.notice (notices-entries (marks_by_slot c.self.inside.stands.items c.self.inside.places.items) c.self.inside.notices.items c.self.inside.entries.items (c.self.invariant.noticed ∙ sym (long-marks c.self.inside.stands.items c.self.inside.places.items)) (c.self.invariant.whole ∙ sym (long-marks c.self.inside.stands.items c.self.inside.places.items)))
+pub returns-in_err-slot-clause-place : goal.returns-in_err-slot-clause-place
+returns-in_err-slot-clause-place c =
+    c.from_residual.ensures
+    ∙ sym (position_nowhere c.self.inside.count c.self.inside.free c.self.inside.slots.items c.self.inside.entries.items c.self.inside.stands.items c.self.inside.directory c.self.invariant c.args.notice
+    (notice-free c.self.inside.count c.self.inside.free c.self.inside.slots.items c.self.inside.entries.items c.self.inside.stands.items c.self.inside.directory c.self.invariant c.args.notice (none c)).0)
+    ∙ ap (λ (l : Lines). position (int_eq c.args.notice) (notices_of l.heads)) c.self.view_is
 
--- and the second
-second : (c : goal.After-place_of) → c.place_of.result ≡ place_of (kept c.self.inside.stands.items c.self.inside.places.items c.self.inside.notices.items c.self.inside.entries.items) c.self.inside.places.items (length (marks_in c.self.inside.count c.self.inside.stands.items)) (second_guess c.self.inside.directory c.args.notice) c.args.notice
-second c =
-    c.place_of.ensures
-    ∙ (λ i. place_of (with_notices (c.deref-3.ensures.value i)) (c.deref-4.ensures.value i) (sym (marks_long c.self.inside.count c.self.inside.stands.items c.self.invariant.standing.few) i) (c.second_guess-second.ensures i) (to_z-of_z c.ranges.notice i))
-    ∙ (λ i. place_of (with_notices c.self.inside.notices.items) c.self.inside.places.items (length (marks_in c.self.inside.count c.self.inside.stands.items)) (second_guess c.self.inside.directory (to_z-of_z c.ranges.notice i)) c.args.notice)
-    ∙ same_place (kept c.self.inside.stands.items c.self.inside.places.items c.self.inside.notices.items c.self.inside.entries.items) c.self.inside.notices.items c.self.inside.places.items (length (marks_in c.self.inside.count c.self.inside.stands.items)) (second_guess c.self.inside.directory c.args.notice) c.args.notice (notices-entries (marks_by_slot c.self.inside.stands.items c.self.inside.places.items) c.self.inside.notices.items c.self.inside.entries.items (c.self.invariant.noticed ∙ sym (long-marks c.self.inside.stands.items c.self.inside.places.items)) (c.self.invariant.whole ∙ sym (long-marks c.self.inside.stands.items c.self.inside.places.items)))
+pub returns-in_err-slot-clause-found : goal.returns-in_err-slot-clause-found
+returns-in_err-slot-clause-found c = ap is_some c.from_residual.ensures ∙ sym (nowhere c)
 
-pub returns-clause-place : goal.returns-clause-place
-returns-clause-place c =
-    (told_second (kept c.self.inside.stands.items c.self.inside.places.items c.self.inside.notices.items c.self.inside.entries.items) (slots_in c.self.inside.stands.items) c.self.inside.places.items (marks_in c.self.inside.count c.self.inside.stands.items) c.self.inside.directory c.self.invariant.standing.placed
-    c.args.notice c.place_of-found.result c.place_of.result (first c) (sym c.is_some.ensures ∙ c.if-is_some.false) (second c)).0
-    ∙ ap (λ l. position (int_eq c.args.notice) (notices_of l)) c.self.view_is
+-- the slot that was found
+held : (c : After-index) → (c.in_ok-slot.slot < length c.self.inside.slots.items) × IsTaken c.self.inside.count (kept c.self.inside.slots.items c.in_ok-slot.slot) × ((kept c.self.inside.slots.items c.in_ok-slot.slot).notice ≡ c.args.notice)
+held c =
+    subst (λ (n : ℤ). (c.in_ok-slot.slot < length c.self.inside.slots.items) × IsTaken c.self.inside.count (kept c.self.inside.slots.items c.in_ok-slot.slot) × ((kept c.self.inside.slots.items c.in_ok-slot.slot).notice ≡ n)) (to_z-of_z c.ranges.notice)
+    (subst (λ (xs : List Slot). (c.in_ok-slot.slot < length xs) × IsTaken c.self.inside.count (kept xs c.in_ok-slot.slot) × ((kept xs c.in_ok-slot.slot).notice ≡ to_z w64 (of_z w64 c.args.notice))) c.deref.ensures.value c.in_ok-slot.ensures)
 
-pub returns-clause-found : goal.returns-clause-found
-returns-clause-found c =
-    (told_second (kept c.self.inside.stands.items c.self.inside.places.items c.self.inside.notices.items c.self.inside.entries.items) (slots_in c.self.inside.stands.items) c.self.inside.places.items (marks_in c.self.inside.count c.self.inside.stands.items) c.self.inside.directory c.self.invariant.standing.placed
-    c.args.notice c.place_of-found.result c.place_of.result (first c) (sym c.is_some.ensures ∙ c.if-is_some.false) (second c)).1
-    ∙ ap (λ l. list_any (int_eq c.args.notice) (notices_of l)) c.self.view_is
+-- where it stands
+place : (c : After-index) → c.index.result.now.at ≡ (kept c.self.inside.slots.items c.in_ok-slot.slot).at
+place c = ap (λ (x : Slot). x.at) (c.index.ensures ∙ get_or_default c.self.inside.slots.items c.in_ok-slot.slot c.index.result.now no_kept (held c).0)
+
+pub returns-then-at-self-clause-place : goal.returns-then-at-self-clause-place
+returns-then-at-self-clause-place c =
+    let e = (goal.at.returns-then-at-self-clause-place c).After-index in
+    ap (λ n. Some n) (place e)
+    ∙ sym (position_there c.self.inside.count c.self.inside.free c.self.inside.slots.items c.self.inside.entries.items c.self.inside.stands.items c.self.inside.directory c.self.invariant c.args.notice
+    c.in_ok-slot.slot (held e).0 (held e).2 (omega (arith, place e, c.if-at-self.true)))
+    ∙ ap (λ (l : Lines). position (int_eq c.args.notice) (notices_of l.heads)) c.self.view_is
+
+pub returns-then-at-self-clause-found : goal.returns-then-at-self-clause-found
+returns-then-at-self-clause-found c =
+    let e = (goal.at.returns-then-at-self-clause-found c).After-index in
+    sym (head_has c.self.inside.count c.self.inside.free c.self.inside.slots.items c.self.inside.entries.items c.self.inside.stands.items c.self.inside.directory c.self.invariant c.args.notice
+    c.in_ok-slot.slot (held e).0 (held e).2 (omega (arith, place e, c.if-at-self.true)))
+    ∙ ap (λ (l : Lines). list_any (int_eq c.args.notice) (notices_of l.heads)) c.self.view_is
+
+-- no head has the notice, where its slot stands in no place
+apart : (c : After-index) → c.self.inside.count ≤ c.index.result.now.at → behind ≤ (kept c.self.inside.slots.items c.in_ok-slot.slot).at
+apart c past = ⊎_elim (λ placed. absurd (omega (arith, past, placed, place c))) (λ it. it) (held c).1
+
+pub returns-else-at-self-clause-place : goal.returns-else-at-self-clause-place
+returns-else-at-self-clause-place c =
+    let e = (goal.at.returns-else-at-self-clause-place c).After-index in
+    sym (position_nowhere c.self.inside.count c.self.inside.free c.self.inside.slots.items c.self.inside.entries.items c.self.inside.stands.items c.self.inside.directory c.self.invariant c.args.notice
+    (no_head_has c.self.inside.count c.self.inside.free c.self.inside.slots.items c.self.inside.entries.items c.self.inside.stands.items c.self.inside.directory c.self.invariant c.args.notice
+    c.in_ok-slot.slot (held e).0 (held e).2 (apart e c.if-at-self.false)))
+    ∙ ap (λ (l : Lines). position (int_eq c.args.notice) (notices_of l.heads)) c.self.view_is
+
+pub returns-else-at-self-clause-found : goal.returns-else-at-self-clause-found
+returns-else-at-self-clause-found c =
+    let e = (goal.at.returns-else-at-self-clause-found c).After-index in
+    sym (no_head_has c.self.inside.count c.self.inside.free c.self.inside.slots.items c.self.inside.entries.items c.self.inside.stands.items c.self.inside.directory c.self.invariant c.args.notice
+    c.in_ok-slot.slot (held e).0 (held e).2 (apart e c.if-at-self.false))
+    ∙ ap (λ (l : Lines). list_any (int_eq c.args.notice) (notices_of l.heads)) c.self.view_is

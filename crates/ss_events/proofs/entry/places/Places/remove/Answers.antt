@@ -1,162 +1,180 @@
-use Rattle.std.proofs.Common.{rules, to_z, of_z, w64, ◌≡◌, ◌+◌, ◌-◌, ◌<◌, ◌∙◌, pos, length, get_or, set, take, swap, refl, subst, sym, ap, arith}
-use Rattle.std.proofs.lemmas.List.{get_or_default, length-map}
+use Rattle.std.proofs.Common.{rules, to_z, of_z, w64, ◌≡◌, ◌≢◌, ◌+◌, ◌-◌, ◌<◌, ◌∙◌, cond, length, swap, set, subst, sym, ap, arith}
 use Rattle.std.proofs.lemmas.List.Edits.{length-swap}
-use Rattle.std.specs.List.{swap_remove}
+use Rattle.std.specs.Prelude.{◌==◌}
 use Rattle.std.specs.Vec.{with_items}
-use Rattle.ss_events.specs.declared.entry.Entry.{Entry}
-use Rattle.ss_events.specs.declared.entry.Mark.{Mark}
+use Rattle.ss_events.specs.declared.entry.places.Slot.{Slot}
 use Rattle.ss_events.specs.declared.entry.places.Stand.{Stand}
-use Rattle.ss_events.specs.Slots.{slots_in, marks_in, kept, by_place, mark_of, no_entry, exchanged, AreStanding}
-use Rattle.ss_events.proofs.Slotted.{written, length-exchanged}
-use Rattle.ss_events.proofs.Standing.{placed-removed, seen-removed, seen_long, slot_in, slot_of, slots_swapped, marks_fewer, marks_long}
-use Rattle.ss_events.proofs.Held.{kept-exchanged, kept-cleared, as_many, long_held, notice_held, slot_read, mark_read, now_at}
+use Rattle.ss_events.specs.HeapEntries.{Lines, Removes}
+use Rattle.ss_events.specs.Slots.{kept, stand, no_entry, no_slot, untold, at_put, exchanged, Leads}
+use Rattle.ss_events.proofs.Lists.{written}
+use Rattle.ss_events.proofs.Lines.{long_heads}
+use Rattle.ss_events.proofs.Swapped.{length-exchanged}
+use Rattle.ss_events.proofs.Seen.{stand_whole}
+use Rattle.ss_events.proofs.Removed.{freed, room_spare, raised, raised_long, raised_slots, raised_slots_long, advanced, advanced_stood, advanced_long, stood_long, Gone, gone_like, gone-advanced, gone-dropped, lines, seen, out, out_there, out_slot, out_time, out_notice, read_stand, read_head}
 use Rattle.ss_events.proofs.entry.places.Places.remove.Goals as goal
-use Rattle.ss_events.proofs.entry.places.Places.remove.Goals.{After-forget}
+use Rattle.ss_events.proofs.entry.places.Places.remove.Goals.{After-forget, then-next, else-next}
 
-count : (c : After-forget) → length c.args.self.now ≡ length (marks_in c.self.inside.count c.self.inside.stands.items)
-count c =
-    sym (ap length c.self.view_is)
-    ∙ seen_long (kept c.self.inside.stands.items c.self.inside.places.items c.self.inside.notices.items c.self.inside.entries.items) (slots_in c.self.inside.stands.items) c.self.inside.places.items (marks_in c.self.inside.count c.self.inside.stands.items) c.self.inside.directory c.self.invariant.standing.placed
+pub release-requires-clause-place : goal.release-requires-clause-place
+release-requires-clause-place c =
+    let n = c.self.inside.count in
+    let f = c.self.inside.free in
+    let xs = c.self.inside.slots.items in
+    let ws = c.self.inside.entries.items in
+    let ss = c.self.inside.stands.items in
+    let d = c.self.inside.directory in
+    let k = c.args.at in
+    let h = c.self.invariant in
+    let k_in : k < n = omega (arith, c.requires, ap (λ (l : Lines). length l.heads) c.self.view_is, long_heads n xs ws ss (omega (arith, h.few))) in
+    let x_is = read_head n f xs ws ss d h k k_in c.index-stand.result.now c.index.result.now c.index-stand.ensures c.index.ensures in
+    let room = room_spare n f xs ws ss d h k k_in (λ none. c.if-next.true (ap (λ (x : Slot). x.next) x_is ∙ none)) in
+    omega (arith, room, ap length c.deref_mut-then-next-2.ensures.value, c.deref_mut-then-next-2.ensures.len, c.self.inside.stands.ok.0)
 
-at_in : (c : After-forget) → c.args.at < length (marks_in c.self.inside.count c.self.inside.stands.items)
-at_in c = omega (arith, c.requires, count c)
+pub release-requires-clause-slot : goal.release-requires-clause-slot
+release-requires-clause-slot c =
+    let n = c.self.inside.count in
+    let f = c.self.inside.free in
+    let xs = c.self.inside.slots.items in
+    let ws = c.self.inside.entries.items in
+    let ss = c.self.inside.stands.items in
+    let d = c.self.inside.directory in
+    let k = c.args.at in
+    let h = c.self.invariant in
+    let k_in : k < n = omega (arith, c.requires, ap (λ (l : Lines). length l.heads) c.self.view_is, long_heads n xs ws ss (omega (arith, h.few))) in
+    let y_is = ap (λ (y : Stand). y.slot) (read_stand n f xs ws ss d h k k_in c.index-stand.result.now c.index-stand.ensures) in
+    omega (arith, y_is, out_slot n f xs ws ss d h k k_in, c.deref_mut-then-next-3.ensures.len, c.self.inside.slots.ok.0)
 
-at_before : (c : After-forget) → c.args.at < c.self.inside.count
-at_before c = omega (arith, at_in c, marks_long c.self.inside.count c.self.inside.stands.items c.self.invariant.standing.few)
+pub clear-requires : goal.clear-requires
+clear-requires c = λ untold_there.
+    let n = c.self.inside.count in
+    let f = c.self.inside.free in
+    let xs = c.self.inside.slots.items in
+    let ws = c.self.inside.entries.items in
+    let ss = c.self.inside.stands.items in
+    let d = c.self.inside.directory in
+    let k = c.args.at in
+    let h = c.self.invariant in
+    let k_in : k < n = omega (arith, c.requires, ap (λ (l : Lines). length l.heads) c.self.view_is, long_heads n xs ws ss (omega (arith, h.few))) in
+    let y = c.index-stand.result.now in
+    omega (arith, stand_whole n f xs ws ss d h k k_in y (read_stand n f xs ws ss d h k k_in y c.index-stand.ensures) untold_there, c.self.inside.entries.ok.0)
 
--- one fewer
-fewer : (c : After-forget) → c.self.inside.count ≡ (c.self.inside.count - 1) + 1
-fewer c = omega (arith, at_before c)
-
-long : (c : After-forget) → length (marks_in c.self.inside.count c.self.inside.stands.items) ≡ (c.self.inside.count - 1) + 1
-long c = marks_long c.self.inside.count c.self.inside.stands.items c.self.invariant.standing.few ∙ fewer c
-
-at_stand : (c : After-forget) → c.args.at < length c.self.inside.stands.items
-at_stand c = omega (arith, at_before c, c.self.invariant.standing.few)
-
-within : (c : After-forget) → c.args.at < length (slots_in c.self.inside.stands.items)
-within c = omega (arith, at_stand c, length-map c.self.inside.stands.items (λ (s : Stand). s.slot))
-
-slot : (c : After-forget) → c.index-stand.result.now.slot ≡ get_or (slots_in c.self.inside.stands.items) c.args.at 0
-slot c = ap (λ (s : Stand). s.slot) c.index-stand.ensures ∙ sym (slot_of c.self.inside.stands.items c.args.at c.index-stand.result.now (at_stand c))
-
-slot_within : (c : After-forget) → c.index-stand.result.now.slot < length (kept c.self.inside.stands.items c.self.inside.places.items c.self.inside.notices.items c.self.inside.entries.items)
-slot_within c =
+k_in : (c : After-forget) → c.args.at < c.self.inside.count
+k_in c =
     omega (
       arith,
-      slot c,
-      slot_in (kept c.self.inside.stands.items c.self.inside.places.items c.self.inside.notices.items c.self.inside.entries.items) (slots_in c.self.inside.stands.items) c.self.inside.places.items (marks_in c.self.inside.count c.self.inside.stands.items) c.self.inside.directory c.self.invariant.standing.placed c.args.at (within c),
+      c.requires,
+      ap (λ (l : Lines). length l.heads) c.self.view_is,
+      long_heads c.self.inside.count c.self.inside.slots.items c.self.inside.entries.items c.self.inside.stands.items (omega (arith, c.self.invariant.few)),
     )
 
-stands : (c : After-forget) → (with_items c.self.inside.stands c.exchange.new.stands).items ≡ swap c.self.inside.stands.items c.args.at (c.self.inside.count - 1)
-stands c =
-    written c.self.inside.stands c.exchange.new.stands (swap c.self.inside.stands.items c.args.at (c.self.inside.count - 1))
-    (c.exchange.ensures.stands ∙ ap (λ l. swap l c.args.at (c.self.inside.count - 1)) c.deref_mut.ensures.value)
-    (length-swap c.self.inside.stands.items c.args.at (c.self.inside.count - 1) ∙ sym c.self.inside.stands.ok.0)
+its_stand : (c : After-forget) → c.index-stand.result.now ≡ stand c.self.inside.stands.items c.args.at
+its_stand c =
+    read_stand c.self.inside.count c.self.inside.free c.self.inside.slots.items c.self.inside.entries.items c.self.inside.stands.items c.self.inside.directory c.self.invariant c.args.at (k_in c) c.index-stand.result.now c.index-stand.ensures
 
-slots : (c : After-forget) → slots_in (with_items c.self.inside.stands c.exchange.new.stands).items ≡ swap (slots_in c.self.inside.stands.items) c.args.at (c.self.inside.count - 1)
-slots c = ap slots_in (stands c) ∙ slots_swapped c.self.inside.stands.items c.args.at (c.self.inside.count - 1)
+its_slot : (c : After-forget) → c.index.result.now ≡ kept c.self.inside.slots.items (stand c.self.inside.stands.items c.args.at).slot
+its_slot c =
+    read_head c.self.inside.count c.self.inside.free c.self.inside.slots.items c.self.inside.entries.items c.self.inside.stands.items c.self.inside.directory c.self.invariant c.args.at (k_in c)
+    c.index-stand.result.now c.index.result.now c.index-stand.ensures c.index.ensures
 
-places : (c : After-forget)
-    → (with_items c.self.inside.places c.exchange.new.places).items ≡ exchanged (slots_in c.self.inside.stands.items) c.self.inside.places.items c.args.at (c.self.inside.count - 1)
-places c =
-    written c.self.inside.places c.exchange.new.places (exchanged (slots_in c.self.inside.stands.items) c.self.inside.places.items c.args.at (c.self.inside.count - 1))
-    (c.exchange.ensures.places ∙ (λ i. exchanged (slots_in (c.deref_mut.ensures.value i)) (c.deref_mut-2.ensures.value i) c.args.at (c.self.inside.count - 1)))
-    (length-exchanged (slots_in c.self.inside.stands.items) c.self.inside.places.items c.args.at (c.self.inside.count - 1) ∙ sym c.self.inside.places.ok.0)
+-- its notice
+noticed : (c : After-forget) → to_z w64 (of_z w64 c.index.result.now.notice) ≡ (kept c.self.inside.slots.items (stand c.self.inside.stands.items c.args.at).slot).notice
+noticed c =
+    let same : to_z w64 (of_z w64 c.index.result.now.notice) ≡ c.index.result.now.notice = search rules in
+    same ∙ ap (λ (x : Slot). x.notice) (its_slot c)
 
--- the entry that goes out
-abbrev entry : (c : After-forget) → Entry
-entry c = get_or (kept c.self.inside.stands.items c.self.inside.places.items c.self.inside.notices.items c.self.inside.entries.items) c.index-stand.result.now.slot no_entry
-
-at_now : (c : After-forget) → c.args.at < length c.args.self.now
-at_now c = omega (arith, c.requires)
-
-marks : (c : After-forget)
-    → marks_in (c.self.inside.count - 1) (with_items c.self.inside.stands c.exchange.new.stands).items
-    ≡ swap_remove (marks_in c.self.inside.count c.self.inside.stands.items) c.args.at (mark_of (entry c))
-marks c =
+-- what there is then
+gone : (c : After-forget)
+    → Gone (seen c.self.inside.count c.self.inside.free c.self.inside.slots.items c.self.inside.entries.items c.self.inside.stands.items c.self.inside.directory c.self.invariant c.args.at (k_in c)) c.args.at
+    (out c.self.inside.count c.self.inside.free c.self.inside.slots.items c.self.inside.entries.items c.self.inside.stands.items c.self.inside.directory c.self.invariant c.args.at (k_in c))
+    c.if-next.self-inside.count c.if-next.self-inside.free c.if-next.self-inside.slots.items c.if-next.self-inside.entries.items c.if-next.self-inside.stands.items c.forget.new.self
+gone c =
+    let n = c.self.inside.count in
+    let f = c.self.inside.free in
+    let xs = c.self.inside.slots.items in
+    let ws = c.self.inside.entries.items in
     let ss = c.self.inside.stands.items in
-    let n = c.self.inside.count - 1 in
-    let t = mark_of (entry c) in
-    ap (marks_in n) (stands c)
-    ∙ marks_fewer n ss c.args.at t (omega (arith, fewer c, c.self.invariant.standing.few)) (omega (arith, fewer c, at_before c))
-    ∙ ap (λ m. swap_remove (marks_in m ss) c.args.at t) (sym (fewer c))
-
--- as many as before
-long_then : (c : After-forget) → length (with_items c.self.inside.places c.exchange.new.places).items ≡ length c.self.inside.places.items
-long_then c = ap length (places c) ∙ length-exchanged (slots_in c.self.inside.stands.items) c.self.inside.places.items c.args.at (c.self.inside.count - 1)
-
--- what stands in the slot then, and what is held
-cleared : (c : After-forget)
-    → (x : Entry) × (kept c.self.inside.stands.items c.self.inside.places.items c.self.inside.notices.items c.clear.new.entries.items ≡ set (kept c.self.inside.stands.items c.self.inside.places.items c.self.inside.notices.items c.self.inside.entries.items) c.index-stand.result.now.slot x)
-cleared c = kept-cleared c.self.inside.stands.items c.self.inside.places.items c.self.inside.notices.items c.self.inside.entries.items c.clear.new.entries.items c.index-stand.result.now.slot c.index-stand.result.now.mark.order c.clear.ensures
-
-held_then : (c : After-forget)
-    → kept (with_items c.self.inside.stands c.exchange.new.stands).items (with_items c.self.inside.places c.exchange.new.places).items c.self.inside.notices.items c.clear.new.entries.items
-    ≡ set (kept c.self.inside.stands.items c.self.inside.places.items c.self.inside.notices.items c.self.inside.entries.items) c.index-stand.result.now.slot (cleared c).0
-held_then c =
-    kept-exchanged c.self.inside.stands.items (with_items c.self.inside.stands c.exchange.new.stands).items c.self.inside.places.items (with_items c.self.inside.places c.exchange.new.places).items c.self.inside.notices.items c.clear.new.entries.items
-    c.args.at (c.self.inside.count - 1) c.self.invariant.standing.placed.paired
-    (at_stand c) (omega (arith, fewer c, at_before c, c.self.invariant.standing.few))
-    (stands c) (places c)
-    ∙ (cleared c).1
-
-its_notice : (c : After-forget) → to_z w64 (of_z w64 c.index-notice.result.now) ≡ (entry c).notice
-its_notice c =
-    let same : to_z w64 (of_z w64 c.index-notice.result.now) ≡ c.index-notice.result.now = search rules in
-    same ∙ c.index-notice.ensures
-    ∙ get_or_default c.self.inside.notices.items c.index-stand.result.now.slot c.index-notice.result.now (pos 0) (omega (arith, slot_within c, long_held c.self.inside.count c.self.inside.notices.items c.self.inside.entries.items c.self.inside.stands.items c.self.inside.places.items c.self.inside.directory c.self.invariant))
-    ∙ sym (notice_held c.self.inside.count c.self.inside.notices.items c.self.inside.entries.items c.self.inside.stands.items c.self.inside.places.items c.self.inside.directory c.self.invariant c.index-stand.result.now.slot)
-
-its_time : (c : After-forget) → to_z w64 (of_z w64 c.index-stand.result.now.mark.time) ≡ c.index-stand.result.now.mark.time → to_z w64 (of_z w64 c.index-stand.result.now.mark.time) ≡ (entry c).key.time
-its_time c same =
-    same ∙ ap (λ (m : Mark). m.time) (mark_read c.self.inside.count c.self.inside.notices.items c.self.inside.entries.items c.self.inside.stands.items c.self.inside.places.items c.self.inside.directory c.self.invariant c.args.self.now c.self.view_is c.args.at c.index-stand.result.now c.index-stand.ensures (at_now c) no_entry)
-    ∙ ap (λ (x : Entry). x.key.time) (now_at c.self.inside.count c.self.inside.notices.items c.self.inside.entries.items c.self.inside.stands.items c.self.inside.places.items c.self.inside.directory c.self.invariant c.args.self.now c.self.view_is c.args.at c.index-stand.result.now c.index-stand.ensures (at_now c) no_entry)
+    let d = c.self.inside.directory in
+    let k = c.args.at in
+    let h = c.self.invariant in
+    let old = seen n f xs ws ss d h k (k_in c) in
+    let e = out n f xs ws ss d h k (k_in c) in
+    let s_is = its_stand c in
+    let x_is = its_slot c in
+    elim c.if-next.branch [
+      | then-next w ↦
+          let real : (kept xs (stand ss k).slot).next ≢ no_slot = (λ none. w.if-next.true (ap (λ (x : Slot). x.next) x_is ∙ none)) in
+          let ys = advanced n f xs ws ss d h k (k_in c) real in
+          let us = advanced_stood n f xs ws ss d h k (k_in c) real in
+          let in_front : (with_items c.self.inside.stands w.advance.new.stands).items ≡ raised n f xs ws ss d h k (k_in c) real
+          = written c.self.inside.stands w.advance.new.stands (raised n f xs ws ss d h k (k_in c) real)
+          (w.advance.ensures.stands ∙ (λ i. set (w.deref_mut.ensures.value i) k (record { mark = (kept (w.deref_mut-then-next.ensures.value i) (x_is i).next).mark; slot = (x_is i).next })))
+          (raised_long n f xs ws ss d h k (k_in c) real ∙ sym c.self.inside.stands.ok.0) in
+          let slots_front : (with_items c.self.inside.slots w.advance.new.slots).items ≡ raised_slots n f xs ws ss d h k (k_in c) real
+          = written c.self.inside.slots w.advance.new.slots (raised_slots n f xs ws ss d h k (k_in c) real)
+          (w.advance.ensures.slots ∙ (λ i. at_put (w.deref_mut-then-next.ensures.value i) (x_is i).next k))
+          (raised_slots_long n f xs ws ss d h k (k_in c) real ∙ sym c.self.inside.slots.ok.0) in
+          let stands_then : (with_items (with_items c.self.inside.stands w.advance.new.stands) w.release.new.stands).items ≡ us
+          = written (with_items c.self.inside.stands w.advance.new.stands) w.release.new.stands us
+          (w.release.ensures.stands ∙ (λ i. freed ((w.deref_mut-then-next-2.ensures.value ∙ in_front) i) (n + f) (s_is i).slot))
+          (stood_long n f xs ws ss d h k (k_in c) real ∙ sym c.self.inside.stands.ok.0) in
+          let slots_then : (with_items (with_items c.self.inside.slots w.advance.new.slots) w.release.new.slots).items ≡ ys
+          = written (with_items c.self.inside.slots w.advance.new.slots) w.release.new.slots ys
+          (w.release.ensures.slots ∙ (λ i. at_put ((w.deref_mut-then-next-3.ensures.value ∙ slots_front) i) (s_is i).slot (n + f)))
+          (advanced_long n f xs ws ss d h k (k_in c) real ∙ sym c.self.inside.slots.ok.0) in
+          gone_like old k e c.if-next.self-inside.count n c.if-next.self-inside.free f c.if-next.self-inside.slots.items ys c.if-next.self-inside.entries.items ws c.if-next.self-inside.stands.items us c.forget.new.self
+          (λ i. (w.self-inside-is i).count) (λ i. (w.self-inside-is i).free) ((λ i. (w.self-inside-is i).slots.items) ∙ slots_then) (λ i. (w.self-inside-is i).entries.items) ((λ i. (w.self-inside-is i).stands.items) ∙ stands_then)
+          (gone-advanced n f xs ws ss d h k (k_in c) real c.forget.new.self
+          (λ m t apart other led.
+          c.forget.ensures.others m t (λ is. apart (is ∙ noticed c)) (λ is. other (is ∙ ap (λ (y : Stand). y.slot) s_is))
+          (subst (λ g. Leads g m t) (λ i. (sym w.self-inside-is i).directory) led)))
+      | else-next w ↦
+          let none : (kept xs (stand ss k).slot).next ≡ no_slot = sym (ap (λ (x : Slot). x.next) x_is) ∙ w.if-next.false in
+          let l = n - 1 in
+          let one : n ≡ l + 1 = omega (arith, k_in c) in
+          let us = swap ss k l in
+          let ys = exchanged ss xs k l in
+          let stands_then : (with_items c.self.inside.stands w.exchange.new.stands).items ≡ us
+          = written c.self.inside.stands w.exchange.new.stands us
+          (w.exchange.ensures.stands ∙ (λ i. swap (w.deref_mut-else-next.ensures.value i) k l))
+          (length-swap ss k l ∙ sym c.self.inside.stands.ok.0) in
+          let slots_then : (with_items c.self.inside.slots w.exchange.new.slots).items ≡ ys
+          = written c.self.inside.slots w.exchange.new.slots ys
+          (w.exchange.ensures.slots ∙ (λ i. exchanged (w.deref_mut-else-next.ensures.value i) (w.deref_mut-else-next-2.ensures.value i) k l))
+          (length-exchanged ss xs k l ∙ sym c.self.inside.slots.ok.0) in
+          let o = c.index-stand.result.now.mark.order in
+          let vs = w.clear.new.entries.items in
+          let vs_is : vs ≡ cond (o == untold) (set ws (stand ss k).slot no_entry) ws
+          = w.clear.ensures ∙ (λ i. cond (o == untold) (set ws (s_is i).slot no_entry) ws) in
+          gone_like old k e c.if-next.self-inside.count l c.if-next.self-inside.free f c.if-next.self-inside.slots.items ys c.if-next.self-inside.entries.items vs c.if-next.self-inside.stands.items us c.forget.new.self
+          (λ i. (w.self-inside-is i).count) (λ i. (w.self-inside-is i).free) ((λ i. (w.self-inside-is i).slots.items) ∙ slots_then) (λ i. (w.self-inside-is i).entries.items) ((λ i. (w.self-inside-is i).stands.items) ∙ stands_then)
+          (gone-dropped n f xs ws ss d h k (k_in c) l one none o vs vs_is c.forget.new.self
+          (λ m t apart other led.
+          c.forget.ensures.others m t (λ is. apart (is ∙ noticed c)) (λ is. other (is ∙ ap (λ (y : Stand). y.slot) s_is))
+          (subst (λ g. Leads g m t) (λ i. (sym w.self-inside-is i).directory) led)))
+    ]
 
 pub invariant_of-self : goal.invariant_of-self
-invariant_of-self c =
-    let e = (goal.at.invariant_of-self c).After-forget in
-    let us = (with_items c.self.inside.stands c.exchange.new.stands).items in
-    let vs = (with_items c.self.inside.places c.exchange.new.places).items in
-    let n = c.self.inside.count - 1 in
-    let then : AreStanding n (set (kept c.self.inside.stands.items c.self.inside.places.items c.self.inside.notices.items c.self.inside.entries.items) c.index-stand.result.now.slot (cleared e).0) us vs c.forget.new.self = record {
-      few = omega (arith, c.self.invariant.standing.few, fewer e, ap length (stands e), length-swap c.self.inside.stands.items c.args.at n);
-      placed =
-          placed-removed (kept c.self.inside.stands.items c.self.inside.places.items c.self.inside.notices.items c.self.inside.entries.items) (slots_in c.self.inside.stands.items) c.self.inside.places.items (marks_in c.self.inside.count c.self.inside.stands.items) c.self.inside.directory c.self.invariant.standing.placed
-          c.args.at n c.index-stand.result.now.slot (long e) (at_in e) (slot e)
-          (set (kept c.self.inside.stands.items c.self.inside.places.items c.self.inside.notices.items c.self.inside.entries.items) c.index-stand.result.now.slot (cleared e).0)
-          (slots_in us) vs (marks_in n us) (entry e) (cleared e).0 refl (slots e) (places e) (marks e) refl
-          c.forget.new.self
-          (λ m t other apart led. c.forget.ensures.others m t (λ is. other (is ∙ its_notice e)) apart led);
-    } in record {
-      noticed = c.self.invariant.noticed ∙ sym (long_then e);
-      whole = as_many c.self.inside.entries.items c.clear.new.entries.items c.index-stand.result.now.slot c.index-stand.result.now.mark.order no_entry c.clear.ensures ∙ c.self.invariant.whole ∙ sym (long_then e);
-      standing = subst (λ l. AreStanding n l us vs c.forget.new.self) (sym (held_then e)) then;
-    }
+invariant_of-self c = (gone (goal.at.invariant_of-self c).After-forget).held
 
 pub returns : goal.returns
 returns c =
     let e = (goal.at.returns c).After-forget in
-    let us = (with_items c.self.inside.stands c.exchange.new.stands).items in
+    let n = c.self.inside.count in
+    let f = c.self.inside.free in
+    let xs = c.self.inside.slots.items in
+    let ws = c.self.inside.entries.items in
+    let ss = c.self.inside.stands.items in
+    let d = c.self.inside.directory in
+    let k = c.args.at in
+    let h = c.self.invariant in
+    let it = out n f xs ws ss d h k (k_in e) in
     let fits : to_z w64 (of_z w64 c.index-stand.result.now.mark.time) ≡ c.index-stand.result.now.mark.time = search rules in
-    let n = c.self.inside.count - 1 in record {
-      entry = entry e;
-      there = sym (now_at c.self.inside.count c.self.inside.notices.items c.self.inside.entries.items c.self.inside.stands.items c.self.inside.places.items c.self.inside.directory c.self.invariant c.args.self.now c.self.view_is c.args.at c.index-stand.result.now c.index-stand.ensures (at_now e) (entry e));
-      is = λ i. (its_time e fits i, its_notice e i);
-      rest =
-          ap (λ l. by_place no_entry l (take (length (marks_in n us)) (slots_in us))) (held_then e)
-          ∙ seen-removed (kept c.self.inside.stands.items c.self.inside.places.items c.self.inside.notices.items c.self.inside.entries.items) (slots_in c.self.inside.stands.items) c.self.inside.places.items (marks_in c.self.inside.count c.self.inside.stands.items) c.self.inside.directory c.self.invariant.standing.placed
-          c.args.at n c.index-stand.result.now.slot (long e) (at_in e) (slot e)
-          (set (kept c.self.inside.stands.items c.self.inside.places.items c.self.inside.notices.items c.self.inside.entries.items) c.index-stand.result.now.slot (cleared e).0)
-          (slots_in us)
-          (with_items c.self.inside.places c.exchange.new.places).items
-          (marks_in n us) (entry e) (cleared e).0 refl (slots e) (places e) (marks e) refl (entry e)
-          ∙ ap (λ l. swap_remove l c.args.at (entry e)) c.self.view_is;
-    }
-
-pub clear-requires : goal.clear-requires
-clear-requires c =
-    omega (arith, c.self.invariant.whole, slot_read c.self.inside.count c.self.inside.notices.items c.self.inside.entries.items c.self.inside.stands.items c.self.inside.places.items c.self.inside.directory c.self.invariant c.args.self.now c.self.view_is c.args.at c.index-stand.result.now c.index-stand.ensures (omega (arith, c.requires)), c.self.inside.entries.ok.0)
-
-pub index-notice-requires : goal.index-notice-requires
-index-notice-requires c = omega (arith, c.self.invariant.noticed, slot_read c.self.inside.count c.self.inside.notices.items c.self.inside.entries.items c.self.inside.stands.items c.self.inside.places.items c.self.inside.directory c.self.invariant c.args.self.now c.self.view_is c.args.at c.index-stand.result.now c.index-stand.ensures (omega (arith, c.requires)), c.self.inside.notices.ok.0)
+    let time = fits ∙ ap (λ (y : Stand). y.mark.time) (its_stand e) ∙ out_time n f xs ws ss d h k (k_in e) in
+    let notice = noticed e ∙ out_notice n f xs ws ss d h k (k_in e) in
+    let then = lines c.if-next.self-inside.count c.if-next.self-inside.slots.items c.if-next.self-inside.entries.items c.if-next.self-inside.stands.items in
+    subst (λ old. Removes old then k (to_z w64 (of_z w64 c.index-stand.result.now.mark.time), to_z w64 (of_z w64 c.index.result.now.notice))) c.self.view_is
+    (record {
+      entry = it;
+      there = out_there n f xs ws ss d h k (k_in e) it;
+      is = λ i. (time i, notice i);
+      rest = (gone e).rest;
+    })
