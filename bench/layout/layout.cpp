@@ -1,4 +1,4 @@
-// What memory takes of a hold with many notices pending: the data of this program in plain C++, with none of its machine.
+// What memory takes of a hold with many notices pending: data laid out as this program's in plain C++, with none of its machine.
 //
 // A hold takes the least notice out of a heap with four children, finds its record by its number, gives that back, and makes and
 // schedules a new one. Words behind the number of pending notices change the layout:
@@ -6,6 +6,8 @@
 //   word    an entry of the directory is one word (without it: a tag and an address)
 //   side    the place of a notice in the heap stands beside its number (without it: in a list of its own)
 //   stale   the cell by which a notice is found is left as it is when the notice comes (without it: it is cleared)
+//   lines   notices of one time stand in lines, of which only the first stands in the heap (without it: each does); `side` says
+//           nothing then, since each slot has its notice, its mark, its place and the next in its line
 // It prints the nanoseconds of one hold in the fastest of several rounds, and the sum of the times taken out.
 #include <chrono>
 #include <cstdint>
@@ -24,7 +26,23 @@ struct Entry {
     uint64_t slot;
 };
 
-static bool found, word, side, stale;
+// What is kept in a slot, where notices stand in lines.
+struct Slot {
+    int64_t notice, time;
+    uint64_t mark, next, at;
+};
+
+// The slot of the last of a line of this time.
+struct Hint {
+    int64_t time;
+    uint64_t slot;
+};
+
+static const uint64_t HINTS = 4096, BEHIND = uint64_t(1) << 63;
+
+static bool found, word, side, stale, lines;
+static std::vector<Slot> lined;
+static std::vector<Hint> hints;
 static std::vector<Entry> heap;
 static std::vector<uint64_t> places, slots, freed, cells, directory;
 static uint64_t cell_mask, number, marks;
@@ -36,7 +54,8 @@ static bool comes_before(const Entry &a, const Entry &b) {
 
 static void put(uint64_t place, const Entry &entry) {
     heap[place] = entry;
-    if (side) slots[2 * entry.slot + 1] = place;
+    if (lines) lined[entry.slot].at = place;
+    else if (side) slots[2 * entry.slot + 1] = place;
     else places[entry.slot] = place;
 }
 
@@ -76,9 +95,33 @@ static void make(int64_t value) {
     else directory[2 * number] = 1, directory[2 * number + 1] = at;
 }
 
+// Puts a notice behind the last of a line of its time, if there is one.
+static bool join(int64_t time, uint64_t slot) {
+    lined[slot] = {int64_t(number), time, marks, NONE, 0};
+    Hint &hint = hints[uint64_t(time) % HINTS];
+    bool joins = hint.time == time && hint.slot != NONE && lined[hint.slot].next == NONE && lined[hint.slot].time == time
+        && lined[hint.slot].mark < marks;
+    if (joins) {
+        lined[hint.slot].next = slot;
+        lined[slot].at = BEHIND + hint.slot;
+    }
+    hint = {time, slot};
+    return joins;
+}
+
 static void schedule(int64_t time) {
     uint64_t slot = freed.back();
     freed.pop_back();
+    if (lines) {
+        cells[number & cell_mask] = slot;
+        if (join(time, slot)) {
+            marks++;
+            return;
+        }
+        heap.push_back({time, marks, slot});
+        raise(heap.size() - 1, {time, marks++, slot});
+        return;
+    }
     slots[side ? 2 * slot : slot] = number;
     cells[number & cell_mask] = slot;
     heap.push_back({time, marks, slot});
@@ -106,10 +149,13 @@ int main(int count, char **words) {
         word |= !strcmp(words[i], "word");
         side |= !strcmp(words[i], "side");
         stale |= !strcmp(words[i], "stale");
+        lines |= !strcmp(words[i], "lines");
     }
     heap.reserve(pending + 1);
     places.resize(pending + 1);
     slots.resize(2 * pending + 2);
+    lined.resize(pending + 1);
+    hints.resize(HINTS, Hint{0, NONE});
     for (uint64_t slot = 0; slot <= pending; slot++) freed.push_back(pending - slot);
     uint64_t size = 1;
     while (size < 2 * pending + 2) size *= 2;
@@ -131,11 +177,17 @@ int main(int count, char **words) {
         auto start = std::chrono::steady_clock::now();
         for (uint64_t i = 0; i < HOLDS; i++) {
             Entry least = heap[0];
-            uint64_t it = slots[side ? 2 * least.slot : least.slot];
+            uint64_t it = lines ? lined[least.slot].notice : slots[side ? 2 * least.slot : least.slot];
             int64_t value = take(it);
-            Entry last = heap.back();
-            heap.pop_back();
-            if (!heap.empty()) lower(heap.size(), last);
+            uint64_t next = lines ? lined[least.slot].next : NONE;
+            if (next != NONE) {
+                lower(heap.size(), {lined[next].time, lined[next].mark, next});
+            } else {
+                Entry last = heap.back();
+                heap.pop_back();
+                if (!heap.empty()) lower(heap.size(), last);
+            }
+            if (lines) lined[least.slot].next = 0;
             if (!stale) cells[it & cell_mask] = NONE;
             freed.push_back(least.slot);
             sum += least.time;
