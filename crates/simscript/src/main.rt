@@ -5,30 +5,8 @@
 //! standard output; how the run ended, where it didn't simply end, is told on standard error.
 #![tactic(auto)]
 
-use ss_command::{Disk, Streams, perform};
-use std::env;
-use std::io::ErrorKind;
+use ss_command::{Disk, Streams, perform, without_words, words};
 use std::process::ExitCode;
-
-// The words of the command line, the program's name first. The error says why they can't be had.
-fn words(rt: &HostRuntime) -> Result<Vec<String>, ErrorKind> {
-    match env::args(rt) {
-        Ok(args) => args.collect(rt.alloc()).map_err(|_| ErrorKind::OutOfMemory),
-        Err(error) => Err(error.kind()),
-    }
-}
-
-// The status where the words of the command line can't be had.
-fn without_words(rt: &HostRuntime, kind: ErrorKind) -> u8 {
-    if kind == ErrorKind::OutOfMemory {
-        let _ = eprintln!(rt; "out of memory");
-        return 5;
-    }
-    let _ = eprintln!(rt;
-        "error: a word of the command line is no text\n\nFor more information, try '--help'."
-    );
-    2
-}
 
 fn main(rt: HostRuntime) -> ExitCode {
     let words = match words(&rt) {

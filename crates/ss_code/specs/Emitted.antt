@@ -1,7 +1,7 @@
 -- What is the code of a program, and what a program says beside its statements.
 use Rattle.std.specs.Prelude.{◌≡◌, List, map}
 use Rattle.ss_base.specs.declared.layout.Layout.{Layout}
-use Rattle.ss_events.specs.declared.key.TieShape.{TieShape}
+use Rattle.ss_pending.specs.declared.ties.TieShape.{TieShape}
 use Rattle.ss_meaning.specs.Store.{Setting}
 use Rattle.ss_meaning.specs.Meaning.{setting_of, tie_shapes}
 use Rattle.ss_program.specs.Program.{Program}

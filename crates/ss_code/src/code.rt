@@ -6,11 +6,11 @@ ghost use Rattle.ss_code.specs.Emitted.{IsCode};
 
 use crate::lines::Lines;
 use ss_base::{Discipline, Layout, Mode};
-use ss_events::TieShape;
 use ss_listing::listing::listing;
 use ss_machine_code::entry::Entry;
 use ss_machine_code::instruction::Instruction;
 use ss_notices::NoticeClass;
+use ss_pending::TieShape;
 use ss_program::sections::Statistic;
 use std::alloc::{AllocError, Global};
 use std::marker::Model;

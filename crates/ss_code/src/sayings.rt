@@ -8,8 +8,8 @@ ghost use Rattle.ss_code.specs.Emitted.{said_by};
 
 use crate::code::Sayings;
 use ss_base::{Layout, Mode, copied_disciplines};
-use ss_events::TieShape;
 use ss_notices::NoticeClass;
+use ss_pending::TieShape;
 use ss_program::sections::{Event, Program};
 use std::alloc::{AllocError, Global};
 

@@ -7,5 +7,5 @@ pub use program::{perform, tell};
 pub use ss_engine::{
     Model, Outcome, Refusal, Stop, compile, outcome_line, outcome_status, simulate,
 };
-pub use ss_files::{Disk, FileStore, Streams, Trouble};
+pub use ss_files::{Disk, FileStore, Streams, Trouble, without_words, words};
 pub use ss_order::{Misuse, Order};

@@ -12,7 +12,9 @@ pub mod Marks
 pub mod Lines
 pub mod Seen
 pub mod Swapped
+pub mod Fewer
 pub mod Removed
+pub mod Gone
 pub mod Joined
 pub mod Grown
 pub mod Taken

@@ -71,7 +71,7 @@ followers-kept (x ∷ xs) zero y within h k same = followers-behind y xs k ∙ a
 followers-kept (x ∷ xs) (suc s) y within h k same =
     ap (λ l. cond (nat_le behind x.at) (follower x ∷ l) l) (followers-kept xs s y (omega (arith, within)) h k same)
 
-swap_two : (e f : Entry) (l : List Entry) → IsPermutation (e ∷ f ∷ l) (f ∷ e ∷ l)
+pub swap_two : (e f : Entry) (l : List Entry) → IsPermutation (e ∷ f ∷ l) (f ∷ e ∷ l)
 swap_two e f l = IsPermutation-middle (e ∷ []) f l
 
 -- with one more in front, if it is there

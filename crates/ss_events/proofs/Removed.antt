@@ -1,76 +1,19 @@
 -- Entries that go out: what is kept once their slots are free.
-use Rattle.std.proofs.Common.{◌≡◌, ◌≢◌, ◌⊎◌, ℕ, zero, suc, ◌+◌, ◌-◌, ◌<◌, ◌≤◌, ℤ, pos, int_eq, Bool, true, false, cond, List, ◌∷◌, length, get_or, set, take, swap, refl, sym, ap, subst, ◌∙◌, ⊎_elim, inl, inr, arith, if◌then◌else◌}
+use Rattle.std.proofs.Common.{◌≡◌, ◌≢◌, ◌⊎◌, ℕ, ◌+◌, ◌-◌, ◌<◌, ◌≤◌, ℤ, int_eq, true, false, cond, List, ◌∷◌, length, get_or, take, refl, sym, ap, subst, ◌∙◌, ⊎_elim, inl, inr, arith, if◌then◌else◌}
 use Rattle.std.specs.Prelude.{◌==◌, slice_index_or, slice_set}
 use Rattle.std.specs.List.Sorted.{IsPermutation}
-use Rattle.std.specs.List.{list_any, swap_remove}
-use Rattle.std.specs.Cmp.{int_eq_equiv}
 use Rattle.std.proofs.lemmas.Int.{ints}
-use Rattle.std.proofs.lemmas.Bool.{cases_eq, cases_lt, cases_Bool}
+use Rattle.std.proofs.lemmas.Bool.{cases_eq, cases_lt}
 use Rattle.std.proofs.lemmas.Bool.Decides.{nat_tests}
-use Rattle.std.proofs.lemmas.List.{length-map, length-set, length-take-le, same_lists, get_or-map, get_or-take, get_or-set_same, get_or-set_other, get_or_default}
+use Rattle.std.proofs.lemmas.List.{length-set, length-take-le, same_lists, get_or-take, get_or-set_same, get_or-set_other}
 use Rattle.ss_events.specs.declared.entry.Entry.{Entry}
 use Rattle.ss_events.specs.declared.entry.directory.Directory.{Directory}
 use Rattle.ss_events.specs.declared.entry.places.Slot.{Slot}
 use Rattle.ss_events.specs.declared.entry.places.Stand.{Stand}
-use Rattle.ss_events.specs.Slots.{no_entry, no_kept, no_slot, no_stand, behind, kept, stand, mark_of, entry_in, entry_at, IsTaken, IsBefore, AreDistinct, AreLed, AreHeld, Leads, heads, followers, at_put, next_put, exchanged, untold}
-use Rattle.ss_events.specs.HeapEntries.{Lines, Advances, notices_of}
-use Rattle.ss_events.proofs.Marks.{notice_in, in-told, told_tells}
-use Rattle.ss_events.proofs.Lists.{removed_by_swap, each_fails, none_passes}
-use Rattle.ss_events.proofs.Exchanging.{exchange}
-use Rattle.ss_events.proofs.Swapped.{kept-exchanged, stand-swapped, held-swapped, heads-swapped, followers-swapped}
-use Rattle.ss_events.proofs.Lines.{kept-same, kept-other, long_heads, head_at, same_heads, follower, follower_at, slot_of_follower, followers-placed, followers-kept, followers-left}
-
--- ---- so many different numbers below another one
-
--- s in place of m
-abbrev instead : ℕ → ℕ → ℕ → ℕ
-instead m s x = if x == m then s else x
-
-instead-it : (m s x : ℕ) → x ≡ m → instead m s x ≡ s
-instead-it m s x e = grind (arith, nat_tests)
-
-instead-other : (m s x : ℕ) → x ≢ m → instead m s x ≡ x
-instead-other m s x e = grind (arith, nat_tests)
-
--- without a number that none of them is
-module _ (m s n : ℕ) (f : ℕ → ℕ) (s_in : s < suc m) (within : (k : ℕ) → k < n → f k < suc m) (missed : (k : ℕ) → k < n → f k ≢ s) (apart : (j k : ℕ) → j < n → k < n → f j ≡ f k → j ≡ k) where
-  abbrev lowered : ℕ → ℕ
-  lowered k = instead m s (f k)
-
-  lowered_in : (k : ℕ) → k < n → lowered k < m
-  lowered_in k k_in = ⊎_elim
-      (λ is. omega (arith, instead-it m s (f k) is, s_in, is, missed k k_in))
-      (λ other. omega (arith, instead-other m s (f k) other, within k k_in, other))
-      (cases_eq (f k) m)
-
-  lowered_apart : (j k : ℕ) → j < n → k < n → lowered j ≡ lowered k → j ≡ k
-  lowered_apart j k j_in k_in same = ⊎_elim
-      (λ is. ⊎_elim
-      (λ too. apart j k j_in k_in (is ∙ sym too))
-      (λ other. absurd (missed k k_in (sym (instead-other m s (f k) other) ∙ sym same ∙ instead-it m s (f j) is)))
-      (cases_eq (f k) m))
-      (λ other. ⊎_elim
-      (λ is. absurd (missed j j_in (sym (instead-other m s (f j) other) ∙ same ∙ instead-it m s (f k) is)))
-      (λ too. apart j k j_in k_in (sym (instead-other m s (f j) other) ∙ same ∙ instead-other m s (f k) too))
-      (cases_eq (f k) m))
-      (cases_eq (f j) m)
-
-few_below : (m n : ℕ) (f : ℕ → ℕ) → ((k : ℕ) → k < n → f k < m) → ((j k : ℕ) → j < n → k < n → f j ≡ f k → j ≡ k) → n ≤ m
-few_below m zero f within apart = omega arith
-few_below zero (suc n) f within apart = absurd (omega (arith, within 0 (omega arith)))
-few_below (suc m) (suc n) f within apart =
-    let s_in = within n (omega arith) in
-    let each : (k : ℕ) → k < n → f k < suc m = (λ k k_in. within k (omega (arith, k_in))) in
-    let missed : (k : ℕ) → k < n → f k ≢ f n = (λ k k_in e. omega (arith, k_in, apart k n (omega (arith, k_in)) (omega arith) e)) in
-    let two : (j k : ℕ) → j < n → k < n → f j ≡ f k → j ≡ k = (λ j k j_in k_in e. apart j k (omega (arith, j_in)) (omega (arith, k_in)) e) in
-    let few = few_below m n (lowered m (f n) n f s_in each missed two) (lowered_in m (f n) n f s_in each missed two) (lowered_apart m (f n) n f s_in each missed two) in
-    omega (arith, few)
-
-pub fewer_below : (m n s : ℕ) (f : ℕ → ℕ) → s < m → ((k : ℕ) → k < n → f k < m) → ((k : ℕ) → k < n → f k ≢ s) → ((j k : ℕ) → j < n → k < n → f j ≡ f k → j ≡ k) → n < m
-fewer_below zero n s f s_in within missed apart = absurd (omega (arith, s_in))
-fewer_below (suc m) n s f s_in within missed apart =
-    let few = few_below m n (lowered m s n f s_in within missed apart) (lowered_in m s n f s_in within missed apart) (lowered_apart m s n f s_in within missed apart) in
-    omega (arith, few)
+use Rattle.ss_events.specs.Slots.{no_entry, no_slot, no_stand, behind, kept, stand, mark_of, entry_in, entry_at, IsTaken, IsBefore, AreDistinct, AreLed, AreHeld, Leads, heads, followers, at_put, next_put}
+use Rattle.ss_events.proofs.Marks.{in-told, told_tells}
+use Rattle.ss_events.proofs.Lines.{kept-same, kept-other, long_heads, head_at, same_heads, follower, followers-placed, followers-kept, followers-left}
+use Rattle.ss_events.proofs.Fewer.{fewer_below}
 
 is_test : (a b : ℕ) → a ≡ b → (a == b) ≡ true
 is_test a b e = grind (arith, nat_tests)
@@ -78,7 +21,7 @@ is_test a b e = grind (arith, nat_tests)
 other_test : (a b : ℕ) → a ≢ b → (a == b) ≡ false
 other_test a b e = grind (arith, nat_tests)
 
-differ : (m n : ℤ) → m ≢ n → int_eq m n ≡ false
+pub differ : (m n : ℤ) → m ≢ n → int_eq m n ≡ false
 differ m n h = grind (arith, ints)
 
 -- a line without the one between two
@@ -853,130 +796,3 @@ module _ (count free : ℕ) (slots : List Slot) (wholes : List Entry) (stands : 
         ∙ ap (λ w. entry_in (kept slots u).mark (kept slots u).notice w) (same u other)
         ∙ sym (head_at count slots wholes stands few j c (omega (arith, j_in, one)))
         ∙ sym (get_or-take n old j c j_in))
-
--- what is seen of them
-abbrev pub lines : ℕ → List Slot → List Entry → List Stand → Lines
-lines n ys vs us = record { heads = heads n ys vs us; followers = followers ys }
-
--- an entry went out of the place k
-pub record Gone (old : Lines) (k : ℕ) (e : Entry) (n f : ℕ) (ys : List Slot) (vs : List Entry) (us : List Stand) (g : Directory) : Type 0 where
-  pub held : AreHeld n (f + 1) ys vs us g
-  pub rest : (lines n ys vs us ≡ record old { heads = swap_remove old.heads k e }) ⊎ Advances old (lines n ys vs us) k
-
-pub gone_like : (old : Lines) (k : ℕ) (e : Entry) (n m f l : ℕ) (ys xs : List Slot) (vs ws : List Entry) (us ss : List Stand) (g : Directory)
-    → n ≡ m → f ≡ l → ys ≡ xs → vs ≡ ws → us ≡ ss → Gone old k e m l xs ws ss g → Gone old k e n f ys vs us g
-gone_like old k e n m f l ys xs vs ws us ss g n_is f_is ys_is vs_is us_is gone =
-    subst (λ a. Gone old k e a f ys vs us g) (sym n_is)
-    (subst (λ a. Gone old k e m a ys vs us g) (sym f_is)
-    (subst (λ a. Gone old k e m l a vs us g) (sym ys_is)
-    (subst (λ a. Gone old k e m l xs a us g) (sym vs_is)
-    (subst (λ a. Gone old k e m l xs ws a g) (sym us_is) gone))))
-
-last_place : (k n : ℕ) → exchange k n n ≡ k
-last_place k n = grind (arith, nat_tests)
-
--- a slot that is cleared
-cleared_by : (b : Bool) (ws vs : List Entry) (s : ℕ) (e : Entry) → vs ≡ cond b (set ws s e) ws → (t : ℕ) → t ≢ s → get_or vs t no_entry ≡ get_or ws t no_entry
-cleared_by true ws vs s e is t other = ap (λ l. get_or l t no_entry) is ∙ get_or-set_other ws s t e no_entry other
-cleared_by false ws vs s e is t other = ap (λ l. get_or l t no_entry) is
-
-module _ (count free : ℕ) (slots : List Slot) (wholes : List Entry) (stands : List Stand) (d : Directory) (h : AreHeld count free slots wholes stands d) (k : ℕ) (k_in : k < count) where
-  abbrev pub seen : Lines
-  seen = lines count slots wholes stands
-
-  -- the entry in the place
-  abbrev pub out : Entry
-  out = entry_at slots wholes (stand stands k).slot
-
-  stand_in : k < length stands
-  stand_in = omega (arith, k_in, h.few)
-
-  pub out_there : (e : Entry) → out ≡ get_or (heads count slots wholes stands) k e
-  out_there e = sym (head_at count slots wholes stands (omega (arith, h.few)) k e k_in)
-
-  pub out_slot : (stand stands k).slot < length slots
-  out_slot = (h.there k (omega (arith, k_in))).0
-
-  pub out_time : (stand stands k).mark.time ≡ out.key.time
-  out_time =
-      let at = (h.there k (omega (arith, k_in))).1 in
-      ap (λ m. m.time) (h.marked k k_in ∙ h.fits (stand stands k).slot out_slot (inl (omega (arith, at, k_in))))
-
-  pub out_notice : (kept slots (stand stands k).slot).notice ≡ out.notice
-  out_notice = sym (notice_in (kept slots (stand stands k).slot).mark (kept slots (stand stands k).slot).notice (slice_index_or wholes (stand stands k).slot no_entry))
-
-  -- what is read
-  pub read_stand : (y : Stand) → y ≡ get_or stands k y → y ≡ stand stands k
-  read_stand y is = is ∙ get_or_default stands k y no_stand stand_in
-
-  pub read_head : (y : Stand) (x : Slot) → y ≡ get_or stands k y → x ≡ get_or slots y.slot x → x ≡ kept slots (stand stands k).slot
-  read_head y x y_is x_is =
-      let same = ap (λ (u : Stand). u.slot) (read_stand y y_is) in
-      x_is ∙ ap (λ s. get_or slots s x) same ∙ get_or_default slots (stand stands k).slot x no_kept out_slot
-
-  pub gone-advanced : (real : (kept slots (stand stands k).slot).next ≢ no_slot) (g : Directory)
-      → ((m : ℤ) (t : ℕ) → m ≢ (kept slots (stand stands k).slot).notice → t ≢ (stand stands k).slot → Leads d m t → Leads g m t)
-      → Gone seen k out count free (advanced count free slots wholes stands d h k k_in real) wholes (advanced_stood count free slots wholes stands d h k k_in real) g
-  gone-advanced real g others = record {
-    held = held-advanced count free slots wholes stands d h k k_in real g others;
-    rest = inr (record {
-      next = follower (kept slots (kept slots (stand stands k).slot).next);
-      heads = heads-advanced count free slots wholes stands d h k k_in real;
-      followers = followers-advanced count free slots wholes stands d h k k_in real;
-    });
-  }
-
-  pub gone-dropped : (n : ℕ) → count ≡ n + 1 → (kept slots (stand stands k).slot).next ≡ no_slot → (o : ℕ) (vs : List Entry) → vs ≡ cond (o == untold) (set wholes (stand stands k).slot no_entry) wholes → (g : Directory)
-      → ((m : ℤ) (t : ℕ) → m ≢ (kept slots (stand stands k).slot).notice → t ≢ (stand stands k).slot → Leads d m t → Leads g m t)
-      → Gone seen k out n free (exchanged stands slots k n) vs (swap stands k n) g
-  gone-dropped n one none o vs vs_is g others =
-      let s = (stand stands k).slot in
-      let n_in : n < count = omega (arith, one) in
-      let ys = exchanged stands slots k n in
-      let stood = swap stands k n in
-      let held = held-swapped count free slots wholes stands d h k n k_in n_in in
-      let kept_s = kept-exchanged count free slots wholes stands d h k n k_in n_in s out_slot in
-      let s_is : (stand stood n).slot ≡ s
-      = ap (λ (x : Stand). x.slot) (stand-swapped count free slots wholes stands d h k n k_in n_in n) ∙ ap (λ j. (stand stands j).slot) (last_place k n) in
-      let none_then : (kept ys s).next ≡ no_slot = ap (λ (x : Slot). x.next) kept_s ∙ none in
-      let clear = cleared_by (o == untold) wholes vs s no_entry vs_is in
-      let few : count ≤ length stands = omega (arith, h.few) in
-      let long = long_heads count slots wholes stands few in
-      let seen_heads : heads n ys vs stood ≡ swap_remove (heads count slots wholes stands) k out
-      = heads-dropped count free ys wholes stood d held n one s s_is none_then vs clear
-      ∙ ap (take n) (heads-swapped count free slots wholes stands d h k n k_in n_in)
-      ∙ sym (removed_by_swap (heads count slots wholes stands) k n out (long ∙ one) (omega (arith, long, k_in))) in
-      record {
-        held =
-            held-dropped count free ys wholes stood d held n one s s_is none_then vs clear g
-            (λ m t apart other led. others m t (λ e. apart (e ∙ sym (ap (λ (x : Slot). x.notice) kept_s))) other led);
-        rest = inl (λ i. record { heads = seen_heads i; followers = followers-swapped count free slots wholes stands d h k n k_in n_in i });
-      }
-
--- ---- whether one that stands behind another has a notice
-
-pub read_slot : (xs : List Slot) (s : ℕ) (y : Slot) → y ≡ get_or xs s y → s < length xs → y ≡ kept xs s
-read_slot xs s y is s_in = is ∙ get_or_default xs s y no_kept s_in
-
-pub nowhere_behind : (xs : List Slot) (m : ℤ) → ((s : ℕ) → s < length xs → behind ≤ (kept xs s).at → (kept xs s).notice ≢ m) → list_any (int_eq m) (notices_of (followers xs)) ≡ false
-nowhere_behind xs m none =
-    none_passes (int_eq m) (notices_of (followers xs)) (pos 0)
-    (λ k k_in.
-    let within : k < length (followers xs) = omega (arith, k_in, length-map (followers xs) (λ (e : Entry). e.notice)) in
-    let it = slot_of_follower xs k within in
-    let is : get_or (notices_of (followers xs)) k (pos 0) ≡ (kept xs it.0).notice
-    = get_or-map (λ (e : Entry). e.notice) (followers xs) k no_entry (pos 0) within ∙ ap (λ (e : Entry). e.notice) (it.1.is no_entry) in
-    differ m (get_or (notices_of (followers xs)) k (pos 0)) (λ e. none it.0 it.1.within it.1.stands (sym is ∙ sym e)))
-
-pub somewhere_behind : (xs : List Slot) (m : ℤ) (s : ℕ) → s < length xs → behind ≤ (kept xs s).at → (kept xs s).notice ≡ m → list_any (int_eq m) (notices_of (followers xs)) ≡ true
-somewhere_behind xs m s s_in s_behind is = ⊎_elim
-    (λ yes. yes)
-    (λ no.
-    let it = follower_at xs s s_in s_behind in
-    let there : get_or (notices_of (followers xs)) it.0 (pos 0) ≡ m
-    = get_or-map (λ (e : Entry). e.notice) (followers xs) it.0 no_entry (pos 0) it.1.listed ∙ ap (λ (e : Entry). e.notice) (it.1.is no_entry) ∙ is in
-    let fails : int_eq m m ≡ false
-    = ap (int_eq m) (sym there) ∙ each_fails (int_eq m) (notices_of (followers xs)) (pos 0) no it.0 (omega (arith, it.1.listed, length-map (followers xs) (λ (e : Entry). e.notice))) in
-    let passes : int_eq m m ≡ true = int_eq_equiv.refl m in
-    cc)
-    (cases_Bool (list_any (int_eq m) (notices_of (followers xs))))

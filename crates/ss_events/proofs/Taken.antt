@@ -4,20 +4,18 @@ use Rattle.std.proofs.lemmas.List.Sorted.{IsPermutation-append_left, IsPermutati
 use Rattle.ss_events.specs.declared.entry.Entry.{Entry}
 use Rattle.ss_events.specs.HeapEntries.{Lines, Advances, Removes}
 use Rattle.ss_events.specs.HeapOrder.{IsHeap, IsHeapBut}
-use Rattle.ss_events.specs.Order.{comes_before}
+use Rattle.ss_pending.specs.Order.{comes_before}
+use Rattle.ss_events.proofs.Lines.{swap_two}
 use Rattle.ss_events.proofs.Sifts.{taken_long, taken_all, taken_last, taken_but, followed_long, followed_heap}
-
-two : (x y : Entry) (l : List Entry) → IsPermutation (x ∷ y ∷ l) (y ∷ x ∷ l)
-two x y l = IsPermutation-middle (x ∷ []) y l
 
 -- one in the place of another
 replaced : (xs : List Entry) (i : ℕ) (y e : Entry) → i < length xs → e ≡ get_or xs i e → IsPermutation (y ∷ xs) (e ∷ set xs i y)
 replaced [] i y e within is = absurd (omega (arith, within))
-replaced (x ∷ xs) zero y e within is = subst (λ z. IsPermutation (y ∷ x ∷ xs) (z ∷ y ∷ xs)) (sym is) (two y x xs)
+replaced (x ∷ xs) zero y e within is = subst (λ z. IsPermutation (y ∷ x ∷ xs) (z ∷ y ∷ xs)) (sym is) (swap_two y x xs)
 replaced (x ∷ xs) (suc i) y e within is =
     let rest = replaced xs i y e (omega (arith, within)) is in
-    IsPermutation-trans (y ∷ x ∷ xs) (x ∷ y ∷ xs) (e ∷ x ∷ set xs i y) (two y x xs)
-    (IsPermutation-trans (x ∷ y ∷ xs) (x ∷ e ∷ set xs i y) (e ∷ x ∷ set xs i y) (IsPermutation-cons x (y ∷ xs) (e ∷ set xs i y) rest) (two x e (set xs i y)))
+    IsPermutation-trans (y ∷ x ∷ xs) (x ∷ y ∷ xs) (e ∷ x ∷ set xs i y) (swap_two y x xs)
+    (IsPermutation-trans (x ∷ y ∷ xs) (x ∷ e ∷ set xs i y) (e ∷ x ∷ set xs i y) (IsPermutation-cons x (y ∷ xs) (e ∷ set xs i y) rest) (swap_two x e (set xs i y)))
 
 module _ (old new : Lines) (at : ℕ) (event : ℤ × ℤ) (within : at < length old.heads) (r : Removes old new at event) where
   pub removed_few : length new.heads ≤ length old.heads

@@ -1,9 +1,5 @@
-pub mod SortKey
-pub mod PendingNotice
-pub mod Shape
-pub mod Order
 pub mod Digits
-pub mod PendingList
+pub mod CountedList
 pub mod HeapEntries
 pub mod HeapOrder
 pub mod Sifting

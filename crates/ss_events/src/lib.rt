@@ -11,6 +11,6 @@ mod sift;
 
 pub use calls::{Answer, Call};
 pub use entry::{Key, MOST_SCHEDULINGS};
-pub use key::{Tie, TieShape};
 pub use laws::{least_comes_first, order_is_total};
 pub use pending::Pending;
+pub use ss_pending::{Tie, TieShape};

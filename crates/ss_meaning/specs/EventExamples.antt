@@ -7,8 +7,8 @@ use Rattle.ss_base.specs.declared.layout.Owner.TheVariants.{System}
 use Rattle.ss_base.specs.declared.layout.Discipline.TheVariants.{Fifo}
 use Rattle.ss_base.specs.Arithmetic.{in_64_bits, plus_of}
 use Rattle.ss_states.specs.State.{LAST_NUMBER}
-use Rattle.ss_events.specs.Order.{comes_before}
-use Rattle.ss_events.specs.PendingList.{scheduling_limit}
+use Rattle.ss_pending.specs.Order.{comes_before}
+use Rattle.ss_pending.specs.PendingList.{scheduling_limit}
 use Rattle.ss_stats.specs.History.{tally_limit}
 use Rattle.ss_base.specs.declared.value.Value.TheVariants.{Whole}
 use Rattle.ss_program.specs.Item.TheVariants.{Is}

@@ -17,6 +17,6 @@ pub mod SetExamples
 pub mod EventExamples
 pub use Rattle.ss_program.specs.declared.statement.End
 pub use Rattle.ss_input.specs.Words
-pub use Rattle.ss_events.specs.PendingList
-pub use Rattle.ss_events.specs.declared.key.TieShape
+pub use Rattle.ss_pending.specs.PendingList
+pub use Rattle.ss_pending.specs.declared.ties.TieShape
 pub use Rattle.ss_states.specs.State

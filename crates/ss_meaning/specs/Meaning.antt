@@ -13,8 +13,8 @@ use Rattle.ss_base.specs.declared.layout.Mode.{Mode}
 use Rattle.ss_base.specs.declared.layout.Owner.TheVariants.{System}
 use Rattle.ss_base.specs.declared.layout.Layout.{Layout}
 use Rattle.ss_states.specs.State.{first_state, modes_of}
-use Rattle.ss_events.specs.declared.key.TieShape.{TieShape}
-use Rattle.ss_events.specs.PendingList.{none_pending}
+use Rattle.ss_pending.specs.declared.ties.TieShape.{TieShape}
+use Rattle.ss_pending.specs.PendingList.{none_pending}
 use Rattle.ss_program.specs.Program.{Routine, Event, Program}
 use Rattle.ss_meaning.specs.Store.{Notices, Setting, Scene, Store, firsts, opened, yielded}
 use Rattle.ss_meaning.specs.Histories.{no_histories, started}

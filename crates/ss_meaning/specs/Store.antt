@@ -7,7 +7,7 @@ use Rattle.ss_base.specs.declared.layout.RankKey.{RankKey}
 use Rattle.ss_base.specs.declared.layout.Discipline.{Discipline}
 use Rattle.ss_base.specs.Layout.{mode_of, first_value}
 use Rattle.ss_states.specs.State.{State}
-use Rattle.ss_events.specs.PendingList.{PendingList}
+use Rattle.ss_pending.specs.PendingList.{PendingList}
 use Rattle.ss_stats.specs.History.{History}
 use Rattle.ss_program.specs.declared.expression.Variable.{Variable}
 use Rattle.ss_program.specs.declared.expression.Variable.TheVariants.{Global, Local}

@@ -6,7 +6,7 @@ ghost use Rattle.ss_meaning.specs.Values.{turned};
 ghost use Rattle.ss_meaning.specs.Store.{Store as StoreSeen};
 ghost use Rattle.ss_machine_code.specs.Machine.{Code as CodeSeen, act, due_at};
 ghost use Rattle.ss_population.specs.Told.{told};
-ghost use Rattle.ss_store.specs.Seen.{with_seen};
+ghost use Rattle.ss_working.specs.Seen.{with_seen};
 ghost use Rattle.ss_working.specs.Holding.{core_of, Told};
 
 use ss_base::{Line, Value};
@@ -14,8 +14,8 @@ use ss_machine_code::instruction::Instruction;
 use ss_population::trouble::Trouble;
 use ss_scheduling::scheduling;
 use ss_scheduling::scheduling::time_at;
-use ss_store::scene::Scene;
 use ss_working::effects::{made, made_value};
+use ss_working::store::scene::Scene;
 use ss_working::working::{Outcome, Working};
 use std::alloc::AllocError;
 

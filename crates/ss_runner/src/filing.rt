@@ -3,12 +3,12 @@
 ghost use Rattle.std.specs.Prelude.{◌≡◌, List, MatchOption};
 ghost use Rattle.ss_base.specs.declared.value.Value.{Value as ValueSeen};
 ghost use Rattle.ss_meaning.specs.Sets.{Filing as FilingMeant};
-ghost use Rattle.ss_store.specs.Filed.{filing_meant};
+ghost use Rattle.ss_working.specs.Filed.{filing_meant};
 ghost use Rattle.ss_machine_code.specs.States.{Moved, Stuck, with_filing};
 
 use ss_machine_code::instruction::Filing;
-use ss_stack::operands::Operands;
-use ss_store::filing::Filing as FilingAt;
+use ss_working::stack::operands::Operands;
+use ss_working::store::filing::Filing as FilingAt;
 
 /// Takes the member beside which another one is filed off, where there is one.
 #[inline(always)]

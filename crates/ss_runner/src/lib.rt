@@ -12,3 +12,7 @@ pub mod looping;
 pub mod members;
 pub mod perform;
 pub mod statistics;
+
+pub use ss_code as code;
+pub use ss_scheduling as scheduling;
+pub use ss_working as working;

@@ -3,7 +3,7 @@
 ghost use Rattle.std.specs.Prelude.{◌≡◌, ◌+◌, ◌<◌, ◌^◌, ℕ, List, IfOk};
 ghost use Rattle.ss_meaning.specs.Statistics.{reset};
 ghost use Rattle.ss_machine_code.specs.Machine.{Code as CodeSeen, act};
-ghost use Rattle.ss_store.specs.Figures.{held_by};
+ghost use Rattle.ss_working.specs.Figures.{held_by};
 ghost use Rattle.ss_working.specs.Effects.{Came, Rests};
 ghost use Rattle.ss_working.specs.Holding.{store_of, core_of, Told};
 

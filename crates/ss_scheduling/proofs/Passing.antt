@@ -5,7 +5,7 @@ use Rattle.ss_base.specs.declared.fault.FaultKind.{FaultKind}
 use Rattle.ss_base.specs.declared.value.Value.TheVariants.{Whole}
 use Rattle.ss_base.specs.declared.layout.Discipline.{Discipline}
 use Rattle.ss_records.specs.State.{State, destroyed}
-use Rattle.ss_events.specs.PendingList.{next, after_next}
+use Rattle.ss_pending.specs.PendingList.{next, after_next}
 use Rattle.ss_meaning.specs.Values.{turned, due, where_fit}
 use Rattle.ss_meaning.specs.Store.{Notices, Store}
 use Rattle.ss_meaning.specs.Entities.{class_at, is_single, with_none, gone}

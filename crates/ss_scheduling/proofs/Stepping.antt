@@ -6,9 +6,9 @@ use Rattle.std.proofs.lemmas.List.{append_assoc}
 use Rattle.ss_base.specs.declared.value.Value.{Value}
 use Rattle.ss_base.specs.declared.layout.RankKey.{RankKey}
 use Rattle.ss_base.specs.declared.fault.FaultKind.TheVariants.{AlreadyScheduled}
-use Rattle.ss_events.specs.declared.key.Tie.{Tie}
-use Rattle.ss_events.specs.SortKey.{SortKey}
-use Rattle.ss_events.specs.PendingList.{is_pending}
+use Rattle.ss_pending.specs.declared.ties.Tie.{Tie}
+use Rattle.ss_pending.specs.SortKey.{SortKey}
+use Rattle.ss_pending.specs.PendingList.{is_pending}
 use Rattle.ss_meaning.specs.Values.{Trouble as Meant, if_ok, turned, sure, unless_fault}
 use Rattle.ss_meaning.specs.Store.{Notices, Store}
 use Rattle.ss_meaning.specs.Entities.{entity, attribute, made_one}

@@ -7,7 +7,7 @@ use Rattle.ss_base.specs.declared.layout.ClassKind.{ClassKind}
 use Rattle.ss_base.specs.declared.layout.ClassKind.TheVariants.{Permanent, Temporary, Notice}
 use Rattle.ss_base.specs.declared.layout.RankKey.{RankKey}
 use Rattle.ss_records.specs.State.{State, known_in, notice}
-use Rattle.ss_events.specs.PendingList.{next, after_next}
+use Rattle.ss_pending.specs.PendingList.{next, after_next}
 use Rattle.ss_program.specs.declared.expression.Variable.TheVariants.{Global}
 use Rattle.ss_meaning.specs.Values.{Trouble as Meant, turned}
 use Rattle.ss_meaning.specs.Store.{Notices, Store}

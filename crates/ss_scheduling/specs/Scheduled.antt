@@ -6,9 +6,9 @@ use Rattle.ss_base.specs.declared.fault.Refused.{Refused}
 use Rattle.ss_base.specs.declared.fault.Refused.TheVariants as refusals
 use Rattle.ss_base.specs.declared.value.Value.{Value}
 use Rattle.ss_base.specs.declared.value.Value.TheVariants.{Whole}
-use Rattle.ss_events.specs.declared.key.Tie.{Tie}
-use Rattle.ss_events.specs.SortKey.{SortKey}
-use Rattle.ss_events.specs.PendingList.{scheduled}
+use Rattle.ss_pending.specs.declared.ties.Tie.{Tie}
+use Rattle.ss_pending.specs.SortKey.{SortKey}
+use Rattle.ss_pending.specs.PendingList.{scheduled}
 use Rattle.ss_meaning.specs.Values.{Trouble as Meant, if_ok, turned, due, sure, unless_fault}
 use Rattle.ss_meaning.specs.Store.{Notices, Store, with_pending}
 use Rattle.ss_meaning.specs.Events.{Moment, AtTime, Later, Ranked, ranked, ranked_from, ties_of, not_past, prepared, filed_notice}

@@ -3,7 +3,7 @@
 ghost use Rattle.std.specs.Prelude.{◌≡◌, true, [], List, Some, Ok, Err, IfSome, IfOk, IfErr};
 ghost use Rattle.ss_base.specs.declared.value.Value.TheVariants.{Whole};
 ghost use Rattle.ss_classes.specs.Ranks.{ranked_at};
-ghost use Rattle.ss_events.specs.declared.key.Tie.{Tie as TieSeen};
+ghost use Rattle.ss_pending.specs.declared.ties.Tie.{Tie as TieSeen};
 ghost use Rattle.ss_meaning.specs.Entities.{attribute, made_one};
 ghost use Rattle.ss_meaning.specs.Events.{time_at, not_past, endowed, prepared, made_notice, ties_of, filed_notice, rescheduled};
 ghost use Rattle.ss_meaning.specs.Places.{assigned_attribute};
@@ -15,7 +15,8 @@ ghost use Rattle.ss_scheduling.specs.Scheduled.{Leads, Forms, Goes, Finds, AddsT
 use ss_base::{FaultKind, RankKey, Refused, Value, plus};
 use ss_classes::notices::NoticeClass;
 use ss_classes::rank_of;
-use ss_events::{Key, Tie};
+use ss_events::Key;
+use ss_pending::Tie;
 use ss_population::known::Known;
 use ss_population::trouble::{Trouble, Unmade};
 use ss_store::at_once::Number;

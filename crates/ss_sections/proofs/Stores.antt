@@ -10,7 +10,7 @@ use Rattle.ss_base.specs.Layout.{mode_of}
 use Rattle.ss_input.specs.Words.{value_given}
 use Rattle.ss_states.specs.State.{State, notice, created, created_all, destroyed, assigned, is_made, timed}
 use Rattle.ss_states.specs.Sets.{count_in, removed}
-use Rattle.ss_events.specs.PendingList.{is_pending, scheduled, cancelled, next}
+use Rattle.ss_pending.specs.PendingList.{is_pending, scheduled, cancelled, next}
 use Rattle.ss_program.specs.declared.expression.Sign.{Sign}
 use Rattle.ss_program.specs.declared.expression.Variable.{Variable}
 use Rattle.ss_program.specs.declared.expression.Variable.TheVariants.{Global, Local}

@@ -3,7 +3,7 @@ use Rattle.std.proofs.Common.{◌≡◌, ℕ, List, refl, pos}
 use Rattle.std.specs.Ordering.{int_eq}
 use Rattle.ss_base.specs.declared.layout.Owner.TheVariants.{System}
 use Rattle.ss_states.specs.State.{first_state}
-use Rattle.ss_events.specs.PendingList.{none_pending}
+use Rattle.ss_pending.specs.PendingList.{none_pending}
 use Rattle.ss_meaning.specs.Histories.{starting, no_histories}
 use Rattle.ss_machine_code.specs.Machine.{Code}
 use Rattle.ss_machine_code.specs.Running.{begin_store}

@@ -7,7 +7,7 @@ use Rattle.ss_base.specs.declared.layout.Mode.{Mode}
 use Rattle.ss_base.specs.declared.layout.ClassLayout.{ClassLayout}
 use Rattle.ss_base.specs.declared.value.Value.{Value}
 use Rattle.ss_base.specs.declared.value.Value.TheVariants.{Whole, Text}
-use Rattle.ss_events.specs.PendingList.{is_pending}
+use Rattle.ss_pending.specs.PendingList.{is_pending}
 use Rattle.ss_records.specs.State as S
 use Rattle.ss_meaning.specs.Values.{Trouble as Meant, Fails, if_ok, turned, due, where_fit, unless_fault, number_of}
 use Rattle.ss_meaning.specs.Store.{Store, with_heap}

@@ -12,7 +12,7 @@ use Rattle.ss_program.specs.declared.sections.Statistic.{Statistic}
 use Rattle.ss_records.specs.State.{State, Record, MOST_ENTITIES, first_record, is_made, with_made, made_many, created_all, records_in}
 use Rattle.ss_timeline.specs.Records.{columns_of, is_up_to, HasRooms}
 use Rattle.ss_meaning.specs.Values.{turned, due, where_fit}
-use Rattle.ss_events.specs.PendingList.{PendingList}
+use Rattle.ss_pending.specs.PendingList.{PendingList}
 use Rattle.ss_meaning.specs.Store.{Notices, Column, Store, with_heap, with_histories}
 use Rattle.ss_meaning.specs.Histories.{starting}
 use Rattle.ss_meaning.specs.Entities.{is_permanent, with_all}

@@ -11,7 +11,7 @@ use Rattle.ss_timeline.specs.Records.{Rows, columns_of}
 use Rattle.ss_timeline.specs.Unnoted.{Unnoted}
 use Rattle.ss_timeline.specs.Unnoted.TheVariants as unnoted
 use Rattle.ss_records.specs.State.{State, modes_of, is_made, created_all}
-use Rattle.ss_events.specs.PendingList.{PendingList, cancelled}
+use Rattle.ss_pending.specs.PendingList.{PendingList, cancelled}
 use Rattle.ss_meaning.specs.Values.{Trouble as Meant, if_ok, turned, due, where_fit, unless_fault}
 use Rattle.ss_meaning.specs.Store.{Notices, Store, with_pending}
 use Rattle.ss_meaning.specs.Entities.{class_at, entity, is_permanent, made_count, with_all}

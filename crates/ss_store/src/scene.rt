@@ -4,13 +4,13 @@ ghost use Rattle.std.specs.Prelude.{◌≡◌, IfOk, map, pos};
 ghost use Rattle.ss_records.specs.State.{first_state};
 ghost use Rattle.std.specs.Ordering.{int_eq};
 ghost use Rattle.ss_base.specs.declared.layout.Owner.TheVariants.{System};
-ghost use Rattle.ss_events.specs.PendingList.{none_pending};
+ghost use Rattle.ss_pending.specs.PendingList.{none_pending};
 ghost use Rattle.ss_timeline.specs.Records.{columns_of};
 ghost use Rattle.ss_meaning.specs.Histories.{no_histories, starting};
 
 use ss_base::{Discipline, Layout};
 use ss_classes::notices::NoticeClass;
-use ss_events::TieShape;
+use ss_pending::TieShape;
 use ss_population::population::Population;
 use ss_program::sections::Statistic;
 use ss_timeline::Timeline;

@@ -7,9 +7,9 @@ use Rattle.ss_base.specs.declared.fault.Refused.{Refused}
 use Rattle.ss_base.specs.declared.fault.Refused.TheVariants.{Fault, Memory}
 use Rattle.ss_base.specs.declared.value.Value.{Value}
 use Rattle.ss_program.specs.declared.sections.Subject.{Subject}
-use Rattle.ss_events.specs.SortKey.{SortKey}
-use Rattle.ss_events.specs.declared.entry.Entry.{Entry}
-use Rattle.ss_events.specs.PendingList.{PendingList, scheduled, after_next}
+use Rattle.ss_pending.specs.SortKey.{SortKey}
+use Rattle.ss_pending.specs.PendingNotice.{PendingNotice}
+use Rattle.ss_pending.specs.PendingList.{PendingList, scheduled, after_next}
 use Rattle.ss_histories.specs.Records.{Records, columns_of, why}
 use Rattle.ss_histories.specs.Store.{Column}
 use Rattle.ss_histories.specs.Histories.{all_noting}
@@ -22,11 +22,11 @@ pub record Times : Type 0 where
   pub histories : Records
 
 -- an entry has a time from this one on
-abbrev pub IsAhead : (time : ℤ) → Entry → Type 0
+abbrev pub IsAhead : (time : ℤ) → PendingNotice → Type 0
 IsAhead t e = t ≤ℤ e.key.time
 
 -- no notice is pending for a time that is past, and no history goes beyond the time
-abbrev pub IsTimely : (time latest : ℤ) → List Entry → Type 0
+abbrev pub IsTimely : (time latest : ℤ) → List PendingNotice → Type 0
 IsTimely t latest es = (pos 0 ≤ℤ t) × (latest ≤ℤ t) × All (IsAhead t) es
 
 -- the histories as the meaning has them

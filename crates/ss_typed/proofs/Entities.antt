@@ -17,8 +17,8 @@ use Rattle.ss_base.specs.declared.value.Value.{Value}
 use Rattle.ss_base.specs.declared.value.Value.TheVariants.{Whole, Text}
 use Rattle.ss_base.specs.Layout.{mode_of}
 use Rattle.ss_states.specs.State.{Record, State, kind_of, modes_of, known_in, no_value, entity as entity_in, time_in, assigned, created, created_all, destroyed, is_made, value_in}
-use Rattle.ss_events.specs.declared.entry.Entry.{Entry}
-use Rattle.ss_events.specs.PendingList.{is_pending}
+use Rattle.ss_pending.specs.PendingNotice.{PendingNotice}
+use Rattle.ss_pending.specs.PendingList.{is_pending}
 use Rattle.ss_program.specs.declared.expression.Variable.{Variable}
 use Rattle.ss_program.specs.declared.expression.Variable.TheVariants.{Global, Local}
 use Rattle.ss_program.specs.declared.sections.Subject.{Subject}
@@ -152,7 +152,7 @@ module _ (p : Program) (typed : WellTyped p) (ms : List Mode) where
       let no_way : true ≡ false = sym g ∙ ap comes_singly same in
       absurd cc
 
-  gone_fits : (s : Store) (c : ℕ) (x : ℤ) (t : State) → Fits p ms s → Gone s.scene.heap x t → (kind_of s.scene.heap.layout c ≡ Permanent → ⊥) → Every (λ (e : Entry). x ≡ e.notice → ⊥) s.scene.pending.entries → Fits p ms (with_none c x s t)
+  gone_fits : (s : Store) (c : ℕ) (x : ℤ) (t : State) → Fits p ms s → Gone s.scene.heap x t → (kind_of s.scene.heap.layout c ≡ Permanent → ⊥) → Every (λ (e : PendingNotice). x ≡ e.notice → ⊥) s.scene.pending.entries → Fits p ms (with_none c x s t)
   gone_fits s c x t f gone single apart = record {
     sound = record {
       globals = f.sound.globals;
@@ -169,23 +169,23 @@ module _ (p : Program) (typed : WellTyped p) (ms : List Mode) where
     locals = f.locals;
   }
     where
-      live : (es : List Entry) → Every (λ (e : Entry). IsNotice s.scene.heap e.notice) es → Every (λ (e : Entry). x ≡ e.notice → ⊥) es → Every (λ (e : Entry). IsNotice t e.notice) es
+      live : (es : List PendingNotice) → Every (λ (e : PendingNotice). IsNotice s.scene.heap e.notice) es → Every (λ (e : PendingNotice). x ≡ e.notice → ⊥) es → Every (λ (e : PendingNotice). IsNotice t e.notice) es
       live [] h g = tt
       live (e ∷ es) h g = ((h.0.0, gone.kept e.notice h.0.0 g.0 h.0.1, ap (λ l. kind_of l h.0.0) gone.layout ∙ h.0.2), live es h.1 g.1)
 
   -- an entity goes that isn't pending
-  pub gone_fine : (c : ℕ) (n : ℤ) (s : Store) → comes_alone (kind_said p c) ≡ true → Every (λ (e : Entry). n ≡ e.notice → ⊥) s.scene.pending.entries → Fits p ms s → Fine (Fits p ms) (gone c (Whole n) s)
+  pub gone_fine : (c : ℕ) (n : ℤ) (s : Store) → comes_alone (kind_said p c) ≡ true → Every (λ (e : PendingNotice). n ≡ e.notice → ⊥) s.scene.pending.entries → Fits p ms s → Fine (Fits p ms) (gone c (Whole n) s)
   gone_fine c n s q apart f =
       let cl = single_said p c q in
       fit_fine (Fits p ms) (is_single (class_at c s)) (turned (with_none c n s) (due (destroyed s.scene.heap c n))) (ap is_single (class_here s c cl.0 f cl.1) ∙ cl.2)
       (fine_turned (Fits p ms) (with_none c n s) (due (destroyed s.scene.heap c n)) (due_fine (Gone s.scene.heap n) (destroyed s.scene.heap c n) (destroyed_sane s.scene.heap c n f.sound.scene.heap (single_kind s c cl.0 f cl.1 cl.2))) (λ t g.
       gone_fits s c n t f g (single_kind s c cl.0 f cl.1 cl.2) apart))
 
-  apart_from : (n : ℤ) (es : List Entry) → is_pending n es ≡ false → Every (λ (e : Entry). n ≡ e.notice → ⊥) es
+  apart_from : (n : ℤ) (es : List PendingNotice) → is_pending n es ≡ false → Every (λ (e : PendingNotice). n ≡ e.notice → ⊥) es
   apart_from n [] q = tt
   apart_from n (e ∷ es) q = by (int_eq n e.notice) refl q (apart_from n es)
     where
-      by : (b : Bool) → int_eq n e.notice ≡ b → (b || is_pending n es) ≡ false → (is_pending n es ≡ false → Every (λ (e : Entry). n ≡ e.notice → ⊥) es) → Every (λ (e : Entry). n ≡ e.notice → ⊥) (e ∷ es)
+      by : (b : Bool) → int_eq n e.notice ≡ b → (b || is_pending n es) ≡ false → (is_pending n es ≡ false → Every (λ (e : PendingNotice). n ≡ e.notice → ⊥) es) → Every (λ (e : PendingNotice). n ≡ e.notice → ⊥) (e ∷ es)
       by true g h later = absurd cc
       by false g h later = ((λ same. let yes_it_is : int_eq n e.notice ≡ true = (Decides-int_eq n e.notice).1 same in absurd cc), later h)
 

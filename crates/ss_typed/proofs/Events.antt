@@ -19,10 +19,10 @@ use Rattle.ss_base.specs.declared.value.Value.TheVariants.{Whole}
 use Rattle.ss_base.specs.Layout.{mode_of}
 use Rattle.ss_base.specs.Arithmetic.{plus_of}
 use Rattle.ss_states.specs.State.{Record, State, kind_of, kind_in, and_then, issued_record, of_notice, is_notice, notice, timed}
-use Rattle.ss_events.specs.declared.entry.Entry.{Entry}
-use Rattle.ss_events.specs.SortKey.{SortKey}
-use Rattle.ss_events.specs.Order.{comes_before}
-use Rattle.ss_events.specs.PendingList.{PendingList, scheduling_limit, is_pending, without, earlier, least, with_entry, scheduled, cancelled}
+use Rattle.ss_pending.specs.PendingNotice.{PendingNotice}
+use Rattle.ss_pending.specs.SortKey.{SortKey}
+use Rattle.ss_pending.specs.Order.{comes_before}
+use Rattle.ss_pending.specs.PendingList.{PendingList, scheduling_limit, is_pending, without, earlier, least, with_entry, scheduled, cancelled}
 use Rattle.ss_program.specs.declared.expression.Variable.TheVariants.{Global}
 use Rattle.ss_program.specs.Program.{Event, Program}
 use Rattle.ss_program.specs.WellTyped.{WellTyped, field_mode, fields_of, kind_of as kind_said, comes_alone, GoodKeys, GoodEvent, IsPlain}
@@ -48,18 +48,18 @@ taken_get (suc n) [] i a q = absurd cc
 taken_get (suc n) (x ∷ xs) zero a q = q
 taken_get (suc n) (x ∷ xs) (suc i) a q = taken_get n xs i a q
 
-earlier_is : (P : Entry → Type 0) (a b : Entry) → P a → P b → P (earlier a b)
+earlier_is : (P : PendingNotice → Type 0) (a b : PendingNotice) → P a → P b → P (earlier a b)
 earlier_is P a b p q = by (comes_before b a)
   where
     by : (c : Bool) → P (if c then b else a)
     by true = q
     by false = p
 
-fold_is : (P : Entry → Type 0) (e : Entry) (es : List Entry) → P e → Every P es → P (fold earlier e es)
+fold_is : (P : PendingNotice → Type 0) (e : PendingNotice) (es : List PendingNotice) → P e → Every P es → P (fold earlier e es)
 fold_is P e [] p h = p
 fold_is P e (x ∷ es) p h = fold_is P (earlier e x) es (earlier_is P e x p h.0) h.1
 
-least_is : (P : Entry → Type 0) (es : List Entry) (e : Entry) → Every P es → least es ≡ Some e → P e
+least_is : (P : PendingNotice → Type 0) (es : List PendingNotice) (e : PendingNotice) → Every P es → least es ≡ Some e → P e
 least_is P [] e h q = absurd cc
 least_is P (x ∷ es) e h q = let same : fold earlier x es ≡ e = cc in subst P same (fold_is P x es h.0 h.1)
 
@@ -69,7 +69,7 @@ abbrev judged : ClassKind → Record → Result Record FaultKind
 judged k r = if is_notice k then Ok r else Err faults.WrongClass
 
 -- the time and the notice of an entry
-abbrev told : Entry → ℤ × ℤ
+abbrev told : PendingNotice → ℤ × ℤ
 told e = (e.key.time, e.notice)
 
 notice_there : (h : State) (x : ℤ) → IsNotice h x → (r : Record) × (notice h x ≡ Ok r) × (kind_of h.layout r.class ≡ Notice)
@@ -201,7 +201,7 @@ module _ (p : Program) (typed : WellTyped p) (ms : List Mode) where
       fine_then Any (attribute c key.field x s) (λ v. turned (λ ts. record { value = v; high = key.high } ∷ ts) (ties_of c x s keys)) (attribute_fine p typed ms c key.field h.0.0 x s h.0.1 m f) (λ v g.
       fine_turned Any (λ ts. record { value = v; high = key.high } ∷ ts) (ties_of c x s keys) (ties_fine c x s keys h.1 m f) (λ ts u. tt))
 
-  pending_fits : (s : Store) (q : PendingList) → Fits p ms s → Every (λ (e : Entry). IsNotice s.scene.heap e.notice) q.entries → Fits p ms (with_pending s q)
+  pending_fits : (s : Store) (q : PendingList) → Fits p ms s → Every (λ (e : PendingNotice). IsNotice s.scene.heap e.notice) q.entries → Fits p ms (with_pending s q)
   pending_fits s q f h = record {
     sound = record {
       globals = f.sound.globals;
@@ -216,13 +216,13 @@ module _ (p : Program) (typed : WellTyped p) (ms : List Mode) where
   is_notice_here : (c : ℕ) (n : ℤ) (s : Store) → kind_said p c ≡ Some Notice → Fits p ms s → Lives s.scene.heap c n → IsNotice s.scene.heap n
   is_notice_here c n s q f l = (c, subst (λ k. LivesAs k s.scene.heap c n) (kind_here c s q f) l, kind_here c s q f)
 
-  scheduled_sane : (key : SortKey) (n : ℤ) (s : Store) → Fits p ms s → IsNotice s.scene.heap n → Sane (λ (q : PendingList). Every (λ (e : Entry). IsNotice s.scene.heap e.notice) q.entries) (scheduled key n s.scene.pending)
+  scheduled_sane : (key : SortKey) (n : ℤ) (s : Store) → Fits p ms s → IsNotice s.scene.heap n → Sane (λ (q : PendingList). Every (λ (e : PendingNotice). IsNotice s.scene.heap e.notice) q.entries) (scheduled key n s.scene.pending)
   scheduled_sane key n s f h = by (is_pending n s.scene.pending.entries) (s.scene.pending.schedulings == scheduling_limit)
     where
-      by : (b c : Bool) → Sane (λ (q : PendingList). Every (λ (e : Entry). IsNotice s.scene.heap e.notice) q.entries) (if b then Err faults.AlreadyScheduled else if c then Err faults.Overflow else Ok (with_entry key n s.scene.pending))
+      by : (b c : Bool) → Sane (λ (q : PendingList). Every (λ (e : PendingNotice). IsNotice s.scene.heap e.notice) q.entries) (if b then Err faults.AlreadyScheduled else if c then Err faults.Overflow else Ok (with_entry key n s.scene.pending))
       by true c = tt
       by false true = tt
-      by false false = every_both (λ (e : Entry). IsNotice s.scene.heap e.notice) s.scene.pending.entries (record { key = key; number = s.scene.pending.schedulings; notice = n } ∷ []) f.sound.scene.pending (h, tt)
+      by false false = every_both (λ (e : PendingNotice). IsNotice s.scene.heap e.notice) s.scene.pending.entries (record { key = key; number = s.scene.pending.schedulings; notice = n } ∷ []) f.sound.scene.pending (h, tt)
 
   pub filed_notice_fine : (c : ℕ) (x : Value) (t : ℤ) (s : Store) → kind_said p c ≡ Some Notice → mode_of x ≡ Integer → Fits p ms s → Fine (Fits p ms) (filed_notice c x t s)
   filed_notice_fine c x t s q m f =
@@ -232,7 +232,7 @@ module _ (p : Program) (typed : WellTyped p) (ms : List Mode) where
       fine_then (Fits p ms) (ties_of c x s r.said.ties) (λ ties. unless_fault (int_lt t s.scene.time) faults.PastTime (turned (with_pending s) (due (scheduled (record { time = t; rank = r.rank; ties = ties }) n s.scene.pending)))) (ties_fine c x s r.said.ties (keys r ok) m f) (λ ties u.
       unless_fine (Fits p ms) (int_lt t s.scene.time) faults.PastTime (turned (with_pending s) (due (scheduled (record { time = t; rank = r.rank; ties = ties }) n s.scene.pending))) (λ due_time.
       fine_turned (Fits p ms) (with_pending s) (due (scheduled (record { time = t; rank = r.rank; ties = ties }) n s.scene.pending))
-      (due_fine (λ (q : PendingList). Every (λ (e : Entry). IsNotice s.scene.heap e.notice) q.entries) (scheduled (record { time = t; rank = r.rank; ties = ties }) n s.scene.pending) (scheduled_sane (record { time = t; rank = r.rank; ties = ties }) n s f (is_notice_here c n s q f l.1))) (λ d h. pending_fits s d f h)))))
+      (due_fine (λ (q : PendingList). Every (λ (e : PendingNotice). IsNotice s.scene.heap e.notice) q.entries) (scheduled (record { time = t; rank = r.rank; ties = ties }) n s.scene.pending) (scheduled_sane (record { time = t; rank = r.rank; ties = ties }) n s f (is_notice_here c n s q f l.1))) (λ d h. pending_fits s d f h)))))
     where
       keys : (r : Ranked) → RankedAs p.events c r → GoodKeys p c r.said.ties
       keys r ok =
@@ -246,18 +246,18 @@ module _ (p : Program) (typed : WellTyped p) (ms : List Mode) where
       unless_fine (Fits p ms) (is_pending n s.scene.pending.entries) faults.AlreadyScheduled (if_ok (prepared c x vs t s) (filed_notice c x t)) (λ e.
       fine_then (Fits p ms) (prepared c x vs t s) (filed_notice c x t) (prepared_fine c x vs ns t s h g m f) (λ r fr. filed_notice_fine c x t r q m fr)))
 
-  cancelled_sane : (n : ℤ) (s : Store) → Fits p ms s → Sane (λ (q : PendingList). Every (λ (e : Entry). IsNotice s.scene.heap e.notice) q.entries) (cancelled n s.scene.pending)
+  cancelled_sane : (n : ℤ) (s : Store) → Fits p ms s → Sane (λ (q : PendingList). Every (λ (e : PendingNotice). IsNotice s.scene.heap e.notice) q.entries) (cancelled n s.scene.pending)
   cancelled_sane n s f = by (is_pending n s.scene.pending.entries)
     where
-      by : (b : Bool) → Sane (λ (q : PendingList). Every (λ (e : Entry). IsNotice s.scene.heap e.notice) q.entries) (if b then Ok (record s.scene.pending { entries = without n s.scene.pending.entries }) else Err faults.NotScheduled)
-      by true = every_filter (λ (e : Entry). IsNotice s.scene.heap e.notice) (λ (e : Entry). IsNotice s.scene.heap e.notice) (λ e. not (int_eq n e.notice)) s.scene.pending.entries f.sound.scene.pending (λ e h t. h)
+      by : (b : Bool) → Sane (λ (q : PendingList). Every (λ (e : PendingNotice). IsNotice s.scene.heap e.notice) q.entries) (if b then Ok (record s.scene.pending { entries = without n s.scene.pending.entries }) else Err faults.NotScheduled)
+      by true = every_filter (λ (e : PendingNotice). IsNotice s.scene.heap e.notice) (λ (e : PendingNotice). IsNotice s.scene.heap e.notice) (λ e. not (int_eq n e.notice)) s.scene.pending.entries f.sound.scene.pending (λ e h t. h)
       by false = tt
 
   pub unscheduled_fine : (c : ℕ) (x : Value) (s : Store) → kind_said p c ≡ Some Notice → mode_of x ≡ Integer → Fits p ms s → Fine (Fits p ms) (unscheduled c x s)
   unscheduled_fine c x s q m f =
       let cl = class_said p c Notice q in
       fine_then (Fits p ms) (entity c x s) (λ n. turned (with_pending s) (due (cancelled n s.scene.pending))) (entity_fine p typed ms c cl.0 x s cl.1 m f) (λ n l.
-      fine_turned (Fits p ms) (with_pending s) (due (cancelled n s.scene.pending)) (due_fine (λ (q : PendingList). Every (λ (e : Entry). IsNotice s.scene.heap e.notice) q.entries) (cancelled n s.scene.pending) (cancelled_sane n s f)) (λ d h. pending_fits s d f h))
+      fine_turned (Fits p ms) (with_pending s) (due (cancelled n s.scene.pending)) (due_fine (λ (q : PendingList). Every (λ (e : PendingNotice). IsNotice s.scene.heap e.notice) q.entries) (cancelled n s.scene.pending) (cancelled_sane n s f)) (λ d h. pending_fits s d f h))
 
   -- ## Events
 
@@ -268,7 +268,7 @@ module _ (p : Program) (typed : WellTyped p) (ms : List Mode) where
     pub ranked : RankedAs p.events class c.ranked
     pub number : ℤ
     pub notice : c.notice ≡ Whole number
-    pub apart : Every (λ (e : Entry). number ≡ e.notice → ⊥) c.store.scene.pending.entries
+    pub apart : Every (λ (e : PendingNotice). number ≡ e.notice → ⊥) c.store.scene.pending.entries
     pub fits : Fits p ms c.store
 
   said_kind : (c : ℕ) (s : Store) → Fits p ms s → kind_of s.scene.heap.layout c ≡ Notice → kind_said p c ≡ Some Notice
@@ -278,7 +278,7 @@ module _ (p : Program) (typed : WellTyped p) (ms : List Mode) where
       by None h = absurd cc
       by (Some d) h = ap Some h
 
-  event_fits : (t : ℤ) (s : Store) (e : Entry) → least s.scene.pending.entries ≡ Some e → Fits p ms s → Fits p ms (at_event t s) × Every (λ (i : Entry). e.notice ≡ i.notice → ⊥) (at_event t s).scene.pending.entries
+  event_fits : (t : ℤ) (s : Store) (e : PendingNotice) → least s.scene.pending.entries ≡ Some e → Fits p ms s → Fits p ms (at_event t s) × Every (λ (i : PendingNotice). e.notice ≡ i.notice → ⊥) (at_event t s).scene.pending.entries
   event_fits t s e q f = (
     record {
       sound = record {
@@ -287,33 +287,33 @@ module _ (p : Program) (typed : WellTyped p) (ms : List Mode) where
           setting = f.sound.scene.setting;
           layout = f.sound.scene.layout;
           heap = f.sound.scene.heap;
-          pending = subst (λ o. Every (λ (i : Entry). IsNotice s.scene.heap i.notice) (option_map_or (λ (i : Entry). without i.notice s.scene.pending.entries) o [])) (sym q)
-              (every_filter (λ (i : Entry). IsNotice s.scene.heap i.notice) (λ (i : Entry). IsNotice s.scene.heap i.notice) (λ i. not (int_eq e.notice i.notice)) s.scene.pending.entries f.sound.scene.pending (λ i h t. h));
+          pending = subst (λ o. Every (λ (i : PendingNotice). IsNotice s.scene.heap i.notice) (option_map_or (λ (i : PendingNotice). without i.notice s.scene.pending.entries) o [])) (sym q)
+              (every_filter (λ (i : PendingNotice). IsNotice s.scene.heap i.notice) (λ (i : PendingNotice). IsNotice s.scene.heap i.notice) (λ i. not (int_eq e.notice i.notice)) s.scene.pending.entries f.sound.scene.pending (λ i h t. h));
           histories = f.sound.scene.histories;
         };
       };
       locals = f.locals;
     },
-    subst (λ o. Every (λ (i : Entry). e.notice ≡ i.notice → ⊥) (option_map_or (λ (i : Entry). without i.notice s.scene.pending.entries) o [])) (sym q)
-        (every_filter (λ (i : Entry). IsNotice s.scene.heap i.notice) (λ (i : Entry). e.notice ≡ i.notice → ⊥) (λ i. not (int_eq e.notice i.notice)) s.scene.pending.entries f.sound.scene.pending (λ i h t same. apart_by i t same)),
+    subst (λ o. Every (λ (i : PendingNotice). e.notice ≡ i.notice → ⊥) (option_map_or (λ (i : PendingNotice). without i.notice s.scene.pending.entries) o [])) (sym q)
+        (every_filter (λ (i : PendingNotice). IsNotice s.scene.heap i.notice) (λ (i : PendingNotice). e.notice ≡ i.notice → ⊥) (λ i. not (int_eq e.notice i.notice)) s.scene.pending.entries f.sound.scene.pending (λ i h t same. apart_by i t same)),
   )
     where
-      apart_by : (i : Entry) → not (int_eq e.notice i.notice) ≡ true → e.notice ≡ i.notice → ⊥
+      apart_by : (i : PendingNotice) → not (int_eq e.notice i.notice) ≡ true → e.notice ≡ i.notice → ⊥
       apart_by i t same = let are : int_eq e.notice i.notice ≡ true = (Decides-int_eq e.notice i.notice).1 same in let back : not true ≡ true = sym (ap not are) ∙ t in absurd cc
 
   pub next_event_there : (s : Store) → is_awaited s ≡ true → Fits p ms s → There ComingAs (next_event s)
   next_event_there s a f = by (least s.scene.pending.entries) refl a
     where
-      with_class : (e : Entry) → least s.scene.pending.entries ≡ Some e → (class : ℕ) → kind_said p class ≡ Some Notice → (o : Option Ranked) → There (RankedAs p.events class) o → There ComingAs (coming_as o e.key.time e.notice s)
+      with_class : (e : PendingNotice) → least s.scene.pending.entries ≡ Some e → (class : ℕ) → kind_said p class ≡ Some Notice → (o : Option Ranked) → There (RankedAs p.events class) o → There ComingAs (coming_as o e.key.time e.notice s)
       with_class e q class k None h = absurd h
       with_class e q class k (Some r) h =
           let both = event_fits e.key.time s e q f in
           record { class = class; kind = k; ranked = h; number = e.notice; notice = refl; apart = both.1; fits = both.0 }
 
-      by : (o : Option Entry) → least s.scene.pending.entries ≡ o → is_some (option_map told o) ≡ true → There ComingAs (next_event s)
+      by : (o : Option PendingNotice) → least s.scene.pending.entries ≡ o → is_some (option_map told o) ≡ true → There ComingAs (next_event s)
       by None q h = absurd cc
       by (Some e) q h =
-          let n = notice_there s.scene.heap e.notice (least_is (λ (i : Entry). IsNotice s.scene.heap i.notice) s.scene.pending.entries e f.sound.scene.pending q) in
+          let n = notice_there s.scene.heap e.notice (least_is (λ (i : PendingNotice). IsNotice s.scene.heap i.notice) s.scene.pending.entries e f.sound.scene.pending q) in
           let k : kind_said p n.0.class ≡ Some Notice = said_kind n.0.class s f n.2 in
           subst (λ o. There ComingAs (coming_with (option_map told o) s)) (sym q)
           (subst (λ r. There ComingAs (coming_as (ranked_as r s) e.key.time e.notice s)) (sym n.1)
@@ -325,7 +325,7 @@ module _ (p : Program) (typed : WellTyped p) (ms : List Mode) where
       fine_then (λ vs. Hold vs (n ∷ ns)) (attribute c k x s) (λ v. turned (λ vs. v ∷ vs) (attributes c (k + 1) (length ns) x s)) (attribute_fine p typed ms c k n x s (first_field c k n ns g) m f) (λ v h.
       fine_turned (λ vs. Hold vs (n ∷ ns)) (λ vs. v ∷ vs) (attributes c (k + 1) (length ns) x s) (attributes_fine c (k + 1) ns x s (later_fields c k n ns g) m f) (λ vs hs. let all : Hold (v ∷ vs) (n ∷ ns) = cc in all))
 
-  saved_fine : (o : Option ℕ) (c : ℕ) (n : ℤ) (s : Store) → IfSome o (λ k. (slice_get p.globals k ≡ Some Integer) × IsPlain p (Global k)) → kind_said p c ≡ Some Notice → Every (λ (e : Entry). n ≡ e.notice → ⊥) s.scene.pending.entries → Fits p ms s → Fine (Fits p ms) (saved_or_gone o c (Whole n) s)
+  saved_fine : (o : Option ℕ) (c : ℕ) (n : ℤ) (s : Store) → IfSome o (λ k. (slice_get p.globals k ≡ Some Integer) × IsPlain p (Global k)) → kind_said p c ≡ Some Notice → Every (λ (e : PendingNotice). n ≡ e.notice → ⊥) s.scene.pending.entries → Fits p ms s → Fine (Fits p ms) (saved_or_gone o c (Whole n) s)
   saved_fine (Some k) c n s h q a f = global_fine p typed ms k Integer (Whole n) s h.0 refl f
   saved_fine None c n s h q a f = gone_fine p typed ms c n s (alone c q) a f
 

@@ -6,7 +6,7 @@ ghost use Rattle.std.specs.List.Sorted.{IsPermutation};
 ghost use Rattle.ss_events.specs.declared.entry.Entry.{Entry};
 ghost use Rattle.ss_events.specs.HeapEntries.{lines_of, notices_of, event_of, Removes, Leaves, AreBehind};
 ghost use Rattle.ss_events.specs.HeapOrder.{IsFirstOf, IsFirstAmong};
-ghost use Rattle.ss_events.specs.Order.{comes_before};
+ghost use Rattle.ss_pending.specs.Order.{comes_before};
 ghost use Rattle.ss_events.specs.Slots.{mark_of, told_ranks, told_numbers};
 ghost use Rattle.ss_events.specs.declared.entry.places.Stand.{Stand as StandSeen};
 
@@ -217,7 +217,7 @@ impl Heap {
 
     /// Puts such an entry behind the last of a line of its time, where one is found that comes before it; and says whether it did.
     /// Counts a comparison, and a move where it did. If not, nothing else has changed.
-    #[inline(always)]
+    #[inline(never)]
     pub(crate) fn append_told(&mut self, time: i64, rank: usize, number: u64, notice: i64) -> bool
         requires rank { rank < told_ranks }
         requires number { number < told_numbers }

@@ -54,8 +54,8 @@ struct Hint {
 /// one after another. A contract sees the list of those in places, and a list of all others.
 ///
 /// An entry keeps its slot from when it comes until it goes. The slot is then free, and the next entry that comes takes it. A
-/// directory says in which slots to look for a notice, and hints in which slot to look for the last of a line. What a mark tells of
-/// an entry is kept in no other place: beside it its notice is all that there is of most entries.
+/// directory says in which slots to look for a notice, and hints in which slot to look for the last of a line. Of an entry that its
+/// mark tells nothing else is kept but its notice. The mark of a head stands in its slot and beside its place.
 #[derive(Drop)]
 pub struct Places {
     slots: Vec<Slot>,
@@ -497,8 +497,15 @@ fn hinted(hints: &[Hint], mark: Mark) -> usize {
 // Remembers in which slot the last of a line is, where there are many heads.
 #[inline(always)]
 fn remember(hints: &mut [Hint], heads: usize, mark: Mark, slot: usize) {
+    if heads >= MANY {
+        give_hint(hints, mark, slot);
+    }
+}
+
+#[inline(never)]
+fn give_hint(hints: &mut [Hint], mark: Mark, slot: usize) {
     let hint = hint_of(mark);
-    if heads >= MANY && hint < hints.len() {
+    if hint < hints.len() {
         hints[hint] = Hint {
             time: mark.time,
             slot,

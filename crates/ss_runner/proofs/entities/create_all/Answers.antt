@@ -3,7 +3,7 @@ use Rattle.std.specs.Prelude.{slice_get}
 use Rattle.ss_base.specs.declared.value.Value.TheVariants.{Whole}
 use Rattle.ss_meaning.specs.Values.{if_ok, sure, number_of}
 use Rattle.ss_meaning.specs.Entities.{made_all}
-use Rattle.ss_store.specs.Seen.{created_all_known}
+use Rattle.ss_working.specs.Seen.{created_all_known}
 use Rattle.ss_working.specs.Effects.{Came}
 use Rattle.ss_working.specs.Holding.{store_of, core_of}
 use Rattle.ss_runner.proofs.Outcomes.{grown}

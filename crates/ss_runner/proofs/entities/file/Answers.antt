@@ -1,6 +1,6 @@
 use Rattle.std.proofs.Common.{refl, ◌∙◌}
 use Rattle.ss_meaning.specs.Sets.{filed_in}
-use Rattle.ss_store.specs.Filed.{filing_meant}
+use Rattle.ss_working.specs.Filed.{filing_meant}
 use Rattle.ss_working.specs.Holding.{store_of, core_of}
 use Rattle.ss_runner.proofs.Outcomes.{topped, kept_below, noted}
 use Rattle.ss_runner.proofs.entities.file.Goals as goal

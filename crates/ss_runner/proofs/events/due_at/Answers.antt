@@ -2,7 +2,7 @@ use Rattle.std.proofs.Common.{rules, ◌≡◌, Ok, sym, ap, ◌∙◌, w64, to_
 use Rattle.ss_base.specs.declared.value.Value.TheVariants.{Whole}
 use Rattle.ss_meaning.specs.Values.{turned}
 use Rattle.ss_population.specs.Told.{told}
-use Rattle.ss_store.specs.Seen.{with_seen}
+use Rattle.ss_working.specs.Seen.{with_seen}
 use Rattle.ss_runner.proofs.Dues.{due_same}
 use Rattle.ss_runner.proofs.events.due_at.Goals as goal
 

@@ -3,7 +3,7 @@ use Rattle.std.proofs.lemmas.Result.{IfOk-weaker}
 use Rattle.ss_base.specs.declared.value.Value.TheVariants.{Whole}
 use Rattle.ss_meaning.specs.Events.{made_notice}
 use Rattle.ss_machine_code.specs.States.{Taken, take_off, with_taken, did, onward}
-use Rattle.ss_stack.specs.Frames.{Stacked}
+use Rattle.ss_working.specs.Frames.{Stacked}
 use Rattle.ss_working.specs.Effects.{CameWith}
 use Rattle.ss_working.specs.Holding.{store_of, core_of}
 use Rattle.ss_runner.proofs.Off.{off_enough}

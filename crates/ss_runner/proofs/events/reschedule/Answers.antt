@@ -1,7 +1,7 @@
 use Rattle.std.proofs.Common.{rules, ◌≡◌, ◌+◌, [], ◌∷◌, drop, Some, refl, sym, ap, ◌∙◌, subst, w64, to_z, of_z}
 use Rattle.ss_meaning.specs.Events.{rescheduled, prepared}
 use Rattle.ss_machine_code.specs.States.{Taken, take_off, with_taken, with_top, did, onward}
-use Rattle.ss_stack.specs.Frames.{Stacked}
+use Rattle.ss_working.specs.Frames.{Stacked}
 use Rattle.ss_working.specs.Effects.{Came}
 use Rattle.ss_working.specs.Holding.{IsLost, store_of, core_of}
 use Rattle.ss_runner.proofs.Dues.{short_under, pop_rest}

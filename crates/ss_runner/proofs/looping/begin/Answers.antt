@@ -5,8 +5,8 @@ use Rattle.ss_meaning.specs.Loops.{range_of, greatest}
 use Rattle.ss_machine_code.specs.declared.instruction.Instruction.TheVariants.{Begin}
 use Rattle.ss_machine_code.specs.States.{To, did, past, core_of as core_with}
 use Rattle.ss_machine_code.specs.Machine.{act, begins}
-use Rattle.ss_stack.specs.Frames.{Stacked, frames_seen}
-use Rattle.ss_stack.specs.Ranged.{range_said, ranged}
+use Rattle.ss_working.specs.Frames.{Stacked, frames_seen}
+use Rattle.ss_working.specs.Ranged.{range_said, ranged}
 use Rattle.ss_working.specs.Holding.{store_of, frames_of, core_of, Told}
 use Rattle.ss_runner.proofs.Popped.{popped, popped_two, with_operands}
 use Rattle.ss_runner.proofs.looping.begin.Goals as goal

@@ -7,8 +7,8 @@ use Rattle.ss_meaning.specs.Loops.{Range, indices, greatest}
 use Rattle.ss_population.specs.Told.{told}
 use Rattle.ss_machine_code.specs.States.{To, did, past, core_of as core_with}
 use Rattle.ss_machine_code.specs.Machine.{begins}
-use Rattle.ss_stack.specs.Frames.{Stacked, frames_seen}
-use Rattle.ss_stack.specs.Ranged.{range_said}
+use Rattle.ss_working.specs.Frames.{Stacked, frames_seen}
+use Rattle.ss_working.specs.Ranged.{range_said}
 use Rattle.ss_working.specs.Holding.{store_of, frames_of, core_of, Told}
 use Rattle.ss_runner.proofs.Popped.{with_operands}
 use Rattle.ss_runner.proofs.Outcomes.{breaks, lost}

@@ -1,6 +1,6 @@
 use Rattle.std.proofs.Common.{◌≡◌}
 use Rattle.ss_meaning.specs.Statistics.{reset}
-use Rattle.ss_store.specs.Figures.{held_by}
+use Rattle.ss_working.specs.Figures.{held_by}
 use Rattle.ss_working.specs.Holding.{store_of}
 use Rattle.ss_runner.proofs.Outcomes.{changed_where}
 use Rattle.ss_runner.proofs.statistics.start_afresh.Goals as goal

@@ -1,5 +1,5 @@
 use Rattle.std.proofs.Common.{Ok, sym, ap, ◌∙◌}
-use Rattle.ss_events.specs.PendingList.{next}
+use Rattle.ss_pending.specs.PendingList.{next}
 use Rattle.ss_timeline.specs.Times.{Times}
 use Rattle.ss_store.specs.Seen.{Seen, with_seen}
 use Rattle.ss_scheduling.specs.Events.{passed_on}

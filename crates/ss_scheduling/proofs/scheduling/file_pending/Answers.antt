@@ -1,7 +1,7 @@
 use Rattle.std.proofs.Common.{rules, ◌≡◌, ℤ, Ok, Err, sym, subst, to_z, of_z, w64}
 use Rattle.std.specs.Prelude.{Result as OkOr}
 use Rattle.ss_base.specs.declared.value.Value.TheVariants.{Whole}
-use Rattle.ss_events.specs.SortKey.{SortKey}
+use Rattle.ss_pending.specs.SortKey.{SortKey}
 use Rattle.ss_meaning.specs.Events.{filed_notice}
 use Rattle.ss_population.specs.declared.trouble.Unmade.{Unmade}
 use Rattle.ss_store.specs.Seen.{Grows}

@@ -1,6 +1,6 @@
 use Rattle.std.proofs.Common.{◌+◌, ◌++◌, List, drop, ap, sym, ◌∙◌}
 use Rattle.std.proofs.lemmas.List.{drop_more}
-use Rattle.ss_events.specs.declared.key.Tie.{Tie}
+use Rattle.ss_pending.specs.declared.ties.Tie.{Tie}
 use Rattle.ss_meaning.specs.Events.{ties_of}
 use Rattle.ss_meaning.specs.Values.{turned}
 use Rattle.ss_store.specs.Seen.{with_seen}

@@ -1,6 +1,6 @@
 use Rattle.std.proofs.Common.{rules, ◌≡◌, ℤ, [], Ok, sym, subst, to_z, of_z, w64}
 use Rattle.ss_base.specs.declared.value.Value.TheVariants.{Whole}
-use Rattle.ss_events.specs.SortKey.{SortKey}
+use Rattle.ss_pending.specs.SortKey.{SortKey}
 use Rattle.ss_scheduling.specs.Scheduled.{Finds, key_meant}
 use Rattle.ss_scheduling.proofs.Stepping.{untied_key}
 use Rattle.ss_scheduling.proofs.scheduling.key_known.Goals as goal

@@ -1,5 +1,5 @@
 use Rattle.std.proofs.Common.{rules, ◌≡◌, ℤ, false, subst, to_z, of_z, w64}
-use Rattle.ss_events.specs.PendingList.{is_pending}
+use Rattle.ss_pending.specs.PendingList.{is_pending}
 use Rattle.ss_meaning.specs.Events.{prepared}
 use Rattle.ss_scheduling.specs.Scheduled.{Goes, scheduled_anew}
 use Rattle.ss_scheduling.proofs.Stepping.{again}

@@ -1,20 +1,17 @@
 use Rattle.std.proofs.Common.{◌≡◌, ◌∷◌, ◌∙◌, ◌||◌, ◌++◌, Bool, true, false, refl, List, Ok, length, map, int_eq, to_z, of_z, w64, ap, subst, sym, to_z-of_z, IsPermutation}
 use Rattle.std.specs.List.{list_any}
 use Rattle.std.specs.Cmp.{int_eq_equiv}
-use Rattle.std.proofs.lemmas.Bool.{or_from}
+use Rattle.std.proofs.lemmas.Bool.{or_from, or_left}
 use Rattle.std.proofs.lemmas.List.Sorted.{IsPermutation-append_right, IsPermutation-middle, IsPermutation-trans}
 use Rattle.ss_events.specs.declared.entry.Entry.{Entry}
 use Rattle.ss_events.specs.HeapEntries.{HeapEntries, lines_of, all_of, notices_of, Leaves}
 use Rattle.ss_events.specs.HeapOrder.{IsHeap}
-use Rattle.ss_events.specs.Order.{comes_before}
-use Rattle.ss_events.specs.PendingList.{is_pending, without}
+use Rattle.ss_pending.specs.Order.{comes_before}
+use Rattle.ss_pending.specs.PendingList.{is_pending, without}
 use Rattle.ss_events.specs.Sifting.{IsLogarithmic}
 use Rattle.ss_events.proofs.Agendas.{found-pending, found-at, agenda-taken, in_order-taken, work_of}
 use Rattle.ss_events.proofs.Outcomes.{cancelled-pending, cancelled-none}
 use Rattle.ss_events.proofs.pending.Pending.cancel.Goals as goal
-
-or_left : (a b : Bool) → a ≡ true → (a || b) ≡ true
-or_left a b e = ap (λ x. x || b) e
 
 or_right : (a b : Bool) → b ≡ true → (a || b) ≡ true
 or_right true b e = refl

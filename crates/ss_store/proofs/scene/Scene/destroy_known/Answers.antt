@@ -1,6 +1,6 @@
 use Rattle.std.proofs.Common.{rules, ◌≡◌, ◌∙◌, true, false, refl, sym}
 use Rattle.ss_base.specs.declared.value.Value.TheVariants.{Whole}
-use Rattle.ss_events.specs.PendingList.{is_pending}
+use Rattle.ss_pending.specs.PendingList.{is_pending}
 use Rattle.ss_meaning.specs.Entities.{gone, without}
 use Rattle.ss_store.proofs.Changing.{changes_alike}
 use Rattle.ss_store.proofs.Once.{kept_pending, kept_always, gone_once}

@@ -1,5 +1,5 @@
 use Rattle.std.proofs.Common.{rules, ◌≡◌, ◌∙◌, ℤ, sym, subst, to_z, of_z, w64}
-use Rattle.ss_events.specs.PendingList.{PendingList}
+use Rattle.ss_pending.specs.PendingList.{PendingList}
 use Rattle.ss_timeline.specs.Times.{IsTimely}
 use Rattle.ss_timeline.proofs.Timely.{timely_passed}
 use Rattle.ss_timeline.proofs.timeline.Timeline.pass.Goals as goal

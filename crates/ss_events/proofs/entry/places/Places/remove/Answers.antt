@@ -10,7 +10,8 @@ use Rattle.ss_events.proofs.Lists.{written}
 use Rattle.ss_events.proofs.Lines.{long_heads}
 use Rattle.ss_events.proofs.Swapped.{length-exchanged}
 use Rattle.ss_events.proofs.Seen.{stand_whole}
-use Rattle.ss_events.proofs.Removed.{freed, room_spare, raised, raised_long, raised_slots, raised_slots_long, advanced, advanced_stood, advanced_long, stood_long, Gone, gone_like, gone-advanced, gone-dropped, lines, seen, out, out_there, out_slot, out_time, out_notice, read_stand, read_head}
+use Rattle.ss_events.proofs.Removed.{freed, room_spare, raised, raised_long, raised_slots, raised_slots_long, advanced, advanced_stood, advanced_long, stood_long}
+use Rattle.ss_events.proofs.Gone.{Gone, gone_like, gone-advanced, gone-dropped, lines, out_there, out_slot, out_time, out_notice, read_stand, read_head, out, seen}
 use Rattle.ss_events.proofs.entry.places.Places.remove.Goals as goal
 use Rattle.ss_events.proofs.entry.places.Places.remove.Goals.{After-forget, then-next, else-next}
 

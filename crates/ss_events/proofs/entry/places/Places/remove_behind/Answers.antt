@@ -7,7 +7,8 @@ use Rattle.ss_events.specs.HeapEntries.{Lines, notices_of}
 use Rattle.ss_events.specs.Slots.{kept, behind, at_put, heads, followers, IsTaken, AreHeld}
 use Rattle.ss_events.proofs.Lists.{written}
 use Rattle.ss_events.proofs.Lines.{follower}
-use Rattle.ss_events.proofs.Removed.{room_behind, before_in, close, closed_long, freed, freed-long, left, left_long, read_slot, nowhere_behind, somewhere_behind, held-left, heads-left, followers_left}
+use Rattle.ss_events.proofs.Removed.{room_behind, before_in, close, closed_long, freed, freed-long, left, left_long, held-left, heads-left, followers_left}
+use Rattle.ss_events.proofs.Gone.{read_slot, nowhere_behind, somewhere_behind}
 use Rattle.ss_events.proofs.entry.places.Places.remove_behind.Goals as goal
 use Rattle.ss_events.proofs.entry.places.Places.remove_behind.Goals.{After-forget}
 

@@ -1,0 +1,9 @@
+-- What a contract sees of an event list.
+use Rattle.std.specs.Prelude.{ℕ}
+use Rattle.ss_pending.specs.PendingList.{PendingList}
+
+-- the event list, with the comparisons and the moves of the last call that could change it
+pub record CountedList : Type 0 where
+  pub list : PendingList
+  pub comparisons : ℕ
+  pub moves : ℕ
