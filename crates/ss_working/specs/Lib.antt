@@ -1,5 +1,6 @@
 pub mod Holding
 pub mod Effects
+pub mod Quick
 pub use Rattle.ss_stack.specs.Frames
 pub use Rattle.ss_store.specs.Seen
 pub use Rattle.ss_stack.specs.declared.frame.Frame
