@@ -83,9 +83,9 @@ returns g c =
       within = λ none. omega (arith, e.used.1, c.saturating_add-last.ensures);
       paused = λ none q. e.paused q ∙ c.saturating_add-last.ensures ∙ ap (λ used. min (used + c.args.ticks) (2 ^ 64 - 1)) same;
       continues = λ none h q. inr (c.run_laws.ensures.comes_with_source m.code m.working new.working c.args.source.now new.source before after taken made (goes h)
-      (subst (λ s. Ran rem s m.code m.working new.working c.args.source.now new.source before after taken made) q e.ran).0);
+          (subst (λ s. Ran rem s m.code m.working new.working c.args.source.now new.source before after taken made) q e.ran).0);
       never_failed = λ none h q. c.run_laws.ensures.never_fails m.code m.working new.working c.args.source.now new.source before after taken made (goes h) c.len-sound.ensures.made c.len-sound.ensures.small
-      (subst (λ s. Ran rem s m.code m.working new.working c.args.source.now new.source before after taken made) q e.ran);
+          (subst (λ s. Ran rem s m.code m.working new.working c.args.source.now new.source before after taken made) q e.ran);
       unmissed = λ none. e.unmissed;
       steps = subst (λ (v : Held). v.steps ≤ counts.steps) view e.rising;
       least = e.made.least;
