@@ -1,7 +1,7 @@
 -- What a slice gives at an index.
-use Rattle.std.proofs.Common.{◌≡◌, ℕ, List, length, Option, Some, None, sym, ap, ◌∙◌, subst, Bor, is_some, IfSome, nat_lt, slice_index_or, ltb-true, ltb-false}
+use Rattle.std.proofs.Common.{◌≡◌, ℕ, ◌+◌, ◌<◌, ◌^◌, List, length, Option, Some, None, sym, ap, ◌∙◌, subst, Bor, is_some, IfSome, nat_lt, slice_index_or, ltb-true, ltb-false, arith}
 use Rattle.std.specs.Prelude.{slice_get}
-use Rattle.std.proofs.lemmas.Option.{slice_get-get_or, slice_get_past}
+use Rattle.std.proofs.lemmas.Option.{slice_get-get_or, slice_get_past, slice_get_within}
 
 module _ {A : Type 0} (xs : List A) (i : ℕ) (o : Option (Bor A)) (there : is_some o ≡ nat_lt i (length xs)) (value : IfSome o (λ x. x.now ≡ slice_index_or xs i x.now)) where
   pub found : (x : Bor A) → o ≡ Some x → slice_get xs i ≡ Some x.now
@@ -14,3 +14,7 @@ module _ {A : Type 0} (xs : List A) (i : ℕ) (o : Option (Bor A)) (there : is_s
   not_found e =
       let t = sym (ap is_some e) ∙ there in
       slice_get_past xs i (ltb-false i (length xs) (sym t))
+
+-- what is found has room behind its place
+pub room_behind : {A : Type 0} (xs : List A) (i : ℕ) (x : A) → slice_get xs i ≡ Some x → length xs < 2 ^ 63 → i + 1 < 2 ^ 64
+room_behind xs i x here few = omega (arith, slice_get_within xs i x here, few)

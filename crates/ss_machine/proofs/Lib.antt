@@ -7,3 +7,4 @@ mod Resting
 mod Onward
 mod Turning
 mod Telling
+mod Stopped

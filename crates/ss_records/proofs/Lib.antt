@@ -33,6 +33,7 @@ pub mod Passing
 pub mod Planned
 pub mod Planning
 pub mod ReadBack
+pub mod ReadKind
 pub mod ReadWords
 pub mod Relinked
 pub mod Remembered

@@ -1,6 +1,8 @@
 -- An entity that is remembered by its number.
-use Rattle.std.proofs.Common.{◌≡◌, ℕ, suc, ◌+◌, ◌-◌, ◌<◌, Bool, true, false, length, slice_get, Some, Ok, inl, inr, refl, sym, ap, subst, ◌∙◌, arith}
-use Rattle.std.specs.Prelude.{ℤ, if◌then◌else◌, ◌⊎◌}
+use Rattle.std.proofs.Common.{◌≡◌, ℕ, zero, suc, ◌+◌, ◌-◌, ◌%◌, ◌^◌, ◌<◌, FitsSigned, w64, of_z, Bool, true, false, length, slice_get, Some, Ok, inl, inr, refl, sym, ap, subst, ◌∙◌, arith}
+use Rattle.std.specs.Prelude.{ℤ, pos, negsuc, if◌then◌else◌, ◌⊎◌}
+use Rattle.std.proofs.lemmas.Int.{ints}
+use Rattle.std.proofs.lemmas.Option.{slice_get_within}
 use Rattle.ss_base.specs.declared.layout.ClassKind.{ClassKind}
 use Rattle.ss_base.specs.declared.layout.ClassKind.TheVariants.{Permanent, Temporary, Notice}
 use Rattle.ss_base.specs.declared.layout.SetLayout.{SetLayout}
@@ -11,8 +13,9 @@ use Rattle.ss_blocks.specs.Cells.{number, link, word_at}
 use Rattle.ss_states.specs.State.{entity, kind_of, members_of}
 use Rattle.ss_states.specs.Sets.{member_class}
 use Rattle.ss_states.specs.Lists.{In}
+use Rattle.ss_blocks.specs.Places.{Numbers}
 use Rattle.ss_records.specs.Places.{Lists, place_in, entity_at, class_at}
-use Rattle.ss_records.specs.Kept.{IsPermanent, numbered_place}
+use Rattle.ss_records.specs.Kept.{IsPermanent, issued_place, numbered_place}
 use Rattle.ss_records.specs.Slotted.{member_base}
 use Rattle.ss_records.specs.Parts.{IsKept, state, places, Found, Lies, Joins}
 use Rattle.ss_records.proofs.Apart.{entity_is}
@@ -23,6 +26,14 @@ use Rattle.ss_records.proofs.Keeps.{there}
 use Rattle.ss_records.proofs.Leading.{next_to, prev_to}
 use Rattle.ss_records.proofs.Listing.{listed}
 use Rattle.ss_records.proofs.Splice.{succ_is, pred_is}
+
+-- where it stands, by the word of its number
+pub numbered_at : (ps : Numbers) → length ps < 2 ^ 62 → (x : ℤ) → FitsSigned w64 x → (i : ℕ) → i ≡ of_z w64 x → (p : Address) → slice_get ps ((i + 18446744073709551615) % 18446744073709551616) ≡ Some (Some p) → numbered_place ps x ≡ Ok p
+numbered_at ps few (pos zero) fits i is p h = absurd (omega (arith, ints, few, is, slice_get_within ps _ (Some p) h))
+numbered_at ps few (pos (suc k)) fits i is p h =
+    let e : (i + 18446744073709551615) % 18446744073709551616 ≡ k = omega (arith, ints, fits, is) in
+    ap (λ j. issued_place (slice_get ps j)) (sym e) ∙ ap issued_place h
+numbered_at ps few (negsuc k) fits i is p h = absurd (omega (arith, ints, few, fits, is, slice_get_within ps _ (Some p) h))
 
 -- whatever the kind of its class is, since one that stands under a creation number is of no permanent class
 pub found_numbered : (r : Records) (K : IsKept r) (c : ℕ) (x : ℤ) (p : Address) → numbered_place r.directory.places x ≡ Ok p → class_at r.blocks.cells p ≡ c → Found r c x p

@@ -75,6 +75,9 @@ module _ (a A b B : ℕ) (none : a ≡ 0) where
     pub one_of_two : {Q : Type 0} → (b ≤ 2) × (Q → 1 ≤ b) × (B ≡ A + b)
     one_of_two = (omega (arith, none, one.0), λ z. omega (arith, none, one.0), omega (arith, none, one.0, one.1))
 
+    pub one_counted : (b ≤ 2) × (B ≡ A + b)
+    one_counted = (omega (arith, none, one.0), omega (arith, none, one.0, one.1))
+
     pub one_refused : (b ≤ 12) × (false ≡ true → 4 ≤ b) × (B ≡ A + b)
     one_refused = (omega (arith, none, one.0), λ z. absurd (false_is_not_true z), omega (arith, none, one.0, one.1))
 
@@ -86,6 +89,9 @@ module _ (a A b B : ℕ) (none : a ≡ 0) where
 
     pub two_touches : (d D : ℕ) → (d ≡ b + 1) × (D ≡ B + 1) → {Q : Type 0} → (d ≤ 2) × (Q → 1 ≤ d) × (D ≡ A + d)
     two_touches d D two = (omega (arith, none, one.0, two.0), λ z. omega (arith, none, one.0, two.0), omega (arith, none, one.0, one.1, two.0, two.1))
+
+    pub two_counted : (d D : ℕ) → (d ≡ b + 1) × (D ≡ B + 1) → (d ≤ 2) × (D ≡ A + d)
+    two_counted d D two = (omega (arith, none, one.0, two.0), omega (arith, none, one.0, one.1, two.0, two.1))
 
     -- after a look, and one of at most two touches
     module _ (d D : ℕ) (more : (d ≤ b + 2) × (D + b ≡ B + d)) where

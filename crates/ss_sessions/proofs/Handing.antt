@@ -1,6 +1,7 @@
 -- Ticks that are handed out piece by piece.
 use Rattle.std.proofs.Common.{◌≡◌, ℕ, suc, ◌+◌, ◌-◌, ◌^◌, ◌≤◌, ◌<◌, List, [], ◌∷◌, ◌++◌, length, take, min, get_or, refl, sym, ap, subst, ◌∙◌, arith}
 use Rattle.std.specs.List.{sum}
+use Rattle.std.proofs.lemmas.List.{take_all}
 use Rattle.std.proofs.lemmas.List.Sums.{sum_by_more, sum_by-append, sum_by-take-le}
 use Rattle.ss_sessions.specs.Headline.{handed_out}
 
@@ -57,3 +58,7 @@ still_used pieces ticks used h = omega (arith, h, piece_more pieces ticks)
 
 pub used_all : (pieces : List ℕ) (ticks old new : ℕ) → old ≡ handed_out pieces → new ≡ min (old + ticks) (2 ^ 64 - 1) → new ≡ handed_out (pieces ++ ticks ∷ [])
 used_all pieces ticks old new h g = omega (arith, h, g, piece_more pieces ticks)
+
+-- the first and all behind it are all
+pub all_handed : (pieces rest : List ℕ) (first i : ℕ) → pieces ≡ first ∷ rest → length rest ≤ i → handed_out (take (i + 1) pieces) ≡ handed_out pieces
+all_handed pieces rest first i e past = ap handed_out (take_all (i + 1) pieces (subst (λ ps. length ps ≤ i + 1) (sym e) (omega (arith, past))))

@@ -3,3 +3,4 @@ pub mod Same
 pub mod Walking
 pub mod Past
 pub mod Ranked
+mod Keys

@@ -2,7 +2,7 @@ use Rattle.std.proofs.Common.{rules, arith, ◌≡◌, ◌+◌, ◌++◌, [], sy
 use Rattle.std.specs.List.{sum}
 use Rattle.ss_machine.specs.Stop.TheVariants.{Paused}
 use Rattle.ss_sessions.specs.Sessions.{session_machine, stands_so}
-use Rattle.ss_sessions.proofs.Handing.{next_piece, some_used, more_used, all_used, no_sum}
+use Rattle.ss_sessions.proofs.Handing.{next_piece, some_used, more_used, all_used, no_sum, all_handed}
 use Rattle.ss_sessions.proofs.Running.{kept_stands, last_some}
 use Rattle.ss_sessions.proofs.run.run_pieces.Goals as goal
 
@@ -14,7 +14,7 @@ loop-ticks-preserved g c =
     let now = c.run-stop-in-loop-ticks.new.self in
     let paused : c.loop-ticks.stop ≡ Paused = search rules in
     let on = i.goes_on paused in
-    let split : c.args.pieces.now ≡ c.in-Some.first.now ∷ c.in-Some.rest.now = search rules in
+    let split : c.args.pieces.now ≡ c.in-Some.first.now ∷ c.in-Some.rest.now = c.in-Some.ensures.cases.0 in
     let piece = next_piece c.args.pieces.now c.in-Some.rest.now c.in-Some.first.now c.loop-ticks.ticks-index split c.loop-ticks-test.true in
     record {
       goes_on = e.goes_on on;
@@ -32,7 +32,7 @@ loop-ticks-init g c =
     let e = c.run-stop.ensures in
     let on = c.requires.goes_on in
     let now = c.run-stop.new.self in
-    let split : c.args.pieces.now ≡ c.in-Some.first.now ∷ c.in-Some.rest.now = search rules in
+    let split : c.args.pieces.now ≡ c.in-Some.first.now ∷ c.in-Some.rest.now = c.in-Some.ensures.cases.0 in
     let one : sum (take (0 + 1) c.args.pieces.now) ≡ c.in-Some.first.now = ap (λ l. sum (take 1 l)) split ∙ omega arith in
     record {
       goes_on = e.goes_on on;
@@ -79,3 +79,15 @@ returns-after-loop-ticks-clause-stopped g c = c.loop-ticks.invariant.stopped
 
 pub returns-after-loop-ticks-clause-never_failed : goal.returns-after-loop-ticks-clause-never_failed
 returns-after-loop-ticks-clause-never_failed g c = c.loop-ticks.invariant.right
+
+pub returns-after-loop-ticks-clause-used : goal.returns-after-loop-ticks-clause-used
+returns-after-loop-ticks-clause-used g c = some_used c.args.pieces.now (c.loop-ticks.ticks-index + 1) _ c.loop-ticks.invariant.used
+
+pub returns-after-loop-ticks-clause-paused : goal.returns-after-loop-ticks-clause-paused
+returns-after-loop-ticks-clause-paused g c = λ p. c.loop-ticks.invariant.paused p ∙ all_handed c.args.pieces.now c.in-Some.rest.now c.in-Some.first.now c.loop-ticks.ticks-index c.in-Some.ensures.cases.0 c.loop-ticks-test.false
+
+pub bounds-rest-ticks-index : goal.bounds-rest-ticks-index
+bounds-rest-ticks-index g c = c.loop-ticks-test.true
+
+pub loop-ticks-smaller : goal.loop-ticks-smaller
+loop-ticks-smaller g c = omega (arith, c.loop-ticks-test.true)
