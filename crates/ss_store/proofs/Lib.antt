@@ -12,6 +12,6 @@ pub mod Rehoming
 pub mod Starting
 pub mod Figured
 pub mod Going
-mod Renoting
+pub mod Staying
 pub mod Making
 pub mod Skims

@@ -8,7 +8,6 @@ use Rattle.ss_records.specs.Sets.{joiner, count_in, removed}
 use Rattle.ss_sets.specs.Disciplines.{member_test}
 use Rattle.ss_program.specs.declared.sections.Subject.TheVariants.{OfCount}
 use Rattle.ss_program.specs.declared.statement.End.{End}
-use Rattle.ss_timeline.specs.Records.{IsOnly, Takes, columns_of}
 use Rattle.ss_meaning.specs.Histories.{noted}
 use Rattle.ss_meaning.specs.Values.{Trouble as Meant, if_ok, turned, due, where_fit, unless_fault}
 use Rattle.ss_meaning.specs.Store.{Store}
@@ -51,10 +50,6 @@ CountsWatched set o e (Err t) = ⊥
 -- N. of the set of an owner as it is now, which its histories note
 abbrev pub recounted_now : (set : ℕ) → (owner : ℤ) → Store → Result Store Meant
 recounted_now set o s = recounted set o s s.scene.heap
-
--- the statistic at a place is the only one of N. of a set, and the history of the owner in it takes every number
-abbrev pub TakesCount : (set place : ℕ) → (owner : ℤ) → Seen → Type 0
-TakesCount set place o e = IsOnly set place e.statistics × Takes (OfCount set) o e.time e.statistics (columns_of e.histories)
 
 -- what is done with the owner of a set, by its number
 abbrev pub with_owner : {B : Type 0} → (set : ℕ) → Option Value → (ℤ → Store → Result B Meant) → Store → Result B Meant

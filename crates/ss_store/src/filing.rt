@@ -25,9 +25,9 @@ pub enum Filing {
 }
 
 impl Scene {
-    // Whether the discipline of a set is FIFO.
+    /// Whether the discipline of a set is FIFO: then what is filed by it goes last.
     #[inline(always)]
-    pub(crate) fn is_fifo(&self, set: usize) -> bool
+    pub fn is_fifo(&self, set: usize) -> bool
         ensures { result ≡ true → slice_get self.now.disciplines set ≡ Some Fifo }
     {
         matches!(self.disciplines.get(set), Some(Discipline::Fifo))
@@ -164,9 +164,10 @@ impl Scene {
         }
     }
 
-    // The same where it hardly goes last.
+    /// Files a member that hardly goes last, by its number, in the set of what refers to the owner, which is answered, and notes nothing.
+    /// Faults: those of `file` but the last.
     #[inline(always)]
-    pub(crate) fn file_member_anywhere(
+    pub fn file_member_anywhere(
         &mut self,
         filing: Filing,
         set: usize,

@@ -1,6 +1,6 @@
 //! Statistics: what histories note, what they say, and RESET.
 
-ghost use Rattle.std.specs.Prelude.{◌≡◌, [], true, false, pos, Ok, IfOk, IfSome};
+ghost use Rattle.std.specs.Prelude.{◌≡◌, [], true, false, pos, Ok, IfOk};
 ghost use Rattle.ss_base.specs.declared.value.Value.{Value as ValueSeen};
 ghost use Rattle.ss_meaning.specs.Store.{Store as StoreSeen};
 ghost use Rattle.ss_meaning.specs.Histories.{noted, figure_kept, mean_kept};
@@ -8,12 +8,10 @@ ghost use Rattle.ss_meaning.specs.Statistics.{bearer, figure, mean, reset};
 ghost use Rattle.ss_picture.specs.Suited.{IsMean};
 ghost use Rattle.ss_timeline.specs.Records.{figured};
 ghost use Rattle.ss_population.specs.Told.{told, numbered};
-ghost use Rattle.ss_program.specs.declared.sections.Subject.TheVariants.{OfVariable, OfAttribute, OfCount};
-ghost use Rattle.ss_base.specs.declared.value.Value.TheVariants.{Whole};
+ghost use Rattle.ss_program.specs.declared.sections.Subject.TheVariants.{OfVariable, OfAttribute};
 ghost use Rattle.ss_timeline.specs.Figures.{subject_in, variable_in, variable_of, held_by, present_with, renewed_known, reset_of};
-ghost use Rattle.ss_records.specs.Sets.{count_in};
-ghost use Rattle.ss_store.specs.AtOnce.{Ignores, StaysQuiet};
-ghost use Rattle.ss_store.specs.Filed.{IsCountable, CountsWatched, TakesCount, recounted_now};
+ghost use Rattle.ss_store.specs.AtOnce.{Ignores};
+ghost use Rattle.ss_store.specs.Filed.{IsCountable, CountsWatched, recounted_now};
 ghost use Rattle.ss_store.specs.Seen.{Looks, Changes, ChangesWhere, or_unnoted, unless_unnoted, with_seen};
 
 use crate::scene::Scene;
@@ -41,15 +39,15 @@ impl Scene {
         self.timeline.ignores_variable(number)
     }
 
-    // Whether no statistic is about a subject: then noting a value of it changes nothing. A variable that no program has
-    // tells that no statistic lacks its histories.
+    /// Whether no statistic is about a subject: then noting a value of it changes nothing.
     #[inline(always)]
-    pub(crate) fn ignores(&self, subject: Subject) -> bool
+    pub fn ignores(&self, subject: Subject) -> bool
         ensures { result ≡ true → Ignores subject self.now }
     {
         if !self.has_statistics() {
             return true;
         }
+        // A variable that no program has tells that no statistic lacks its histories.
         !self.timeline.watches(subject) && self.timeline.ignores_variable(usize::MAX)
     }
 
@@ -138,61 +136,6 @@ impl Scene {
             Ok(count) => Ok(Value::Whole(count)),
             Err(kind) => Err(Trouble::Fault(kind)),
         }
-    }
-
-    // Where the only statistic of N. of a set stands, if the history of the owner in it takes a number: then noting one does not fail.
-    #[inline(always)]
-    pub(crate) fn taking(&self, set: usize, owner: Known) -> Option<usize>
-        ensures { IfSome result (λ place. TakesCount set place owner.number self.now) }
-    {
-        self.timeline.taking(set, owner.number)
-    }
-
-    // N. of the set of an owner that can be counted.
-    #[inline(never)]
-    fn counted_far(&mut self, set: usize, owner: Known) -> i64
-        requires counted { IsCountable self.old.heap set owner.number }
-        ensures value { count_in self.old.heap set owner.number ≡ Ok result }
-        ensures same { self.new ≡ self.old }
-    {
-        match self.population.member_count(set, owner.number) {
-            Ok(count) => count,
-            Err(_) => 0,
-        }
-    }
-
-    // The same, at once where that goes well.
-    #[inline(always)]
-    fn counted(&mut self, set: usize, owner: Known) -> i64
-        requires counted { IsCountable self.old.heap set owner.number }
-        ensures value { count_in self.old.heap set owner.number ≡ Ok result }
-        ensures same { self.new ≡ self.old }
-    {
-        match self.members(set, owner) {
-            Some(count) => count,
-            None => self.counted_far(set, owner),
-        }
-    }
-
-    // Notes a number as N. of the set of an owner in the only statistic of it, whose history takes a number.
-    #[inline(always)]
-    fn note_count(&mut self, set: usize, place: usize, owner: Known, number: i64)
-        requires takes { TakesCount set place owner.number self.old }
-        ensures { Changes (noted (OfCount set) owner.number (Whole number)) self.old self.new (Ok tt) }
-    {
-        self.timeline.note_count(set, place, owner.number, number);
-    }
-
-    // The same of N. as it is now.
-    #[inline(always)]
-    pub(crate) fn recount_at(&mut self, set: usize, place: usize, owner: Known)
-        requires counted { IsCountable self.old.heap set owner.number }
-        requires takes { TakesCount set place owner.number self.old }
-        ensures noted { Changes (recounted_now set owner.number) self.old self.new (Ok tt) }
-        ensures quiet { StaysQuiet self.old self.new }
-    {
-        let count = self.counted(set, owner);
-        self.note_count(set, place, owner, count);
     }
 
     // What a statistic is about.

@@ -5,7 +5,7 @@ use Rattle.ss_store.specs.AtOnce.{Draws, StaysQuiet}
 use Rattle.ss_store.specs.Seen.{Seen}
 use Rattle.ss_store.specs.contracts.scene.Scene.{the_view}
 use Rattle.ss_store.proofs.Making.{spared_made}
-use Rattle.ss_store.proofs.Renoting.{quiet_still}
+use Rattle.ss_store.proofs.Staying.{quiet_still}
 use Rattle.ss_store.proofs.scene.Scene.create_at_once.Goals as goal
 
 pub returns-in-Ok-clause-made : goal.returns-in-Ok-clause-made
