@@ -7,4 +7,3 @@ mod Resting
 mod Onward
 mod Turning
 mod Telling
-mod Stopped

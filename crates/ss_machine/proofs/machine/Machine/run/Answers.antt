@@ -3,7 +3,7 @@ use Rattle.ss_steps.specs.Start.{Continues}
 use Rattle.ss_machine.specs.Held.{Held, answer_again}
 use Rattle.ss_steps.specs.Runs.{Ran}
 use Rattle.ss_machine.proofs.First.{kept_none}
-use Rattle.ss_machine.proofs.Stopped.{still_stopped, stopped_as}
+use Rattle.std.proofs.lemmas.Option.{none-some, same_Some}
 use Rattle.ss_machine.proofs.machine.Machine.run.Goals as goal
 
 pub returns-in-Some : goal.returns-in-Some
@@ -14,21 +14,21 @@ returns-in-Some g c =
     let stop = c.in-Some.stop in
     let is = sym (ap (λ (v : Held). v.stopped) view) ∙ c.in-Some.is in
     record {
-      again = λ before q. (subst (λ s. c.again.result ≡ answer_again s) (stopped_as old.stopped stop before is q) c.again.ensures, refl, refl, refl);
-      ran = λ none. absurd (still_stopped old.stopped stop is none);
+      again = λ before q. (subst (λ s. c.again.result ≡ answer_again s) (same_Some stop before (sym is ∙ q)) c.again.ensures, refl, refl, refl);
+      ran = λ none. absurd (none-some stop (sym none ∙ is));
       code = refl;
-      stopped = λ none. absurd (still_stopped old.stopped stop is none);
+      stopped = λ none. absurd (none-some stop (sym none ∙ is));
       used = (omega arith, omega arith);
-      within = λ none. absurd (still_stopped old.stopped stop is none);
-      paused = λ none. absurd (still_stopped old.stopped stop is none);
-      continues = λ none. absurd (still_stopped old.stopped stop is none);
-      never_failed = λ none. absurd (still_stopped old.stopped stop is none);
-      unmissed = λ none. absurd (still_stopped old.stopped stop is none);
+      within = λ none. absurd (none-some stop (sym none ∙ is));
+      paused = λ none. absurd (none-some stop (sym none ∙ is));
+      continues = λ none. absurd (none-some stop (sym none ∙ is));
+      never_failed = λ none. absurd (none-some stop (sym none ∙ is));
+      unmissed = λ none. absurd (none-some stop (sym none ∙ is));
       steps = omega arith;
       least = subst (λ (v : Held). v.used ≤ v.steps) view made.least;
       most = subst (λ (v : Held). v.steps ≤ (3 * v.used + 4) * length v.code.instructions) view made.most;
-      output = λ none. absurd (still_stopped old.stopped stop is none);
-      input = λ none. absurd (still_stopped old.stopped stop is none);
+      output = λ none. absurd (none-some stop (sym none ∙ is));
+      input = λ none. absurd (none-some stop (sym none ∙ is));
       never_falls = omega arith;
       read_never_falls = omega arith;
       end = λ h. h;
@@ -75,7 +75,7 @@ returns g c =
     let same = ap (λ (v : Held). v.used) view in
     let goes : Continues old.code old.working c.args.source.now → Continues m.code m.working c.args.source.now = λ h. subst (λ (v : Held). Continues v.code v.working c.args.source.now) (sym view) h in
     record {
-      again = λ stop q. absurd (still_stopped old.stopped stop q (sym (ap (λ (v : Held). v.stopped) view) ∙ c.in_default.is));
+      again = λ stop q. absurd (none-some stop (sym (sym (ap (λ (v : Held). v.stopped) view) ∙ c.in_default.is) ∙ q));
       ran = λ none. subst (λ (v : Held). Ran rem stop v.code v.working new.working c.args.source.now new.source before after (counts.used - v.used) (counts.steps - v.steps)) view e.ran;
       code = ap (λ (v : Held). v.code) view;
       stopped = λ none. c.kept-self-inside.ensures;
