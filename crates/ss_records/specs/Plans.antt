@@ -5,13 +5,13 @@ use Rattle.ss_base.specs.declared.layout.SetLayout.{SetLayout}
 use Rattle.ss_base.specs.declared.layout.Layout.{Layout}
 use Rattle.ss_records.specs.declared.plan.Extent.{Extent}
 use Rattle.ss_records.specs.declared.plan.Bases.{Bases}
-use Rattle.ss_records.specs.Shape.{links_start, owned_start, joins, owned_by, count_sets}
+use Rattle.ss_records.specs.Shape.{links_start, owned_start, block_words, joins, owned_by, count_sets}
 use Rattle.ss_records.specs.Kept.{Small}
 use Rattle.ss_records.specs.Slotted.{member_base, owner_base}
 
 -- where the words of a class stand
 abbrev pub extent_of : Layout → ℕ → Extent
-extent_of l c = record { links = links_start l c; owned = owned_start l (Class c); joined = count_sets (joins c) l.sets; sets = count_sets (owned_by (Class c)) l.sets }
+extent_of l c = record { links = links_start l c; owned = owned_start l (Class c); joined = count_sets (joins c) l.sets; sets = count_sets (owned_by (Class c)) l.sets; words = block_words l (Class c) }
 
 -- where the words of a set stand
 abbrev pub bases_of : Layout → ℕ → SetLayout → Bases

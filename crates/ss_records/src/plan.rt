@@ -22,13 +22,15 @@ pub(crate) struct Plan {
     system_sets: usize,
 }
 
-/// Where the links of a class and the words of the sets that it owns begin, and how many sets it joins and owns.
+/// Where the links of a class and the words of the sets that it owns begin, how many sets it joins and owns, and how many words its
+/// blocks have.
 #[derive(Clone, Copy)]
 struct Extent {
     links: usize,
     owned: usize,
     joined: usize,
     sets: usize,
+    words: usize,
 }
 
 /// Where the words of a set stand in a member, and in an owner.
@@ -158,22 +160,16 @@ impl Plan {
         self.classes[class].joined
     }
 
-    /// How many words of links a class has: three for each set that it joins.
-    #[inline(always)]
-    pub(crate) fn link_words(&self, class: usize) -> usize
-        requires { class < length self.now.classes }
-        ensures { result ≡ 3 * count_sets (joins class) self.now.sets }
-    {
-        self.owned_start(Owner::Class(class)) - self.links_start(class)
-    }
-
     /// How many words a block of a class has.
     pub(crate) fn block_words(&self, owner: Owner) -> usize
         requires { (c : ℕ) → owner ≡ Owner.Class c → c < length self.now.classes }
         ensures size { result ≡ block_words self.now owner }
         ensures bound { (2 ≤ result) × (result < 2 ^ 32) }
     {
-        self.owned_start(owner) + 3 * self.owned_count(owner)
+        match owner {
+            Owner::System => VALUES + 3 * self.system_sets,
+            Owner::Class(class) => self.classes[class].words,
+        }
     }
 
     /// Where the words of a set stand in a member.
@@ -232,11 +228,14 @@ fn all_extents(alloc: Global, layout: &Layout) -> Result<Vec<Extent>, AllocError
     let mut extents = Vec::with_capacity(alloc, layout.classes.len())?;
     for class in 0..layout.classes.len() {
         let owner = Owner::Class(class);
+        let owned = shape::owned_start(layout, owner);
+        let sets = shape::owned_count(layout, owner);
         extents.push(Extent {
             links: shape::links_start(layout, class),
-            owned: shape::owned_start(layout, owner),
+            owned,
             joined: shape::joined_count(layout, class),
-            sets: shape::owned_count(layout, owner),
+            sets,
+            words: owned + 3 * sets,
         })?;
     }
     Ok(extents)

@@ -84,6 +84,22 @@ impl Records {
         }
     }
 
+    /// The same where the set is one of the system: none where it is entities'.
+    #[inline(always)]
+    pub(crate) fn system_owner(&self, s: usize, _o: i64) -> Option<Entry>
+        requires kept { IsKept self.now }
+        requires set { s < length self.now.layout.sets }
+        ensures { IfSome result (λ e. Owns self.now s e × (owner (state self.now) s _o ≡ Ok e.number)) }
+    {
+        match self.layout.owner_class(s) {
+            Owner::System => Some(Entry {
+                place: self.system,
+                number: 0,
+            }),
+            Owner::Class(_) => None,
+        }
+    }
+
     /// What x means as one that may be in a set.
     #[inline(always)]
     pub(crate) fn joiner(&self, s: usize, x: i64) -> Result<Entry, FaultKind>
@@ -186,7 +202,7 @@ impl Records {
         ensures same { state self.new ≡ state self.old }
         ensures touches { (self.new.blocks.touches ≤ 1) × (self.new.blocks.total ≡ self.old.blocks.total + self.new.blocks.touches) }
     {
-        match self.near_owner(s, o) {
+        match self.system_owner(s, o) {
             Some(owner) => {
                 let base = self.layout.owner_base(s);
                 let count = self.blocks.peek_count(owner.place, base + 2);
