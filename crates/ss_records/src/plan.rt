@@ -5,7 +5,8 @@ ghost use Rattle.ss_states.specs.State.{kind_of, modes_of, is_owner_class};
 ghost use Rattle.ss_records.specs.Shape.{values_end, links_start, owned_start, block_words, joins, owned_by, count_sets};
 ghost use Rattle.ss_records.specs.Kept.{Small};
 ghost use Rattle.ss_records.specs.Slotted.{member_base, owner_base};
-ghost use Rattle.ss_records.specs.Plans.{AreExtents, AreBases};
+ghost use Rattle.ss_states.specs.Sets.{member_class, owner_kind};
+ghost use Rattle.ss_records.specs.Plans.{AreExtents, AreBases, is_permanent, is_system};
 
 use crate::shape::{self, VALUES};
 use ss_base::{ClassKind, Layout, Mode, Owner};
@@ -33,11 +34,15 @@ struct Extent {
     words: usize,
 }
 
-/// Where the words of a set stand in a member, and in an owner.
+/// Where the words of a set stand in a member, and in an owner; the class of its members, and whether that is permanent; and whether
+/// the set is one of the system.
 #[derive(Clone, Copy)]
 struct Bases {
     member: usize,
     owner: usize,
+    class: usize,
+    permanent: bool,
+    system: bool,
 }
 
 impl Model for Plan {
@@ -196,7 +201,25 @@ impl Plan {
         ensures is { (t : SetLayout) → slice_get self.now.sets s ≡ Some t → result ≡ t.member }
         ensures class { result < length self.now.classes }
     {
-        shape::member_class(&self.layout, s)
+        self.sets[s].class
+    }
+
+    /// Whether the class of the members of a set is permanent.
+    #[inline(always)]
+    pub(crate) fn holds_permanent(&self, s: usize) -> bool
+        requires { s < length self.now.sets }
+        ensures { result ≡ is_permanent (kind_of self.now (member_class self.now s)) }
+    {
+        self.sets[s].permanent
+    }
+
+    /// Whether a set is one of the system.
+    #[inline(always)]
+    pub(crate) fn is_of_system(&self, s: usize) -> bool
+        requires { s < length self.now.sets }
+        ensures { result ≡ is_system (owner_kind self.now s) }
+    {
+        self.sets[s].system
     }
 
     /// The owner of a set.
@@ -251,6 +274,9 @@ fn all_bases(alloc: Global, layout: &Layout) -> Result<Vec<Bases>, AllocError>
         bases.push(Bases {
             member: shape::member_base(layout, s),
             owner: shape::owner_base(layout, s),
+            class: shape::member_class(layout, s),
+            permanent: shape::holds_permanent(layout, s),
+            system: shape::is_of_system(layout, s),
         })?;
     }
     Ok(bases)

@@ -12,7 +12,7 @@ use crate::attributes;
 use crate::plan::Plan;
 use crate::records::Records;
 use crate::shape::value_start;
-use ss_base::{ClassKind, FaultKind, Mode, Owner, Value};
+use ss_base::{FaultKind, Mode, Owner, Value};
 use ss_blocks::{Directory, Entry, NUMBER};
 
 /// What is read of a member of a set at once.
@@ -91,12 +91,13 @@ impl Records {
         requires set { s < length self.now.layout.sets }
         ensures { IfSome result (λ e. Owns self.now s e × (owner (state self.now) s _o ≡ Ok e.number)) }
     {
-        match self.layout.owner_class(s) {
-            Owner::System => Some(Entry {
+        if self.layout.is_of_system(s) {
+            Some(Entry {
                 place: self.system,
                 number: 0,
-            }),
-            Owner::Class(_) => None,
+            })
+        } else {
+            None
         }
     }
 
@@ -484,8 +485,7 @@ impl Records {
         requires next { (next.number ≡ 0 → ⊥) → Joins self.old s next }
         ensures { self.new ≡ self.old }
     {
-        let class = self.layout.member_class(s);
-        if let ClassKind::Permanent = self.layout.kind(class) {
+        if self.layout.holds_permanent(s) {
             return;
         }
         self.directory
@@ -569,8 +569,7 @@ pub(crate) fn keep(directory: &mut Directory, layout: &Plan, s: usize, member: E
     requires entry { (IsPermanent (kind_of layout.now (member_class layout.now s)) → ⊥) → slice_get directory.old.places (member.number - 1) ≡ Some (Some member.place) }
     ensures { directory.new ≡ directory.old }
 {
-    let class = layout.member_class(s);
-    if let ClassKind::Permanent = layout.kind(class) {
+    if layout.holds_permanent(s) {
         return;
     }
     directory.remember(member.number as usize - 1, member.place);

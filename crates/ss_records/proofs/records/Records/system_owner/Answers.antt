@@ -1,10 +1,9 @@
-use Rattle.std.proofs.Common.{ap, ◌∙◌}
-use Rattle.ss_base.specs.declared.layout.SetLayout.{SetLayout}
-use Rattle.ss_states.specs.Sets.{owner_in}
-use Rattle.ss_records.proofs.Owning.{system_owns, kind_is}
+use Rattle.std.proofs.Common.{sym, ◌∙◌}
+use Rattle.ss_records.proofs.Owning.{of_system, system_owns}
+use Rattle.ss_states.specs.Sets.{owner_kind}
 use Rattle.ss_records.proofs.records.Records.system_owner.Goals as goal
 
-pub returns-in-System : goal.returns-in-System
-returns-in-System c =
-    let r = c.args.self.now in let k = kind_is r.layout c.args.s (λ (t : SetLayout). t.owner) _ c.requires.set c.in-System.ensures.is in
-    system_owns r c.args.s c.args._o (ap owner_in k.1 ∙ k.2)
+pub returns-then-is_of_system : goal.returns-then-is_of_system
+returns-then-is_of_system c =
+    let r = c.args.self.now in
+    system_owns r c.args.s c.args._o (of_system (owner_kind r.layout c.args.s) (sym c.is_of_system.ensures ∙ c.if-is_of_system.true))
