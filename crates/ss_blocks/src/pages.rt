@@ -159,6 +159,7 @@ impl PageMap {
     }
 
     /// Lets go of the entry k of a page, and says whether the page is empty then.
+    #[inline(always)]
     pub(crate) fn clear(&mut self, number: usize, k: usize) -> bool
         requires there { (page : List (Option Address)) × (p : Address) × (page_of self.old number ≡ Some page) × (slice_get page k ≡ Some (Some p)) }
         ensures cleared { (page : List (Option Address)) → page_of self.old number ≡ Some page → (self.new ≡ set_value (is_at (nat_cmp number)) self.old (slice_set page k None)) × ((q : ℕ) → page_of self.new q ≡ cond (is_at (nat_cmp number) q) (Some (slice_set page k None)) (page_of self.old q)) }

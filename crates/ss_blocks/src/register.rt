@@ -125,6 +125,7 @@ impl Register {
     }
 
     /// The place of the next number.
+    #[inline(always)]
     pub(crate) fn push(&mut self, place: Address) -> Result<(), AllocError>
         requires room { length self.old.places < 2 ^ 62 }
         ensures { MatchResult result (λ _. self.new.places ≡ self.old.places ++ Some place ∷ []) (λ _. self.new.places ≡ self.old.places) }
@@ -198,7 +199,7 @@ impl Register {
     }
 
     // Lets go of an entry in an earlier page, and of the page where none of its numbers is living.
-    #[inline(never)]
+    #[inline(always)]
     fn clear_earlier(&mut self, i: usize)
         requires there { (p : Address) × (slice_get self.old.places i ≡ Some (Some p)) }
         requires earlier { i < self.old.start }

@@ -16,6 +16,7 @@ pub mod Issuing
 pub mod Keeps
 pub mod Leading
 pub mod LinkWrites
+pub mod Linked
 pub mod Linking
 pub mod Listed
 pub mod Listing

@@ -1,7 +1,8 @@
 -- What a reference means as an owner, or as one that may be a member, of a set.
-use Rattle.std.proofs.Common.{◌≡◌, ℕ, suc, ◌<◌, length, slice_get, Some, Ok, Err, refl, sym, ap, subst, ◌∙◌}
+use Rattle.std.proofs.Common.{◌≡◌, ℕ, suc, ◌<◌, true, length, slice_get, Some, Ok, Err, refl, sym, ap, subst, ◌∙◌}
 use Rattle.std.specs.Prelude.{ℤ}
 use Rattle.ss_base.specs.declared.fault.FaultKind.{FaultKind}
+use Rattle.ss_base.specs.declared.layout.Owner.{Owner}
 use Rattle.ss_base.specs.declared.layout.Owner.TheVariants.{System, Class}
 use Rattle.ss_base.specs.declared.layout.SetLayout.{SetLayout}
 use Rattle.ss_base.specs.declared.layout.Layout.{Layout}
@@ -13,6 +14,7 @@ use Rattle.ss_states.specs.Sets.{member_class, owner_kind, joiner, owner_by, own
 use Rattle.ss_records.specs.Reading.{plain}
 use Rattle.ss_records.specs.Places.{listing, place_in, entity_at, owner_at}
 use Rattle.ss_records.specs.Slotted.{IsOf, MayOwn}
+use Rattle.ss_records.specs.Plans.{is_system}
 use Rattle.ss_records.specs.Parts.{IsKept, state, places, Found, Owns, Joins}
 use Rattle.ss_records.proofs.Listing.{stands}
 use Rattle.ss_records.proofs.Disjoint.{is_of}
@@ -61,5 +63,9 @@ pub not_owner : (st : State) (s : ℕ) (c : ℕ) (x : ℤ) (e : FaultKind) → o
 not_owner st s c x e h k = ap (λ u. owner_by st u x) h ∙ ap (λ z. and_then z (λ q. Ok (number_in x))) k
 
 -- what a function that reads the layout of a set says
+pub of_system : (o : Owner) → is_system o ≡ true → o ≡ System
+of_system System e = refl
+of_system (Class c) e = absurd cc
+
 pub kind_is : {A : Type 0} (l : Layout) (s : ℕ) (of : SetLayout → A) (a : A) → s < length l.sets → ((t : SetLayout) → slice_get l.sets s ≡ Some t → a ≡ of t) → (t : SetLayout) × (slice_get l.sets s ≡ Some t) × (of t ≡ a)
 kind_is l s of a inside h = let y = get_there l.sets s inside in (y.0, y.1, sym (h y.0 y.1))

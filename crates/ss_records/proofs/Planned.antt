@@ -4,7 +4,6 @@ use Rattle.ss_base.specs.declared.layout.SetLayout.{SetLayout}
 use Rattle.ss_base.specs.declared.layout.Layout.{Layout}
 use Rattle.ss_records.specs.declared.plan.Extent.{Extent}
 use Rattle.ss_records.specs.declared.plan.Bases.{Bases}
-use Rattle.ss_records.specs.Slotted.{member_base, owner_base}
 use Rattle.ss_records.specs.Plans.{extent_of, bases_of}
 use Rattle.ss_blocks.proofs.Same.{by_same}
 use Rattle.ss_records.proofs.Planning.{get_front, get_behind}
@@ -12,19 +11,15 @@ use Rattle.ss_records.proofs.Planning.{get_front, get_behind}
 pub one_longer : {A : Type 0} (xs ys : List A) (x : A) (n : ℕ) → ys ≡ xs ++ x ∷ [] → length xs ≡ n → length ys ≡ n + 1
 one_longer xs ys x n e h = omega (arith, ap length e, length-append xs (x ∷ []), h)
 
-pub bases_more : (l : Layout) (xs ys : List Bases) (s m o : ℕ) → ys ≡ xs ++ (record { member = m; owner = o }) ∷ [] → length xs ≡ s
+pub bases_more : (l : Layout) (xs ys : List Bases) (s : ℕ) (x : Bases) → ys ≡ xs ++ x ∷ [] → length xs ≡ s
     → ((k : ℕ) → k < s → (t : SetLayout) → slice_get l.sets k ≡ Some t → slice_get xs k ≡ Some (bases_of l k t))
-    → ((t : SetLayout) → slice_get l.sets s ≡ Some t → m ≡ member_base l s t)
-    → ((t : SetLayout) → slice_get l.sets s ≡ Some t → o ≡ owner_base l s t)
+    → ((t : SetLayout) → slice_get l.sets s ≡ Some t → x ≡ bases_of l s t)
     → (k : ℕ) → k < s + 1 → (t : SetLayout) → slice_get l.sets k ≡ Some t → slice_get ys k ≡ Some (bases_of l k t)
-bases_more l xs ys s m o e n before hm ho k small t g =
-    let x : Bases = record { member = m; owner = o } in
+bases_more l xs ys s x e n before is k small t g =
     ap (λ zs. slice_get zs k) e ∙ by_same k s
     (λ z i.
     let f : slice_get l.sets s ≡ Some t = subst (λ j. slice_get l.sets j ≡ Some t) i g in
-    let a : m ≡ member_base l k t = hm t f ∙ ap (λ j. member_base l j t) (sym i) in
-    let b : o ≡ owner_base l k t = ho t f ∙ ap (λ j. owner_base l j t) (sym i) in
-    get_behind xs x k (i ∙ sym n) ∙ (λ j. Some (record { member = a j; owner = b j })))
+    get_behind xs x k (i ∙ sym n) ∙ ap Some (is t f ∙ ap (λ j. bases_of l j t) (sym i)))
     (λ z i. let h : k < s = omega (arith, small, i) in get_front xs x k (omega (arith, h, n)) ∙ before k h t g)
 
 pub extents_more : (l : Layout) (xs ys : List Extent) (s : ℕ) (x : Extent) → ys ≡ xs ++ x ∷ [] → length xs ≡ s

@@ -1,14 +1,14 @@
 -- What a plan holds, and how far the words of a layout reach.
-use Rattle.std.proofs.Common.{◌≡◌, ℕ, zero, suc, ◌^◌, ◌<◌, ◌≤◌, nat_le, Bool, true, false, ◌&&◌, List, [], ◌∷◌, ◌++◌, length, Some, slice_get, refl, ◌∙◌, arith}
+use Rattle.std.proofs.Common.{◌≡◌, ℕ, zero, suc, ◌^◌, ◌<◌, ◌≤◌, nat_le, nat_lt, Bool, true, false, ◌&&◌, subst, List, [], ◌∷◌, ◌++◌, length, Some, slice_get, refl, ◌∙◌, arith}
 use Rattle.std.specs.Prelude.{cond, IsTrue, slice_index_or}
 use Rattle.std.specs.List.{list_all}
-use Rattle.std.proofs.lemmas.Bool.{and_parts, leb-true}
+use Rattle.std.proofs.lemmas.Bool.{and_parts, leb-true, ltb-true}
 use Rattle.std.proofs.lemmas.Option.{slice_get_within, get_or_from_slice_get}
 use Rattle.ss_base.specs.declared.layout.Owner.{Owner}
 use Rattle.ss_base.specs.declared.layout.Owner.TheVariants.{System, Class}
 use Rattle.ss_base.specs.declared.layout.SetLayout.{SetLayout}
 use Rattle.ss_base.specs.declared.layout.Layout.{Layout}
-use Rattle.ss_base.specs.Layout.{is_layout, is_narrow, is_sound}
+use Rattle.ss_base.specs.Layout.{is_layout, is_narrow, is_sound, names_classes, owns_among}
 use Rattle.ss_base.specs.Plain.{PlainClass}
 use Rattle.ss_records.specs.declared.plan.Extent.{Extent}
 use Rattle.ss_records.specs.declared.plan.Bases.{Bases}
@@ -52,6 +52,15 @@ small_law l h =
     let few_classes = leb-true (length l.classes) 1048576 b.0 in
     let few_sets = leb-true (length l.sets) 1048576 c.0 in
     record { sound = a.0; classes = omega (arith, few_classes); sets = omega (arith, few_sets); fields = fields_small l.classes c.1 }
+
+-- the members of a set are of a class that is there
+pub class_named : (n : ℕ) (ts : List SetLayout) → list_all (names_classes n) ts ≡ true → (s : ℕ) (t : SetLayout) → slice_get ts s ≡ Some t → t.member < n
+class_named n [] h s t g = absurd cc
+class_named n (u ∷ ts) h zero t g =
+    let is : u ≡ t = cc in
+    let a = and_parts (names_classes n u) (list_all (names_classes n) ts) h in
+    subst (λ (x : SetLayout). x.member < n) is (ltb-true u.member n (and_parts (owns_among n u.owner) (nat_lt u.member n) a.0).1)
+class_named n (u ∷ ts) h (suc s) t g = class_named n ts (and_parts (names_classes n u) (list_all (names_classes n) ts) h).1 s t g
 
 -- ---- how far words reach
 

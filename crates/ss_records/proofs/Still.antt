@@ -140,9 +140,6 @@ module _ (a A b B d D : ℕ) where
   as_many one same = omega (arith, one, same.0, same.1)
 
 -- within a loop over the sets
-pub early_room : (t i s n m : ℕ) → i ≤ 2 ^ 32 → t ≤ i + s → s < n → n ≡ m → m ≤ 2 ^ 20 → t + 1 < 2 ^ 64
-early_room t i s n m start few small end sets = omega (arith, start, few, small, end, sets)
-
 pub later_room : (t i s n m : ℕ) → i ≤ 2 ^ 33 → t ≤ i + s → s < n → n ≡ m → m ≤ 2 ^ 20 → t + 1 < 2 ^ 64
 later_room t i s n m start few small end sets = omega (arith, start, few, small, end, sets)
 

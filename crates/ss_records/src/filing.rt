@@ -72,6 +72,22 @@ impl Records {
         }
     }
 
+    // The same where the set is one of the system.
+    #[inline(always)]
+    fn system_pair(&self, s: usize, o: i64, x: i64) -> Option<Pair>
+        requires kept { IsKept self.now }
+        requires set { s < length self.now.layout.sets }
+        ensures { IfSome result (λ p. Owns self.now s p.owner × Joins self.now s p.x × (joiner (state self.now) s x ≡ Ok p.x.number) × (owner (state self.now) s o ≡ Ok p.owner.number)) }
+    {
+        match self.system_owner(s, o) {
+            Some(owner) => match self.near_joiner(s, x) {
+                Some(x) => Some(Pair { owner, x }),
+                None => None,
+            },
+            None => None,
+        }
+    }
+
     // What x, then y and then o mean.
     fn triple(&self, s: usize, o: i64, x: i64, y: i64) -> Result<Triple, FaultKind>
         requires kept { IsKept self.now }
@@ -396,7 +412,7 @@ impl Records {
         ensures same { result ≡ false → state self.new ≡ state self.old }
         ensures touches { (self.new.blocks.touches ≤ 12) × (result ≡ true → 4 ≤ self.new.blocks.touches) × (self.new.blocks.total ≡ self.old.blocks.total + self.new.blocks.touches) }
     {
-        match self.near_pair(s, o, x) {
+        match self.system_pair(s, o, x) {
             Some(both) => self.put_last(s, both.owner, both.x),
             None => {
                 self.blocks.start();
@@ -454,7 +470,7 @@ impl Records {
         ensures same { result ≡ None → state self.new ≡ state self.old }
         ensures touches { (self.new.blocks.touches ≤ 12) × (self.new.blocks.total ≡ self.old.blocks.total + self.new.blocks.touches) }
     {
-        match self.near_owner(s, o) {
+        match self.system_owner(s, o) {
             Some(owner) => self.draw_first(s, owner),
             None => {
                 self.blocks.start();

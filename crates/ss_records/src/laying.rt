@@ -34,11 +34,12 @@ pub(crate) fn lay(
     let joined = layout.joined_count(class);
     let owned = layout.owned_start(Owner::Class(class));
     let count = layout.owned_count(Owner::Class(class));
+    let words = layout.block_words(Owner::Class(class));
     lay_head(blocks, place, class as u64, number);
     fill_numbers(blocks, place, VALUES, links);
     fill_links(blocks, place, links, joined, place);
     fill_owned(blocks, place, owned, count, end);
-    blocks.expect(3 * (joined + count) as u64);
+    blocks.expect((words - links) as u64);
 }
 
 /// Makes a blank block that of the system, without members.

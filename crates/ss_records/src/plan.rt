@@ -5,7 +5,8 @@ ghost use Rattle.ss_states.specs.State.{kind_of, modes_of, is_owner_class};
 ghost use Rattle.ss_records.specs.Shape.{values_end, links_start, owned_start, block_words, joins, owned_by, count_sets};
 ghost use Rattle.ss_records.specs.Kept.{Small};
 ghost use Rattle.ss_records.specs.Slotted.{member_base, owner_base};
-ghost use Rattle.ss_records.specs.Plans.{AreExtents, AreBases};
+ghost use Rattle.ss_states.specs.Sets.{member_class, owner_kind};
+ghost use Rattle.ss_records.specs.Plans.{AreExtents, AreBases, is_permanent, is_system};
 
 use crate::shape::{self, VALUES};
 use ss_base::{ClassKind, Layout, Mode, Owner};
@@ -22,20 +23,26 @@ pub(crate) struct Plan {
     system_sets: usize,
 }
 
-/// Where the links of a class and the words of the sets that it owns begin, and how many sets it joins and owns.
+/// Where the links of a class and the words of the sets that it owns begin, how many sets it joins and owns, and how many words its
+/// blocks have.
 #[derive(Clone, Copy)]
 struct Extent {
     links: usize,
     owned: usize,
     joined: usize,
     sets: usize,
+    words: usize,
 }
 
-/// Where the words of a set stand in a member, and in an owner.
+/// Where the words of a set stand in a member, and in an owner; the class of its members, and whether that is permanent; and whether
+/// the set is one of the system.
 #[derive(Clone, Copy)]
 struct Bases {
     member: usize,
     owner: usize,
+    class: usize,
+    permanent: bool,
+    system: bool,
 }
 
 impl Model for Plan {
@@ -158,22 +165,16 @@ impl Plan {
         self.classes[class].joined
     }
 
-    /// How many words of links a class has: three for each set that it joins.
-    #[inline(always)]
-    pub(crate) fn link_words(&self, class: usize) -> usize
-        requires { class < length self.now.classes }
-        ensures { result ≡ 3 * count_sets (joins class) self.now.sets }
-    {
-        self.owned_start(Owner::Class(class)) - self.links_start(class)
-    }
-
     /// How many words a block of a class has.
     pub(crate) fn block_words(&self, owner: Owner) -> usize
         requires { (c : ℕ) → owner ≡ Owner.Class c → c < length self.now.classes }
         ensures size { result ≡ block_words self.now owner }
         ensures bound { (2 ≤ result) × (result < 2 ^ 32) }
     {
-        self.owned_start(owner) + 3 * self.owned_count(owner)
+        match owner {
+            Owner::System => VALUES + 3 * self.system_sets,
+            Owner::Class(class) => self.classes[class].words,
+        }
     }
 
     /// Where the words of a set stand in a member.
@@ -200,7 +201,25 @@ impl Plan {
         ensures is { (t : SetLayout) → slice_get self.now.sets s ≡ Some t → result ≡ t.member }
         ensures class { result < length self.now.classes }
     {
-        shape::member_class(&self.layout, s)
+        self.sets[s].class
+    }
+
+    /// Whether the class of the members of a set is permanent.
+    #[inline(always)]
+    pub(crate) fn holds_permanent(&self, s: usize) -> bool
+        requires { s < length self.now.sets }
+        ensures { result ≡ is_permanent (kind_of self.now (member_class self.now s)) }
+    {
+        self.sets[s].permanent
+    }
+
+    /// Whether a set is one of the system.
+    #[inline(always)]
+    pub(crate) fn is_of_system(&self, s: usize) -> bool
+        requires { s < length self.now.sets }
+        ensures { result ≡ is_system (owner_kind self.now s) }
+    {
+        self.sets[s].system
     }
 
     /// The owner of a set.
@@ -232,11 +251,14 @@ fn all_extents(alloc: Global, layout: &Layout) -> Result<Vec<Extent>, AllocError
     let mut extents = Vec::with_capacity(alloc, layout.classes.len())?;
     for class in 0..layout.classes.len() {
         let owner = Owner::Class(class);
+        let owned = shape::owned_start(layout, owner);
+        let sets = shape::owned_count(layout, owner);
         extents.push(Extent {
             links: shape::links_start(layout, class),
-            owned: shape::owned_start(layout, owner),
+            owned,
             joined: shape::joined_count(layout, class),
-            sets: shape::owned_count(layout, owner),
+            sets,
+            words: owned + 3 * sets,
         })?;
     }
     Ok(extents)
@@ -252,6 +274,9 @@ fn all_bases(alloc: Global, layout: &Layout) -> Result<Vec<Bases>, AllocError>
         bases.push(Bases {
             member: shape::member_base(layout, s),
             owner: shape::owner_base(layout, s),
+            class: shape::member_class(layout, s),
+            permanent: shape::holds_permanent(layout, s),
+            system: shape::is_of_system(layout, s),
         })?;
     }
     Ok(bases)

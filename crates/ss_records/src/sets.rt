@@ -12,7 +12,7 @@ use crate::attributes;
 use crate::plan::Plan;
 use crate::records::Records;
 use crate::shape::value_start;
-use ss_base::{ClassKind, FaultKind, Mode, Owner, Value};
+use ss_base::{FaultKind, Mode, Owner, Value};
 use ss_blocks::{Directory, Entry, NUMBER};
 
 /// What is read of a member of a set at once.
@@ -81,6 +81,23 @@ impl Records {
                 }),
                 None => None,
             },
+        }
+    }
+
+    /// The same where the set is one of the system: none where it is entities'.
+    #[inline(always)]
+    pub(crate) fn system_owner(&self, s: usize, _o: i64) -> Option<Entry>
+        requires kept { IsKept self.now }
+        requires set { s < length self.now.layout.sets }
+        ensures { IfSome result (λ e. Owns self.now s e × (owner (state self.now) s _o ≡ Ok e.number)) }
+    {
+        if self.layout.is_of_system(s) {
+            Some(Entry {
+                place: self.system,
+                number: 0,
+            })
+        } else {
+            None
         }
     }
 
@@ -186,7 +203,7 @@ impl Records {
         ensures same { state self.new ≡ state self.old }
         ensures touches { (self.new.blocks.touches ≤ 1) × (self.new.blocks.total ≡ self.old.blocks.total + self.new.blocks.touches) }
     {
-        match self.near_owner(s, o) {
+        match self.system_owner(s, o) {
             Some(owner) => {
                 let base = self.layout.owner_base(s);
                 let count = self.blocks.peek_count(owner.place, base + 2);
@@ -468,8 +485,7 @@ impl Records {
         requires next { (next.number ≡ 0 → ⊥) → Joins self.old s next }
         ensures { self.new ≡ self.old }
     {
-        let class = self.layout.member_class(s);
-        if let ClassKind::Permanent = self.layout.kind(class) {
+        if self.layout.holds_permanent(s) {
             return;
         }
         self.directory
@@ -553,8 +569,7 @@ pub(crate) fn keep(directory: &mut Directory, layout: &Plan, s: usize, member: E
     requires entry { (IsPermanent (kind_of layout.now (member_class layout.now s)) → ⊥) → slice_get directory.old.places (member.number - 1) ≡ Some (Some member.place) }
     ensures { directory.new ≡ directory.old }
 {
-    let class = layout.member_class(s);
-    if let ClassKind::Permanent = layout.kind(class) {
+    if layout.holds_permanent(s) {
         return;
     }
     directory.remember(member.number as usize - 1, member.place);

@@ -4,6 +4,7 @@ ghost use Rattle.ss_states.specs.State.{kind_of, modes_of};
 ghost use Rattle.ss_records.specs.Shape.{values_end, links_start, owned_start, joins, owned_by, count_sets};
 ghost use Rattle.ss_records.specs.Kept.{Small};
 ghost use Rattle.ss_records.specs.Slotted.{member_base, owner_base};
+ghost use Rattle.ss_records.specs.Plans.{is_permanent, is_system};
 
 use ss_base::{ClassKind, Layout, Mode, Owner, SetLayout};
 
@@ -170,4 +171,28 @@ pub(crate) fn owner_class(layout: &Layout, s: usize) -> Owner
     ensures class { (c : ℕ) → result ≡ Owner.Class c → c < length layout.now.classes }
 {
     layout.sets[s].owner
+}
+
+/// Whether the class of the members of a set is permanent.
+pub(crate) fn holds_permanent(layout: &Layout, s: usize) -> bool
+    requires small { Small layout.now }
+    requires set { s < length layout.now.sets }
+    ensures { (t : SetLayout) → slice_get layout.now.sets s ≡ Some t → result ≡ is_permanent (kind_of layout.now t.member) }
+{
+    match kind(layout, member_class(layout, s)) {
+        ClassKind::Permanent => true,
+        ClassKind::Temporary | ClassKind::Notice => false,
+    }
+}
+
+/// Whether a set is one of the system.
+pub(crate) fn is_of_system(layout: &Layout, s: usize) -> bool
+    requires small { Small layout.now }
+    requires set { s < length layout.now.sets }
+    ensures { (t : SetLayout) → slice_get layout.now.sets s ≡ Some t → result ≡ is_system t.owner }
+{
+    match owner_class(layout, s) {
+        Owner::System => true,
+        Owner::Class(_) => false,
+    }
 }

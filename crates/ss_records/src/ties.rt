@@ -4,6 +4,7 @@ ghost use Rattle.ss_base.specs.declared.layout.SetLayout.{SetLayout};
 ghost use Rattle.ss_states.specs.State.{in_a_set, owns_members, is_filed, has_members, members_of};
 ghost use Rattle.ss_records.specs.Kept.{Kept};
 ghost use Rattle.ss_records.specs.Places.{class_at, lying};
+ghost use Rattle.ss_records.specs.Slotted.{member_base};
 
 use crate::notes::Notes;
 use crate::plan::Plan;
@@ -11,7 +12,7 @@ use ss_base::Owner;
 use ss_blocks::row::Row;
 use ss_blocks::{Address, Blocks, Directory, NUMBER};
 
-/// Whether the entity is in a set of the name s: a touch.
+/// Whether the entity is in the set whose links begin at the word k of its block: a touch.
 pub(crate) fn filed_in(
     blocks: &mut Blocks,
     layout: &Plan,
@@ -19,21 +20,19 @@ pub(crate) fn filed_in(
     permanents: &[Row],
     notes: &Notes,
     system: Address,
-    s: usize,
+    k: usize,
     place: Address,
     number: u64,
 ) -> bool
     requires kept { Kept layout.now blocks.old.cells system.at (lying directory.now.places permanents.now) notes.now.lists }
-    requires set { s < length layout.now.sets }
+    requires set { (s : ℕ) × (t : SetLayout) × (slice_get layout.now.sets s ≡ Some t) × (class_at blocks.old.cells place ≡ t.member) × (k ≡ member_base layout.now s t) }
     requires entry { (i : ℕ) × (slice_get directory.now.places i ≡ Some (Some place)) × (number ≡ suc i) }
-    requires class { (t : SetLayout) → slice_get layout.now.sets s ≡ Some t → class_at blocks.old.cells place ≡ t.member }
     requires touches { blocks.old.touches + 1 < 2 ^ 64 }
-    ensures value { result ≡ is_filed notes.now.lists s number }
+    ensures value { (s : ℕ) (t : SetLayout) → slice_get layout.now.sets s ≡ Some t → class_at blocks.old.cells place ≡ t.member → k ≡ member_base layout.now s t → result ≡ is_filed notes.now.lists s number }
     ensures cells { blocks.new.cells ≡ blocks.old.cells }
     ensures touches { (blocks.new.touches ≡ blocks.old.touches + 1) × (blocks.new.total ≡ blocks.old.total + 1) }
 {
-    let base = layout.member_base(s);
-    let next = blocks.link(place, base);
+    let next = blocks.link(place, k);
     blocks.number(next, NUMBER) != number
 }
 
@@ -62,7 +61,7 @@ pub(crate) fn owns_in(
     blocks.count(place, base + 2) != 0
 }
 
-/// Whether the entity is in a set of any name: at most a touch for each name.
+/// Whether the entity is in a set of any name, by the links of its own block: a touch for each set that its class joins, at most.
 #[inline(always)]
 pub(crate) fn in_a_set(
     blocks: &mut Blocks,
@@ -83,22 +82,15 @@ pub(crate) fn in_a_set(
     ensures cells { blocks.new.cells ≡ blocks.old.cells }
     ensures touches { (blocks.new.touches ≤ blocks.old.touches + 1048576) × (blocks.new.total + blocks.old.touches ≡ blocks.old.total + blocks.new.touches) }
 {
-    let mut left = layout.link_words(class);
-    if left == 0 {
-        return false;
-    }
-    for s in 0..layout.names() {
-        if layout.member_class(s) == class {
-            if filed_in(
-                blocks, layout, directory, permanents, notes, system, s, place, number,
-            ) {
-                return true;
-            }
-            left -= 3;
-            if left == 0 {
-                return false;
-            }
+    let end = layout.owned_start(Owner::Class(class));
+    let mut k = layout.links_start(class);
+    'links: while k < end {
+        if filed_in(
+            blocks, layout, directory, permanents, notes, system, k, place, number,
+        ) {
+            return true;
         }
+        k += 3;
     }
     false
 }

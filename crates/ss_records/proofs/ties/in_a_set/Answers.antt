@@ -1,70 +1,89 @@
-use Rattle.std.proofs.Common.{◌<◌, ◌+◌, ◌==◌, drop, length, inl, sym, ap, subst, ◌∙◌, arith}
+use Rattle.std.proofs.Common.{◌≡◌, ℕ, refl, ◌<◌, ◌+◌, ◌*◌, inl, length, sym, ap, subst, ◌∙◌, arith}
+use Rattle.ss_base.specs.declared.layout.Owner.TheVariants.{Class}
 use Rattle.ss_records.specs.Kept.{Kept}
+use Rattle.ss_records.specs.Shape.{links_start}
 use Rattle.ss_records.specs.Places.{class_at, lying}
-use Rattle.ss_blocks.proofs.Entries.{get_there}
-use Rattle.ss_records.proofs.Filed.{in_here, in_not_filed, in_other}
-use Rattle.ss_records.proofs.Still.{early_room, last_look}
-use Rattle.ss_records.proofs.Setless.{in_none, counts_one, counts_none}
-use Rattle.ss_blocks.proofs.Same.{same, differs}
-use Rattle.ss_records.specs.Shape.{joins}
+use Rattle.ss_records.proofs.Linked.{Here, here, at_first, room, found, after, at_last, few_touched}
 use Rattle.ss_records.proofs.ties.in_a_set.Goals as goal
-use Rattle.ss_records.proofs.ties.in_a_set.Goals.{then-member_class-class+else-filed_in+else-left-eq0-2, else-member_class-class}
+use Rattle.ss_records.proofs.ties.in_a_set.Goals.{In-links}
 
-pub returns-then-filed_in-clause-value : goal.returns-then-filed_in-clause-value
-returns-then-filed_in-clause-value c =
-    let ts = c.args.layout.now.sets in let s = c.loop-s.s in let y = get_there ts s (omega (arith, c.loop-s-test.true, c.names-s-end.ensures)) in
-    sym (in_here ts s c.args.class c.args.number y.0 c.args.notes.now.lists y.1 (sym (c.member_class.ensures.is y.0 y.1) ∙ c.if-member_class-class.true) (sym c.if-filed_in.ensures.value)) ∙ c.loop-s.invariant.rest
+class_is : {m n : ℕ} → Class m ≡ Class n → m ≡ n
+class_is e = cc
 
-pub loop-s-preserved : goal.loop-s-preserved
-loop-s-preserved c =
-    let ts = c.args.layout.now.sets in let s = c.loop-s.s in let h = c.loop-s.invariant in let y = get_there ts s (omega (arith, c.loop-s-test.true, c.names-s-end.ensures)) in
-    elim c.if-member_class-class.branch [
-      | then-member_class-class+else-filed_in+else-left-eq0-2 w ↦ record {
-        cells = rw w.blocks-is (w.filed_in.ensures.cells ∙ h.cells);
-        rest = sym (in_not_filed ts s c.args.class c.args.number y.0 c.args.notes.now.lists y.1 (sym w.if-filed_in.ensures.value)) ∙ h.rest;
-        left = omega (arith, h.left, counts_one (joins c.args.class) ts s y.0 y.1 (ap (λ n. n == c.args.class) (sym (c.member_class.ensures.is y.0 y.1) ∙ w.if-member_class-class.true) ∙ same c.args.class));
-        touches = rw w.blocks-is (omega (arith, w.filed_in.ensures.touches.0, h.touches.0), omega (arith, w.filed_in.ensures.touches.0, w.filed_in.ensures.touches.1, h.touches.1));
-      }
-      | else-member_class-class w ↦ record {
-        cells = rw w.blocks-is h.cells;
-        rest = sym (in_other ts s c.args.class c.args.number y.0 c.args.notes.now.lists y.1 (λ e. w.if-member_class-class.false (c.member_class.ensures.is y.0 y.1 ∙ e))) ∙ h.rest;
-        left = omega (arith, h.left, counts_none (joins c.args.class) ts s y.0 y.1 (differs y.0.member c.args.class (λ e. w.if-member_class-class.false (c.member_class.ensures.is y.0 y.1 ∙ e))));
-        touches = rw w.blocks-is (omega (arith, h.touches.0), h.touches.1);
-      }
-    ]
+-- the set whose links come next
+at_hand : (c : In-links) → Here c.args.layout.now c.args.class c.args.number c.args.notes.now.lists c.links.k
+at_hand c = here c.args.layout.now c.args.class c.args.number c.args.notes.now.lists c.links.k c.links.invariant.left (subst (λ n. c.links.k < n) c.owned_start-end.ensures.at c.links-test.true)
+
+pub owned_start-end-requires : goal.owned_start-end-requires
+owned_start-end-requires c = λ k is. let e = c.requires.entry in subst (λ n. n < length c.args.layout.now.classes) (c.requires.class ∙ class_is is) (c.requires.kept.classes e.0 c.args.place (inl e.1))
+
+pub links_start-k-requires : goal.links_start-k-requires
+links_start-k-requires c = let e = c.requires.entry in subst (λ k. k < length c.args.layout.now.classes) c.requires.class (c.requires.kept.classes e.0 c.args.place (inl e.1))
+
+pub links-init : goal.links-init
+links-init c = record {
+  cells = refl;
+  left = rw c.links_start-k.ensures.at (at_first c.args.layout.now c.args.class c.args.number c.args.notes.now.lists);
+  touches = (omega (arith, c.links_start-k.ensures.at), refl);
+}
 
 pub filed_in-requires-clause-kept : goal.filed_in-requires-clause-kept
 filed_in-requires-clause-kept c =
-    subst (λ bs. Kept c.args.layout.now bs c.args.system.at (lying c.args.directory.now.places c.args.permanents.now) c.args.notes.now.lists) (sym c.loop-s.invariant.cells) c.requires.kept
+    subst (λ bs. Kept c.args.layout.now bs c.args.system.at (lying c.args.directory.now.places c.args.permanents.now) c.args.notes.now.lists) (sym c.links.invariant.cells) c.requires.kept
+
+pub filed_in-requires-clause-set : goal.filed_in-requires-clause-set
+filed_in-requires-clause-set c =
+    let h = at_hand (goal.at.filed_in-requires-clause-set c).In-links in
+    (h.at, h.set, h.there, ap (λ bs. class_at bs c.args.place) c.links.invariant.cells ∙ c.requires.class ∙ sym h.joined, h.base)
 
 pub filed_in-requires-clause-entry : goal.filed_in-requires-clause-entry
 filed_in-requires-clause-entry c = c.requires.entry
 
-pub filed_in-requires-clause-class : goal.filed_in-requires-clause-class
-filed_in-requires-clause-class c = λ t g. ap (λ bs. class_at bs c.args.place) c.loop-s.invariant.cells ∙ c.requires.class ∙ sym c.if-member_class-class.true ∙ c.member_class.ensures.is t g
-
 pub filed_in-requires-clause-touches : goal.filed_in-requires-clause-touches
-filed_in-requires-clause-touches c = early_room _ _ _ _ _ c.requires.touches c.loop-s.invariant.touches.0 c.loop-s-test.true c.names-s-end.ensures c.requires.kept.small.sets
+filed_in-requires-clause-touches c =
+    let few = few_touched c.args.layout.now c.args.class c.args.number c.args.notes.now.lists c.links.k c.links.blocks.touches c.args.blocks.now.touches c.requires.kept.small.sets (omega (arith, c.links-test.true, c.owned_start-end.ensures.at)) c.links.invariant.touches.0 in
+    omega (arith, few, c.requires.touches)
+
+pub returns-then-filed_in-clause-value : goal.returns-then-filed_in-clause-value
+returns-then-filed_in-clause-value c =
+    let l = c.args.layout.now in let x = c.args.number in let ms = c.args.notes.now.lists in let h = at_hand (goal.at.returns-then-filed_in-clause-value c).In-links in
+    let class = ap (λ bs. class_at bs c.args.place) c.links.invariant.cells ∙ c.requires.class ∙ sym h.joined in
+    sym (found l c.args.class x ms c.links.k h (sym (c.filed_in.ensures.value h.at h.set h.there class h.base) ∙ c.if-filed_in.true))
 
 pub returns-then-filed_in-clause-cells : goal.returns-then-filed_in-clause-cells
-returns-then-filed_in-clause-cells c = c.filed_in.ensures.cells ∙ c.loop-s.invariant.cells
+returns-then-filed_in-clause-cells c = c.filed_in.ensures.cells ∙ c.links.invariant.cells
 
 pub returns-then-filed_in-clause-touches : goal.returns-then-filed_in-clause-touches
-returns-then-filed_in-clause-touches c = last_look _ _ _ _ _ _ _ _ _ c.loop-s.invariant.touches c.loop-s-test.true c.names-s-end.ensures c.requires.kept.small.sets c.filed_in.ensures.touches
+returns-then-filed_in-clause-touches c =
+    let l = c.args.layout.now in let x = c.args.number in let ms = c.args.notes.now.lists in let h = at_hand (goal.at.returns-then-filed_in-clause-touches c).In-links in
+    let t = c.filed_in.ensures.touches in let j = c.links.invariant.touches in
+    let told : 3 * c.filed_in.new.blocks.touches + links_start l c.args.class ≡ 3 * c.args.blocks.now.touches + (c.links.k + 3) = omega (arith, t.0, j.0) in
+    (few_touched l c.args.class x ms (c.links.k + 3) c.filed_in.new.blocks.touches c.args.blocks.now.touches c.requires.kept.small.sets (room l c.args.class x ms c.links.k h) told, omega (arith, t.0, t.1, j.1))
 
-pub link_words-left-requires : goal.link_words-left-requires
-link_words-left-requires c = let e = c.requires.entry in subst (λ k. k < length c.args.layout.now.classes) c.requires.class (c.requires.kept.classes e.0 c.args.place (inl e.1))
+pub overflow_add-k : goal.overflow_add-k
+overflow_add-k c = omega (arith, c.links-test.true, c.owned_start-end.ensures.bound)
 
-pub returns-then-left-eq0-clause-value : goal.returns-then-left-eq0-clause-value
-returns-then-left-eq0-clause-value c = sym (in_none c.args.layout.now.sets 0 c.args.class c.args.number c.args.notes.now.lists (omega (arith, c.link_words-left.ensures, c.if-left-eq0.true)))
+pub links-smaller : goal.links-smaller
+links-smaller c = omega (arith, c.links-test.true)
 
-pub overflow_sub-left : goal.overflow_sub-left
-overflow_sub-left c =
-    let ts = c.args.layout.now.sets in let s = c.loop-s.s in let h = c.loop-s.invariant in let y = get_there ts s (omega (arith, c.loop-s-test.true, c.names-s-end.ensures)) in
-    omega (arith, h.left, counts_one (joins c.args.class) ts s y.0 y.1 (ap (λ n. n == c.args.class) (sym (c.member_class.ensures.is y.0 y.1) ∙ c.if-member_class-class.true) ∙ same c.args.class))
+pub links-preserved : goal.links-preserved
+links-preserved c =
+    let l = c.args.layout.now in let x = c.args.number in let ms = c.args.notes.now.lists in let h = at_hand (goal.at.links-preserved c).In-links in
+    let class = ap (λ bs. class_at bs c.args.place) c.links.invariant.cells ∙ c.requires.class ∙ sym h.joined in
+    let t = c.filed_in.ensures.touches in let j = c.links.invariant.touches in
+    record {
+      cells = c.filed_in.ensures.cells ∙ c.links.invariant.cells;
+      left = after l c.args.class x ms c.links.k h (sym (c.filed_in.ensures.value h.at h.set h.there class h.base) ∙ c.if-filed_in.false);
+      touches = (omega (arith, t.0, j.0), omega (arith, t.0, t.1, j.1));
+    }
 
-pub returns-then-left-eq0-2-clause-value : goal.returns-then-left-eq0-2-clause-value
-returns-then-left-eq0-2-clause-value c =
-    let ts = c.args.layout.now.sets in let s = c.loop-s.s in let h = c.loop-s.invariant in let y = get_there ts s (omega (arith, c.loop-s-test.true, c.names-s-end.ensures)) in
-    sym (in_none (drop (s + 1) ts) (s + 1) c.args.class c.args.number c.args.notes.now.lists (omega (arith, h.left, c.if-left-eq0-2.true, counts_one (joins c.args.class) ts s y.0 y.1 (ap (λ n. n == c.args.class) (sym (c.member_class.ensures.is y.0 y.1) ∙ c.if-member_class-class.true) ∙ same c.args.class))))
-    ∙ sym (in_not_filed ts s c.args.class c.args.number y.0 c.args.notes.now.lists y.1 (sym c.if-filed_in.ensures.value)) ∙ h.rest
+pub returns-clause-value : goal.returns-clause-value
+returns-clause-value c = sym (at_last c.args.layout.now c.args.class c.args.number c.args.notes.now.lists c.links.k c.links.invariant.left (omega (arith, c.links-test.false, c.owned_start-end.ensures.at)))
+
+pub returns-clause-cells : goal.returns-clause-cells
+returns-clause-cells c = c.links.invariant.cells
+
+pub returns-clause-touches : goal.returns-clause-touches
+returns-clause-touches c =
+    let f = c.links.invariant.left in
+    (few_touched c.args.layout.now c.args.class c.args.number c.args.notes.now.lists c.links.k c.links.blocks.touches c.args.blocks.now.touches c.requires.kept.small.sets (omega (arith, f.1)) c.links.invariant.touches.0, c.links.invariant.touches.1)

@@ -1,12 +1,14 @@
-use Rattle.std.proofs.Common.{◌≡◌, ◌+◌, ◌*◌, ◌≤◌, drop}
-use Rattle.ss_records.specs.Shape.{joins, count_sets}
-use Rattle.ss_states.specs.State.{in_a_set}
+use Rattle.std.proofs.Common.{◌≡◌, ◌+◌, ◌*◌, ◌-◌}
+use Rattle.ss_records.specs.Shape.{links_start}
+use Rattle.ss_records.proofs.Linked.{From}
 use Rattle.ss_records.proofs.ties.in_a_set.Given as goal
 
-abbrev pub invariant-loop-s : goal.invariant-loop-s
-invariant-loop-s l = record {
+abbrev pub invariant-links : goal.invariant-links
+invariant-links l = record {
   cells : l.blocks.cells ≡ l.initial.blocks.cells;
-  rest : in_a_set (drop l.s l.layout.sets) l.s l.notes.lists l.class l.number ≡ in_a_set l.layout.sets 0 l.notes.lists l.class l.number;
-  left : l.left ≡ 3 * count_sets (joins l.class) (drop l.s l.layout.sets);
-  touches : (l.blocks.touches ≤ l.initial.blocks.touches + l.s) × (l.blocks.total + l.initial.blocks.touches ≡ l.initial.blocks.total + l.blocks.touches);
+  left : From l.layout l.class l.number l.notes.lists l.k;
+  touches : (3 * l.blocks.touches + links_start l.layout l.class ≡ 3 * l.initial.blocks.touches + l.k) × (l.blocks.total + l.initial.blocks.touches ≡ l.initial.blocks.total + l.blocks.touches);
 }
+
+abbrev pub decreases-links : goal.decreases-links
+decreases-links l = l.end - l.k

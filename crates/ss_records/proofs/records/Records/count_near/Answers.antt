@@ -6,11 +6,11 @@ use Rattle.ss_records.proofs.Passing.{as_before}
 use Rattle.ss_records.proofs.Still.{kept_still}
 use Rattle.ss_records.proofs.records.Records.count_near.Goals as goal
 
-pub near_owner-requires-clause-kept : goal.near_owner-requires-clause-kept
-near_owner-requires-clause-kept c = c.requires.kept
+pub system_owner-requires-clause-kept : goal.system_owner-requires-clause-kept
+system_owner-requires-clause-kept c = c.requires.kept
 
-pub near_owner-requires-clause-set : goal.near_owner-requires-clause-set
-near_owner-requires-clause-set c = c.requires.set
+pub system_owner-requires-clause-set : goal.system_owner-requires-clause-set
+system_owner-requires-clause-set c = c.requires.set
 
 pub owner_base-base-requires : goal.owner_base-base-requires
 owner_base-base-requires c = c.requires.set

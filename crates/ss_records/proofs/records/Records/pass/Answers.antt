@@ -1,23 +1,15 @@
-use Rattle.std.proofs.Common.{sym, ap, subst, ◌∙◌}
-use Rattle.ss_base.specs.declared.layout.SetLayout.{SetLayout}
-use Rattle.ss_base.specs.declared.layout.ClassKind.{ClassKind}
+use Rattle.std.proofs.Common.{sym, ◌∙◌}
 use Rattle.ss_states.specs.State.{kind_of}
-use Rattle.ss_states.specs.Sets.{member_in}
-use Rattle.ss_records.specs.Kept.{IsPermanent}
-use Rattle.ss_records.proofs.Owning.{kind_is}
-use Rattle.ss_records.proofs.Remembered.{not_permanent, numbered_entry}
+use Rattle.ss_states.specs.Sets.{member_class}
+use Rattle.ss_records.proofs.Remembered.{comes_and_goes, numbered_entry}
 use Rattle.ss_records.proofs.records.Records.pass.Goals as goal
 
 pub remember-requires : goal.remember-requires
 remember-requires c =
     let r = c.args.self.now in
-    let k = kind_is r.layout c.args.s (λ (t : SetLayout). t.member) c.member_class-class.result c.requires.set c.member_class-class.ensures.is in
-    let no = subst (λ (z : ClassKind). IsPermanent z → ⊥) (c.kind.ensures ∙ ap (kind_of r.layout) (sym (ap member_in k.1 ∙ k.2))) (not_permanent c.kind.result c.in_default.not-Permanent) in
-    numbered_entry r c.requires.kept c.args.s c.args.member c.requires.joins no
+    numbered_entry r c.requires.kept c.args.s c.args.member c.requires.joins (comes_and_goes (kind_of r.layout (member_class r.layout c.args.s)) (sym c.holds_permanent.ensures ∙ c.if-holds_permanent.false))
 
 pub expect-requires : goal.expect-requires
 expect-requires c =
     let r = c.args.self.now in
-    let k = kind_is r.layout c.args.s (λ (t : SetLayout). t.member) c.member_class-class.result c.requires.set c.member_class-class.ensures.is in
-    let no = subst (λ (z : ClassKind). IsPermanent z → ⊥) (c.kind.ensures ∙ ap (kind_of r.layout) (sym (ap member_in k.1 ∙ k.2))) (not_permanent c.kind.result c.in_default.not-Permanent) in
-    rw c.remember.ensures (numbered_entry r c.requires.kept c.args.s c.args.next (c.requires.next c.if-next-ne0.true) no)
+    rw c.remember.ensures (numbered_entry r c.requires.kept c.args.s c.args.next (c.requires.next c.if-next-ne0.true) (comes_and_goes (kind_of r.layout (member_class r.layout c.args.s)) (sym c.holds_permanent.ensures ∙ c.if-holds_permanent.false)))
