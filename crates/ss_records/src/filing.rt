@@ -401,8 +401,8 @@ impl Records {
         }
     }
 
-    /// Files x last in the set of an owner, where both are found without a search, and says whether it did: not where x is in some
-    /// set of the name.
+    /// Files x last in a set of the system, where x is found without a search, and says whether it did: not where x is in some set of
+    /// the name, nor where the set is entities'.
     #[inline(always)]
     pub(crate) fn file_last_near(&mut self, s: usize, o: i64, x: i64) -> bool
         requires kept { IsKept self.old }
@@ -460,7 +460,7 @@ impl Records {
         true
     }
 
-    /// Takes the first member out of the set of an owner who is found without a search, and answers it: none where there is none.
+    /// Takes the first member out of a set of the system, and answers it: none where there is none, and where the set is entities'.
     #[inline(always)]
     pub(crate) fn remove_first_near(&mut self, s: usize, o: i64) -> Option<i64>
         requires kept { IsKept self.old }

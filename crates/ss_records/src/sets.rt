@@ -193,7 +193,7 @@ impl Records {
         }
     }
 
-    /// How many members the set of an owner has who is found without a search: a touch.
+    /// How many members a set of the system has: a touch. None where the set is entities'.
     #[inline(always)]
     pub(crate) fn count_near(&mut self, s: usize, o: i64) -> Option<i64>
         requires kept { IsKept self.old }
