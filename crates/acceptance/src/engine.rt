@@ -1,12 +1,12 @@
 //! The engine, as cases ask for it.
 
 use crate::refusals::{of_lexer, of_parser};
+use ss_base::{MemoryRead, MemoryWrite};
 use ss_cases::{Counts, Simulator, Streams, counted};
 use ss_engine::{Model, Outcome, Refusal, Session, compile, outcome_line, simulate};
 use ss_lex::{Tokens, tokens};
 use ss_parse::parse;
 use ss_release::release_tree;
-use ss_streams::{MemoryRead, MemoryWrite};
 use std::alloc::{AllocError, Global};
 
 /// The engine.

@@ -3,8 +3,10 @@ pub mod Counted
 pub mod Failures
 pub mod Faults
 pub mod Layout
+pub mod Memory
 pub mod Order
 pub mod Plain
+pub mod Plan
 pub use Rattle.ss_bytes.specs.Room
 pub use Rattle.ss_bytes.specs.Values
 pub use Rattle.ss_bytes.specs.declared.line.Line

@@ -11,7 +11,7 @@ use std::io::{Read, Write};
 /// A reader or a writer of the library whose failures are counted.
 ///
 /// Each call is one call of the one inside, with the whole buffer, and answers what that answered.
-#[derive(Drop)]
+#[derive(Debug, Drop)]
 pub struct Counted<T> {
     inner: T,
     faults: u64,

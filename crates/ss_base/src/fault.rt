@@ -5,7 +5,7 @@ ghost use Rattle.ss_base.specs.declared.fault.Refused.TheVariants.{Fault, Memory
 use std::alloc::{AllocError, AllocFailed};
 
 /// What can be wrong with a statement as it runs, in the order of its numbers, from 1 to 22.
-#[derive(Clone, Copy, PartialEq)]
+#[derive(Clone, Copy, Debug, PartialEq, Eq)]
 pub enum FaultKind {
     NoEntity,
     NeverCreated,
@@ -94,7 +94,7 @@ impl FaultKind {
 }
 
 /// Why a call that may need memory did nothing: a fault of the statement that made it, or no memory.
-#[derive(Clone, Copy, PartialEq)]
+#[derive(Clone, Copy, Debug, PartialEq, Eq)]
 pub enum Refused {
     Fault(FaultKind),
     Memory,

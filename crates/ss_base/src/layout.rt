@@ -8,7 +8,7 @@ use std::alloc::{AllocError, Global};
 use std::marker::Model;
 
 /// What a field, a variable or a value is: a whole number or a text.
-#[derive(Clone, Copy, PartialEq)]
+#[derive(Clone, Copy, Debug, PartialEq, Eq)]
 pub enum Mode {
     Integer,
     Alpha,
@@ -27,7 +27,7 @@ impl Mode {
 }
 
 /// How the entities of a class come and go.
-#[derive(Clone, Copy, PartialEq)]
+#[derive(Clone, Copy, Debug, PartialEq, Eq)]
 pub enum ClassKind {
     /// Made once, all together, and known by their index.
     Permanent,
@@ -40,7 +40,7 @@ pub enum ClassKind {
 /// A class: its kind, and the mode of each of its fields, which are numbered from 0.
 ///
 /// A contract sees it as plain data: two classes that say the same are equal.
-#[derive(Drop)]
+#[derive(Debug, Drop)]
 pub struct ClassLayout {
     pub kind: ClassKind,
     pub fields: Vec<Mode>,
@@ -75,7 +75,7 @@ impl ClassLayout {
 }
 
 /// Who owns the sets of a name.
-#[derive(Clone, Copy, PartialEq)]
+#[derive(Clone, Copy, Debug, PartialEq, Eq)]
 pub enum Owner {
     /// THE SYSTEM, which owns one set of the name.
     System,
@@ -84,7 +84,7 @@ pub enum Owner {
 }
 
 /// The sets of one name: who owns them, and the class of their members.
-#[derive(Clone, Copy)]
+#[derive(Clone, Copy, Debug, PartialEq, Eq)]
 pub struct SetLayout {
     pub owner: Owner,
     pub member: usize,
@@ -97,7 +97,7 @@ const LAYOUT_LIMIT: usize = 1048576;
 /// there are at most 1,048,576 classes, sets, and attributes of a class.
 ///
 /// A contract sees it as plain data: two layouts that say the same are equal.
-#[derive(Drop)]
+#[derive(Debug, Drop)]
 pub struct Layout {
     pub classes: Vec<ClassLayout>,
     pub sets: Vec<SetLayout>,
@@ -196,7 +196,7 @@ impl SetLayout {
 }
 
 /// What a ranked set looks at in its members: a field, and whether a high value comes first.
-#[derive(Clone, Copy)]
+#[derive(Clone, Copy, Debug, PartialEq, Eq)]
 pub struct RankKey {
     pub field: usize,
     pub high: bool,
@@ -205,7 +205,7 @@ pub struct RankKey {
 /// What a ranked set ranks its members by: the first key counts most.
 ///
 /// A contract sees it as the list of its keys.
-#[derive(Drop)]
+#[derive(Debug, Drop)]
 pub struct RankKeys {
     keys: Vec<RankKey>,
 }
@@ -246,7 +246,7 @@ impl RankKeys {
 /// Where FILE puts a member.
 ///
 /// A contract sees it as plain data: two disciplines that say the same are equal.
-#[derive(Drop)]
+#[derive(Debug, PartialEq, Eq, Drop)]
 pub enum Discipline {
     /// Last.
     Fifo,

@@ -11,7 +11,7 @@ use ss_bytes::Alpha;
 use std::cmp::Ordering;
 
 /// What a variable, a field or an item holds.
-#[derive(Clone, Copy, PartialEq, Eq)]
+#[derive(Clone, Copy, Debug, PartialEq, Eq)]
 pub enum Value {
     /// A whole number of 64 bits.
     Whole(i64),

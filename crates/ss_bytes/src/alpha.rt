@@ -7,6 +7,7 @@ ghost use Rattle.ss_bytes.specs.Values.{text_of, is_text_byte, without_end_blank
 ghost use Rattle.ss_bytes.specs.Room.{before_zero};
 
 use std::cmp::Ordering;
+use std::fmt;
 use std::marker::Model;
 
 /// The most characters of a text.
@@ -105,6 +106,13 @@ fn used(room: &[u8]) -> usize
         }
     }
     room.len()
+}
+
+/// Prints the text in quotes.
+impl fmt::Debug for Alpha {
+    fn fmt<W: fmt::Write>(&self, f: &mut fmt::Formatter<W>) -> fmt::Result {
+        write!(f, "\"{}\"", self.bytes().escape_ascii())
+    }
 }
 
 impl PartialEq for Alpha {

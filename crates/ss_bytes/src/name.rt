@@ -7,6 +7,7 @@ ghost use Rattle.std.specs.Cmp.{partial_equiv_from_equiv};
 ghost use Rattle.std.specs.Cmp.Rules.{hashing};
 ghost use Rattle.std.specs.Cmp.Lexicographic.{pointwise, nat_list_eq_equiv};
 
+use std::fmt;
 use std::hash::{Hash, Hasher};
 use std::marker::Model;
 
@@ -62,6 +63,13 @@ impl Name {
         ensures name { IsName self.now }
     {
         &self.room[..self.len]
+    }
+}
+
+/// Prints the name in quotes.
+impl fmt::Debug for Name {
+    fn fmt<W: fmt::Write>(&self, f: &mut fmt::Formatter<W>) -> fmt::Result {
+        write!(f, "\"{}\"", self.bytes().escape_ascii())
     }
 }
 

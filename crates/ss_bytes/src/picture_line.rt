@@ -4,7 +4,7 @@ use std::alloc::{AllocError, Global};
 use std::marker::Model;
 
 /// The bytes of a line that is a picture, without its end.
-#[derive(Drop)]
+#[derive(Debug, Drop)]
 pub struct PictureLine {
     bytes: Vec<u8>,
 }
@@ -49,4 +49,10 @@ impl PartialEq for PictureLine {
     fn eq(&self, other: &PictureLine) -> bool {
         self.bytes() == other.bytes()
     }
+}
+
+impl Eq for PictureLine {
+    ghost use Rattle.std.specs.Cmp.Lexicographic.{nat_list_eq_equiv};
+
+    ghost laws = { nat_list_eq_equiv };
 }

@@ -1,9 +1,8 @@
 use ss_base::{
     Alpha, ClassKind, ClassLayout, Discipline, FaultKind, Faulty, FaultyRead, FaultyWrite, Layout,
-    Line, Mode, Owner, RankKey, RankKeys, Refused, SetLayout, Value, div_f, minus, mod_f, plus,
-    times,
+    Line, MemoryRead, MemoryWrite, Mode, Owner, Plan, RankKey, RankKeys, Refused, SetLayout, Trouble,
+    Value, div_f, minus, mod_f, plus, times,
 };
-use ss_streams::{MemoryRead, MemoryWrite, Plan, Trouble};
 use std::alloc::{AllocError, Global};
 use std::cmp::Ordering;
 

@@ -1,9 +1,8 @@
 ghost use Rattle.std.specs.Prelude.{◌≡◌, true};
 ghost use Rattle.ss_picture.specs.Suited.{Suits, EachSuits};
 
-use ss_base::{Alpha, Faulty, FaultyWrite, Value};
+use ss_base::{Alpha, Faulty, FaultyWrite, MemoryWrite, Plan, Trouble, Value};
 use ss_picture::{Field, Item, Picture, Sink, SinkError};
-use ss_streams::{MemoryWrite, Plan, Trouble};
 use std::alloc::{AllocError, Global};
 use std::io;
 use std::io::ErrorKind;

@@ -2,7 +2,7 @@
 
 use crate::cases::Case;
 use crate::words::StreamPlan;
-use ss_streams::{MemoryRead, MemoryWrite, Plan};
+use ss_base::{MemoryRead, MemoryWrite, Plan};
 use std::alloc::{AllocError, Global};
 
 /// The bytes that a writer has room for beyond the report that is wanted.

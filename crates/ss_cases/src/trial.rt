@@ -6,7 +6,7 @@ use crate::judged::{compare_outcome, cut_short, judge_rules, judge_tree};
 use crate::session::run_session;
 use crate::simulator::Simulator;
 use crate::streams::Streams;
-use ss_streams::Plan;
+use ss_base::Plan;
 use std::alloc::{AllocError, Global};
 use std::fmt;
 

@@ -1,7 +1,7 @@
 //! What the words of directives mean.
 
 use crate::wrong::Wrong;
-use ss_streams::{Plan, Trouble};
+use ss_base::{Plan, Trouble};
 use std::alloc::Global;
 
 /// The first word of some words, and the others.

@@ -1,9 +1,8 @@
 //! What outcomes, refusals and listings are told as, and a whole run whose memory is refused.
 
-use ss_base::{FaultKind, Line};
+use ss_base::{FaultKind, Line, MemoryRead, MemoryWrite, Plan, Trouble};
 use ss_engine::{Model, Outcome, Refusal, Stop, compile, outcome_line, outcome_status, simulate};
 use ss_sections::sections::Sections;
-use ss_streams::{MemoryRead, MemoryWrite, Plan, Trouble};
 use std::alloc::Global;
 use std::test::Fail;
 

@@ -18,7 +18,7 @@ use ss_reading::{Block, ReadFailed};
 use std::marker::Model;
 
 /// Why no word was read.
-#[derive(Clone, Copy)]
+#[derive(Clone, Copy, Debug, PartialEq, Eq)]
 pub enum Missed {
     /// END OF DATA where no word is left; BAD DATA where the word is no value of the mode, or too
     /// long, or stands behind too many separators.
@@ -31,7 +31,7 @@ pub enum Missed {
 ///
 /// It is asked for 4,096 bytes at a time, and only where none is at hand and one is needed. Its
 /// first end is remembered. After a `Missed` every call answers the same and reads nothing.
-#[derive(Drop)]
+#[derive(Debug, Drop)]
 pub struct Source<R> {
     block: Block<R>,
     gap: Gap,
@@ -47,7 +47,7 @@ struct AtHand {
 }
 
 /// How many separators were passed since the last word.
-#[derive(Drop)]
+#[derive(Debug, Drop)]
 struct Gap {
     count: usize,
 }

@@ -5,7 +5,7 @@ ghost use Rattle.ss_pending.specs.Shape.{shape_of};
 use ss_base::{Mode, Value};
 
 /// A value that breaks ties between notices of one class at one time.
-#[derive(Clone, Copy)]
+#[derive(Clone, Copy, Debug, PartialEq, Eq)]
 pub struct Tie {
     pub value: Value,
     /// Whether the greater value comes first.
@@ -13,7 +13,7 @@ pub struct Tie {
 }
 
 /// What a tie of a class is: the mode of its values, and whether the greater value comes first.
-#[derive(Clone, Copy, PartialEq)]
+#[derive(Clone, Copy, Debug, PartialEq, Eq)]
 pub struct TieShape {
     pub mode: Mode,
     pub high: bool,

@@ -3,7 +3,7 @@ ghost use Rattle.ss_picture.specs.Pictures.{decimals_at as decimals_of, field_at
 
 /// A field of a picture: a maximal run of asterisks, and where a period and then an asterisk follow
 /// it directly, the period and the run behind it too. Fields are found from the left.
-#[derive(Clone, Copy, PartialEq)]
+#[derive(Clone, Copy, Debug, PartialEq, Eq)]
 pub struct Field {
     /// Its length in bytes, the period among them.
     pub width: usize,

@@ -8,7 +8,7 @@ use crate::items::{Item, fill_field};
 use std::alloc::{AllocError, Global};
 
 // The fields of a picture, from the left, and the place at which each begins.
-#[derive(Drop)]
+#[derive(Debug, Drop)]
 pub(crate) struct Fields {
     pub(crate) starts: Vec<usize>,
     pub(crate) shapes: Vec<Field>,

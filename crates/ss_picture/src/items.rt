@@ -8,7 +8,7 @@ use itoa::Buffer;
 use ss_base::Value;
 
 /// What a field of a line shows.
-#[derive(Clone, Copy, PartialEq)]
+#[derive(Clone, Copy, Debug, PartialEq, Eq)]
 pub enum Item {
     /// A value, in a field without decimals: a number at the right, a text at the left.
     Is(Value),

@@ -1,4 +1,6 @@
-ghost use Rattle.std.specs.Prelude.{◌≡◌, ◌<◌, ◌≤◌, ◌+◌, ◌++◌, length, vec_len, vec_capacity, IfOk, OnOk, OnErr};
+ghost use Rattle.std.specs.Cmp.{partial_equiv_from_equiv};
+ghost use Rattle.std.specs.Cmp.Lexicographic.{pointwise, nat_list_eq_equiv};
+ghost use Rattle.std.specs.Prelude.{nat_eq, ◌≡◌, ◌<◌, ◌≤◌, ◌+◌, ◌++◌, length, vec_len, vec_capacity, IfOk, OnOk, OnErr};
 ghost use Rattle.ss_picture.specs.Pictures.{field_count, filled, picture_fields};
 ghost use Rattle.ss_picture.specs.Suited.{EachSuits};
 
@@ -12,7 +14,7 @@ use std::marker::Model;
 /// be, and where a period and then an asterisk follow it directly, these belong to it as its decimals.
 ///
 /// A contract sees a picture as its bytes.
-#[derive(Drop)]
+#[derive(Debug, Drop)]
 pub struct Picture {
     bytes: Vec<u8>,
     fields: Fields,
@@ -86,4 +88,19 @@ impl Picture {
         self.fields.fill(&mut line[start..], items);
         Ok(())
     }
+}
+
+/// Two pictures are equal where their bytes are.
+impl PartialEq for Picture {
+    ghost eq = { pointwise nat_eq };
+
+    ghost laws = { partial_equiv_from_equiv nat_list_eq_equiv };
+
+    fn eq(&self, other: &Picture) -> bool {
+        self.bytes == other.bytes
+    }
+}
+
+impl Eq for Picture {
+    ghost laws = { nat_list_eq_equiv };
 }

@@ -11,7 +11,7 @@ use thiserror::Error;
 pub const STALL_LIMIT: u32 = 1000;
 
 /// Why a sink could not send all that it was given.
-#[derive(Clone, Copy, PartialEq, Debug, Error)]
+#[derive(Clone, Copy, Debug, PartialEq, Eq, Error)]
 pub enum SinkError {
     /// The writer answered an error, of any kind.
     #[error("the writer failed")]
@@ -24,7 +24,7 @@ pub enum SinkError {
 /// The way out for printed bytes: it sends them to a writer, and counts them. It never flushes.
 ///
 /// A contract sees a sink as its writer, as it stands, and the number of bytes sent.
-#[derive(Drop)]
+#[derive(Debug, Drop)]
 pub struct Sink<W> {
     writer: W,
     sent: u128,

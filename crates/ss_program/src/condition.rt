@@ -3,7 +3,7 @@
 use crate::expression::{Expression, SetOwner};
 
 /// How two values compare: numbers by their size, texts by their bytes.
-#[derive(Clone, Copy)]
+#[derive(Clone, Copy, Debug, PartialEq, Eq)]
 pub enum Relation {
     Equal,
     NotEqual,

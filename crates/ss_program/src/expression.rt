@@ -4,21 +4,21 @@ use ss_base::Value;
 
 /// A variable: a global one by its number among all of them, or a local one by its number in its
 /// routine.
-#[derive(Clone, Copy)]
+#[derive(Clone, Copy, Debug, PartialEq, Eq)]
 pub enum Variable {
     Global { number: usize },
     Local { number: usize },
 }
 
 /// The sign before a term, and whether a statement adds or subtracts.
-#[derive(Clone, Copy)]
+#[derive(Clone, Copy, Debug, PartialEq, Eq)]
 pub enum Sign {
     Plus,
     Minus,
 }
 
 /// What makes one whole number of two.
-#[derive(Clone, Copy)]
+#[derive(Clone, Copy, Debug, PartialEq, Eq)]
 pub enum Operator {
     Add,
     Subtract,
@@ -34,7 +34,7 @@ pub enum Operator {
 }
 
 /// What is asked of a set.
-#[derive(Clone, Copy)]
+#[derive(Clone, Copy, Debug, PartialEq, Eq)]
 pub enum SetQuery {
     /// F.: the first member; 0 where there is none.
     FirstMember,
@@ -45,7 +45,7 @@ pub enum SetQuery {
 }
 
 /// What is asked of a member about the set of a name that it is in.
-#[derive(Clone, Copy)]
+#[derive(Clone, Copy, Debug, PartialEq, Eq)]
 pub enum MemberQuery {
     /// P.: the member before this one; 0 where there is none.
     Predecessor,
@@ -56,7 +56,7 @@ pub enum MemberQuery {
 }
 
 /// What is asked of a statistic.
-#[derive(Clone, Copy)]
+#[derive(Clone, Copy, Debug, PartialEq, Eq)]
 pub enum Fold {
     Number,
     Sum,

@@ -4,7 +4,7 @@ use crate::condition::Condition;
 use crate::expression::{Expression, SetOwner, Variable};
 
 /// How a condition of a loop that begins with WHILE or UNTIL ends it.
-#[derive(Clone, Copy)]
+#[derive(Clone, Copy, Debug, PartialEq, Eq)]
 pub enum GuardKind {
     /// WHILE: ends the loop where the condition doesn't hold.
     While,
@@ -13,7 +13,7 @@ pub enum GuardKind {
 }
 
 /// What a phrase does with an item of a FOR, by its condition.
-#[derive(Clone, Copy)]
+#[derive(Clone, Copy, Debug, PartialEq, Eq)]
 pub enum PhraseKind {
     /// WITH or WHEN: passes an item where the condition holds.
     With,

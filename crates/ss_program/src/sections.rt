@@ -4,7 +4,7 @@ use crate::statement::{Counted, Statement};
 use ss_base::{Discipline, Layout, Line, Mode, RankKeys};
 
 /// What a statistic is kept of.
-#[derive(Clone, Copy)]
+#[derive(Clone, Copy, Debug, PartialEq, Eq)]
 pub enum Subject {
     /// A global variable.
     OfVariable { number: usize },
@@ -15,14 +15,14 @@ pub enum Subject {
 }
 
 /// Whether each value of a statistic's subject counts once, or by the time for which it stood.
-#[derive(Clone, Copy)]
+#[derive(Clone, Copy, Debug, PartialEq, Eq)]
 pub enum Weighting {
     Tally,
     Accumulate,
 }
 
 /// A statistic: what it is kept of, and how.
-#[derive(Clone, Copy)]
+#[derive(Clone, Copy, Debug, PartialEq, Eq)]
 pub struct Statistic {
     pub subject: Subject,
     pub weighting: Weighting,

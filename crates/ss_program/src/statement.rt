@@ -6,7 +6,7 @@ use crate::head::{Guard, Head, Phrase};
 use ss_base::{Line, Mode};
 
 /// An end of a set.
-#[derive(Clone, Copy)]
+#[derive(Clone, Copy, Debug, PartialEq, Eq)]
 pub enum End {
     First,
     Last,
@@ -14,7 +14,7 @@ pub enum End {
 
 /// A permanent class, and the number of the global variable N. of the class, which says how many
 /// entities of it are to be made.
-#[derive(Clone, Copy)]
+#[derive(Clone, Copy, Debug, PartialEq, Eq)]
 pub struct Counted {
     pub class: usize,
     pub variable: usize,

@@ -12,13 +12,13 @@ use std::marker::Model;
 pub const BLOCK: usize = 4096;
 
 /// The reader answered an error.
-#[derive(Clone, Copy)]
+#[derive(Clone, Copy, Debug, PartialEq, Eq)]
 pub struct ReadFailed;
 
 /// A reader, the bytes that it gave and that are still to be looked at, and whether it gave an end.
 ///
 /// It is asked for a block only where no byte is left and one is wanted.
-#[derive(Drop)]
+#[derive(Debug, Drop)]
 pub struct Block<R> {
     reader: R,
     room: [u8; BLOCK],

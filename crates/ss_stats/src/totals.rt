@@ -10,7 +10,7 @@ use std::marker::Model;
 pub const TALLY_LIMIT: i64 = (1 << 62) - 1;
 
 /// How the values count in the sum, and what that takes to go on.
-#[derive(Clone, Copy)]
+#[derive(Clone, Copy, Debug, PartialEq, Eq)]
 enum Weighing {
     /// Each value once. `number` is how many there were.
     Once { number: i64 },
@@ -28,7 +28,7 @@ enum Weighing {
 ///
 /// Moments are whole units of time. A moment that is passed to a call may not lie before 0 or before
 /// the last one at which a value was noted or the totals were reset; it may be that one again.
-#[derive(Clone, Copy)]
+#[derive(Clone, Copy, Debug, PartialEq, Eq)]
 pub struct Totals {
     weighing: Weighing,
     // up to `since` where the values are weighed by time

@@ -4,7 +4,7 @@ use crate::word::Word;
 use ss_bytes::{Alpha, Line, Name, PictureLine};
 
 /// A character that is a token by itself.
-#[derive(Clone, Copy, PartialEq)]
+#[derive(Clone, Copy, Debug, PartialEq, Eq)]
 pub enum Symbol {
     OpenParenthesis,
     CloseParenthesis,
@@ -18,7 +18,7 @@ pub enum Symbol {
 }
 
 /// What a token is.
-#[derive(PartialEq, Drop)]
+#[derive(Debug, PartialEq, Eq, Drop)]
 pub enum TokenKind {
     Word(Word),
     Name(Name),
@@ -31,14 +31,14 @@ pub enum TokenKind {
 }
 
 /// The place of a token's spelling in the text, in bytes.
-#[derive(Clone, Copy)]
+#[derive(Clone, Copy, Debug, PartialEq, Eq)]
 pub struct Span {
     pub start: usize,
     pub length: usize,
 }
 
 /// A token, the place of its spelling and the line that it begins in.
-#[derive(Drop)]
+#[derive(Debug, PartialEq, Eq, Drop)]
 pub struct Token {
     pub kind: TokenKind,
     pub span: Span,

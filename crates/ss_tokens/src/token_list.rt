@@ -1,10 +1,16 @@
+ghost use Rattle.std.specs.Prelude.{nat_eq};
+ghost use Rattle.std.specs.Ordering.{on, eq_of_both};
+ghost use Rattle.std.specs.Cmp.{on_equiv, and_equiv, nat_eq_equiv, partial_equiv_from_equiv};
+ghost use Rattle.std.specs.Cmp.Lexicographic.{pointwise, lists_equiv};
+ghost use Rattle.ss_tokens.specs.contracts.token.TokenEq.TheImpl.Laws as tokens;
+
 use crate::token::Token;
 use std::marker::Model;
 
 /// The tokens of a text, and how many lines it has.
 ///
 /// A contract sees them as a record of the list of the tokens and the number of lines.
-#[derive(Drop)]
+#[derive(Debug, Drop)]
 pub struct Tokens {
     tokens: Vec<Token>,
     line_count: u32,
@@ -41,4 +47,18 @@ impl Tokens {
     {
         self.line_count
     }
+}
+
+impl PartialEq for Tokens {
+    ghost eq = { eq_of_both (on (λ t. t.list) (pointwise ⟦<Token as PartialEq>⟧.eq)) (on (λ t. t.lines) nat_eq) };
+
+    ghost laws = { partial_equiv_from_equiv (and_equiv (on_equiv (λ t. t.list) (lists_equiv tokens.laws-law)) (on_equiv (λ t. t.lines) nat_eq_equiv)) };
+
+    fn eq(&self, other: &Tokens) -> bool {
+        self.tokens == other.tokens && self.line_count == other.line_count
+    }
+}
+
+impl Eq for Tokens {
+    ghost laws = { and_equiv (on_equiv (λ t. t.list) (lists_equiv tokens.laws-law)) (on_equiv (λ t. t.lines) nat_eq_equiv) };
 }

@@ -1,7 +1,7 @@
 //! Reserved words.
 
 /// A reserved word. Spellings that mean the same everywhere are one word.
-#[derive(Clone, Copy, PartialEq)]
+#[derive(Clone, Copy, Debug, PartialEq, Eq)]
 pub enum Word {
     A,
     /// ABS.F

@@ -1,7 +1,7 @@
 ghost use Rattle.std.specs.Prelude.{◌≡◌, ◌<◌, ◌≤◌, IfSome};
 
 /// What a reader or a writer over memory is told to do at its calls.
-#[derive(Clone, Copy)]
+#[derive(Clone, Copy, Debug, PartialEq, Eq)]
 pub struct Plan {
     /// The most bytes that a call passes. 0 counts as 1.
     pub per_call: usize,
@@ -52,7 +52,7 @@ impl Plan {
 }
 
 /// How far a reader or a writer has come with its plan.
-#[derive(Clone, Copy)]
+#[derive(Clone, Copy, Debug, PartialEq, Eq)]
 pub struct Progress {
     pub plan: Plan,
     /// How many calls were made.
@@ -62,7 +62,7 @@ pub struct Progress {
 }
 
 impl Progress {
-    ghost use Rattle.ss_streams.specs.Plan.{start, goes_wrong, most_bytes, bytes_passed, after_call};
+    ghost use Rattle.ss_base.specs.Plan.{start, goes_wrong, most_bytes, bytes_passed, after_call};
 
     /// No call was made yet.
     pub fn new(plan: Plan) -> Progress

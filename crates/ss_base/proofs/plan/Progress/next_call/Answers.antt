@@ -1,6 +1,6 @@
 use Rattle.std.proofs.Common.{◌∙◌, sym, refl}
-use Rattle.ss_streams.specs.Plan.{bytes_passed, after_call}
-use Rattle.ss_streams.proofs.plan.Progress.next_call.Goals as goal
+use Rattle.ss_base.specs.Plan.{bytes_passed, after_call}
+use Rattle.ss_base.proofs.plan.Progress.next_call.Goals as goal
 
 -- the test before the call is that of the plan
 pub returns-then-is_wrong-clause-answer : goal.returns-then-is_wrong-clause-answer

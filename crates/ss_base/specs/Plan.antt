@@ -1,7 +1,7 @@
 -- What a plan says of the next call of a reader or a writer over memory.
 use Rattle.std.specs.Prelude.{ℕ, ◌-◌, Bool, ◌&&◌, nat_lt, nat_le, min, max, if◌then◌else◌, Option, Some, None}
-use Rattle.ss_streams.specs.declared.plan.Plan.{Plan}
-use Rattle.ss_streams.specs.declared.plan.Progress.{Progress}
+use Rattle.ss_base.specs.declared.plan.Plan.{Plan}
+use Rattle.ss_base.specs.declared.plan.Progress.{Progress}
 use Rattle.ss_base.specs.Failures.{raised}
 
 -- a plan before its first call

@@ -1,6 +1,6 @@
 use Rattle.std.proofs.Common.{◌∙◌, ◌≤◌, sym, ap, drop, length, arith}
-use Rattle.ss_streams.proofs.Given.{given, none_left}
-use Rattle.ss_streams.proofs.memory.MemoryReadFaultyRead.read_some.Goals as goal
+use Rattle.ss_base.proofs.Given.{given, none_left}
+use Rattle.ss_base.proofs.memory.MemoryReadFaultyRead.read_some.Goals as goal
 
 pub returns-in-Some-clause-bytes : goal.returns-in-Some-clause-bytes
 returns-in-Some-clause-bytes c =

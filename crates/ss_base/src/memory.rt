@@ -3,17 +3,17 @@ ghost use Rattle.std.specs.Result.{result_ok};
 ghost use Rattle.std.specs.Io.{ReadsAtMost, WritesAtMost};
 ghost use Rattle.std.specs.Io.KnownBytes.{ReadConsumes, WriteAppends};
 ghost use Rattle.ss_base.specs.Failures.{errors_after, idle_after, count_after_write};
-ghost use Rattle.ss_streams.specs.Plan.{after_call};
+ghost use Rattle.ss_base.specs.Plan.{after_call};
 
+use crate::faulty::{Faulty, FaultyRead, FaultyWrite};
 use crate::plan::{Plan, Progress};
-use ss_base::{Faulty, FaultyRead, FaultyWrite};
 use std::alloc::{AllocError, Global};
 use std::io;
 use std::io::ErrorKind;
 use std::marker::Model;
 
 /// A reader of bytes in memory that goes by a plan. A call that goes wrong answers an error.
-#[derive(Drop)]
+#[derive(Debug, Drop)]
 pub struct MemoryRead {
     bytes: Vec<u8>,
     at: usize,
@@ -23,7 +23,7 @@ pub struct MemoryRead {
 
 impl Model for MemoryRead {
     ghost use Rattle.std.specs.Prelude.{◌≤◌, drop, length};
-    ghost use Rattle.ss_streams.specs.Memory.{Reading};
+    ghost use Rattle.ss_base.specs.Memory.{Reading};
 
     ghost Value = { Reading };
 
@@ -33,7 +33,7 @@ impl Model for MemoryRead {
 }
 
 impl MemoryRead {
-    ghost use Rattle.ss_streams.specs.Memory.{reader_of};
+    ghost use Rattle.ss_base.specs.Memory.{reader_of};
 
     /// A reader of a copy of `bytes`. It takes all its memory now, and fails only where that was refused.
     pub fn new(alloc: Global, bytes: &[u8], plan: Plan) -> Result<MemoryRead, AllocError>
@@ -57,7 +57,7 @@ impl Faulty for MemoryRead {
 }
 
 impl FaultyRead for MemoryRead {
-    ghost use Rattle.ss_streams.specs.Memory.{bytes_given};
+    ghost use Rattle.ss_base.specs.Memory.{bytes_given};
 
     ghost remaining = { λ r. Some r.remaining };
 
@@ -87,7 +87,7 @@ impl FaultyRead for MemoryRead {
 }
 
 /// What a call of a writer over memory does that goes wrong.
-#[derive(Clone, Copy)]
+#[derive(Clone, Copy, Debug, PartialEq, Eq)]
 pub enum Trouble {
     /// It answers an error.
     Error,
@@ -96,7 +96,7 @@ pub enum Trouble {
 }
 
 /// A writer into memory that goes by a plan. Once its room is full it takes no byte.
-#[derive(Drop)]
+#[derive(Debug, Drop)]
 pub struct MemoryWrite {
     bytes: Vec<u8>,
     room: usize,
@@ -109,7 +109,7 @@ pub struct MemoryWrite {
 
 impl Model for MemoryWrite {
     ghost use Rattle.std.specs.Prelude.{◌≤◌, length, vec_capacity};
-    ghost use Rattle.ss_streams.specs.Memory.{Writing};
+    ghost use Rattle.ss_base.specs.Memory.{Writing};
 
     ghost Value = { Writing };
 
@@ -119,7 +119,7 @@ impl Model for MemoryWrite {
 }
 
 impl MemoryWrite {
-    ghost use Rattle.ss_streams.specs.Memory.{writer_of};
+    ghost use Rattle.ss_base.specs.Memory.{writer_of};
 
     /// A writer with room for so many bytes, and what its calls do that go wrong. It takes all its
     /// memory now, and fails only where that was refused.
@@ -159,7 +159,7 @@ impl Faulty for MemoryWrite {
 }
 
 impl FaultyWrite for MemoryWrite {
-    ghost use Rattle.ss_streams.specs.Memory.{bytes_taken};
+    ghost use Rattle.ss_base.specs.Memory.{bytes_taken};
 
     ghost contents = { λ w. Some w.bytes };
 

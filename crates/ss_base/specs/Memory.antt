@@ -1,10 +1,10 @@
 -- Readers and writers over memory, as a contract sees them.
 use Rattle.std.specs.Prelude.{ℕ, ◌-◌, min, List, [], length, Option, Some, None}
-use Rattle.ss_streams.specs.declared.plan.Plan.{Plan}
-use Rattle.ss_streams.specs.declared.plan.Progress.{Progress}
-use Rattle.ss_streams.specs.declared.memory.Trouble.{Trouble}
-use Rattle.ss_streams.specs.declared.memory.Trouble.TheVariants.{Error, NoByte}
-use Rattle.ss_streams.specs.Plan.{start, bytes_passed}
+use Rattle.ss_base.specs.declared.plan.Plan.{Plan}
+use Rattle.ss_base.specs.declared.plan.Progress.{Progress}
+use Rattle.ss_base.specs.declared.memory.Trouble.{Trouble}
+use Rattle.ss_base.specs.declared.memory.Trouble.TheVariants.{Error, NoByte}
+use Rattle.ss_base.specs.Plan.{start, bytes_passed}
 
 -- a reader: the bytes that it has yet to give, how many it gave, its progress and how often it failed
 pub record Reading : Type 0 where
