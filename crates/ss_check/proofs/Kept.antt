@@ -17,7 +17,7 @@ use Rattle.ss_whole.specs.Resolved.{resolved, resolved_with_locals}
 use Rattle.ss_whole.proofs.Found.{by_their_locals}
 use Rattle.ss_links.specs.Laws.{KeptProgramsResolve}
 use Rattle.ss_sizes.specs.Laws.{ProgramsStaySmall}
-use Rattle.ss_check.specs.Checking.{Becomes, FormedProgram, program_of}
+use Rattle.ss_check.specs.Checking.{Becomes, program_of}
 
 -- what was found by local variables is what is found by what the program says of its names, whose they are
 pub found_with : (t : Table) (w : Whole) (locals : List Moded) (p : ProgramTree) (found : Option ProgramValue) → locals ≡ map (locals_of w) p.sections →
@@ -35,19 +35,19 @@ typed_as p found r h g known =
     subst WellTyped one known.2
 
 pub typed : KeptProgramsResolve → (t : Table) (w : Whole) (p : ProgramTree) (found : Option ProgramValue) (r : ProgramValue) →
-    FormedProgram p → declared_refusal p ≡ None → refusal w p ≡ None → t ≡ table p → w ≡ whole_of p → view_option view_program found ≡ resolved t w p.sections → found ≡ Some r → WellTyped (view_program r)
-typed law t w p found r formed declared kept e f h g =
+    declared_refusal p ≡ None → refusal w p ≡ None → t ≡ table p → w ≡ whole_of p → view_option view_program found ≡ resolved t w p.sections → found ≡ Some r → WellTyped (view_program r)
+typed law t w p found r declared kept e f h g =
     typed_as p (view_option view_program found) (view_program r) (found_so t w p (view_option view_program found) e f h) (ap (view_option view_program) g)
-    (law p declared (subst (λ z. refusal z p ≡ None) f kept) formed)
+    (law p declared (subst (λ z. refusal z p ≡ None) f kept))
 
 missing_not : (p : ProgramTree) (found : Option Program) → found ≡ program_of p → found ≡ None → ((x : Program) × (program_of p ≡ Some x) × WellTyped x) → ⊥
 missing_not p found h g known = let same : None ≡ Some known.0 = sym g ∙ h ∙ known.1 in cc
 
 pub not_missing : KeptProgramsResolve → (t : Table) (w : Whole) (p : ProgramTree) (found : Option ProgramValue) →
-    FormedProgram p → declared_refusal p ≡ None → refusal w p ≡ None → t ≡ table p → w ≡ whole_of p → view_option view_program found ≡ resolved t w p.sections → found ≡ None → ⊥
-not_missing law t w p found formed declared kept e f h g =
+    declared_refusal p ≡ None → refusal w p ≡ None → t ≡ table p → w ≡ whole_of p → view_option view_program found ≡ resolved t w p.sections → found ≡ None → ⊥
+not_missing law t w p found declared kept e f h g =
     missing_not p (view_option view_program found) (found_so t w p (view_option view_program found) e f h) (ap (view_option view_program) g)
-    (law p declared (subst (λ z. refusal z p ≡ None) f kept) formed)
+    (law p declared (subst (λ z. refusal z p ≡ None) f kept))
 
 pub small : ProgramsStaySmall → (t : Table) (w : Whole) (p : ProgramTree) (found : Option ProgramValue) (r made : ProgramValue) →
     t ≡ table p → view_option view_program found ≡ resolved t w p.sections → found ≡ Some r → made ≡ r → nodes (view_program made) ≤ tree_nodes p

@@ -1,13 +1,11 @@
 -- What a program that breaks no rule becomes, and why another is refused.
 use Rattle.std.specs.Prelude.{◌≡◌, Option, Some, None}
-use Rattle.std.specs.List.{AllByRecursion as Every}
-use Rattle.ss_tree.specs.Tree.{ProgramTree, SectionTree}
+use Rattle.ss_tree.specs.Tree.{ProgramTree}
 use Rattle.ss_uses.specs.declared.rule.Broken.{Broken}
 use Rattle.ss_uses.specs.declared.rule.Rule.TheVariants as rules
 use Rattle.ss_uses.specs.Refusal.{refusal}
 use Rattle.ss_names.specs.Table.{table}
 use Rattle.ss_globals.specs.WholeOf.{whole_of}
-use Rattle.ss_kept.specs.Forms.{Formed}
 use Rattle.ss_program.specs.declared.sections.Program.{Program as ProgramValue}
 use Rattle.ss_program.specs.Program.{Program}
 use Rattle.ss_program.specs.View.{view_program}
@@ -23,10 +21,6 @@ program_of p = resolved (table p) (whole_of p) p.sections
 -- the first rule on what is done with names that a program breaks
 abbrev pub refusal_of : ProgramTree → Option Broken
 refusal_of p = refusal (whole_of p) p
-
--- each FIND stands behind a FOR
-abbrev pub FormedProgram : ProgramTree → Type 0
-FormedProgram p = Every (λ (s : SectionTree). Every Formed s.body) p.sections
 
 -- the program of a tree that breaks none of the rules
 pub record Becomes (p : ProgramTree) (r : ProgramValue) : Type 0 where

@@ -12,7 +12,7 @@ ghost use Rattle.ss_program.specs.Checking.{program_in};
 ghost use Rattle.ss_program.specs.Nodes.{nodes};
 ghost use Rattle.ss_program.specs.View.{view_program as program_seen};
 ghost use Rattle.ss_tables.specs.Tables.{AreTablesOf};
-ghost use Rattle.ss_check.specs.Checking.{Becomes, FormedProgram, Tells, refusal_of};
+ghost use Rattle.ss_check.specs.Checking.{Becomes, Tells, refusal_of};
 
 use crate::error::{CheckError, error_of};
 use ss_globals::ProgramGlobals;
@@ -49,7 +49,6 @@ fn judged(alloc: Global, program: &Program, globals: &ProgramGlobals) -> Result<
     requires names { globals.now.names ≡ table (view_program program.now) }
     requires whole { whole_in globals.now.names globals.now.signatures.items ≡ whole_of (view_program program.now) }
     requires declared { declared_refusal (view_program program.now) ≡ None }
-    requires formed { FormedProgram (view_program program.now) }
     ensures checked { IfOk result (λ c. Becomes (view_program program.now) (program_in c)) }
     ensures nodes { IfOk result (λ c. nodes (program_seen (program_in c)) ≤ tree_nodes (view_program program.now)) }
     ensures refused { IfErr result (λ e. Tells e (refusal_of (view_program program.now))) }
@@ -66,7 +65,6 @@ fn judged(alloc: Global, program: &Program, globals: &ProgramGlobals) -> Result<
 // The same, of the tables that `check` is given, which are the program's.
 fn checked(alloc: Global, program: &Program, tables: Tables) -> Result<Checked, CheckError>
     requires tables { AreTablesOf (view_program program.now) tables }
-    requires formed { FormedProgram (view_program program.now) }
     ensures checked { IfOk result (λ c. Becomes (view_program program.now) (program_in c)) }
     ensures nodes { IfOk result (λ c. nodes (program_seen (program_in c)) ≤ tree_nodes (view_program program.now)) }
     ensures refused { IfErr result (λ e. Tells e (refusal_of (view_program program.now))) }
@@ -78,8 +76,7 @@ fn checked(alloc: Global, program: &Program, tables: Tables) -> Result<Checked, 
 }
 
 /// The program with each name replaced by what it stands for, where it breaks no rule on what it does with
-/// its names and values, the refusals 71 to 79. The tables are those of the program, and each FIND of it stands behind
-/// a FOR, as the grammar has it.
+/// its names and values, the refusals 71 to 79. The tables are those of the program.
 ///
 /// What comes is well typed, and has no more nodes than the tree.
 ///
@@ -88,7 +85,6 @@ fn checked(alloc: Global, program: &Program, tables: Tables) -> Result<Checked, 
 /// the first place where it does, 0 for `NoMain`; `Memory` where memory is refused.
 pub fn check(alloc: Global, program: Program, tables: Tables) -> Result<Checked, CheckError>
     requires tables { AreTablesOf (view_program program) tables }
-    requires formed { FormedProgram (view_program program) }
     ensures checked { IfOk result (λ c. Becomes (view_program program) (program_in c)) }
     ensures nodes { IfOk result (λ c. nodes (program_seen (program_in c)) ≤ tree_nodes (view_program program)) }
     ensures refused { IfErr result (λ e. Tells e (refusal_of (view_program program))) }

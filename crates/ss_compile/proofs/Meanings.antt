@@ -6,7 +6,6 @@ use Rattle.ss_parse.specs.Promise.{One_tree}
 use Rattle.ss_parse.specs.SpelledPrograms.{Spell}
 use Rattle.ss_program.specs.Program.{Program}
 use Rattle.ss_program.specs.WellTyped.{WellTyped}
-use Rattle.ss_formed.specs.Laws.{SpelledTreesAreFormed}
 use Rattle.ss_check.specs.Checking.{program_of}
 use Rattle.ss_check.specs.Laws.{KeptProgramsResolve}
 use Rattle.ss_typed.specs.Laws.{NeverWrong}
@@ -24,15 +23,15 @@ one_meaning one_list one_tree text p q m n =
     let trees = one_tree b.tokens nesting_limit nesting_limit m.tree n.tree (subst (λ (ts : List Token). Spell ts nesting_limit m.tree) tokens a.spelled) b.spelled in
     same_program p q (sym m.resolved ∙ ap program_of trees ∙ n.resolved)
 
-pub each_has_one : SpelledTreesAreFormed → KeptProgramsResolve → EachHasOne
-each_has_one formed resolves text (tree, keeps) =
-    let r = resolves tree keeps.declared keeps.kept (formed keeps.read.tokens nesting_limit tree keeps.read.spelled) in
+pub each_has_one : KeptProgramsResolve → EachHasOne
+each_has_one resolves text (tree, keeps) =
+    let r = resolves tree keeps.declared keeps.kept in
     (r.0, record { tree = tree; keeps = keeps; resolved = r.1 })
 
-pub programs_are_typed : SpelledTreesAreFormed → KeptProgramsResolve → ProgramsAreTyped
-programs_are_typed formed resolves text p m =
-    let r = resolves m.tree m.keeps.declared m.keeps.kept (formed m.keeps.read.tokens nesting_limit m.tree m.keeps.read.spelled) in
+pub programs_are_typed : KeptProgramsResolve → ProgramsAreTyped
+programs_are_typed resolves text p m =
+    let r = resolves m.tree m.keeps.declared m.keeps.kept in
     subst WellTyped (same_program r.0 p (sym r.1 ∙ m.resolved)) r.2
 
-pub never_goes_wrong : SpelledTreesAreFormed → KeptProgramsResolve → NeverWrong → NeverGoesWrong
-never_goes_wrong formed resolves never text p m = never p (programs_are_typed formed resolves text p m)
+pub never_goes_wrong : KeptProgramsResolve → NeverWrong → NeverGoesWrong
+never_goes_wrong resolves never text p m = never p (programs_are_typed resolves text p m)

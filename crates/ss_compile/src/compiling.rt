@@ -9,7 +9,6 @@ use ss_check::{CheckError, check};
 use ss_code::error::CodeError;
 use ss_code::generate::generate;
 use ss_code::model::Model;
-use ss_formed::laws::spelled_trees_are_formed;
 use ss_lex::{LexError, tokens};
 use ss_parse::{ParseError, parse};
 use ss_release::{release_checked, release_tree};
@@ -102,7 +101,6 @@ pub fn compile(alloc: Global, text: &[u8]) -> Result<Model, Refusal>
     ensures accepted { IfOk result (λ model. Compiles text.now model) }
     ensures refused { IfErr result (λ refusal. RefusedFor text.now refusal) }
 {
-    spelled_trees_are_formed();
     let tokens = match tokens(alloc, text) {
         Ok(tokens) => tokens,
         Err(error) => return Err(lexical(error)),

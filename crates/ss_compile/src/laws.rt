@@ -3,7 +3,6 @@
 ghost use Rattle.ss_compile.specs.Laws.{EachHasOne, EndingsStay, NeverGoesWrong, OneMeaning, ProgramsAreTyped, ReportsGrow};
 
 use ss_check::kept_programs_resolve;
-use ss_formed::laws::spelled_trees_are_formed;
 use ss_lex::one_list;
 use ss_machine_code::laws::laws as laws_of_runs;
 use ss_parse::one_tree;
@@ -18,7 +17,6 @@ pub fn laws()
 {
     one_list();
     one_tree();
-    spelled_trees_are_formed();
     kept_programs_resolve();
     laws_of_types();
 }

@@ -1,11 +1,11 @@
 -- Heads of loops in which each name is replaced by what it stands for.
-use Rattle.std.specs.Prelude.{List, [], Option, Some, None}
+use Rattle.std.specs.Prelude.{List, Option, Some, None}
 use Rattle.ss_tree.specs.declared.expression.Designator.TheVariants.{Name}
 use Rattle.ss_tree.specs.declared.head.PhraseKind.{PhraseKind as PhraseWord}
 use Rattle.ss_tree.specs.declared.head.PhraseKind.TheVariants as phrase_words
 use Rattle.ss_tree.specs.declared.head.GuardKind.{GuardKind as GuardWord}
 use Rattle.ss_tree.specs.declared.head.GuardKind.TheVariants as guard_words
-use Rattle.ss_tree.specs.Tree.{PhraseTree, GuardTree, StartTree, from_end, from_member, after_member, HeadTree, over_range, over_members, over_class, guarded}
+use Rattle.ss_tree.specs.Tree.{PhraseTree, GuardTree, StartTree, from_end, from_member, after_member, HeadTree, over_range, over_members, over_class}
 use Rattle.ss_sayings.specs.Sayings.{NameBytes}
 use Rattle.ss_program.specs.declared.expression.Variable.{Variable}
 use Rattle.ss_program.specs.declared.head.PhraseKind.{PhraseKind}
@@ -49,7 +49,6 @@ abbrev pub phrases_of : HeadTree → List PhraseTree
 phrases_of (over_range variable from to step phrases) = phrases
 phrases_of (over_members variable set start reverse phrases) = phrases
 phrases_of (over_class class called phrases) = phrases
-phrases_of (guarded guards) = []
 
 -- ---- what a FOR goes over
 
@@ -77,7 +76,7 @@ abbrev pub called_variable : Context → Variable → Option NameBytes → Optio
 called_variable c implied None = Some implied
 called_variable c implied (Some name) = loop_variable c name
 
--- what a FOR goes over; a loop that begins with WHILE or UNTIL goes over nothing
+-- what a FOR goes over
 unfoldable pub head : Context → HeadTree → Option Head
 head c (over_range variable from to step phrases) = do
   v ← loop_variable c variable
@@ -94,4 +93,3 @@ head c (over_class name called phrases) = do
   class ← permanent_class c name
   v ← called_variable c class.variable called
   Some (Each v class.class)
-head c (guarded guards) = None

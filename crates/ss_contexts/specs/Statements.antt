@@ -7,7 +7,7 @@ use Rattle.ss_tree.specs.declared.statement.SetEnd.{SetEnd}
 use Rattle.ss_tree.specs.declared.statement.SetEnd.TheVariants as end_words
 use Rattle.ss_tree.specs.declared.statement.FindOutcome.{FindOutcome}
 use Rattle.ss_tree.specs.declared.statement.FindOutcome.TheVariants as outcomes
-use Rattle.ss_tree.specs.Tree.{ConditionTree, ExpressionTree, NamedTree, HeadTree, over_range, over_members, over_class, guarded, PositionTree, by_discipline, at_first, at_last, before, after, WhenTree, at_time, in_units, now, StatementTree, let_statement, add_statement, subtract_statement, call_statement, return_statement, stop_statement, read_statement, start_simulation, if_statement, loop_statement, find_statement, find_if_statement, create_statement, create_every, destroy_statement, file_statement, remove_end, remove_statement, schedule_new, schedule_statement, cancel_statement, reset_statement, print_statement, skip_statement, StatementRow, no_statement, and_statement}
+use Rattle.ss_tree.specs.Tree.{ConditionTree, ExpressionTree, NamedTree, HeadTree, LoopHeadTree, for_head, guarded, PositionTree, by_discipline, at_first, at_last, before, after, WhenTree, at_time, in_units, now, StatementTree, let_statement, add_statement, subtract_statement, call_statement, return_statement, stop_statement, read_statement, start_simulation, if_statement, loop_statement, find_statement, find_if_statement, create_statement, create_every, destroy_statement, file_statement, remove_end, remove_statement, schedule_new, schedule_statement, cancel_statement, reset_statement, print_statement, skip_statement, StatementRow, no_statement, and_statement}
 use Rattle.ss_sayings.specs.Sayings.{NameBytes}
 use Rattle.ss_program.specs.declared.expression.Variable.{Variable}
 use Rattle.ss_program.specs.declared.expression.Variable.TheVariants.{Global, Local}
@@ -120,13 +120,11 @@ for_over line c over body = do
   Some (For line h phrases body)
 
 -- a loop with its body
-abbrev pub loop : Line → Context → HeadTree → Block → Option Statement
+abbrev pub loop : Line → Context → LoopHeadTree → Block → Option Statement
+loop line c (for_head over) body = for_over line c over body
 loop line c (guarded guards) body = do
   gs ← each (guard c) guards
   Some (Loop line gs body)
-loop line c (over_range variable from to step phrases) body = for_over line c (over_range variable from to step phrases) body
-loop line c (over_members variable set from reverse phrases) body = for_over line c (over_members variable set from reverse phrases) body
-loop line c (over_class class called phrases) body = for_over line c (over_class class called phrases) body
 
 -- an IF with its sides
 abbrev pub if_over : Line → Context → ConditionTree → Block → Block → Option Statement

@@ -9,7 +9,7 @@ use Rattle.ss_tree.specs.declared.preamble.Mode.TheVariants.{Integer, Alpha, Rea
 use Rattle.ss_tree.specs.declared.preamble.Statistic.{Statistic}
 use Rattle.ss_tree.specs.declared.preamble.StatisticKind.TheVariants.{Sum}
 use Rattle.ss_tree.specs.declared.preamble.Weighting.TheVariants.{Tally, Accumulate}
-use Rattle.ss_tree.specs.Tree.{ClauseTree, has, owns, belongs_to, fifo, lifo, ranked, PreambleTree, temporary_entities, event_notices, every, normally, system_owns, define_variables, define_sets, priority_order, break_ties, statistics, DefinitionTree, SectionKindTree, main, routine, event, SectionTree, ProgramTree, ExpressionTree, ExpressionRow, no_expression, and_expression, number, NamedTree, over_range, over_class, StatementTree, let_statement, reset_statement, loop_statement, no_statement}
+use Rattle.ss_tree.specs.Tree.{ClauseTree, has, owns, belongs_to, fifo, lifo, ranked, PreambleTree, temporary_entities, event_notices, every, normally, system_owns, define_variables, define_sets, priority_order, break_ties, statistics, DefinitionTree, SectionKindTree, main, routine, event, SectionTree, ProgramTree, ExpressionTree, ExpressionRow, no_expression, and_expression, number, NamedTree, over_range, over_class, for_head, StatementTree, let_statement, reset_statement, loop_statement, no_statement}
 use Rattle.ss_sayings.specs.Sayings.{NameBytes}
 use Rattle.ss_declared.specs.declared.rule.Rule.{Rule}
 use Rattle.ss_declared.specs.declared.rule.Rule.TheVariants.{Twice, RealMode, UnknownClass, UnknownSet, NoOwner, NoMember, RankKey, TallyTwice, TooMany, TieKey}
@@ -283,14 +283,14 @@ pub reset_without_mode : refusal (with_sections [] (section 1 main [] (reset_sta
 reset_without_mode = refl
 
 -- FOR X = 1 TO 1
-pub loop_variable_without_mode : refusal (with_sections [] (section 1 main [] (loop_statement (line 2) (over_range x one one None []) no_statement ∷ []) ∷ [])) ≡ at RealMode 2
+pub loop_variable_without_mode : refusal (with_sections [] (section 1 main [] (loop_statement (line 2) (for_head (over_range x one one None [])) no_statement ∷ []) ∷ [])) ≡ at RealMode 2
 loop_variable_without_mode = refl
 
 -- FOR EACH X: X stands for a class, and CALLED Y is a loop's name
-pub class_of_a_loop : refusal (with_sections [] (section 1 main [] (loop_statement (line 2) (over_class x None []) no_statement ∷ []) ∷ [])) ≡ None
+pub class_of_a_loop : refusal (with_sections [] (section 1 main [] (loop_statement (line 2) (for_head (over_class x None [])) no_statement ∷ []) ∷ [])) ≡ None
 class_of_a_loop = refl
 
-pub name_of_a_loop_without_mode : refusal (with_sections [] (section 1 main [] (loop_statement (line 2) (over_class x (Some y) []) no_statement ∷ []) ∷ [])) ≡ at RealMode 2
+pub name_of_a_loop_without_mode : refusal (with_sections [] (section 1 main [] (loop_statement (line 2) (for_head (over_class x (Some y) [])) no_statement ∷ []) ∷ [])) ≡ at RealMode 2
 name_of_a_loop_without_mode = refl
 
 -- ---- 53 to 56

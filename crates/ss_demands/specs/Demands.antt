@@ -5,7 +5,7 @@ use Rattle.ss_bytes.specs.declared.line.Line.{Line}
 use Rattle.ss_tree.specs.declared.expression.Sign.{Sign}
 use Rattle.ss_tree.specs.declared.expression.Designator.{Designator}
 use Rattle.ss_tree.specs.declared.expression.Designator.TheVariants as designators
-use Rattle.ss_tree.specs.Tree.{ExpressionTree, number, text, named, call, parenthesised, product, signed, sum, ExpressionRow, no_expression, and_expression, TermRow, no_term, and_term, NamedTree, TestTree, compare, empty, member, data_ended, ConditionTree, PhraseTree, GuardTree, StartTree, from_end, from_member, after_member, HeadTree, over_range, over_members, over_class, guarded, PositionTree, by_discipline, at_first, at_last, before, after, WhenTree, at_time, in_units, now, StatementTree, let_statement, add_statement, subtract_statement, call_statement, return_statement, stop_statement, read_statement, start_simulation, if_statement, loop_statement, find_statement, find_if_statement, create_statement, create_every, destroy_statement, file_statement, remove_end, remove_statement, schedule_new, schedule_statement, cancel_statement, reset_statement, print_statement, skip_statement, StatementRow, no_statement, and_statement, SectionKindTree, main, routine, event, SectionTree}
+use Rattle.ss_tree.specs.Tree.{ExpressionTree, number, text, named, call, parenthesised, product, signed, sum, ExpressionRow, no_expression, and_expression, TermRow, no_term, and_term, NamedTree, TestTree, compare, empty, member, data_ended, ConditionTree, PhraseTree, GuardTree, StartTree, from_end, from_member, after_member, HeadTree, over_range, over_members, over_class, LoopHeadTree, for_head, guarded, PositionTree, by_discipline, at_first, at_last, before, after, WhenTree, at_time, in_units, now, StatementTree, let_statement, add_statement, subtract_statement, call_statement, return_statement, stop_statement, read_statement, start_simulation, if_statement, loop_statement, find_statement, find_if_statement, create_statement, create_every, destroy_statement, file_statement, remove_end, remove_statement, schedule_new, schedule_statement, cancel_statement, reset_statement, print_statement, skip_statement, StatementRow, no_statement, and_statement, SectionKindTree, main, routine, event, SectionTree}
 use Rattle.ss_picture.specs.declared.field.Field.{Field}
 use Rattle.ss_picture.specs.Pictures.{picture_fields}
 use Rattle.ss_demands.specs.declared.handed.Receiver.{Receiver}
@@ -171,13 +171,18 @@ abbrev pub in_class_variable : Line → NameBytes → Option NameBytes → List 
 in_class_variable line class None = a_number line (Named class) ∷ []
 in_class_variable line class (Some variable) = in_variable line variable
 
+-- the demands of the head of a FOR
 abbrev pub in_head : Line → HeadTree → List Demand
 in_head line (over_range variable from to step phrases) =
     in_variable line variable ++ in_number line from ++ in_number line to ++ in_option (in_number line) step ++ in_phrases line phrases
 in_head line (over_members variable set start reverse phrases) =
     in_variable line variable ++ in_named line set ++ in_start line start ++ in_phrases line phrases
 in_head line (over_class class called phrases) = in_class_variable line class called ++ in_phrases line phrases
-in_head line (guarded guards) = in_guards line guards
+
+-- the demands of the head of a loop
+abbrev pub in_loop_head : Line → LoopHeadTree → List Demand
+in_loop_head line (for_head head) = in_head line head
+in_loop_head line (guarded guards) = in_guards line guards
 
 -- ---- statements
 
@@ -287,7 +292,7 @@ in_itself (stop_statement line) = []
 in_itself (read_statement line targets) = in_all_named line targets
 in_itself (start_simulation line) = []
 in_itself (if_statement line condition first second) = in_condition line condition
-in_itself (loop_statement line head body) = in_head line head
+in_itself (loop_statement line head body) = in_loop_head line head
 in_itself (find_statement line head) = in_head line head
 in_itself (find_if_statement line head outcome first second) = in_head line head
 in_itself (reset_statement line targets) = in_all_named line targets

@@ -5,7 +5,7 @@ use Rattle.ss_tree.specs.declared.expression.Sign.TheVariants.{Plus}
 use Rattle.ss_tree.specs.declared.expression.Function.TheVariants.{Min}
 use Rattle.ss_tree.specs.declared.expression.Designator.TheVariants as designators
 use Rattle.ss_tree.specs.declared.condition.Relation.TheVariants.{Equal}
-use Rattle.ss_tree.specs.Tree.{ExpressionTree, number, text, named, call, parenthesised, sum, no_expression, and_expression, no_term, and_term, NamedTree, compare, over_class, at_time, let_statement, call_statement, if_statement, loop_statement, schedule_new, cancel_statement, print_statement, skip_statement, no_statement, and_statement, event}
+use Rattle.ss_tree.specs.Tree.{ExpressionTree, number, text, named, call, parenthesised, sum, no_expression, and_expression, no_term, and_term, NamedTree, compare, over_class, for_head, at_time, let_statement, call_statement, if_statement, loop_statement, schedule_new, cancel_statement, print_statement, skip_statement, no_statement, and_statement, event}
 use Rattle.ss_picture.specs.Pictures.{picture_fields}
 use Rattle.ss_demands.specs.declared.demand.Aspect.{Aspect}
 use Rattle.ss_demands.specs.declared.demand.Aspect.TheVariants.{Integer, Alpha, Named, Implied, Given, Yielded, Attribute, Count, ArgumentCount, GivenCount, YieldedCount, AttributeCount, Fits, Value, Mean}
@@ -68,10 +68,10 @@ pub a_call : in_statement (call_statement (line 1) (codes "R") (one ∷ name (co
 a_call = refl
 
 -- FOR EACH MACHINE .. takes numbers in the variable MACHINE; FOR EACH MACHINE CALLED M in M
-pub a_loop : in_statement (loop_statement (line 1) (over_class (codes "MACHINE") None []) no_statement) ≡ a_number (line 1) (Named (codes "MACHINE")) ∷ []
+pub a_loop : in_statement (loop_statement (line 1) (for_head (over_class (codes "MACHINE") None [])) no_statement) ≡ a_number (line 1) (Named (codes "MACHINE")) ∷ []
 a_loop = refl
 
-pub a_loop_called : in_statement (loop_statement (line 1) (over_class (codes "MACHINE") (Some (codes "M")) []) no_statement) ≡ a_number (line 1) (Named (codes "M")) ∷ []
+pub a_loop_called : in_statement (loop_statement (line 1) (for_head (over_class (codes "MACHINE") (Some (codes "M")) [])) no_statement) ≡ a_number (line 1) (Named (codes "M")) ∷ []
 a_loop_called = refl
 
 -- SCHEDULE A BELL GIVEN 8 AT T

@@ -1,14 +1,14 @@
 //! The demands of the heads of loops.
 
 ghost use Rattle.std.specs.Prelude.{◌≡◌, ◌++◌, map, IfOk};
-ghost use Rattle.ss_tree.specs.View.{view_guard, view_head, view_phrase, view_start};
-ghost use Rattle.ss_demands.specs.Demands.{in_class_variable, in_guards, in_head, in_phrases, in_start, in_variable};
+ghost use Rattle.ss_tree.specs.View.{view_guard, view_head, view_loop_head, view_phrase, view_start};
+ghost use Rattle.ss_demands.specs.Demands.{in_class_variable, in_guards, in_head, in_loop_head, in_phrases, in_start, in_variable};
 
 use crate::conditions::note_condition;
 use crate::demand::{Aspect, Demands};
 use crate::expressions::{note, note_maybe_number, note_named, note_number};
 use ss_bytes::{Line, Name};
-use ss_tree::head::{Guard, Head, MemberStart, Phrase};
+use ss_tree::head::{Guard, Head, LoopHead, MemberStart, Phrase};
 use std::alloc::AllocError;
 
 // Notes the demands of phrases.
@@ -65,7 +65,7 @@ fn note_class_variable(
     }
 }
 
-// Notes the demands of the head of a loop.
+// Notes the demands of the head of a FOR.
 pub(crate) fn note_head(into: &mut Demands, line: Line, head: &Head) -> Result<(), AllocError>
     ensures { IfOk result (λ _. into.new ≡ into.old ++ in_head line (view_head head.now)) }
 {
@@ -103,6 +103,19 @@ pub(crate) fn note_head(into: &mut Demands, line: Line, head: &Head) -> Result<(
             note_class_variable(into, line, *class, called)?;
             note_phrases(into, line, phrases)
         }
-        Head::Guards { guards } => note_guards(into, line, guards),
+    }
+}
+
+// Notes the demands of the head of a loop.
+pub(crate) fn note_loop_head(
+    into: &mut Demands,
+    line: Line,
+    head: &LoopHead,
+) -> Result<(), AllocError>
+    ensures { IfOk result (λ _. into.new ≡ into.old ++ in_loop_head line (view_loop_head head.now)) }
+{
+    match head {
+        LoopHead::For(head) => note_head(into, line, head),
+        LoopHead::Guards(guards) => note_guards(into, line, guards),
     }
 }

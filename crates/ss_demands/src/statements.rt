@@ -11,7 +11,7 @@ use crate::expressions::{
     target_mode,
 };
 use crate::handed::{Receiver, note_handed, note_taken};
-use crate::heads::note_head;
+use crate::heads::{note_head, note_loop_head};
 use crate::pictures::note_print;
 use ss_bytes::{Line, Name};
 use ss_tree::expression::{Expression, Named};
@@ -227,9 +227,10 @@ fn note_itself(alloc: Global, into: &mut Demands, statement: &Statement) -> Resu
             condition,
             ..
         } => note_condition(into, *line, condition),
-        Statement::Loop { line, head, .. }
-        | Statement::Find { line, head }
-        | Statement::FindIf { line, head, .. } => note_head(into, *line, head),
+        Statement::Loop { line, head, .. } => note_loop_head(into, *line, head),
+        Statement::Find { line, head } | Statement::FindIf { line, head, .. } => note_head(
+            into, *line, head,
+        ),
         Statement::Print {
             line,
             items,

@@ -8,12 +8,12 @@ use Rattle.ss_tokens.specs.declared.token.TokenKind.TheVariants as kinds
 use Rattle.ss_tokens.specs.declared.token.Token.{Token}
 use Rattle.ss_tree.specs.declared.head.PhraseKind.{PhraseKind}
 use Rattle.ss_tree.specs.declared.head.GuardKind.{GuardKind}
-use Rattle.ss_tree.specs.Tree.{ExpressionTree, NamedTree, ConditionTree, PhraseTree, GuardTree, StartTree, from_end, from_member, after_member, HeadTree, over_range, over_members, over_class, guarded}
+use Rattle.ss_tree.specs.Tree.{ExpressionTree, NamedTree, ConditionTree, PhraseTree, GuardTree, StartTree, from_end, from_member, after_member, HeadTree, over_range, over_members, over_class, LoopHeadTree, guarded}
 use Rattle.ss_grammar.specs.declared.classes.Class.TheVariants as classes
 use Rattle.ss_grammar.specs.Shapes.{Shape, ◌▷◌, nothing, either, provided, noise, Word_is, Symbol_is, Name_is, Said, each, perhaps, flagged}
 use Rattle.ss_grammar.specs.Words.{One_of, the}
 use Rattle.ss_grammar.specs.SpelledExpressions.{Sum_is, Reference_is}
-use Rattle.ss_grammar.specs.SpelledConditions.{Start_is, Head_behind, Begins_with_for}
+use Rattle.ss_grammar.specs.SpelledConditions.{Start_is, Head_behind}
 use Rattle.ss_elements.specs.Words.{phrase_of, guard_of}
 use Rattle.ss_grammar.specs.Reading.{word, symbol, is, is_some, begins, expect, in_table, behind, apply, choose, comma, skip_comma}
 use Rattle.ss_grammar.specs.ReadWords.{done, begins_class, begins_among}
@@ -315,21 +315,20 @@ module _ (n m : ℕ) (le : n ≤ m) where
   range_late : (x : HeadTree) (ts rest : List Token) → Made range_tree Range_parts x ts rest → continues_for rest ≡ false → begins_class classes.Each ts ≡ false
   range_late x ts rest (p, is, (a, (span, line, e), s)) stop = ap (begins_class classes.Each) e
 
-  for_to : (x : HeadTree) (ts rest : List Token) → either (Each_parts x) (Made range_tree Range_parts x) ts rest → provided (Begins_with_for x) (Head_behind n x) ts rest
-  for_to x ts rest (inl (a, e, (v, (b, name, inl (p, is, (c, i, (d, s, t))))))) = subst (λ x. provided (Begins_with_for x) (Head_behind n x) ts rest) is (tt, (a, e, (b, name, (c, i, (s.0, s.1, (d, s.2, t))))))
-  for_to x ts rest (inl (a, e, (v, (b, name, inr (p, is, s))))) = subst (λ x. provided (Begins_with_for x) (Head_behind n x) ts rest) is (tt, (a, e, (b, name, s)))
-  for_to x ts rest (inr (p, is, s)) = subst (λ x. provided (Begins_with_for x) (Head_behind n x) ts rest) is (tt, s)
+  for_to : (x : HeadTree) (ts rest : List Token) → either (Each_parts x) (Made range_tree Range_parts x) ts rest → Head_behind n x ts rest
+  for_to x ts rest (inl (a, e, (v, (b, name, inl (p, is, (c, i, (d, s, t))))))) = subst (λ x. Head_behind n x ts rest) is (a, e, (b, name, (c, i, (s.0, s.1, (d, s.2, t)))))
+  for_to x ts rest (inl (a, e, (v, (b, name, inr (p, is, s))))) = subst (λ x. Head_behind n x ts rest) is (a, e, (b, name, s))
+  for_to x ts rest (inr (p, is, s)) = subst (λ x. Head_behind n x ts rest) is s
 
-  for_from : (x : HeadTree) (ts rest : List Token) → provided (Begins_with_for x) (Head_behind n x) ts rest → either (Each_parts x) (Made range_tree Range_parts x) ts rest
-  for_from (over_range v from to step ps) ts rest (u, s) = inr ((v, (from, (to, (step, ps)))), refl, s)
-  for_from (over_members v set start rev ps) ts rest (u, (a, e, (b, name, (c, i, (f, t, (d, s, more)))))) = inl (a, e, (v, (b, name, inl ((set, (start, (rev, ps))), refl, (c, i, (d, (f, t, s), more))))))
-  for_from (over_class c v ps) ts rest (u, (a, e, (b, name, s))) = inl (a, e, (c, (b, name, inr ((v, ps), refl, s))))
-  for_from (guarded gs) ts rest (u, s) = absurd u
+  for_from : (x : HeadTree) (ts rest : List Token) → Head_behind n x ts rest → either (Each_parts x) (Made range_tree Range_parts x) ts rest
+  for_from (over_range v from to step ps) ts rest s = inr ((v, (from, (to, (step, ps)))), refl, s)
+  for_from (over_members v set start rev ps) ts rest (a, e, (b, name, (c, i, (f, t, (d, s, more))))) = inl (a, e, (v, (b, name, inl ((set, (start, (rev, ps))), refl, (c, i, (d, (f, t, s), more))))))
+  for_from (over_class c v ps) ts rest (a, e, (b, name, s)) = inl (a, e, (c, (b, name, inr ((v, ps), refl, s))))
 
-  -- a loop's head behind FOR
-  pub for_reads : Reads (suc n) (for_in (suc n)) (for_in (suc m)) (λ x. provided (Begins_with_for x) (Head_behind n x)) continues_for
+  -- the head of a FOR behind its first word
+  pub for_reads : Reads (suc n) (for_in (suc n)) (for_in (suc m)) (Head_behind n) continues_for
   unfolding for_in
-  for_reads = said_reads (either_reads each_item range_reads continues_for (λ ts stop. (stop, stop)) range_late) (λ x. provided (Begins_with_for x) (Head_behind n x)) for_to for_from
+  for_reads = said_reads (either_reads each_item range_reads continues_for (λ ts stop. (stop, stop)) range_late) (Head_behind n) for_to for_from
 
   -- ---- WHILE and UNTIL
 
@@ -343,13 +342,13 @@ module _ (n m : ℕ) (le : n ≤ m) where
       let b : continues_condition ts ≡ false = no_condition ts both.1 in
       rw (a, b) refl)
 
-  abbrev pub Guards_made : GuardKind → ConditionTree → HeadTree → Shape
+  abbrev pub Guards_made : GuardKind → ConditionTree → LoopHeadTree → Shape
   Guards_made kind c = Made guarded (Made (λ gs. guard_tree (kind, c) ∷ gs) (each (λ x. noise ▷ guard_said (suc n) x)))
 
-  guards_no_condition : (kind : GuardKind) (c : ConditionTree) (x : HeadTree) (ts rest : List Token) → Guards_made kind c x ts rest → continues_guarded rest ≡ false → continues_condition ts ≡ false
+  guards_no_condition : (kind : GuardKind) (c : ConditionTree) (x : LoopHeadTree) (ts rest : List Token) → Guards_made kind c x ts rest → continues_guarded rest ≡ false → continues_condition ts ≡ false
   guards_no_condition kind c x ts rest (all, is, (gs, makes, s)) stop = no_condition ts (guards_stop (suc n) (suc n) (omega arith) gs ts rest s (or_false (begins_guard (skip_comma rest)) (continues_head rest) stop).1)
 
-  abbrev pub Guarded_parts : GuardKind → HeadTree → Shape
+  abbrev pub Guarded_parts : GuardKind → LoopHeadTree → Shape
   Guarded_parts kind x ts rest = (c : ConditionTree) × (In_condition (suc n) c ▷ Guards_made kind c x) ts rest
 
   pub guarded_reads : (kind : GuardKind) → Reads (suc n) (guarded_in (suc n) kind) (guarded_in (suc m) kind) (Guarded_parts kind) continues_guarded

@@ -5,7 +5,7 @@ use Rattle.ss_tokens.specs.declared.token.Symbol.TheVariants.{Equals}
 use Rattle.ss_tokens.specs.declared.token.Token.{Token}
 use Rattle.ss_tree.specs.declared.head.PhraseKind.{PhraseKind}
 use Rattle.ss_tree.specs.declared.head.GuardKind.{GuardKind}
-use Rattle.ss_tree.specs.Tree.{ExpressionTree, NamedTree, ConditionTree, PhraseTree, GuardTree, StartTree, from_end, from_member, after_member, HeadTree, over_range, over_members, over_class, guarded}
+use Rattle.ss_tree.specs.Tree.{ExpressionTree, NamedTree, ConditionTree, PhraseTree, GuardTree, StartTree, from_end, from_member, after_member, HeadTree, over_range, over_members, over_class, LoopHeadTree, guarded}
 use Rattle.ss_grammar.specs.declared.classes.Class.TheVariants as classes
 use Rattle.ss_elements.specs.Words.{phrase_of, guard_of}
 use Rattle.ss_grammar.specs.Reading.{Reader, ◌>>=◌, word, symbol, begins, begins_by, skip, expect, in_table, taken, name_of, seq, behind, apply, maybe, flag, choose, rows, skip_comma}
@@ -93,5 +93,5 @@ for_in room = choose (begins_class classes.Each) (each_in room) (range_in room)
 abbrev pub guards_behind : ℕ → GuardTree → Reader (List GuardTree)
 guards_behind room g = apply (λ gs. g ∷ gs) (guards_in room)
 
-unfoldable pub guarded_in : ℕ → GuardKind → Reader HeadTree
+unfoldable pub guarded_in : ℕ → GuardKind → Reader LoopHeadTree
 guarded_in room kind ts = condition_in room ts >>= λ c. apply guarded (guards_behind room (guard_tree (kind, c.0))) c.1

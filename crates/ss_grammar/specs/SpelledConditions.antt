@@ -7,7 +7,7 @@ use Rattle.ss_tree.specs.declared.condition.Relation.{Relation}
 use Rattle.ss_tree.specs.declared.condition.Relation.TheVariants as relations
 use Rattle.ss_tree.specs.declared.head.GuardKind.{GuardKind}
 use Rattle.ss_tree.specs.declared.head.GuardKind.TheVariants as guards
-use Rattle.ss_tree.specs.Tree.{TestTree, compare, empty, member, data_ended, ConditionTree, PhraseTree, GuardTree, StartTree, from_end, from_member, after_member, HeadTree, over_range, over_members, over_class, guarded}
+use Rattle.ss_tree.specs.Tree.{TestTree, compare, empty, member, data_ended, ConditionTree, PhraseTree, GuardTree, StartTree, from_end, from_member, after_member, HeadTree, over_range, over_members, over_class, LoopHeadTree, for_head, guarded}
 use Rattle.ss_grammar.specs.Shapes.{Shape, ◌▷◌, nothing, never, either, optional, provided, Word_is, Symbol_is, Name_is, Said, noise, each, first_and, perhaps, flagged}
 use Rattle.ss_grammar.specs.declared.classes.Class.TheVariants as classes
 use Rattle.ss_grammar.specs.Words.{One_of, the}
@@ -62,11 +62,11 @@ abbrev pub guard_word : GuardKind → Word
 guard_word guards.While = words.While
 guard_word guards.Until = words.Until
 
-abbrev pub head_word : HeadTree → Word
+abbrev pub head_word : LoopHeadTree → Word
 head_word (guarded (g ∷ gs)) = guard_word g.kind
 head_word _ = words.For
 
--- the head of a loop behind its first word
+-- the head of a FOR behind its first word
 abbrev pub Head_behind : ℕ → HeadTree → Shape
 Head_behind levels (over_range variable from to step phrases) =
     Name_is variable ▷ Symbol_is Equals ▷ Sum_is levels from ▷ Word_is words.To ▷ Sum_is levels to
@@ -76,11 +76,15 @@ Head_behind levels (over_members variable set start reverse phrases) =
     ▷ Start_is levels start ▷ flagged (Word_is words.In ▷ Word_is words.Reverse ▷ Word_is words.Order) reverse ▷ each (Phrase_is levels) phrases
 Head_behind levels (over_class class variable phrases) =
     One_of classes.Each ▷ Name_is class ▷ perhaps (λ v. Word_is words.Called ▷ Name_is v) variable ▷ each (Phrase_is levels) phrases
+
+-- the head of a loop behind its first word
+abbrev pub Loop_behind : ℕ → LoopHeadTree → Shape
+Loop_behind levels (for_head head) = Head_behind levels head
 -- WHILE and UNTIL, of which the first has no comma before it
-Head_behind levels (guarded []) = never
-Head_behind levels (guarded (g ∷ gs)) = Condition_is levels g.condition ▷ each (λ h. noise ▷ Guard_is levels h) gs
+Loop_behind levels (guarded []) = never
+Loop_behind levels (guarded (g ∷ gs)) = Condition_is levels g.condition ▷ each (λ h. noise ▷ Guard_is levels h) gs
 
 -- begins with FOR
-abbrev pub Begins_with_for : HeadTree → Type 0
+abbrev pub Begins_with_for : LoopHeadTree → Type 0
 Begins_with_for (guarded gs) = ⊥
 Begins_with_for _ = Unit {0}

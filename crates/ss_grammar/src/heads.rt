@@ -1,7 +1,7 @@
 //! The heads of loops.
 
 ghost use Rattle.std.specs.Prelude.{◌≡◌, map};
-ghost use Rattle.ss_tree.specs.View.{view_expression, view_option, view_phrase, view_guard, view_start, view_head};
+ghost use Rattle.ss_tree.specs.View.{view_expression, view_option, view_phrase, view_guard, view_start, view_head, view_loop_head};
 ghost use Rattle.ss_elements.specs.Words.{phrase_of, guard_of};
 ghost use Rattle.ss_grammar.specs.Reading.{Gives, taken, in_table, apply, skip_comma};
 ghost use Rattle.ss_grammar.specs.ReadHeads.{begins_phrase, begins_guard, phrase_in, guard_in, phrases_in, guards_behind, step_in, range_in, start_in, reverse, members_in, class_in, class_tree, each_named, each_in, for_in, guarded_in};
@@ -20,7 +20,7 @@ use ss_bytes::Name;
 use ss_elements::words::{guard_of, phrase_of};
 use ss_tokens::{Symbol, Token, TokenKind, Word};
 use ss_tree::expression::Expression;
-use ss_tree::head::{Guard, GuardKind, Head, MemberStart, Phrase, PhraseKind};
+use ss_tree::head::{Guard, GuardKind, Head, LoopHead, MemberStart, Phrase, PhraseKind};
 use std::alloc::Global;
 
 /// The word that begins a phrase.
@@ -156,7 +156,7 @@ fn step(
     Ok((Some(step), rest))
 }
 
-/// The head of a loop over numbers, behind FOR.
+/// The head of a FOR over numbers, behind FOR.
 #[tactic(auto, unfolding(crate::specs::ReadHeads::range_in))]
 fn range(alloc: Global, tokens: &[Token], room: u8) -> Result<(Head, &[Token]), Failure>
     ensures { Gives (λ x. (view_head x.0, x.1.now)) result (range_in room tokens.now) }
@@ -208,7 +208,7 @@ fn reverse(tokens: &[Token]) -> Result<(bool, &[Token]), Failure>
     Ok((true, rest))
 }
 
-/// The head of a loop over a set, behind its variable.
+/// The head of a FOR over a set, behind its variable.
 #[tactic(auto, unfolding(crate::specs::ReadHeads::members_in))]
 fn members(
     alloc: Global,
@@ -233,7 +233,7 @@ fn members(
     Ok((head, rest))
 }
 
-/// The head of a loop over a class, behind its variable.
+/// The head of a FOR over a class, behind its variable.
 fn class_phrases(
     alloc: Global,
     class: Name,
@@ -252,7 +252,7 @@ fn class_phrases(
     Ok((head, rest))
 }
 
-/// The head of a loop over a class, behind the class.
+/// The head of a FOR over a class, behind the class.
 #[tactic(auto, unfolding(crate::specs::ReadHeads::class_in))]
 fn class(
     alloc: Global,
@@ -270,7 +270,7 @@ fn class(
     class_phrases(alloc, class, Some(called), behind_first(rest), room)
 }
 
-/// The head of a loop over a set or a class, behind its name.
+/// The head of a FOR over a set or a class, behind its name.
 fn each_named(
     alloc: Global,
     name: Name,
@@ -286,7 +286,7 @@ fn each_named(
     }
 }
 
-/// The head of a loop over a set or a class, behind FOR.
+/// The head of a FOR over a set or a class, behind FOR.
 #[tactic(auto, unfolding(crate::specs::ReadHeads::each_in))]
 fn each(alloc: Global, tokens: &[Token], room: u8) -> Result<(Head, &[Token]), Failure>
     ensures { Gives (λ x. (view_head x.0, x.1.now)) result (each_in room tokens.now) }
@@ -296,7 +296,7 @@ fn each(alloc: Global, tokens: &[Token], room: u8) -> Result<(Head, &[Token]), F
     each_named(alloc, variable, behind_first(rest), room)
 }
 
-/// The head of a loop that begins with FOR, behind it.
+/// The head of a FOR, behind its first word.
 #[tactic(auto, unfolding(crate::specs::ReadHeads::for_in))]
 pub fn for_head(alloc: Global, tokens: &[Token], room: u8) -> Result<(Head, &[Token]), Failure>
     ensures { Gives (λ x. (view_head x.0, x.1.now)) result (for_in room tokens.now) }
@@ -308,17 +308,17 @@ pub fn for_head(alloc: Global, tokens: &[Token], room: u8) -> Result<(Head, &[To
     }
 }
 
-/// The head of a loop that begins with WHILE or UNTIL, behind it.
+/// The head of a loop that begins with WHILE or UNTIL, behind its first word.
 #[tactic(auto, unfolding(crate::specs::ReadHeads::guarded_in))]
 pub fn guarded_head(
     alloc: Global,
     kind: GuardKind,
     tokens: &[Token],
     room: u8,
-) -> Result<(Head, &[Token]), Failure>
-    ensures { Gives (λ x. (view_head x.0, x.1.now)) result (guarded_in room kind tokens.now) }
+) -> Result<(LoopHead, &[Token]), Failure>
+    ensures { Gives (λ x. (view_loop_head x.0, x.1.now)) result (guarded_in room kind tokens.now) }
 {
     let (condition, rest) = condition(alloc, tokens, room)?;
     let (guards, rest) = guards(alloc, Guard { kind, condition }, rest, room)?;
-    Ok((Head::Guards { guards }, rest))
+    Ok((LoopHead::Guards(guards), rest))
 }

@@ -4,7 +4,7 @@ use Rattle.std.specs.List.{AllByRecursion as Every}
 use Rattle.ss_bytes.specs.declared.line.Line.{Line}
 use Rattle.ss_tree.specs.declared.statement.FindOutcome.{FindOutcome}
 use Rattle.ss_tree.specs.declared.statement.FindOutcome.TheVariants as outcomes
-use Rattle.ss_tree.specs.Tree.{ConditionTree, HeadTree, over_range, over_members, over_class, guarded, StatementTree, let_statement, add_statement, subtract_statement, call_statement, return_statement, stop_statement, read_statement, start_simulation, if_statement, loop_statement, find_statement, find_if_statement, create_statement, create_every, destroy_statement, file_statement, remove_end, remove_statement, schedule_new, schedule_statement, cancel_statement, reset_statement, print_statement, skip_statement, StatementRow, no_statement, and_statement, statement_row}
+use Rattle.ss_tree.specs.Tree.{ConditionTree, HeadTree, LoopHeadTree, for_head, guarded, StatementTree, let_statement, add_statement, subtract_statement, call_statement, return_statement, stop_statement, read_statement, start_simulation, if_statement, loop_statement, find_statement, find_if_statement, create_statement, create_every, destroy_statement, file_statement, remove_end, remove_statement, schedule_new, schedule_statement, cancel_statement, reset_statement, print_statement, skip_statement, StatementRow, no_statement, and_statement, statement_row}
 use Rattle.ss_walk.specs.declared.mention.Mention.{Mention}
 use Rattle.ss_walk.specs.Mentions as mentioned
 use Rattle.ss_demands.specs.Demands as demanded
@@ -18,14 +18,13 @@ use Rattle.ss_contexts.specs.Contexts.{Context}
 use Rattle.ss_contexts.specs.Conditions.{condition}
 use Rattle.ss_contexts.specs.Heads.{phrase, guard, phrases_of, head}
 use Rattle.ss_contexts.specs.Statements.{find, find_by, for_over, if_over, loop, statement, statements}
-use Rattle.ss_kept.specs.Forms.{BeginsWithFor, Formed, FormedRow}
 use Rattle.ss_lists.specs.Rules.{KeptMention, KeptMentions, KeptDemands}
 use Rattle.ss_kept.specs.Rules.{KeptStarts}
 use Rattle.ss_kept.specs.Links.{Linked}
 use Rattle.ss_kept.specs.Laws.{ConditionResolves, ForResolves, HeadResolves, BodyResolves}
 use Rattle.ss_kept.proofs.Steps.{left_of, right_of, step, two_steps}
 use Rattle.ss_kept.proofs.Conditions.{GoesWell, condition_resolves}
-use Rattle.ss_kept.proofs.Heads.{dl, dr, head_resolves}
+use Rattle.ss_kept.proofs.Heads.{dl, dr, for_resolves, head_resolves}
 use Rattle.ss_kept.proofs.Statements.{let_resolves, add_resolves, subtract_resolves, read_resolves, file_resolves, remove_end_resolves, remove_resolves, skip_resolves}
 use Rattle.ss_kept.proofs.Printing.{print_resolves, stop_resolves, return_resolves, start_resolves}
 use Rattle.ss_kept.proofs.Calls.{call_resolves}
@@ -55,44 +54,36 @@ module _ (w : Whole) (locals : Moded) (c : Context) (s : Scope) (linked : Linked
       (made, two_steps (head c over) (each (phrase c) (phrases_of over)) (λ u v. Some (For line u v body)) h.0 h.3 made h.1 h.4 refl, (h.2, h.5, b))
 
   -- a loop, with its body
-  over_made : (line : Line) (over : HeadTree) (body : Block) → HeadResolves c s over → GoodBlock s body → GoesWell w locals (Good s) (loop line c over body)
-  over_made line (over_range variable from to by phrases) body h b = for_made line (over_range variable from to by phrases) body h b
-  over_made line (over_members variable set from reverse phrases) body h b = for_made line (over_members variable set from reverse phrases) body h b
-  over_made line (over_class class called phrases) body h b = for_made line (over_class class called phrases) body h b
+  over_made : (line : Line) (over : LoopHeadTree) (body : Block) → HeadResolves c s over → GoodBlock s body → GoesWell w locals (Good s) (loop line c over body)
+  over_made line (for_head over) body h b = for_made line over body h b
   over_made line (guarded guards) body h b =
       let made : Statement = Loop line h.0 body in
       (made, step (each (guard c) guards) (λ gs. Some (Loop line gs body)) h.0 made h.1 refl, (h.2, b))
 
-  loop_made : (line : Line) (over : HeadTree) (row : StatementRow) → HeadResolves c s over → RowResolved row → Resolved (loop_statement line over row)
+  loop_made : (line : Line) (over : LoopHeadTree) (row : StatementRow) → HeadResolves c s over → RowResolved row → Resolved (loop_statement line over row)
   unfolding statement
   loop_made line over row h b =
       let made = over_made line over b.0 h b.2 in
       (made.0, step (statements c row) (λ u. loop line c over u) b.0 made.0 b.1 made.1, made.2)
 
   -- a FIND, with what follows
-  found_made : (line : Line) (over : HeadTree) (found missing : Block) → ForResolves c s over → GoodBlock s found → GoodBlock s missing → GoesWell w locals (Good s) (find line c over found missing)
-  found_made line over found missing h a b =
+  find_made : (line : Line) (over : HeadTree) (found missing : Block) → ForResolves c s over → GoodBlock s found → GoodBlock s missing → GoesWell w locals (Good s) (find line c over found missing)
+  find_made line over found missing h a b =
       let made : Statement = Find line h.0 h.3 found missing in
       (made, two_steps (head c over) (each (phrase c) (phrases_of over)) (λ u v. Some (Find line u v found missing)) h.0 h.3 made h.1 h.4 refl, (h.2, h.5, a, b))
 
-  find_made : (line : Line) (over : HeadTree) (found missing : Block) → BeginsWithFor over → HeadResolves c s over → GoodBlock s found → GoodBlock s missing → GoesWell w locals (Good s) (find line c over found missing)
-  find_made line (over_range variable from to by phrases) found missing f h a b = found_made line (over_range variable from to by phrases) found missing h a b
-  find_made line (over_members variable set from reverse phrases) found missing f h a b = found_made line (over_members variable set from reverse phrases) found missing h a b
-  find_made line (over_class class called phrases) found missing f h a b = found_made line (over_class class called phrases) found missing h a b
-  find_made line (guarded guards) found missing f h a b = absurd f
+  by_outcome : (outcome : FindOutcome) (line : Line) (over : HeadTree) (first second : Block) → ForResolves c s over → GoodBlock s first → GoodBlock s second → GoesWell w locals (Good s) (find_by outcome line c over first second)
+  by_outcome outcomes.Found line over first second h a b = find_made line over first second h a b
+  by_outcome outcomes.None line over first second h a b = find_made line over second first h b a
 
-  by_outcome : (outcome : FindOutcome) (line : Line) (over : HeadTree) (first second : Block) → BeginsWithFor over → HeadResolves c s over → GoodBlock s first → GoodBlock s second → GoesWell w locals (Good s) (find_by outcome line c over first second)
-  by_outcome outcomes.Found line over first second f h a b = find_made line over first second f h a b
-  by_outcome outcomes.None line over first second f h a b = find_made line over second first f h b a
-
-  find_alone : (line : Line) (over : HeadTree) → BeginsWithFor over → HeadResolves c s over → Resolved (find_statement line over)
+  find_alone : (line : Line) (over : HeadTree) → ForResolves c s over → Resolved (find_statement line over)
   unfolding statement
-  find_alone line over f h = find_made line over Done Done f h tt tt
+  find_alone line over h = find_made line over Done Done h tt tt
 
-  find_if_made : (line : Line) (over : HeadTree) (outcome : FindOutcome) (first second : StatementRow) → BeginsWithFor over → HeadResolves c s over → RowResolved first → RowResolved second → Resolved (find_if_statement line over outcome first second)
+  find_if_made : (line : Line) (over : HeadTree) (outcome : FindOutcome) (first second : StatementRow) → ForResolves c s over → RowResolved first → RowResolved second → Resolved (find_if_statement line over outcome first second)
   unfolding statement
-  find_if_made line over outcome first second f h a b =
-      let made = by_outcome outcome line over a.0 b.0 f h a.2 b.2 in
+  find_if_made line over outcome first second h a b =
+      let made = by_outcome outcome line over a.0 b.0 h a.2 b.2 in
       (made.0, two_steps (statements c first) (statements c second) (λ u v. find_by outcome line c over u v) a.0 b.0 made.0 a.1 b.1 made.1, made.2)
 
   -- ---- rows
@@ -130,68 +121,68 @@ module _ (w : Whole) (locals : Moded) (c : Context) (s : Scope) (linked : Linked
   -- ---- statements
 
   mutual
-    statement_resolves : (t : StatementTree) → Formed t → KeptUses (mentioned.in_itself t) → KeptUses (mentioned.in_inner t) →
+    statement_resolves : (t : StatementTree) → KeptUses (mentioned.in_itself t) → KeptUses (mentioned.in_inner t) →
         KeptDemands w locals (demanded.in_itself t) → KeptDemands w locals (demanded.in_inner t) → Resolved t
-    statement_resolves (let_statement line n e) f m i d j = let_resolves w locals c s linked line n e (kept (mentioned.in_itself (let_statement line n e)) m) d
-    statement_resolves (add_statement line e n) f m i d j = add_resolves w locals c s linked line e n (kept (mentioned.in_itself (add_statement line e n)) m) d
-    statement_resolves (subtract_statement line e n) f m i d j = subtract_resolves w locals c s linked line e n (kept (mentioned.in_itself (subtract_statement line e n)) m) d
-    statement_resolves (call_statement line name given yielding) f m i d j = call_resolves w locals c s linked line name given yielding (kept (mentioned.in_itself (call_statement line name given yielding)) m) d
-    statement_resolves (return_statement line) f m i d j = return_resolves w locals c s linked line
-    statement_resolves (stop_statement line) f m i d j = stop_resolves w locals c s linked line
-    statement_resolves (read_statement line targets) f m i d j = read_resolves w locals c s linked line targets (kept (mentioned.in_itself (read_statement line targets)) m) d
-    statement_resolves (start_simulation line) f m i d j = start_resolves w locals c s linked line (started (mentioned.in_itself (start_simulation line)) m)
-    statement_resolves (create_statement line name called) f m i d j = create_resolves w locals c s linked line name called (kept (mentioned.in_itself (create_statement line name called)) m) d
-    statement_resolves (create_every line names) f m i d j = create_every_resolves w locals c s linked line names (kept (mentioned.in_itself (create_every line names)) m)
-    statement_resolves (destroy_statement line name called) f m i d j = destroy_resolves w locals c s linked line name called (kept (mentioned.in_itself (destroy_statement line name called)) m) d
-    statement_resolves (file_statement line e position set) f m i d j = file_resolves w locals c s linked line e position set (kept (mentioned.in_itself (file_statement line e position set)) m) d
-    statement_resolves (remove_end line end place set) f m i d j = remove_end_resolves w locals c s linked line end place set (kept (mentioned.in_itself (remove_end line end place set)) m) d
-    statement_resolves (remove_statement line e set) f m i d j = remove_resolves w locals c s linked line e set (kept (mentioned.in_itself (remove_statement line e set)) m) d
-    statement_resolves (schedule_new line name called given time) f m i d j = schedule_new_resolves w locals c s linked line name called given time (kept (mentioned.in_itself (schedule_new line name called given time)) m) d
-    statement_resolves (schedule_statement line name called given time) f m i d j = schedule_resolves w locals c s linked line name called given time (kept (mentioned.in_itself (schedule_statement line name called given time)) m) d
-    statement_resolves (cancel_statement line name called) f m i d j = cancel_resolves w locals c s linked line name called (kept (mentioned.in_itself (cancel_statement line name called)) m) d
-    statement_resolves (reset_statement line targets) f m i d j = reset_resolves w locals c s linked line targets (kept (mentioned.in_itself (reset_statement line targets)) m) d
-    statement_resolves (print_statement line items pictures) f m i d j = print_resolves w locals c s linked line items pictures (kept (mentioned.in_itself (print_statement line items pictures)) m) d
-    statement_resolves (skip_statement line e) f m i d j = skip_resolves w locals c s linked line e (kept (mentioned.in_itself (skip_statement line e)) m) d
-    statement_resolves (if_statement line test first second) f m i d j =
+    statement_resolves (let_statement line n e) m i d j = let_resolves w locals c s linked line n e (kept (mentioned.in_itself (let_statement line n e)) m) d
+    statement_resolves (add_statement line e n) m i d j = add_resolves w locals c s linked line e n (kept (mentioned.in_itself (add_statement line e n)) m) d
+    statement_resolves (subtract_statement line e n) m i d j = subtract_resolves w locals c s linked line e n (kept (mentioned.in_itself (subtract_statement line e n)) m) d
+    statement_resolves (call_statement line name given yielding) m i d j = call_resolves w locals c s linked line name given yielding (kept (mentioned.in_itself (call_statement line name given yielding)) m) d
+    statement_resolves (return_statement line) m i d j = return_resolves w locals c s linked line
+    statement_resolves (stop_statement line) m i d j = stop_resolves w locals c s linked line
+    statement_resolves (read_statement line targets) m i d j = read_resolves w locals c s linked line targets (kept (mentioned.in_itself (read_statement line targets)) m) d
+    statement_resolves (start_simulation line) m i d j = start_resolves w locals c s linked line (started (mentioned.in_itself (start_simulation line)) m)
+    statement_resolves (create_statement line name called) m i d j = create_resolves w locals c s linked line name called (kept (mentioned.in_itself (create_statement line name called)) m) d
+    statement_resolves (create_every line names) m i d j = create_every_resolves w locals c s linked line names (kept (mentioned.in_itself (create_every line names)) m)
+    statement_resolves (destroy_statement line name called) m i d j = destroy_resolves w locals c s linked line name called (kept (mentioned.in_itself (destroy_statement line name called)) m) d
+    statement_resolves (file_statement line e position set) m i d j = file_resolves w locals c s linked line e position set (kept (mentioned.in_itself (file_statement line e position set)) m) d
+    statement_resolves (remove_end line end place set) m i d j = remove_end_resolves w locals c s linked line end place set (kept (mentioned.in_itself (remove_end line end place set)) m) d
+    statement_resolves (remove_statement line e set) m i d j = remove_resolves w locals c s linked line e set (kept (mentioned.in_itself (remove_statement line e set)) m) d
+    statement_resolves (schedule_new line name called given time) m i d j = schedule_new_resolves w locals c s linked line name called given time (kept (mentioned.in_itself (schedule_new line name called given time)) m) d
+    statement_resolves (schedule_statement line name called given time) m i d j = schedule_resolves w locals c s linked line name called given time (kept (mentioned.in_itself (schedule_statement line name called given time)) m) d
+    statement_resolves (cancel_statement line name called) m i d j = cancel_resolves w locals c s linked line name called (kept (mentioned.in_itself (cancel_statement line name called)) m) d
+    statement_resolves (reset_statement line targets) m i d j = reset_resolves w locals c s linked line targets (kept (mentioned.in_itself (reset_statement line targets)) m) d
+    statement_resolves (print_statement line items pictures) m i d j = print_resolves w locals c s linked line items pictures (kept (mentioned.in_itself (print_statement line items pictures)) m) d
+    statement_resolves (skip_statement line e) m i d j = skip_resolves w locals c s linked line e (kept (mentioned.in_itself (skip_statement line e)) m) d
+    statement_resolves (if_statement line test first second) m i d j =
         if_made line test first second (condition_resolves w locals c s linked line test (kept (mentioned.in_condition line test) m) d)
-        (row_resolves first f.0 (left_of KeptUse (mentioned.in_row first) (mentioned.in_row second) i) (dl w locals s (demanded.in_row first) (demanded.in_row second) j))
-        (row_resolves second f.1 (right_of KeptUse (mentioned.in_row first) (mentioned.in_row second) i) (dr w locals s (demanded.in_row first) (demanded.in_row second) j))
-    statement_resolves (loop_statement line over row) f m i d j =
-        loop_made line over row (head_resolves w locals c s linked line over (kept (mentioned.in_head line over) m) d) (row_resolves row f i j)
-    statement_resolves (find_statement line over) f m i d j =
-        find_alone line over f (head_resolves w locals c s linked line over (kept (mentioned.in_head line over) m) d)
-    statement_resolves (find_if_statement line over outcome first second) f m i d j =
-        find_if_made line over outcome first second f.0 (head_resolves w locals c s linked line over (kept (mentioned.in_head line over) m) d)
-        (row_resolves first f.1 (left_of KeptUse (mentioned.in_row first) (mentioned.in_row second) i) (dl w locals s (demanded.in_row first) (demanded.in_row second) j))
-        (row_resolves second f.2 (right_of KeptUse (mentioned.in_row first) (mentioned.in_row second) i) (dr w locals s (demanded.in_row first) (demanded.in_row second) j))
+        (row_resolves first (left_of KeptUse (mentioned.in_row first) (mentioned.in_row second) i) (dl w locals s (demanded.in_row first) (demanded.in_row second) j))
+        (row_resolves second (right_of KeptUse (mentioned.in_row first) (mentioned.in_row second) i) (dr w locals s (demanded.in_row first) (demanded.in_row second) j))
+    statement_resolves (loop_statement line over row) m i d j =
+        loop_made line over row (head_resolves w locals c s linked line over (kept (mentioned.in_loop_head line over) m) d) (row_resolves row i j)
+    statement_resolves (find_statement line over) m i d j =
+        find_alone line over (for_resolves w locals c s linked line over (kept (mentioned.in_head line over) m) d)
+    statement_resolves (find_if_statement line over outcome first second) m i d j =
+        find_if_made line over outcome first second (for_resolves w locals c s linked line over (kept (mentioned.in_head line over) m) d)
+        (row_resolves first (left_of KeptUse (mentioned.in_row first) (mentioned.in_row second) i) (dl w locals s (demanded.in_row first) (demanded.in_row second) j))
+        (row_resolves second (right_of KeptUse (mentioned.in_row first) (mentioned.in_row second) i) (dr w locals s (demanded.in_row first) (demanded.in_row second) j))
 
-    row_resolves : (row : StatementRow) → FormedRow row → KeptUses (mentioned.in_row row) → KeptDemands w locals (demanded.in_row row) → RowResolved row
-    row_resolves no_statement f m d = none_made
-    row_resolves (and_statement t ts) f m d =
+    row_resolves : (row : StatementRow) → KeptUses (mentioned.in_row row) → KeptDemands w locals (demanded.in_row row) → RowResolved row
+    row_resolves no_statement m d = none_made
+    row_resolves (and_statement t ts) m d =
         let m1 = left_of KeptUse (mentioned.in_itself t ++ mentioned.in_inner t) (mentioned.in_row ts) m in
         let m2 = right_of KeptUse (mentioned.in_itself t ++ mentioned.in_inner t) (mentioned.in_row ts) m in
         let d1 = dl w locals s (demanded.in_itself t ++ demanded.in_inner t) (demanded.in_row ts) d in
         let d2 = dr w locals s (demanded.in_itself t ++ demanded.in_inner t) (demanded.in_row ts) d in
         row_made t ts
-        (statement_resolves t f.0
+        (statement_resolves t
         (left_of KeptUse (mentioned.in_itself t) (mentioned.in_inner t) m1) (right_of KeptUse (mentioned.in_itself t) (mentioned.in_inner t) m1)
         (dl w locals s (demanded.in_itself t) (demanded.in_inner t) d1) (dr w locals s (demanded.in_itself t) (demanded.in_inner t) d1))
-        (row_resolves ts f.1 m2 d2)
+        (row_resolves ts m2 d2)
 
   -- ---- bodies
 
-  list_resolves : (body : List StatementTree) → Every Formed body → KeptUses (mentioned.in_body body) → KeptDemands w locals (demanded.in_body body) → RowResolved (statement_row body)
-  list_resolves [] f m d = none_made
-  list_resolves (t ∷ ts) f m d =
+  list_resolves : (body : List StatementTree) → KeptUses (mentioned.in_body body) → KeptDemands w locals (demanded.in_body body) → RowResolved (statement_row body)
+  list_resolves [] m d = none_made
+  list_resolves (t ∷ ts) m d =
       let m1 = left_of KeptUse (mentioned.in_itself t ++ mentioned.in_inner t) (mentioned.in_body ts) m in
       let d1 = dl w locals s (demanded.in_itself t ++ demanded.in_inner t) (demanded.in_body ts) d in
       row_made t (statement_row ts)
-      (statement_resolves t f.0
+      (statement_resolves t
       (left_of KeptUse (mentioned.in_itself t) (mentioned.in_inner t) m1) (right_of KeptUse (mentioned.in_itself t) (mentioned.in_inner t) m1)
       (dl w locals s (demanded.in_itself t) (demanded.in_inner t) d1) (dr w locals s (demanded.in_itself t) (demanded.in_inner t) d1))
-      (list_resolves ts f.1
+      (list_resolves ts
       (right_of KeptUse (mentioned.in_itself t ++ mentioned.in_inner t) (mentioned.in_body ts) m)
       (dr w locals s (demanded.in_itself t ++ demanded.in_inner t) (demanded.in_body ts) d))
 
-  pub body_resolves : (body : List StatementTree) → Every Formed body → KeptMentions w locals (mentioned.in_body body) → KeptStarts s.is_main (mentioned.in_body body) → KeptDemands w locals (demanded.in_body body) → BodyResolves c s body
-  body_resolves body f m g d = list_resolves body f (both (mentioned.in_body body) m g) d
+  pub body_resolves : (body : List StatementTree) → KeptMentions w locals (mentioned.in_body body) → KeptStarts s.is_main (mentioned.in_body body) → KeptDemands w locals (demanded.in_body body) → BodyResolves c s body
+  body_resolves body m g d = list_resolves body (both (mentioned.in_body body) m g) d

@@ -10,7 +10,7 @@ use Rattle.ss_base.specs.declared.layout.ClassKind.TheVariants as class_kinds
 use Rattle.ss_tree.specs.declared.expression.Designator.TheVariants.{Name}
 use Rattle.ss_tree.specs.declared.preamble.ClassKind.{ClassKind as ClassWord}
 use Rattle.ss_tree.specs.declared.preamble.ClassKind.TheVariants as class_words
-use Rattle.ss_tree.specs.Tree.{ExpressionTree, PhraseTree, GuardTree, StartTree, from_end, from_member, after_member, HeadTree, over_range, over_members, over_class, guarded}
+use Rattle.ss_tree.specs.Tree.{ExpressionTree, PhraseTree, GuardTree, StartTree, from_end, from_member, after_member, HeadTree, over_range, over_members, over_class, LoopHeadTree, for_head, guarded}
 use Rattle.ss_walk.specs.declared.mention.Mention.{Mention}
 use Rattle.ss_walk.specs.declared.mention.Role.TheVariants as roles
 use Rattle.ss_walk.specs.Mentions as mentioned
@@ -38,7 +38,7 @@ use Rattle.ss_contexts.specs.Conditions.{condition}
 use Rattle.ss_contexts.specs.Heads.{phrase_kind_of, guard_kind_of, phrase, guard, if_variable, loop_variable, start, called_variable, head}
 use Rattle.ss_lists.specs.Rules.{KeptMention, KeptDemand, KeptMentions, KeptDemands}
 use Rattle.ss_kept.specs.Links.{Linked, IsVariable, IsClass, Fits}
-use Rattle.ss_kept.specs.Laws.{HeadResolves}
+use Rattle.ss_kept.specs.Laws.{ForResolves, HeadResolves}
 use Rattle.ss_kept.proofs.Steps.{left_of, right_of, step, known_of, is_integer}
 use Rattle.ss_kept.proofs.Places.{set_resolves}
 use Rattle.ss_kept.proofs.Conditions.{GoesWell, each_resolves, number_kept, condition_resolves}
@@ -167,9 +167,9 @@ module _ (w : Whole) (locals : Moded) (c : Context) (s : Scope) (linked : Linked
 
   -- ---- heads
 
-  pub head_resolves : (over : HeadTree) → KeptMentions w locals (mentioned.in_head line over) → KeptDemands w locals (demanded.in_head line over) → HeadResolves c s over
+  pub for_resolves : (over : HeadTree) → KeptMentions w locals (mentioned.in_head line over) → KeptDemands w locals (demanded.in_head line over) → ForResolves c s over
   unfolding head
-  head_resolves (over_range variable from to by phrases) m d =
+  for_resolves (over_range variable from to by phrases) m d =
       let m4 = mr w locals s (mentioned.in_expression line from ++ mentioned.in_expression line to ++ mentioned.in_option (mentioned.in_expression line) by) (mentioned.in_phrases line phrases) m.1 in
       let mr3 = ml w locals s (mentioned.in_expression line from ++ mentioned.in_expression line to ++ mentioned.in_option (mentioned.in_expression line) by) (mentioned.in_phrases line phrases) m.1 in
       let m3 = mr w locals s (mentioned.in_expression line from ++ mentioned.in_expression line to) (mentioned.in_option (mentioned.in_expression line) by) mr3 in
@@ -195,7 +195,7 @@ module _ (w : Whole) (locals : Moded) (c : Context) (s : Scope) (linked : Linked
         ps.1,
         ps.2,
       )
-  head_resolves (over_members variable set from reverse phrases) m d =
+  for_resolves (over_members variable set from reverse phrases) m d =
       let m3 = mr w locals s (mentioned.in_named line roles.Set set ++ mentioned.in_start line from) (mentioned.in_phrases line phrases) m.1 in
       let mr2 = ml w locals s (mentioned.in_named line roles.Set set ++ mentioned.in_start line from) (mentioned.in_phrases line phrases) m.1 in
       let m2 = mr w locals s (mentioned.in_named line roles.Set set) (mentioned.in_start line from) mr2 in
@@ -216,7 +216,7 @@ module _ (w : Whole) (locals : Moded) (c : Context) (s : Scope) (linked : Linked
         ps.1,
         ps.2,
       )
-  head_resolves (over_class name called phrases) m d =
+  for_resolves (over_class name called phrases) m d =
       let m1 = ml w locals s (mentioned.in_option (λ n. mentioned.plain line roles.LoopVariable n ∷ []) called) (mentioned.in_phrases line phrases) m.1 in
       let m2 = mr w locals s (mentioned.in_option (λ n. mentioned.plain line roles.LoopVariable n ∷ []) called) (mentioned.in_phrases line phrases) m.1 in
       let d1 = dl w locals s (demanded.in_class_variable line name called) (demanded.in_phrases line phrases) d in
@@ -235,5 +235,8 @@ module _ (w : Whole) (locals : Moded) (c : Context) (s : Scope) (linked : Linked
         ps.1,
         ps.2,
       )
+
+  pub head_resolves : (over : LoopHeadTree) → KeptMentions w locals (mentioned.in_loop_head line over) → KeptDemands w locals (demanded.in_loop_head line over) → HeadResolves c s over
+  head_resolves (for_head over) m d = for_resolves over m d
   head_resolves (guarded guards) m d =
       each_resolves w locals (guard c) (λ g. mentioned.in_condition line g.condition) (λ g. demanded.in_condition line g.condition) (λ x. GoodCondition s x.condition) guard_resolves guards m d

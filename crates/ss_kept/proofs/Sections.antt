@@ -1,6 +1,5 @@
 -- Sections that keep the rules resolve, and are well typed.
 use Rattle.std.proofs.Common.{◌≡◌, false, ◌++◌, sym, ◌∙◌}
-use Rattle.std.specs.List.{AllByRecursion as Every}
 use Rattle.ss_tree.specs.Tree.{SectionTree}
 use Rattle.ss_walk.specs.declared.mention.Mention.{Mention}
 use Rattle.ss_walk.specs.Mentions as mentioned
@@ -10,7 +9,6 @@ use Rattle.ss_uses.specs.Events.{is_start}
 use Rattle.ss_uses.specs.Uses.{is_main}
 use Rattle.ss_program.specs.WellTyped.{Scope}
 use Rattle.ss_contexts.specs.Contexts.{Context}
-use Rattle.ss_kept.specs.Forms.{Formed}
 use Rattle.ss_lists.specs.Rules.{KeptMention, KeptDemand}
 use Rattle.ss_lists.specs.Uses.{KeptSection}
 use Rattle.ss_kept.specs.Rules.{KeptStarts}
@@ -23,11 +21,11 @@ abbrev StartsNothing : Mention → Type 0
 StartsNothing m = is_start m.role ≡ false
 
 pub section_resolves : (w : Whole) (section : SectionTree) (c : Context) (s : Scope) → Linked w (locals_of w section) c s → s.is_main ≡ is_main section.kind →
-    Every Formed section.body → KeptSection w section → BodyResolves c s section.body
-section_resolves w section c s linked e f k =
+    KeptSection w section → BodyResolves c s section.body
+section_resolves w section c s linked e k =
     let locals = locals_of w section in
     let head = mentioned.in_kind section.line section.kind ++ mentioned.in_definitions section.definitions in
     let starts : KeptStarts s.is_main (mentioned.in_body section.body) = λ h. right_of StartsNothing head (mentioned.in_body section.body) (k.starts_in_main (sym e ∙ h)) in
-    body_resolves w locals c s linked section.body f
+    body_resolves w locals c s linked section.body
     (right_of (KeptMention w locals) head (mentioned.in_body section.body) k.mentions_kept) starts
     (right_of (KeptDemand w locals) (demanded.in_kind section.line section.kind) (demanded.in_body section.body) k.demands_kept)

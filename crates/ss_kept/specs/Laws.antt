@@ -4,7 +4,7 @@ use Rattle.std.specs.List.{AllByRecursion as Every}
 use Rattle.ss_bytes.specs.declared.line.Line.{Line}
 use Rattle.ss_base.specs.declared.layout.Mode.{Mode}
 use Rattle.ss_picture.specs.declared.field.Field.{Field}
-use Rattle.ss_tree.specs.Tree.{ExpressionTree, NamedTree, ConditionTree, HeadTree, over_range, over_members, over_class, guarded, StatementTree, statement_row, SectionTree}
+use Rattle.ss_tree.specs.Tree.{ExpressionTree, NamedTree, ConditionTree, HeadTree, LoopHeadTree, for_head, guarded, StatementTree, statement_row, SectionTree}
 use Rattle.ss_walk.specs.declared.mention.Role.TheVariants as roles
 use Rattle.ss_walk.specs.Mentions as mentioned
 use Rattle.ss_demands.specs.Demands as demanded
@@ -21,7 +21,6 @@ use Rattle.ss_contexts.specs.Conditions.{condition}
 use Rattle.ss_contexts.specs.Answers.{each}
 use Rattle.ss_contexts.specs.Heads.{head, phrase, guard, phrases_of}
 use Rattle.ss_contexts.specs.Statements.{mode_of, statements}
-use Rattle.ss_kept.specs.Forms.{Formed}
 use Rattle.ss_lists.specs.Rules.{KeptMentions, KeptDemands}
 use Rattle.ss_lists.specs.Uses.{KeptSection}
 use Rattle.ss_kept.specs.Rules.{KeptStarts}
@@ -55,10 +54,8 @@ ForResolves c s over =
     (h : Head) × (head c over ≡ Some h) × GoodHead s h × (ps : List Phrase) × (each (phrase c) (phrases_of over) ≡ Some ps) × Every (GoodPhrase s) ps
 
 -- the same of the head of a loop; one that begins with WHILE or UNTIL has conditions alone
-abbrev pub HeadResolves : Context → Scope → HeadTree → Type 0
-HeadResolves c s (over_range variable from to step phrases) = ForResolves c s (over_range variable from to step phrases)
-HeadResolves c s (over_members variable set start reverse phrases) = ForResolves c s (over_members variable set start reverse phrases)
-HeadResolves c s (over_class class called phrases) = ForResolves c s (over_class class called phrases)
+abbrev pub HeadResolves : Context → Scope → LoopHeadTree → Type 0
+HeadResolves c s (for_head over) = ForResolves c s over
 HeadResolves c s (guarded guards) = (gs : List Guard) × (each (guard c) guards ≡ Some gs) × Every (λ g. GoodCondition s g.condition) gs
 
 -- the statements have a resolved form, which is well typed
@@ -103,14 +100,14 @@ KeptConditionsResolve =
 -- the same of the head of a loop
 abbrev pub KeptHeadsResolve : Type 0
 KeptHeadsResolve =
-    (w : Whole) (locals : Moded) (c : Context) (s : Scope) → Linked w locals c s → (line : Line) (over : HeadTree) →
-    KeptMentions w locals (mentioned.in_head line over) → KeptDemands w locals (demanded.in_head line over) →
+    (w : Whole) (locals : Moded) (c : Context) (s : Scope) → Linked w locals c s → (line : Line) (over : LoopHeadTree) →
+    KeptMentions w locals (mentioned.in_loop_head line over) → KeptDemands w locals (demanded.in_loop_head line over) →
     HeadResolves c s over
 
--- the same of statements, with those in them, whose FINDs stand behind a FOR
+-- the same of statements, with those in them
 abbrev pub KeptBodiesResolve : Type 0
 KeptBodiesResolve =
-    (w : Whole) (locals : Moded) (c : Context) (s : Scope) → Linked w locals c s → (body : List StatementTree) → Every Formed body →
+    (w : Whole) (locals : Moded) (c : Context) (s : Scope) → Linked w locals c s → (body : List StatementTree) →
     KeptMentions w locals (mentioned.in_body body) → KeptStarts s.is_main (mentioned.in_body body) → KeptDemands w locals (demanded.in_body body) →
     BodyResolves c s body
 
@@ -118,4 +115,4 @@ KeptBodiesResolve =
 abbrev pub KeptSectionsResolve : Type 0
 KeptSectionsResolve =
     (w : Whole) (section : SectionTree) (c : Context) (s : Scope) → Linked w (locals_of w section) c s → s.is_main ≡ is_main section.kind →
-    Every Formed section.body → KeptSection w section → BodyResolves c s section.body
+    KeptSection w section → BodyResolves c s section.body

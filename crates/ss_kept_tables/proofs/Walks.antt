@@ -2,10 +2,10 @@
 use Rattle.std.proofs.Common.{◌≡◌, false, List, [], ◌∷◌, ◌++◌, Option, Some, None, refl}
 use Rattle.std.specs.List.{AllByRecursion as Every, flat_map}
 use Rattle.ss_bytes.specs.declared.line.Line.{Line}
-use Rattle.ss_tree.specs.Tree.{ExpressionTree, number, text, named, call, parenthesised, product, signed, sum, ExpressionRow, no_expression, and_expression, TermRow, no_term, and_term, NamedTree, TestTree, compare, empty, member, data_ended, ConditionTree, PhraseTree, GuardTree, StartTree, from_end, from_member, after_member, HeadTree, over_range, over_members, over_class, guarded, PositionTree, by_discipline, at_first, at_last, before, after, WhenTree, at_time, in_units, now, StatementTree, let_statement, add_statement, subtract_statement, call_statement, return_statement, stop_statement, read_statement, start_simulation, if_statement, loop_statement, find_statement, find_if_statement, create_statement, create_every, destroy_statement, file_statement, remove_end, remove_statement, schedule_new, schedule_statement, cancel_statement, reset_statement, print_statement, skip_statement, StatementRow, no_statement, and_statement}
+use Rattle.ss_tree.specs.Tree.{ExpressionTree, number, text, named, call, parenthesised, product, signed, sum, ExpressionRow, no_expression, and_expression, TermRow, no_term, and_term, NamedTree, TestTree, compare, empty, member, data_ended, ConditionTree, PhraseTree, GuardTree, StartTree, from_end, from_member, after_member, HeadTree, over_range, over_members, over_class, LoopHeadTree, for_head, guarded, PositionTree, by_discipline, at_first, at_last, before, after, WhenTree, at_time, in_units, now, StatementTree, let_statement, add_statement, subtract_statement, call_statement, return_statement, stop_statement, read_statement, start_simulation, if_statement, loop_statement, find_statement, find_if_statement, create_statement, create_every, destroy_statement, file_statement, remove_end, remove_statement, schedule_new, schedule_statement, cancel_statement, reset_statement, print_statement, skip_statement, StatementRow, no_statement, and_statement}
 use Rattle.ss_walk.specs.declared.mention.Role.TheVariants as roles
 use Rattle.ss_walk.specs.declared.mention.Mention.{Mention}
-use Rattle.ss_walk.specs.Mentions.{plain, in_expression, in_expressions, in_terms, in_all, in_named, in_all_named, in_option, in_test, in_condition, in_start, in_phrases, in_head, in_position, in_when, in_new, in_old, in_itself, in_inner, in_row, in_statement, in_body}
+use Rattle.ss_walk.specs.Mentions.{plain, in_expression, in_expressions, in_terms, in_all, in_named, in_all_named, in_option, in_test, in_condition, in_start, in_phrases, in_head, in_loop_head, in_position, in_when, in_new, in_old, in_itself, in_inner, in_row, in_statement, in_body}
 use Rattle.ss_scopes.specs.Locals.{declares}
 use Rattle.ss_lists.proofs.Lists.{all_of, images, joined, pieces}
 
@@ -83,7 +83,10 @@ module _ (line : Line) where
       (refl, both (in_named line roles.Set set ++ in_start line begin) (in_phrases line ps) (both (in_named line roles.Set set) (in_start line begin) (set_of set) (start begin)) (phrases ps))
   head (over_class class called ps) =
       (refl, both (in_option (λ name. plain line roles.LoopVariable name ∷ []) called) (in_phrases line ps) (option_of (λ name. plain line roles.LoopVariable name ∷ []) called (λ name. (refl, tt))) (phrases ps))
-  head (guarded guards) = each_of (λ (g : GuardTree). in_condition line g.condition) guards (λ (g : GuardTree). condition g.condition)
+
+  loop_head : (h : LoopHeadTree) → Every Silent (in_loop_head line h)
+  loop_head (for_head h) = head h
+  loop_head (guarded guards) = each_of (λ (g : GuardTree). in_condition line g.condition) guards (λ (g : GuardTree). condition g.condition)
 
   position : (p : PositionTree) → Every Silent (in_position line p)
   position by_discipline = tt
@@ -107,7 +110,7 @@ itself (stop_statement line) = tt
 itself (read_statement line targets) = each_of (in_named line roles.Target) targets (target line)
 itself (start_simulation line) = (refl, tt)
 itself (if_statement line c first second) = condition line c
-itself (loop_statement line h body) = head line h
+itself (loop_statement line h body) = loop_head line h
 itself (find_statement line h) = head line h
 itself (find_if_statement line h outcome first second) = head line h
 itself (create_statement line class called) = (refl, option_of (in_named line roles.Target) called (target line))

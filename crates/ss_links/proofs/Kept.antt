@@ -13,7 +13,6 @@ use Rattle.ss_kept_tables.specs.Subjects.{SubjectsAreWhole}
 use Rattle.ss_kept_tables.specs.Tables.{TablesAreKept}
 use Rattle.ss_scopes.specs.Signatures.{given_to, yielded_by}
 use Rattle.ss_scopes.specs.Whole.{Whole, locals_of}
-use Rattle.ss_kept.specs.Forms.{Formed}
 use Rattle.ss_kept.specs.Parameters.{AreDistinct, parameters}
 use Rattle.ss_laid.specs.Declared.{IsKept}
 use Rattle.ss_links.specs.Programs.{KeepsAllRules, KeepsRules}
@@ -29,16 +28,16 @@ distinct : (names : List NameBytes) → Pairwise (λ name other. other ≢ name)
 distinct [] h = tt
 distinct (n ∷ ns) h = (h.0, distinct ns h.1)
 
-all_sections : (w : Whole) (ss : List SectionTree) → Every (uses.KeptSection w) ss → Every (λ (s : SectionTree). uses.EventFits w s.kind) ss → Every (λ (s : SectionTree). Every Formed s.body) ss →
+all_sections : (w : Whole) (ss : List SectionTree) → Every (uses.KeptSection w) ss → Every (λ (s : SectionTree). uses.EventFits w s.kind) ss →
     Every (λ (s : SectionTree). Pairwise (λ name other. other ≢ name) (given_to s.kind ++ yielded_by s.kind)) ss → Every (λ s. KeepsLocals w (locals_of w s)) ss → Every (KeepsRules w) ss
-all_sections w [] a b c d e = tt
-all_sections w (s ∷ ss) a b c d e =
-    (record { uses = a.0; event = b.0; formed = c.0; parameters = distinct (parameters s) d.0; locals = e.0 }, all_sections w ss a.1 b.1 c.1 d.1 e.1)
+all_sections w [] a b c d = tt
+all_sections w (s ∷ ss) a b c d =
+    (record { uses = a.0; event = b.0; parameters = distinct (parameters s) c.0; locals = d.0 }, all_sections w ss a.1 b.1 c.1 d.1)
 
 pub rules_kept : uses.SectionsAreKept → uses.EventsFit → uses.MainIsThere → uses.NoticesHaveEvents → declarations.ParametersDiffer → LocalsAreKept →
-    (p : ProgramTree) → declarations.KeepsDeclarations p → uses.KeepsUses (whole_of p) p → Every (λ (s : SectionTree). Every Formed s.body) p.sections → KeepsAllRules (whole_of p) p
-rules_kept sections events main notices differ locals p d u f = record {
-  sections = all_sections (whole_of p) p.sections (sections (whole_of p) p u) (events (whole_of p) p u) f (differ p d) (locals p d);
+    (p : ProgramTree) → declarations.KeepsDeclarations p → uses.KeepsUses (whole_of p) p → KeepsAllRules (whole_of p) p
+rules_kept sections events main notices differ locals p d u = record {
+  sections = all_sections (whole_of p) p.sections (sections (whole_of p) p u) (events (whole_of p) p u) (differ p d) (locals p d);
   main = main (whole_of p) p u;
   events = notices (whole_of p) p u;
 }

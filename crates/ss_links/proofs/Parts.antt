@@ -99,7 +99,7 @@ module _ (p : tree.ProgramTree) (k : IsKept (table p)) (g : KeepsAllRules (whole
   pub body_of : (s : tree.SectionTree) → KeepsRules w s → (q : Program) → HasTables t q → AreSigned t signatures q → (modes : List Mode) → HasModes s modes → BodyResolves (context_in t (locals_of w s)) (scope_of q s modes) s.body
   body_of s r q h a modes m =
       laws.resolve w s (context_in t (locals_of w s)) (scope_of q s modes)
-      (linked t signatures is k (scope_of q s modes) h (locals_of w s) m.resolved r.locals a) refl r.formed r.uses
+      (linked t signatures is k (scope_of q s modes) h (locals_of w s) m.resolved r.locals a) refl r.uses
 
   -- ---- routines
 

@@ -1,6 +1,5 @@
 -- A worked example: a small program that breaks no rule.
 use Rattle.std.specs.Prelude.{ℕ, pos, true, false, [], ◌∷◌, None, codes, refl}
-use Rattle.std.specs.List.{AllByRecursion as Every}
 use Rattle.ss_bytes.specs.declared.line.Line.{Line}
 use Rattle.ss_picture.specs.Pictures.{picture_fields}
 use Rattle.ss_tree.specs.declared.expression.Designator.TheVariants.{Name}
@@ -13,7 +12,6 @@ use Rattle.ss_sayings.specs.Sayings.{NameBytes}
 use Rattle.ss_globals.specs.WholeOf.{whole_of}
 use Rattle.ss_lists.specs.Declared.{KeepsDeclarations}
 use Rattle.ss_lists.specs.Uses.{KeepsUses}
-use Rattle.ss_kept.specs.Forms.{Formed}
 
 abbrev line : ℕ → Line
 line n = record { 0 = n }
@@ -83,6 +81,3 @@ keeps_declarations = refl
 pub keeps_uses : KeepsUses (whole_of p) p
 unfolding picture_fields
 keeps_uses = refl
-
-pub formed : Every (λ (s : tree.SectionTree). Every Formed s.body) p.sections
-formed = ((tt, (tt, tt)), ((tt, (tt, (tt, (tt, tt)))), ((tt, (tt, (tt, (tt, (tt, (tt, tt)))))), tt)))

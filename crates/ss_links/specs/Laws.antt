@@ -1,7 +1,6 @@
 -- What names stand for is what the rules know of them.
 use Rattle.std.specs.Prelude.{◌≡◌, List, Some}
-use Rattle.std.specs.List.{AllByRecursion as Every}
-use Rattle.ss_tree.specs.Tree.{SectionTree, ProgramTree}
+use Rattle.ss_tree.specs.Tree.{ProgramTree}
 use Rattle.ss_names.specs.Table.{table}
 use Rattle.ss_scopes.specs.Locals.{Moded}
 use Rattle.ss_scopes.specs.Signatures.{Signed}
@@ -13,7 +12,6 @@ use Rattle.ss_program.specs.WellTyped.{Scope, WellTyped}
 use Rattle.ss_meant.specs.Meanings.{context_in}
 use Rattle.ss_meant.specs.Resolved.{local_modes, resolved}
 use Rattle.ss_kept.specs.Links.{Linked}
-use Rattle.ss_kept.specs.Forms.{Formed}
 use Rattle.ss_kept_tables.specs.Locals.{KeepsLocals}
 use Rattle.ss_laid.specs.Declared.{IsKept}
 use Rattle.ss_links.specs.Programs.{KeepsAllRules}
@@ -34,8 +32,8 @@ ProgramsResolve =
     (tree : ProgramTree) → IsKept (table tree) → KeepsAllRules (whole_of tree) tree →
     (p : Program) × (resolved (table tree) (whole_of tree) tree.sections ≡ Some p) × WellTyped p
 
--- so has a program that breaks no rule, where each FIND stands behind a FOR, as the grammar has it
+-- so has a program that breaks no rule
 abbrev pub KeptProgramsResolve : Type 0
 KeptProgramsResolve =
-    (tree : ProgramTree) → declarations.KeepsDeclarations tree → uses.KeepsUses (whole_of tree) tree → Every (λ (s : SectionTree). Every Formed s.body) tree.sections →
+    (tree : ProgramTree) → declarations.KeepsDeclarations tree → uses.KeepsUses (whole_of tree) tree →
     (p : Program) × (resolved (table tree) (whole_of tree) tree.sections ≡ Some p) × WellTyped p

@@ -5,7 +5,6 @@ use Rattle.ss_tree.specs.Tree.{SectionTree, ProgramTree, main}
 use Rattle.ss_scopes.specs.Whole.{Whole, locals_of}
 use Rattle.ss_lists.specs.Lists.{Somewhere}
 use Rattle.ss_lists.specs.Uses.{EventFits, IsEventOf, KeptSection, notices_in}
-use Rattle.ss_kept.specs.Forms.{Formed}
 use Rattle.ss_kept.specs.Parameters.{AreDistinct, parameters}
 use Rattle.ss_kept_tables.specs.Locals.{KeepsLocals}
 
@@ -14,8 +13,6 @@ pub record KeepsRules (w : Whole) (s : SectionTree) : Type 0 where
   -- on uses
   pub uses : KeptSection w s
   pub event : EventFits w s.kind
-  -- each FIND stands behind a FOR, as the grammar has it
-  pub formed : Every Formed s.body
   -- on declarations
   pub parameters : AreDistinct (parameters s)
   pub locals : KeepsLocals w (locals_of w s)

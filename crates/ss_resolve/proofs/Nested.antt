@@ -6,12 +6,13 @@ use Rattle.ss_bytes.specs.declared.line.Line.{Line}
 use Rattle.ss_tree.specs.declared.condition.Condition.{Condition as ConditionParsed}
 use Rattle.ss_tree.specs.declared.expression.Expression.{Expression as ExpressionParsed}
 use Rattle.ss_tree.specs.declared.head.Head.{Head as HeadParsed}
+use Rattle.ss_tree.specs.declared.head.LoopHead.{LoopHead}
 use Rattle.ss_tree.specs.declared.statement.FindOutcome.{FindOutcome}
 use Rattle.ss_tree.specs.declared.statement.Statement.{Statement as Parsed}
 use Rattle.ss_tree.specs.declared.statement.Statement.TheVariants as parsed
-use Rattle.ss_tree.specs.Tree.{StatementTree, statement_row, if_statement, loop_statement, find_if_statement, print_statement, HeadTree, guarded, GuardTree}
+use Rattle.ss_tree.specs.Tree.{StatementTree, statement_row, if_statement, loop_statement, find_if_statement, print_statement, HeadTree, LoopHeadTree, guarded, GuardTree}
 use Rattle.ss_tree.specs.Nodes.{statement_nodes, statements_nodes}
-use Rattle.ss_tree.specs.View.{view_condition, view_expression, view_head, view_statement}
+use Rattle.ss_tree.specs.View.{view_condition, view_expression, view_head, view_loop_head, view_statement}
 use Rattle.ss_tree.specs.Views.{view_if_made, view_loop_made, view_find_if_made}
 use Rattle.ss_program.specs.declared.condition.Condition.{Condition as ConditionMade}
 use Rattle.ss_program.specs.declared.head.Guard.{Guard}
@@ -43,7 +44,7 @@ pub for_made : (c : Context) (line : Line) (t : HeadTree) (h : Head) (ps : Vec P
     for_over line c t (view_body a.items) ≡ Some (view_made (made.For line h ps a))
 for_made c line t h ps a p q = rw (p, q) (ap (λ z. Some z) (sym (for_seen line h ps a)))
 
-pub loop_made : (c : Context) (line : Line) (t : HeadTree) (gs : List GuardTree) (rs : Vec Guard) (a : Vec Made) →
+pub loop_made : (c : Context) (line : Line) (t : LoopHeadTree) (gs : List GuardTree) (rs : Vec Guard) (a : Vec Made) →
     t ≡ guarded gs → each (guard c) gs ≡ Some (map guard_seen rs.items) →
     loop line c t (view_body a.items) ≡ Some (view_made (made.Loop line rs a))
 loop_made c line t gs rs a is q = rw (is, q) (ap (λ z. Some z) (sym (loop_seen line rs a)))
@@ -95,12 +96,12 @@ if_around c t line x a b p q is h =
     let f = both_found (statements c (statement_row (map view_statement a.items))) (statements c (statement_row (map view_statement b.items))) (λ x1 x2. if_over line c (view_condition x) x1 x2) p q (subst (λ z. inner c z ≡ Some (p, q)) e h) in
     sym (ap (statement c) e ∙ f)
 
-pub loop_around : (c : Context) (t : Parsed) (line : Line) (x : HeadParsed) (a : Vec Parsed) (p q : Block) →
-    t ≡ parsed.Loop line x a → inner c (view_statement t) ≡ Some (p, q) → loop line c (view_head x) p ≡ statement c (view_statement t)
+pub loop_around : (c : Context) (t : Parsed) (line : Line) (x : LoopHead) (a : Vec Parsed) (p q : Block) →
+    t ≡ parsed.Loop line x a → inner c (view_statement t) ≡ Some (p, q) → loop line c (view_loop_head x) p ≡ statement c (view_statement t)
 unfolding statement
 loop_around c t line x a p q is h =
     let e = ap view_statement is ∙ view_loop_made line x a in
-    let f = one_found (statements c (statement_row (map view_statement a.items))) Done (loop line c (view_head x)) p q (subst (λ z. inner c z ≡ Some (p, q)) e h) in
+    let f = one_found (statements c (statement_row (map view_statement a.items))) Done (loop line c (view_loop_head x)) p q (subst (λ z. inner c z ≡ Some (p, q)) e h) in
     sym (ap (statement c) e ∙ f)
 
 pub find_if_around : (c : Context) (t : Parsed) (line : Line) (x : HeadParsed) (o : FindOutcome) (a b : Vec Parsed) (p q : Block) →
@@ -128,7 +129,7 @@ pub inner_if : (c : Context) (t : Parsed) (line : Line) (x : ConditionParsed) (a
     inner c (view_statement t) ≡ ◌>>=◌ {B = Block × Block} (statements c (statement_row (map view_statement ts))) (λ p. ◌>>=◌ {B = Block × Block} (statements c (statement_row (map view_statement us))) (λ q. Some (p, q)))
 inner_if c t line x a b ts us is e f = rw (is, e, f) (ap (inner c) (view_if_made line x a b))
 
-pub inner_loop : (c : Context) (t : Parsed) (line : Line) (x : HeadParsed) (a : Vec Parsed) (ts : List Parsed) →
+pub inner_loop : (c : Context) (t : Parsed) (line : Line) (x : LoopHead) (a : Vec Parsed) (ts : List Parsed) →
     t ≡ parsed.Loop line x a → ts ≡ a.items →
     inner c (view_statement t) ≡ ◌>>=◌ {B = Block × Block} (statements c (statement_row (map view_statement ts))) (λ p. Some (p, Done))
 inner_loop c t line x a ts is e = rw (is, e) (ap (inner c) (view_loop_made line x a))
@@ -168,7 +169,7 @@ find_if_second_less t line x o a b ts is e =
     let g = ap (λ l. statements_nodes (statement_row (map view_statement l))) e in
     omega (arith, f, g)
 
-pub loop_body_less : (t : Parsed) (line : Line) (x : HeadParsed) (a : Vec Parsed) (ts : List Parsed) → t ≡ parsed.Loop line x a → ts ≡ a.items →
+pub loop_body_less : (t : Parsed) (line : Line) (x : LoopHead) (a : Vec Parsed) (ts : List Parsed) → t ≡ parsed.Loop line x a → ts ≡ a.items →
     2 * statements_nodes (statement_row (map view_statement ts)) + 1 < 2 * statement_nodes (view_statement t)
 loop_body_less t line x a ts is e =
     let f = ap statement_nodes (ap view_statement is ∙ view_loop_made line x a) in

@@ -95,7 +95,6 @@ pub(crate) fn phrases_of(head: &Head) -> &[Phrase]
     match head {
         Head::Range { phrases, .. } | Head::Members { phrases, .. } | Head::Class { phrases, .. } =>
             phrases,
-        Head::Guards { .. } => &[],
     }
 }
 
@@ -235,6 +234,5 @@ pub(crate) fn resolve_head<S: Scope>(
                 class: class.class,
             })
         }
-        Head::Guards { .. } => Err(ResolveError::Unresolved),
     }
 }

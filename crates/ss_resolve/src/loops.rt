@@ -1,7 +1,7 @@
 //! Loops around resolved statements.
 
 ghost use Rattle.std.specs.Prelude.{◌≡◌};
-ghost use Rattle.ss_tree.specs.View.{view_head};
+ghost use Rattle.ss_tree.specs.View.{view_head, view_loop_head};
 ghost use Rattle.ss_program.specs.View.{view_body, view_statement as view_resolved};
 ghost use Rattle.ss_contexts.specs.Answers.{Gives};
 ghost use Rattle.ss_contexts.specs.Statements.{find, find_by, for_over, loop};
@@ -13,7 +13,7 @@ use ss_base::Line;
 use ss_contexts::{ResolveError, Scope};
 use ss_program::head::{Head as ResolvedHead, Phrase};
 use ss_program::statement::Statement as Resolved;
-use ss_tree::head::Head;
+use ss_tree::head::{Head, LoopHead};
 use ss_tree::statement::FindOutcome;
 use std::alloc::Global;
 
@@ -53,19 +53,17 @@ pub(crate) fn resolve_loop<S: Scope>(
     alloc: Global,
     scope: &S,
     line: Line,
-    head: &Head,
+    head: &LoopHead,
     body: Vec<Resolved>,
 ) -> Result<Resolved, ResolveError>
-    ensures { Gives view_resolved result (loop line (S.context scope.now) (view_head head.now) (view_body body.items)) }
+    ensures { Gives view_resolved result (loop line (S.context scope.now) (view_loop_head head.now) (view_body body.items)) }
 {
     match head {
-        Head::Guards { guards } => {
+        LoopHead::For(head) => resolve_for(alloc, scope, line, head, body),
+        LoopHead::Guards(guards) => {
             let guards = resolve_guards(alloc, scope, guards)?;
             Ok(Resolved::Loop { line, guards, body })
         }
-        Head::Range { .. } => resolve_for(alloc, scope, line, head, body),
-        Head::Members { .. } => resolve_for(alloc, scope, line, head, body),
-        Head::Class { .. } => resolve_for(alloc, scope, line, head, body),
     }
 }
 

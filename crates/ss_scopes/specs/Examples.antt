@@ -5,7 +5,7 @@ use Rattle.ss_base.specs.declared.layout.Mode.TheVariants as values
 use Rattle.ss_tree.specs.declared.expression.Designator.TheVariants as designators
 use Rattle.ss_tree.specs.declared.preamble.ClassKind.TheVariants.{Temporary}
 use Rattle.ss_tree.specs.declared.preamble.Mode.TheVariants.{Integer, Alpha}
-use Rattle.ss_tree.specs.Tree.{ExpressionTree, number, named, no_expression, and_expression, NamedTree, from_end, over_members, over_class, let_statement, create_statement, loop_statement, reset_statement, no_statement, StatementTree, main, routine, event, SectionKindTree, DefinitionTree, SectionTree}
+use Rattle.ss_tree.specs.Tree.{ExpressionTree, number, named, no_expression, and_expression, NamedTree, from_end, over_members, over_class, for_head, let_statement, create_statement, loop_statement, reset_statement, no_statement, StatementTree, main, routine, event, SectionKindTree, DefinitionTree, SectionTree}
 use Rattle.ss_walk.specs.Mentions.{NameBytes}
 use Rattle.ss_scopes.specs.declared.heading.Heading.TheVariants.{Routine, Event}
 use Rattle.ss_scopes.specs.declared.known.Known.{Known}
@@ -63,11 +63,11 @@ pub an_event : signature None (a_section (event (codes "JOB") (codes "A" ∷ [])
 an_event = refl
 
 -- FOR EACH V IN Q CREATE A JOB: V alone; a class and a set are not used as variables
-pub loops : locals is_global None (a_section main [] (loop_statement line (over_members (codes "V") (at (codes "Q")) from_end false []) no_statement ∷ create_statement line (codes "JOB") None ∷ [])) ≡ (codes "V", None) ∷ []
+pub loops : locals is_global None (a_section main [] (loop_statement line (for_head (over_members (codes "V") (at (codes "Q")) from_end false [])) no_statement ∷ create_statement line (codes "JOB") None ∷ [])) ≡ (codes "V", None) ∷ []
 loops = refl
 
 -- FOR EACH C (C no class) uses no variable; FOR EACH C CALLED D does
-pub classes : locals is_global None (a_section main [] (loop_statement line (over_class (codes "C") (Some (codes "D")) []) no_statement ∷ [])) ≡ (codes "D", None) ∷ []
+pub classes : locals is_global None (a_section main [] (loop_statement line (for_head (over_class (codes "C") (Some (codes "D")) [])) no_statement ∷ [])) ≡ (codes "D", None) ∷ []
 classes = refl
 
 -- RESET TOTALS OF Y

@@ -3,7 +3,7 @@ use Rattle.std.proofs.Common.{ℕ, ◌+◌, ◌≤◌, List, [], ◌∷◌, Opti
 use Rattle.std.specs.Prelude.{sum_by}
 use Rattle.std.proofs.lemmas.List.Sums.{sum_by-cons}
 use Rattle.ss_tree.specs.Nodes as tree
-use Rattle.ss_tree.specs.Tree.{ExpressionTree, NamedTree, TestTree, compare, empty, member, data_ended, ConditionTree, PhraseTree, GuardTree, StartTree, from_end, from_member, after_member, HeadTree, over_range, over_members, over_class, guarded, PositionTree, by_discipline, at_first, at_last, before, after as behind_member, WhenTree, at_time, in_units, now}
+use Rattle.ss_tree.specs.Tree.{ExpressionTree, NamedTree, TestTree, compare, empty, member, data_ended, ConditionTree, PhraseTree, GuardTree, StartTree, from_end, from_member, after_member, HeadTree, over_range, over_members, over_class, PositionTree, by_discipline, at_first, at_last, before, after as behind_member, WhenTree, at_time, in_units, now}
 use Rattle.ss_program.specs.declared.expression.Variable.{Variable}
 use Rattle.ss_program.specs.declared.expression.Variable.TheVariants.{Global, Local}
 use Rattle.ss_program.specs.Nodes.{total, option_nodes, expression_nodes, subscript_nodes, set_nodes, test_nodes, alternative_nodes, condition_nodes, guard_nodes, phrase_nodes, place_nodes, target_nodes, start_nodes, head_nodes, position_nodes, when_nodes, restart_nodes}
@@ -47,13 +47,11 @@ abbrev pub own_nodes : HeadTree → ℕ
 own_nodes (over_range variable from to step phrases) = 1 + tree.expression_nodes from + tree.expression_nodes to + tree.option_nodes tree.expression_nodes step
 own_nodes (over_members variable set from reverse phrases) = 1 + tree.named_nodes set + tree.start_nodes from
 own_nodes (over_class class called phrases) = 1 + tree.option_nodes (λ name. 1) called
-own_nodes (guarded guards) = 0
 
 pub own_and_phrases : (over : HeadTree) → own_nodes over + sum_by tree.phrase_nodes (phrases_of over) ≤ tree.head_nodes over
 own_and_phrases (over_range variable from to step phrases) = omega arith
 own_and_phrases (over_members variable set from reverse phrases) = omega arith
 own_and_phrases (over_class class called phrases) = omega arith
-own_and_phrases (guarded guards) = omega arith
 
 told_small : (m : Meaning) (e : Option Expression) (n : ℕ) → option_nodes expression_nodes e ≤ n → Within (option_nodes subscript_nodes) n (told_of m e)
 told_small (meanings.Variable (Global k) mode) e n h = plain_small (option_nodes subscript_nodes) n e None (omega arith)
@@ -122,7 +120,6 @@ module _ (c : Context) where
   head_small (over_class name called phrases) =
       let n = own_nodes (over_class name called phrases) in
       behind head_nodes n (permanent_class c name) _ (λ class. behind head_nodes n (called_variable c class.variable called) _ (λ v. omega arith))
-  head_small (guarded guards) = tt
 
   -- ---- parts of statements
 

@@ -5,7 +5,7 @@ use Rattle.ss_bytes.specs.declared.line.Line.{Line}
 use Rattle.ss_tree.specs.declared.statement.FindOutcome.{FindOutcome}
 use Rattle.ss_tree.specs.declared.statement.FindOutcome.TheVariants as outcomes
 use Rattle.ss_tree.specs.Nodes as tree
-use Rattle.ss_tree.specs.Tree.{HeadTree, over_range, over_members, over_class, guarded, StatementTree, let_statement, add_statement, subtract_statement, call_statement, return_statement, stop_statement, read_statement, start_simulation, if_statement, loop_statement, find_statement, find_if_statement, create_statement, create_every, destroy_statement, file_statement, remove_end, remove_statement, schedule_new, schedule_statement, cancel_statement, reset_statement, print_statement, skip_statement, StatementRow, no_statement, and_statement}
+use Rattle.ss_tree.specs.Tree.{HeadTree, LoopHeadTree, for_head, guarded, StatementTree, let_statement, add_statement, subtract_statement, call_statement, return_statement, stop_statement, read_statement, start_simulation, if_statement, loop_statement, find_statement, find_if_statement, create_statement, create_every, destroy_statement, file_statement, remove_end, remove_statement, schedule_new, schedule_statement, cancel_statement, reset_statement, print_statement, skip_statement, StatementRow, no_statement, and_statement}
 use Rattle.ss_program.specs.Nodes.{total, expression_nodes, item_nodes, condition_nodes, guard_nodes, phrase_nodes, place_nodes, target_nodes, head_nodes, position_nodes, when_nodes, restart_nodes, statement_nodes, block_nodes}
 use Rattle.ss_program.specs.Program.{Block, Done}
 use Rattle.ss_contexts.specs.Answers.{each}
@@ -29,10 +29,8 @@ module _ (c : Context) where
       after (total phrase_nodes) statement_nodes (sum_by tree.phrase_nodes (phrases_of over)) n (each (phrase c) (phrases_of over)) _ (each_small tree.phrase_nodes phrase_nodes (phrase c) (phrase_small c) (phrases_of over)) (λ ps lt2.
       omega (arith, lt, lt2, own_and_phrases over)))
 
-  loop_small : (line : Line) (over : HeadTree) (body : Block) → Within statement_nodes (1 + tree.head_nodes over + block_nodes body) (loop line c over body)
-  loop_small line (over_range variable from to step phrases) body = for_small line (over_range variable from to step phrases) body
-  loop_small line (over_members variable set from reverse phrases) body = for_small line (over_members variable set from reverse phrases) body
-  loop_small line (over_class class called phrases) body = for_small line (over_class class called phrases) body
+  loop_small : (line : Line) (over : LoopHeadTree) (body : Block) → Within statement_nodes (1 + tree.loop_head_nodes over + block_nodes body) (loop line c over body)
+  loop_small line (for_head over) body = for_small line over body
   loop_small line (guarded guards) body =
       after (total guard_nodes) statement_nodes (sum_by tree.guard_nodes guards) (1 + sum_by tree.guard_nodes guards + block_nodes body) (each (guard c) guards) _ (each_small tree.guard_nodes guard_nodes (guard c) (guard_small c) guards) (λ gs lt. omega (arith, lt))
 
@@ -83,9 +81,9 @@ module _ (c : Context) where
         after block_nodes statement_nodes (tree.statements_nodes second) m (statements c second) _ (row_small second) (λ b lt2.
         after condition_nodes statement_nodes (tree.condition_nodes test) m (condition c test) _ (condition_small c test) (λ x lt3. omega (arith, lt, lt2, lt3))))
     statement_small (loop_statement line over row) =
-        let m = 1 + tree.head_nodes over + tree.statements_nodes row in
+        let m = 1 + tree.loop_head_nodes over + tree.statements_nodes row in
         after block_nodes statement_nodes (tree.statements_nodes row) m (statements c row) _ (row_small row) (λ b lt.
-        up statement_nodes (1 + tree.head_nodes over + block_nodes b) m (loop line c over b) (loop_small line over b) (omega (arith, lt)))
+        up statement_nodes (1 + tree.loop_head_nodes over + block_nodes b) m (loop line c over b) (loop_small line over b) (omega (arith, lt)))
     statement_small (find_statement line over) =
         up statement_nodes (1 + tree.head_nodes over + block_nodes Done + block_nodes Done) (1 + tree.head_nodes over) (find line c over Done Done) (find_small line over Done Done) (omega arith)
     statement_small (find_if_statement line over outcome first second) =

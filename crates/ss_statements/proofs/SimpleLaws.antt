@@ -10,7 +10,7 @@ use Rattle.ss_tokens.specs.declared.token.Token.{Token}
 use Rattle.ss_tree.specs.declared.head.GuardKind.{GuardKind}
 use Rattle.ss_tree.specs.declared.head.GuardKind.TheVariants as guards
 use Rattle.ss_tree.specs.declared.statement.SetEnd.{SetEnd}
-use Rattle.ss_tree.specs.Tree.{ExpressionTree, NamedTree, PositionTree, WhenTree, HeadTree, over_range, over_members, over_class, guarded, StatementTree, let_statement, add_statement, subtract_statement, call_statement, return_statement, stop_statement, read_statement, start_simulation, if_statement, loop_statement, find_statement, find_if_statement, create_statement, create_every, destroy_statement, file_statement, remove_end, remove_statement, schedule_new, schedule_statement, cancel_statement, reset_statement, print_statement, skip_statement}
+use Rattle.ss_tree.specs.Tree.{ExpressionTree, NamedTree, PositionTree, WhenTree, LoopHeadTree, for_head, guarded, StatementTree, let_statement, add_statement, subtract_statement, call_statement, return_statement, stop_statement, read_statement, start_simulation, if_statement, loop_statement, find_statement, find_if_statement, create_statement, create_every, destroy_statement, file_statement, remove_end, remove_statement, schedule_new, schedule_statement, cancel_statement, reset_statement, print_statement, skip_statement}
 use Rattle.ss_grammar.specs.declared.classes.Class.TheVariants as classes
 use Rattle.ss_grammar.specs.Shapes.{Shape, ◌▷◌, nothing, either, optional, provided, Token_is, Word_is, Symbol_is, Name_is, Said, listed}
 use Rattle.ss_grammar.specs.Words.{has_word, One_of, the, perhaps_listed}
@@ -46,24 +46,18 @@ guard_nested : (k : GuardKind) → (nested_word (guard_word k) ≡ true) × (for
 guard_nested guards.While = (refl, refl)
 guard_nested guards.Until = (refl, refl)
 
-pub head_nested : (h : HeadTree) → (nested_word (head_word h) ≡ true) × (form_word (head_word h) ≡ true)
-head_nested (over_range variable from to step phrases) = (refl, refl)
-head_nested (over_members variable set start reverse phrases) = (refl, refl)
-head_nested (over_class class called phrases) = (refl, refl)
+pub head_nested : (h : LoopHeadTree) → (nested_word (head_word h) ≡ true) × (form_word (head_word h) ≡ true)
+head_nested (for_head head) = (refl, refl)
 head_nested (guarded []) = (refl, refl)
 head_nested (guarded (g ∷ gs)) = guard_nested g.kind
 
 pub nested_first : (x : StatementTree) → nested_word (first_word x) ≡ is_nested x
 nested_first (if_statement line condition then otherwise) = refl
 nested_first (loop_statement line head body) = (head_nested head).0
-nested_first (find_statement line head) = (head_nested head).0
-nested_first (find_if_statement line head outcome then otherwise) = (head_nested head).0
 nested_first _ = refl
 
 pub form_first : (x : StatementTree) → form_word (first_word x) ≡ true
 form_first (loop_statement line head body) = (head_nested head).1
-form_first (find_statement line head) = (head_nested head).1
-form_first (find_if_statement line head outcome then otherwise) = (head_nested head).1
 form_first _ = refl
 
 -- ---- behind the first word

@@ -10,10 +10,10 @@ use Rattle.ss_tokens.specs.declared.token.Token.{Token}
 use Rattle.ss_tree.specs.declared.head.GuardKind.{GuardKind}
 use Rattle.ss_tree.specs.declared.head.GuardKind.TheVariants as guards
 use Rattle.ss_tree.specs.declared.statement.FindOutcome.{FindOutcome}
-use Rattle.ss_tree.specs.Tree.{ConditionTree, HeadTree, over_range, over_members, over_class, guarded, StatementTree, let_statement, add_statement, subtract_statement, call_statement, return_statement, stop_statement, read_statement, start_simulation, if_statement, loop_statement, find_statement, find_if_statement, create_statement, create_every, destroy_statement, file_statement, remove_end, remove_statement, schedule_new, schedule_statement, cancel_statement, reset_statement, print_statement, skip_statement, StatementRow, no_statement, and_statement, statement_row}
+use Rattle.ss_tree.specs.Tree.{ConditionTree, HeadTree, LoopHeadTree, for_head, guarded, StatementTree, let_statement, add_statement, subtract_statement, call_statement, return_statement, stop_statement, read_statement, start_simulation, if_statement, loop_statement, find_statement, find_if_statement, create_statement, create_every, destroy_statement, file_statement, remove_end, remove_statement, schedule_new, schedule_statement, cancel_statement, reset_statement, print_statement, skip_statement, StatementRow, no_statement, and_statement, statement_row}
 use Rattle.ss_grammar.specs.Openers.{opens, openers}
 use Rattle.ss_grammar.specs.Shapes.{Shape, ◌▷◌, nothing, either, optional, provided, noise, Word_is, Said, at, first_line, each, within}
-use Rattle.ss_grammar.specs.SpelledConditions.{guard_word, head_word, Head_behind, Begins_with_for}
+use Rattle.ss_grammar.specs.SpelledConditions.{guard_word, head_word, Head_behind, Loop_behind, Begins_with_for}
 use Rattle.ss_elements.specs.Words.{phrase_of, guard_of}
 use Rattle.ss_grammar.specs.Reading.{word, kind_of, is, is_some, begins, in_table, behind, closed, choose, comma, skip_comma}
 use Rattle.ss_grammar.specs.ReadWords.{fail, begins_noisy, expect_noisy}
@@ -119,7 +119,7 @@ comma_no_simple w span span' line line' ts e =
 
 -- ---- an IF that isn't that of a FIND
 
-head_no_if : (h : HeadTree) → head_word h ≡ words.If → ⊥
+head_no_if : (h : LoopHeadTree) → head_word h ≡ words.If → ⊥
 head_no_if (guarded (g ∷ gs)) e = go g.kind e
   where
     go : (k : GuardKind) → guard_word k ≡ words.If → ⊥
@@ -147,8 +147,6 @@ within_condition : (n : ℕ) (x : StatementTree) (ts rest : List Token) → firs
 within_condition zero (if_statement line c t e) ts rest is s = absurd s
 within_condition (suc n) (if_statement line c t e) ts rest is s = condition_no_outcome ts (condition_begins (suc n) c ts s.0 s.1)
 within_condition n (loop_statement line head body) ts rest is s = absurd (head_no_if head is)
-within_condition n (find_statement line head) ts rest is s = absurd (head_no_if head is)
-within_condition n (find_if_statement line head outcome t e) ts rest is s = absurd (head_no_if head is)
 within_condition n _ ts rest is s = absurd cc
 
 statement_no_find_if : (n : ℕ) (x : StatementTree) (ts rest : List Token) → Statement_from x n ts rest → begins_find_if_form ts ≡ false
@@ -179,17 +177,13 @@ guard_first : (k : GuardKind) → is_some (guard_of (guard_word k)) ≡ true
 guard_first guards.While = refl
 guard_first guards.Until = refl
 
-head_guards : (h : HeadTree) → is_some (guard_of (head_word h)) ≡ false → (n : ℕ) (ts rest : List Token) → Head_behind n h ts rest → Begins_with_for h
-head_guards (over_range variable from to step phrases) e n ts rest s = tt
-head_guards (over_members variable set start reverse phrases) e n ts rest s = tt
-head_guards (over_class class called phrases) e n ts rest s = tt
+head_guards : (h : LoopHeadTree) → is_some (guard_of (head_word h)) ≡ false → (n : ℕ) (ts rest : List Token) → Loop_behind n h ts rest → Begins_with_for h
+head_guards (for_head head) e n ts rest s = tt
 head_guards (guarded []) e n ts rest s = absurd s
 head_guards (guarded (g ∷ gs)) e n ts rest s = absurd (let a = guard_first g.kind in cc)
 
-head_for : (h : HeadTree) → Begins_with_for h → head_word h ≡ words.For
-head_for (over_range variable from to step phrases) b = refl
-head_for (over_members variable set start reverse phrases) b = refl
-head_for (over_class class called phrases) b = refl
+head_for : (h : LoopHeadTree) → Begins_with_for h → head_word h ≡ words.For
+head_for (for_head head) b = refl
 head_for (guarded gs) b = absurd b
 
 may_govern : (n : ℕ) (x : StatementTree) (ts rest : List Token) → is_some (guard_of (first_word x)) ≡ false → Behind x n ts rest → May_be_governed x
@@ -199,10 +193,6 @@ may_govern n _ ts rest e s = tt
 
 governed_first : (n : ℕ) (x : StatementTree) (ts rest : List Token) → May_be_governed x → Behind x n ts rest → is_some (guard_of (first_word x)) ≡ false
 governed_first n (loop_statement line head body) ts rest may s = let is = head_for head may in ap (λ w. is_some (guard_of w)) is
-governed_first zero (find_statement line head) ts rest may s = absurd s
-governed_first (suc n) (find_statement line head) ts rest may s = ap (λ w. is_some (guard_of w)) (head_for head s.1.0)
-governed_first zero (find_if_statement line head outcome t e) ts rest may s = absurd s
-governed_first (suc n) (find_if_statement line head outcome t e) ts rest may s = ap (λ w. is_some (guard_of w)) (head_for head s.1.0)
 governed_first n _ ts rest may s = refl
 
 guard_same : (a b : GuardKind) → guard_word a ≡ guard_word b → a ≡ b
@@ -335,8 +325,6 @@ module _ (k j : ℕ) (le : k ≤ j) (inner : Reads (suc k) (statement_in (suc k)
   if_from : (line : Line) (x : StatementTree) (ts rest : List Token) → Form_is (suc k) line words.If x ts rest → Made (λ p. if_statement line p.0 p.1.0 p.1.1) If_parts x ts rest
   if_from line (if_statement l c t e) ts rest (at, w, s) = ((c, (t, e)), ap (λ (l : Line). if_statement l c t e) (sym at), s)
   if_from line (loop_statement l head body) ts rest (at, w, s) = absurd (head_no_if head w)
-  if_from line (find_statement l head) ts rest (at, w, s) = absurd (head_no_if head w)
-  if_from line (find_if_statement l head outcome t e) ts rest (at, w, s) = absurd (head_no_if head w)
   if_from line _ ts rest (at, w, s) = absurd cc
 
   -- ---- what a loop repeats
@@ -411,7 +399,7 @@ module _ (k j : ℕ) (le : k ≤ j) (inner : Reads (suc k) (statement_in (suc k)
   unfolding body_with
   body_reads = apply_reads (either_reads do_item governed_reads continues_statement (λ ts stop. (refl, stop)) (λ xs ts rest s stop. governed_no_do xs ts rest s)) statement_row Body_is body_to body_from
 
-  loop_reads : (line : Line) (h : HeadTree) → Reads (suc k) (loop_with line (suc k) (statement_in (suc k)) h) (loop_with line (suc j) (statement_in (suc j)) h) (Made (loop_statement line h) Body_is) continues_statement
+  loop_reads : (line : Line) (h : LoopHeadTree) → Reads (suc k) (loop_with line (suc k) (statement_in (suc k)) h) (loop_with line (suc j) (statement_in (suc j)) h) (Made (loop_statement line h) Body_is) continues_statement
   loop_reads line h = made_reads body_reads (loop_statement line h)
 
   -- what is false of what a loop repeats
@@ -467,13 +455,13 @@ module _ (k j : ℕ) (le : k ≤ j) (inner : Reads (suc k) (statement_in (suc k)
   -- ---- loops that begin with FOR
 
   abbrev For_tail : Line → HeadTree → StatementTree → Shape
-  For_tail line h x = either ((Find_words ▷ Found_parts line h x)) (Made (loop_statement line h) Body_is x)
+  For_tail line h x = either ((Find_words ▷ Found_parts line h x)) (Made (loop_statement line (for_head h)) Body_is x)
 
-  loop_no_find : (line : Line) (h : HeadTree) (x : StatementTree) (ts rest : List Token) → Made (loop_statement line h) Body_is x ts rest → begins_noisy (word words.Find) ts ≡ false
+  loop_no_find : (line : Line) (h : LoopHeadTree) (x : StatementTree) (ts rest : List Token) → Made (loop_statement line h) Body_is x ts rest → begins_noisy (word words.Find) ts ≡ false
   loop_no_find line h x ts rest (row, is, s) = body_blank (begins_noisy (word words.Find)) (λ span line ts. refl) (λ span span' line line' ts. refl) (λ span span' line line' w r e u. (word_no_other w e).6) (λ w span line r e u. (word_no_other w e).6) row ts rest s
 
-  tail_reads : (line : Line) (h : HeadTree) → Reads (suc k) (choose (begins_noisy (word words.Find)) (find_with line (suc k) (statement_in (suc k)) h) (loop_with line (suc k) (statement_in (suc k)) h)) (choose (begins_noisy (word words.Find)) (find_with line (suc j) (statement_in (suc j)) h) (loop_with line (suc j) (statement_in (suc j)) h)) (For_tail line h) continues_statement
-  tail_reads line h = either_reads (find_item line h) (loop_reads line h) continues_statement (λ ts stop. (stop, stop)) (λ x ts rest s stop. loop_no_find line h x ts rest s)
+  tail_reads : (line : Line) (h : HeadTree) → Reads (suc k) (choose (begins_noisy (word words.Find)) (find_with line (suc k) (statement_in (suc k)) h) (loop_with line (suc k) (statement_in (suc k)) (for_head h))) (choose (begins_noisy (word words.Find)) (find_with line (suc j) (statement_in (suc j)) h) (loop_with line (suc j) (statement_in (suc j)) (for_head h))) (For_tail line h) continues_statement
+  tail_reads line h = either_reads (find_item line h) (loop_reads line (for_head h)) continues_statement (λ ts stop. (stop, stop)) (λ x ts rest s stop. loop_no_find line (for_head h) x ts rest s)
 
   word_no_head : (w : Word) (span : Span) (line : Line) (ts : List Token) → form_word w ≡ true → continues_head (token (kinds.Word w) span line ∷ ts) ≡ false
   word_no_head w span line ts e =
@@ -491,20 +479,18 @@ module _ (k j : ℕ) (le : k ≤ j) (inner : Reads (suc k) (statement_in (suc k)
       (λ w span line' r e u. both_false _ _ (no_phrase w e u) (word_no_head w span line' r e))
       row ts rest s
 
-  for_law : (line : Line) → Reads (suc k) (for_with line (suc k) (statement_in (suc k))) (for_with line (suc j) (statement_in (suc j))) (λ x ts rest. (h : HeadTree) × (provided (Begins_with_for h) (Head_behind k h) ▷ For_tail line h x) ts rest) continues_statement
+  for_law : (line : Line) → Reads (suc k) (for_with line (suc k) (statement_in (suc k))) (for_with line (suc j) (statement_in (suc j))) (λ x ts rest. (h : HeadTree) × (Head_behind k h ▷ For_tail line h x) ts rest) continues_statement
   unfolding for_with
   for_law line = bind_reads (for_reads k j le) (tail_reads line) (tail_no_for line)
 
-  for_to : (line : Line) (x : StatementTree) (ts rest : List Token) → ((h : HeadTree) × (provided (Begins_with_for h) (Head_behind k h) ▷ For_tail line h x) ts rest) → Form_is (suc k) line words.For x ts rest
-  for_to line x ts rest (h, (a, (b, s), inl (c, f, inl (p, is, t)))) = subst (λ x. Form_is (suc k) line words.For x ts rest) is (refl, head_for h b, (a, (b, s), (c, f, t)))
-  for_to line x ts rest (h, (a, (b, s), inl (c, f, inr (is, e)))) = subst (λ x. Form_is (suc k) line words.For x ts rest) is (refl, head_for h b, (a, (b, s), subst (λ (r : List Token). Find_words a r) e f))
-  for_to line x ts rest (h, (a, (b, s), inr (row, is, t))) = subst (λ x. Form_is (suc k) line words.For x ts rest) is (refl, head_for h b, (a, s, t))
+  for_to : (line : Line) (x : StatementTree) (ts rest : List Token) → ((h : HeadTree) × (Head_behind k h ▷ For_tail line h x) ts rest) → Form_is (suc k) line words.For x ts rest
+  for_to line x ts rest (h, (a, s, inl (c, f, inl (p, is, t)))) = subst (λ x. Form_is (suc k) line words.For x ts rest) is (refl, refl, (a, s, (c, f, t)))
+  for_to line x ts rest (h, (a, s, inl (c, f, inr (is, e)))) = subst (λ x. Form_is (suc k) line words.For x ts rest) is (refl, refl, (a, s, subst (λ (r : List Token). Find_words a r) e f))
+  for_to line x ts rest (h, (a, s, inr (row, is, t))) = subst (λ x. Form_is (suc k) line words.For x ts rest) is (refl, refl, (a, s, t))
 
-  for_begins : (h : HeadTree) → head_word h ≡ words.For → (ts rest : List Token) → Head_behind k h ts rest → Begins_with_for h
-  for_begins h e ts rest s = head_guards h (ap (λ w. is_some (guard_of w)) e) k ts rest s
-
-  for_from : (line : Line) (x : StatementTree) (ts rest : List Token) → Form_is (suc k) line words.For x ts rest → (h : HeadTree) × (provided (Begins_with_for h) (Head_behind k h) ▷ For_tail line h x) ts rest
-  for_from line (loop_statement l head body) ts rest (at, w, (a, s, t)) = (head, (a, (for_begins head w ts a s, s), inr (body, ap (λ (l : Line). loop_statement l head body) (sym at), t)))
+  for_from : (line : Line) (x : StatementTree) (ts rest : List Token) → Form_is (suc k) line words.For x ts rest → (h : HeadTree) × (Head_behind k h ▷ For_tail line h x) ts rest
+  for_from line (loop_statement l (for_head head) body) ts rest (at, w, (a, s, t)) = (head, (a, s, inr (body, ap (λ (l : Line). loop_statement l (for_head head) body) (sym at), t)))
+  for_from line (loop_statement l (guarded gs) body) ts rest (at, w, (a, s, t)) = absurd (head_guards (guarded gs) (ap (λ w. is_some (guard_of w)) w) k ts a s)
   for_from line (find_statement l head) ts rest (at, w, (a, s, f)) = (head, (a, s, inl (rest, f, inr (ap (λ (l : Line). find_statement l head) (sym at), refl))))
   for_from line (find_if_statement l head outcome t e) ts rest (at, w, (a, s, (c, f, q))) = (head, (a, s, inl (c, f, inl ((outcome, (t, e)), ap (λ (l : Line). find_if_statement l head outcome t e) (sym at), q))))
   for_from line _ ts rest (at, w, s) = absurd cc
@@ -512,9 +498,9 @@ module _ (k j : ℕ) (le : k ≤ j) (inner : Reads (suc k) (statement_in (suc k)
   -- ---- loops that begin with WHILE or UNTIL
 
   abbrev Guarded_loop : GuardKind → Line → StatementTree → Shape
-  Guarded_loop kind line x ts rest = (h : HeadTree) × (Guarded_parts k j le kind h ▷ Made (loop_statement line h) Body_is x) ts rest
+  Guarded_loop kind line x ts rest = (h : LoopHeadTree) × (Guarded_parts k j le kind h ▷ Made (loop_statement line h) Body_is x) ts rest
 
-  body_no_guarded : (line : Line) (h : HeadTree) (x : StatementTree) (ts rest : List Token) → Made (loop_statement line h) Body_is x ts rest → continues_statement rest ≡ false → continues_guarded k j le ts ≡ false
+  body_no_guarded : (line : Line) (h : LoopHeadTree) (x : StatementTree) (ts rest : List Token) → Made (loop_statement line h) Body_is x ts rest → continues_statement rest ≡ false → continues_guarded k j le ts ≡ false
   body_no_guarded line h x ts rest (row, is, s) stop =
       body_blank (continues_guarded k j le) (λ span line ts. refl) (λ span span' line line' ts. refl)
       (λ span span' line line' w r e u. rw u refl)
@@ -524,18 +510,16 @@ module _ (k j : ℕ) (le : k ≤ j) (inner : Reads (suc k) (statement_in (suc k)
   guarded_to : (kind : GuardKind) (w : Word) → guard_word kind ≡ w → (line : Line) (x : StatementTree) (ts rest : List Token) → Guarded_loop kind line x ts rest → Form_is (suc k) line w x ts rest
   guarded_to kind w is line x ts rest (h, (a, (c, (b, s, (all, made, (gs, makes, t)))), (row, made', body))) =
       let head : guarded (guard_tree (kind, c) ∷ gs) ≡ h = ap guarded makes ∙ made in
-      subst (λ x. Form_is (suc k) line w x ts rest) made' (subst (λ (h : HeadTree). Form_is (suc k) line w (loop_statement line h row) ts rest) head (refl, is, (a, (b, s, t), body)))
+      subst (λ x. Form_is (suc k) line w x ts rest) made' (subst (λ (h : LoopHeadTree). Form_is (suc k) line w (loop_statement line h row) ts rest) head (refl, is, (a, (b, s, t), body)))
 
   guarded_from : (kind : GuardKind) (w : Word) → guard_word kind ≡ w → is_some (guard_of w) ≡ true → (line : Line) (x : StatementTree) (ts rest : List Token) → Form_is (suc k) line w x ts rest → Guarded_loop kind line x ts rest
   guarded_from kind w is guards_it line (loop_statement l (guarded (g ∷ gs)) body) ts rest (at, u, (a, (b, s, t), q)) =
       let same : kind ≡ g.kind = guard_same kind g.kind (is ∙ sym u) in
       (guarded (g ∷ gs), (a, (g.condition, (b, s, (g ∷ gs, refl, (gs, (λ i. record { kind = same i; condition = g.condition } ∷ gs), t)))), (body, ap (λ (l : Line). loop_statement l (guarded (g ∷ gs)) body) (sym at), q)))
   guarded_from kind w is guards_it line (loop_statement l (guarded []) body) ts rest (at, u, (a, s, q)) = absurd s
-  guarded_from kind w is guards_it line (loop_statement l (over_range v f t st ps) body) ts rest (at, u, s) = absurd (no_guard_word words.For w refl u guards_it)
-  guarded_from kind w is guards_it line (loop_statement l (over_members v set st r ps) body) ts rest (at, u, s) = absurd (no_guard_word words.For w refl u guards_it)
-  guarded_from kind w is guards_it line (loop_statement l (over_class c v ps) body) ts rest (at, u, s) = absurd (no_guard_word words.For w refl u guards_it)
-  guarded_from kind w is guards_it line (find_statement l head) ts rest (at, u, (a, (b, s), f)) = absurd (no_guard_word words.For w refl (sym (head_for head b) ∙ u) guards_it)
-  guarded_from kind w is guards_it line (find_if_statement l head o t e) ts rest (at, u, (a, (b, s), f)) = absurd (no_guard_word words.For w refl (sym (head_for head b) ∙ u) guards_it)
+  guarded_from kind w is guards_it line (loop_statement l (for_head head) body) ts rest (at, u, s) = absurd (no_guard_word words.For w refl u guards_it)
+  guarded_from kind w is guards_it line (find_statement l head) ts rest (at, u, s) = absurd (no_guard_word words.For w refl u guards_it)
+  guarded_from kind w is guards_it line (find_if_statement l head o t e) ts rest (at, u, s) = absurd (no_guard_word words.For w refl u guards_it)
   guarded_from kind w is guards_it line (let_statement a b c) ts rest (at, u, s) = absurd (no_guard_word words.Let w refl u guards_it)
   guarded_from kind w is guards_it line (add_statement a b c) ts rest (at, u, s) = absurd (no_guard_word words.Add w refl u guards_it)
   guarded_from kind w is guards_it line (subtract_statement a b c) ts rest (at, u, s) = absurd (no_guard_word words.Subtract w refl u guards_it)

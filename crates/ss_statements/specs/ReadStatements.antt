@@ -7,7 +7,7 @@ use Rattle.ss_tokens.specs.declared.token.TokenKind.{TokenKind}
 use Rattle.ss_tokens.specs.declared.token.TokenKind.TheVariants as kinds
 use Rattle.ss_tokens.specs.declared.token.Token.{Token}
 use Rattle.ss_tree.specs.declared.head.GuardKind.TheVariants as guards
-use Rattle.ss_tree.specs.Tree.{HeadTree, StatementTree, if_statement, loop_statement, find_statement, find_if_statement, StatementRow, statement_row}
+use Rattle.ss_tree.specs.Tree.{HeadTree, LoopHeadTree, for_head, StatementTree, if_statement, loop_statement, find_statement, find_if_statement, StatementRow, statement_row}
 use Rattle.ss_grammar.specs.declared.failure.Fault.TheVariants.{Syntax}
 use Rattle.ss_grammar.specs.Reading.{Reader, ◌>>=◌, word, begins, begins_by, skip, expect, in_table, taken, seq, behind, closed, apply, maybe_list, choose, too_deep, rows, skip_comma}
 use Rattle.ss_grammar.specs.ReadWords.{done, fail, begins_noisy, expect_noisy}
@@ -107,7 +107,7 @@ module _ (line : Line) (room : ℕ) (statement : Reader StatementTree) where
   unfoldable pub if_with : Reader StatementTree
   if_with = apply (λ p. if_statement line p.0 p.1.0 p.1.1) (seq (condition_in room) (branches_with statement))
 
-  abbrev pub loop_with : HeadTree → Reader StatementTree
+  abbrev pub loop_with : LoopHeadTree → Reader StatementTree
   loop_with head = apply (loop_statement line head) (body_with statement)
 
   -- the IF of a FIND
@@ -123,7 +123,7 @@ module _ (line : Line) (room : ℕ) (statement : Reader StatementTree) where
 
   -- behind FOR
   unfoldable pub for_with : Reader StatementTree
-  for_with ts = for_in room ts >>= λ h. choose (begins_noisy (word words.Find)) (find_with h.0) (loop_with h.0) h.1
+  for_with ts = for_in room ts >>= λ h. choose (begins_noisy (word words.Find)) (find_with h.0) (loop_with (for_head h.0)) h.1
 
   -- behind WHILE and UNTIL
   unfoldable pub while_with : Reader StatementTree

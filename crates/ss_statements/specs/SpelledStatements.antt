@@ -10,7 +10,7 @@ use Rattle.ss_grammar.specs.declared.classes.Class.TheVariants as classes
 use Rattle.ss_grammar.specs.Shapes.{Shape, ◌▷◌, nothing, never, either, optional, provided, Token_is, Word_is, Symbol_is, Name_is, Said, noise, each, listed, at, within}
 use Rattle.ss_grammar.specs.Words.{One_of, the, perhaps_listed}
 use Rattle.ss_grammar.specs.SpelledExpressions.{Sum_is, Target_is, Reference_is}
-use Rattle.ss_grammar.specs.SpelledConditions.{Condition_is, head_word, Head_behind, Begins_with_for}
+use Rattle.ss_grammar.specs.SpelledConditions.{Condition_is, head_word, Head_behind, Loop_behind, Begins_with_for}
 use Rattle.ss_simple.specs.SpelledParts.{Trigger, Picture_is, Called, end_of, Position_is, Given_and_when}
 use Rattle.ss_elements.specs.Words.{outcome_of}
 
@@ -64,8 +64,8 @@ first_word (read_statement line targets) = words.Read
 first_word (start_simulation line) = words.Start
 first_word (if_statement line condition then otherwise) = words.If
 first_word (loop_statement line head body) = head_word head
-first_word (find_statement line head) = head_word head
-first_word (find_if_statement line head outcome then otherwise) = head_word head
+first_word (find_statement line head) = words.For
+first_word (find_if_statement line head outcome then otherwise) = words.For
 first_word (create_statement line class called) = words.Create
 first_word (create_every line classes) = words.Create
 first_word (destroy_statement line class called) = words.Destroy
@@ -105,11 +105,11 @@ abbrev mutual
   Behind (read_statement line targets) levels = listed (Target_is levels) targets
   Behind (start_simulation line) levels = Word_is words.Simulation
   Behind (if_statement line condition then otherwise) levels = within (λ l. Condition_is l condition ▷ Branching (Statements_are then l) (Else_part otherwise l)) levels
-  Behind (loop_statement line head body) levels = within (λ l. Head_behind l head ▷ either (noisy words.Do ▷ Statements_are body l ▷ noisy words.Loop) (Governed body l)) levels
-  Behind (find_statement line head) levels = within (λ l. provided (Begins_with_for head) (Head_behind l head) ▷ Find_words) levels
+  Behind (loop_statement line head body) levels = within (λ l. Loop_behind l head ▷ either (noisy words.Do ▷ Statements_are body l ▷ noisy words.Loop) (Governed body l)) levels
+  Behind (find_statement line head) levels = within (λ l. Head_behind l head ▷ Find_words) levels
   -- the loop is closed before the IF
   Behind (find_if_statement line head outcome then otherwise) levels =
-      within (λ l. provided (Begins_with_for head) (Head_behind l head) ▷ Find_words ▷ noisy words.If ▷ Said outcome_of outcome ▷ Branching (Statements_are then l) (Else_part otherwise l)) levels
+      within (λ l. Head_behind l head ▷ Find_words ▷ noisy words.If ▷ Said outcome_of outcome ▷ Branching (Statements_are then l) (Else_part otherwise l)) levels
   Behind (create_statement line class called) levels = optional (One_of classes.Indefinite) ▷ Name_is class ▷ Called (Target_is levels) called
   Behind (create_every line classes) levels = Word_is words.Every ▷ listed Name_is classes
   Behind (destroy_statement line class called) levels = the ▷ Name_is class ▷ Called (Sum_is levels) called

@@ -2,7 +2,7 @@
 
 ghost use Rattle.std.specs.Prelude.{◌≡◌, map};
 ghost use Rattle.ss_tree.specs.Tree.{statement_row};
-ghost use Rattle.ss_tree.specs.View.{view_statement, view_head};
+ghost use Rattle.ss_tree.specs.View.{view_statement, view_head, view_loop_head};
 ghost use Rattle.ss_elements.specs.Words.{outcome_of};
 ghost use Rattle.ss_tokens.specs.declared.word.Word.TheVariants.{If};
 ghost use Rattle.ss_grammar.specs.Reading.{Gives, word, skip, skip_comma, behind, seq, taken, in_table};
@@ -18,7 +18,7 @@ use ss_grammar::steps::{alone, beside};
 use ss_grammar::tokens::{begins_word, expect_word, skip_symbol, skip_word, syntax, too_deep};
 use ss_simple::simple::simple_form;
 use ss_tokens::{Symbol, Token, TokenKind, Word};
-use ss_tree::head::{GuardKind, Head};
+use ss_tree::head::{GuardKind, Head, LoopHead};
 use ss_tree::statement::{FindOutcome, Statement};
 use std::alloc::Global;
 
@@ -234,11 +234,11 @@ fn if_form(
 fn loop_form(
     alloc: Global,
     line: Line,
-    head: Head,
+    head: LoopHead,
     tokens: &[Token],
     room: u8,
 ) -> Result<(Statement, &[Token]), Failure>
-    ensures { Gives (λ x. (view_statement x.0, x.1.now)) result (loop_with line room (statement_in room) (view_head head) tokens.now) }
+    ensures { Gives (λ x. (view_statement x.0, x.1.now)) result (loop_with line room (statement_in room) (view_loop_head head) tokens.now) }
 {
     let (head, (body, rest)) = beside(head, body(alloc, tokens, room))?;
     Ok((Statement::Loop { line, head, body }, rest))
@@ -318,7 +318,7 @@ fn for_form(
     if begins_noisy(rest, Word::Find) {
         find_form(alloc, line, head, rest, room)
     } else {
-        loop_form(alloc, line, head, rest, room)
+        loop_form(alloc, line, LoopHead::For(head), rest, room)
     }
 }
 

@@ -8,7 +8,7 @@ use Rattle.ss_tree.specs.declared.condition.Relation.TheVariants.{Equal, Greater
 use Rattle.ss_tree.specs.declared.head.PhraseKind.TheVariants.{With}
 use Rattle.ss_tree.specs.declared.head.GuardKind.TheVariants.{Until}
 use Rattle.ss_tree.specs.declared.preamble.Mode.TheVariants.{Integer}
-use Rattle.ss_tree.specs.Tree.{ExpressionTree, number, text, named, call, parenthesised, product, signed, sum, no_expression, and_expression, no_term, and_term, NamedTree, compare, data_ended, over_range, guarded, let_statement, call_statement, stop_statement, if_statement, loop_statement, print_statement, no_statement, and_statement, define_variables, main}
+use Rattle.ss_tree.specs.Tree.{ExpressionTree, number, text, named, call, parenthesised, product, signed, sum, no_expression, and_expression, no_term, and_term, NamedTree, compare, data_ended, over_range, for_head, guarded, let_statement, call_statement, stop_statement, if_statement, loop_statement, print_statement, no_statement, and_statement, define_variables, main}
 use Rattle.ss_tree.specs.Nodes.{expression_nodes, condition_nodes, statement_nodes, nodes}
 
 -- X
@@ -39,7 +39,7 @@ pub an_if : (l : Line) → statement_nodes (if_statement l ((compare x Greater (
 an_if l = refl
 
 -- FOR X = 1 TO 10 BY 2 WITH X > 3, CALL R GIVING X: two statements, a phrase, a test, four names and four numbers
-pub a_loop_with_a_phrase : (l : Line) → statement_nodes (loop_statement l (over_range (codes "X") (number (pos 1)) (number (pos 10)) (Some (number (pos 2))) (record { kind = With; condition = (compare x Greater (number (pos 3)) ∷ []) ∷ [] } ∷ [])) (and_statement (call_statement l (codes "R") (x ∷ []) []) no_statement)) ≡ 12
+pub a_loop_with_a_phrase : (l : Line) → statement_nodes (loop_statement l (for_head (over_range (codes "X") (number (pos 1)) (number (pos 10)) (Some (number (pos 2))) (record { kind = With; condition = (compare x Greater (number (pos 3)) ∷ []) ∷ [] } ∷ []))) (and_statement (call_statement l (codes "R") (x ∷ []) []) no_statement)) ≡ 12
 a_loop_with_a_phrase l = refl
 
 -- UNTIL DATA IS ENDED DO LOOP: a statement and a test

@@ -3,7 +3,7 @@
 -- one, so that the nodes bound the code of every tree: the further factors of a product, the further terms of a sum, the
 -- tests of an alternative, and the alternatives of a condition.
 use Rattle.std.specs.Prelude.{ℕ, ◌+◌, List, [], ◌∷◌, length, Option, Some, None, sum_by}
-use Rattle.ss_tree.specs.Tree.{ExpressionTree, number, text, named, call, parenthesised, product, signed, sum, ExpressionRow, no_expression, and_expression, TermRow, no_term, and_term, NamedTree, TestTree, compare, empty, member, data_ended, ConditionTree, PhraseTree, GuardTree, StartTree, from_end, from_member, after_member, HeadTree, over_range, over_members, over_class, guarded, PositionTree, by_discipline, at_first, at_last, before, after, WhenTree, at_time, in_units, now, StatementTree, let_statement, add_statement, subtract_statement, call_statement, return_statement, stop_statement, read_statement, start_simulation, if_statement, loop_statement, find_statement, find_if_statement, create_statement, create_every, destroy_statement, file_statement, remove_end, remove_statement, schedule_new, schedule_statement, cancel_statement, reset_statement, print_statement, skip_statement, StatementRow, no_statement, and_statement, ClauseTree, has, owns, belongs_to, OrderTree, fifo, lifo, ranked, PreambleTree, permanent_entities, temporary_entities, event_notices, every, normally, system_owns, define_variables, define_sets, priority_order, break_ties, statistics, DefinitionTree, SectionKindTree, main, routine, event, SectionTree, ProgramTree}
+use Rattle.ss_tree.specs.Tree.{ExpressionTree, number, text, named, call, parenthesised, product, signed, sum, ExpressionRow, no_expression, and_expression, TermRow, no_term, and_term, NamedTree, TestTree, compare, empty, member, data_ended, ConditionTree, PhraseTree, GuardTree, StartTree, from_end, from_member, after_member, HeadTree, over_range, over_members, over_class, LoopHeadTree, for_head, guarded, PositionTree, by_discipline, at_first, at_last, before, after, WhenTree, at_time, in_units, now, StatementTree, let_statement, add_statement, subtract_statement, call_statement, return_statement, stop_statement, read_statement, start_simulation, if_statement, loop_statement, find_statement, find_if_statement, create_statement, create_every, destroy_statement, file_statement, remove_end, remove_statement, schedule_new, schedule_statement, cancel_statement, reset_statement, print_statement, skip_statement, StatementRow, no_statement, and_statement, ClauseTree, has, owns, belongs_to, OrderTree, fifo, lifo, ranked, PreambleTree, permanent_entities, temporary_entities, event_notices, every, normally, system_owns, define_variables, define_sets, priority_order, break_ties, statistics, DefinitionTree, SectionKindTree, main, routine, event, SectionTree, ProgramTree}
 
 -- a function and an operator are a node each; parentheses are none
 abbrev mutual
@@ -81,7 +81,10 @@ abbrev pub head_nodes : HeadTree → ℕ
 head_nodes (over_range variable from to step phrases) = 1 + expression_nodes from + expression_nodes to + option_nodes expression_nodes step + sum_by phrase_nodes phrases
 head_nodes (over_members variable set start reverse phrases) = 1 + named_nodes set + start_nodes start + sum_by phrase_nodes phrases
 head_nodes (over_class class called phrases) = 1 + option_nodes (λ name. 1) called + sum_by phrase_nodes phrases
-head_nodes (guarded guards) = sum_by guard_nodes guards
+
+abbrev pub loop_head_nodes : LoopHeadTree → ℕ
+loop_head_nodes (for_head head) = head_nodes head
+loop_head_nodes (guarded guards) = sum_by guard_nodes guards
 
 abbrev pub position_nodes : PositionTree → ℕ
 position_nodes by_discipline = 0
@@ -107,7 +110,7 @@ abbrev mutual
   statement_nodes (read_statement line targets) = 1 + sum_by named_nodes targets
   statement_nodes (start_simulation line) = 1
   statement_nodes (if_statement line condition then otherwise) = 1 + condition_nodes condition + statements_nodes then + statements_nodes otherwise
-  statement_nodes (loop_statement line head body) = 1 + head_nodes head + statements_nodes body
+  statement_nodes (loop_statement line head body) = 1 + loop_head_nodes head + statements_nodes body
   statement_nodes (find_statement line head) = 1 + head_nodes head
   statement_nodes (find_if_statement line head outcome then otherwise) = 1 + head_nodes head + statements_nodes then + statements_nodes otherwise
   statement_nodes (create_statement line class called) = 1 + 1 + option_nodes named_nodes called

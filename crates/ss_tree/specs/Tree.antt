@@ -72,6 +72,7 @@ pub data StartTree : Type 0 where
   from_member : ExpressionTree → StartTree
   after_member : ExpressionTree → StartTree
 
+-- the head of a FOR
 pub data HeadTree : Type 0 where
   -- the variable, its first value, its last, the step
   over_range : List ℕ → ExpressionTree → ExpressionTree → Option ExpressionTree → List PhraseTree → HeadTree
@@ -79,7 +80,12 @@ pub data HeadTree : Type 0 where
   over_members : List ℕ → NamedTree → StartTree → Bool → List PhraseTree → HeadTree
   -- the class, the variable
   over_class : List ℕ → Option (List ℕ) → List PhraseTree → HeadTree
-  guarded : List GuardTree → HeadTree
+
+-- the head of a loop
+pub data LoopHeadTree : Type 0 where
+  for_head : HeadTree → LoopHeadTree
+  -- WHILE or UNTIL
+  guarded : List GuardTree → LoopHeadTree
 
 -- ---- statements
 
@@ -110,7 +116,7 @@ mutual
     read_statement : Line → List NamedTree → StatementTree
     start_simulation : Line → StatementTree
     if_statement : Line → ConditionTree → StatementRow → StatementRow → StatementTree
-    loop_statement : Line → HeadTree → StatementRow → StatementTree
+    loop_statement : Line → LoopHeadTree → StatementRow → StatementTree
     find_statement : Line → HeadTree → StatementTree
     find_if_statement : Line → HeadTree → FindOutcome → StatementRow → StatementRow → StatementTree
     create_statement : Line → List ℕ → Option NamedTree → StatementTree

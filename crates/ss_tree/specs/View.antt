@@ -14,6 +14,8 @@ use Rattle.ss_tree.specs.declared.head.MemberStart.{MemberStart}
 use Rattle.ss_tree.specs.declared.head.MemberStart.TheVariants as starts
 use Rattle.ss_tree.specs.declared.head.Head.{Head}
 use Rattle.ss_tree.specs.declared.head.Head.TheVariants as heads
+use Rattle.ss_tree.specs.declared.head.LoopHead.{LoopHead}
+use Rattle.ss_tree.specs.declared.head.LoopHead.TheVariants as loops
 use Rattle.ss_tree.specs.declared.statement.Position.{Position}
 use Rattle.ss_tree.specs.declared.statement.Position.TheVariants as positions
 use Rattle.ss_tree.specs.declared.statement.When.{When}
@@ -30,7 +32,7 @@ use Rattle.ss_tree.specs.declared.program.SectionKind.{SectionKind}
 use Rattle.ss_tree.specs.declared.program.SectionKind.TheVariants as kinds
 use Rattle.ss_tree.specs.declared.program.Section.{Section}
 use Rattle.ss_tree.specs.declared.program.Program.{Program}
-use Rattle.ss_tree.specs.Tree.{ExpressionTree, number, text, named, call, parenthesised, product, signed, sum, ExpressionRow, no_expression, and_expression, expression_row, TermRow, no_term, and_term, NamedTree, TestTree, compare, empty, member, data_ended, ConditionTree, PhraseTree, GuardTree, StartTree, from_end, from_member, after_member, HeadTree, over_range, over_members, over_class, guarded, PositionTree, by_discipline, at_first, at_last, before, after, WhenTree, at_time, in_units, now, StatementTree, let_statement, add_statement, subtract_statement, call_statement, return_statement, stop_statement, read_statement, start_simulation, if_statement, loop_statement, find_statement, find_if_statement, create_statement, create_every, destroy_statement, file_statement, remove_end, remove_statement, schedule_new, schedule_statement, cancel_statement, reset_statement, print_statement, skip_statement, StatementRow, no_statement, and_statement, ClauseTree, has, owns, belongs_to, OrderTree, fifo, lifo, ranked, PreambleTree, permanent_entities, temporary_entities, event_notices, every, normally, system_owns, define_variables, define_sets, priority_order, break_ties, statistics, DefinitionTree, SectionKindTree, main, routine, event, SectionTree, ProgramTree}
+use Rattle.ss_tree.specs.Tree.{ExpressionTree, number, text, named, call, parenthesised, product, signed, sum, ExpressionRow, no_expression, and_expression, expression_row, TermRow, no_term, and_term, NamedTree, TestTree, compare, empty, member, data_ended, ConditionTree, PhraseTree, GuardTree, StartTree, from_end, from_member, after_member, HeadTree, over_range, over_members, over_class, LoopHeadTree, for_head, guarded, PositionTree, by_discipline, at_first, at_last, before, after, WhenTree, at_time, in_units, now, StatementTree, let_statement, add_statement, subtract_statement, call_statement, return_statement, stop_statement, read_statement, start_simulation, if_statement, loop_statement, find_statement, find_if_statement, create_statement, create_every, destroy_statement, file_statement, remove_end, remove_statement, schedule_new, schedule_statement, cancel_statement, reset_statement, print_statement, skip_statement, StatementRow, no_statement, and_statement, ClauseTree, has, owns, belongs_to, OrderTree, fifo, lifo, ranked, PreambleTree, permanent_entities, temporary_entities, event_notices, every, normally, system_owns, define_variables, define_sets, priority_order, break_ties, statistics, DefinitionTree, SectionKindTree, main, routine, event, SectionTree, ProgramTree}
 
 unfoldable mutual
   pub view_expression : Expression → ExpressionTree
@@ -89,7 +91,10 @@ abbrev pub view_head : Head → HeadTree
 view_head (heads.Range variable from to step phrases) = over_range variable (view_expression from) (view_expression to) (view_option view_expression step) (map view_phrase phrases.items)
 view_head (heads.Members variable set start reverse phrases) = over_members variable (view_named set) (view_start start) reverse (map view_phrase phrases.items)
 view_head (heads.Class class called phrases) = over_class class called (map view_phrase phrases.items)
-view_head (heads.Guards guards) = guarded (map view_guard guards.items)
+
+abbrev pub view_loop_head : LoopHead → LoopHeadTree
+view_loop_head (loops.For head) = for_head (view_head head)
+view_loop_head (loops.Guards guards) = guarded (map view_guard guards.items)
 
 abbrev pub view_position : Position → PositionTree
 view_position positions.Discipline = by_discipline
@@ -114,7 +119,7 @@ unfoldable mutual
   view_statement (Read line targets) = read_statement line (map view_named targets.items)
   view_statement (StartSimulation line) = start_simulation line
   view_statement (If' line condition shape then shape' otherwise) = if_statement line (view_condition condition) (view_statements then) (view_statements otherwise)
-  view_statement (Loop' line head shape body) = loop_statement line (view_head head) (view_statements body)
+  view_statement (Loop' line head shape body) = loop_statement line (view_loop_head head) (view_statements body)
   view_statement (Find line head) = find_statement line (view_head head)
   view_statement (FindIf' line head outcome shape then shape' otherwise) = find_if_statement line (view_head head) outcome (view_statements then) (view_statements otherwise)
   view_statement (Create line class called) = create_statement line class (view_option view_named called)

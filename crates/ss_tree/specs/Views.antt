@@ -13,12 +13,13 @@ use Rattle.ss_tree.specs.Tree.{ExpressionTree, number, text, named, call, parent
 use Rattle.ss_bytes.specs.declared.line.Line.{Line}
 use Rattle.ss_tree.specs.declared.condition.Condition.{Condition}
 use Rattle.ss_tree.specs.declared.head.Head.{Head}
+use Rattle.ss_tree.specs.declared.head.LoopHead.{LoopHead}
 use Rattle.ss_tree.specs.declared.statement.FindOutcome.{FindOutcome}
 use Rattle.ss_tree.specs.declared.statement.Statement.TheVariants as statements
 use Rattle.ss_tree.specs.declared.statement.Statement.{Statement, Row_of-Statement, end_of-Statement, more_of-Statement, items-the_row-Statement, items_hidden-the_row-Statement-0}
 use Rattle.ss_tree.specs.declared.statement.Statement.TheBlock.{hidden-the_row-Statement-0}
 use Rattle.ss_tree.specs.Tree.{and_statement, statement_row, if_statement, loop_statement, find_if_statement}
-use Rattle.ss_tree.specs.View.{view_expression, view_expressions, view_terms, view_term, view_condition, view_head, view_statement, view_statements}
+use Rattle.ss_tree.specs.View.{view_expression, view_expressions, view_terms, view_term, view_condition, view_head, view_loop_head, view_statement, view_statements}
 
 pub view_expressions_listed : (n : _) (k : Row_of-Expression n) → view_expressions k ≡ expression_row (map view_expression (items-the_row-Expression n k))
 unfolding view_expression view_expressions view_terms
@@ -80,9 +81,9 @@ pub view_if_made : (line : Line) (c : Condition) (t e : Vec Statement) → view_
 unfolding view_statement
 view_if_made line c t e = ap (λ ss. if_statement line (view_condition c) ss (view_statements (hidden-the_row-Statement-0 e))) (statements_hidden t) ∙ ap (if_statement line (view_condition c) (statement_row (map view_statement t.items))) (statements_hidden e)
 
-pub view_loop_made : (line : Line) (h : Head) (body : Vec Statement) → view_statement (statements.Loop line h body) ≡ loop_statement line (view_head h) (statement_row (map view_statement body.items))
+pub view_loop_made : (line : Line) (h : LoopHead) (body : Vec Statement) → view_statement (statements.Loop line h body) ≡ loop_statement line (view_loop_head h) (statement_row (map view_statement body.items))
 unfolding view_statement
-view_loop_made line h body = ap (loop_statement line (view_head h)) (statements_hidden body)
+view_loop_made line h body = ap (loop_statement line (view_loop_head h)) (statements_hidden body)
 
 pub view_find_if_made : (line : Line) (h : Head) (outcome : FindOutcome) (t e : Vec Statement) → view_statement (statements.FindIf line h outcome t e) ≡ find_if_statement line (view_head h) outcome (statement_row (map view_statement t.items)) (statement_row (map view_statement e.items))
 unfolding view_statement

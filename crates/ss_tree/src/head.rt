@@ -51,7 +51,7 @@ pub enum MemberStart {
     After(Expression),
 }
 
-/// What a loop goes over, and its phrases.
+/// The head of a FOR: what it goes over, and its phrases.
 #[derive(Drop)]
 pub enum Head {
     /// FOR v = from TO to BY step.
@@ -76,8 +76,12 @@ pub enum Head {
         called: Option<Name>,
         phrases: Vec<Phrase>,
     },
+}
+
+/// The head of a loop.
+#[derive(Drop)]
+pub enum LoopHead {
+    For(Head),
     /// WHILE or UNTIL, with one condition at least.
-    Guards {
-        guards: Vec<Guard>,
-    },
+    Guards(Vec<Guard>),
 }

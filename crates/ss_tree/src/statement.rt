@@ -2,7 +2,7 @@
 
 use crate::condition::Condition;
 use crate::expression::{Expression, Named};
-use crate::head::Head;
+use crate::head::{Head, LoopHead};
 use ss_bytes::{Line, Name, PictureLine};
 
 /// Where a member is filed.
@@ -86,10 +86,10 @@ pub enum Statement {
     /// A loop over one statement, or over those between DO and LOOP.
     Loop {
         line: Line,
-        head: Head,
+        head: LoopHead,
         body: Vec<Statement>,
     },
-    /// FIND THE FIRST CASE, behind a head that begins with FOR.
+    /// FIND THE FIRST CASE after the head of a FOR.
     Find {
         line: Line,
         head: Head,

@@ -12,6 +12,7 @@ use Rattle.ss_tree.specs.declared.expression.Expression.{Expression}
 use Rattle.ss_tree.specs.declared.expression.Expression.TheVariants as variants
 use Rattle.ss_tree.specs.declared.condition.Condition.{Condition}
 use Rattle.ss_tree.specs.declared.head.Head.{Head}
+use Rattle.ss_tree.specs.declared.head.LoopHead.{LoopHead}
 use Rattle.ss_tree.specs.declared.statement.FindOutcome.{FindOutcome}
 use Rattle.ss_tree.specs.declared.statement.Statement.{Statement}
 use Rattle.ss_tree.specs.declared.statement.Statement.TheVariants as statements
@@ -86,7 +87,7 @@ inner_find_if l h o t e =
     ap (λ ms. ms ++ in_row (statement_row (map view_statement e.items))) (in_statement_row (map view_statement t.items)) ∙
     ap (λ ms. in_body (map view_statement t.items) ++ ms) (in_statement_row (map view_statement e.items))
 
-pub inner_loop : (l : Line) (h : Head) (b : Vec Statement) → in_inner (view_statement (statements.Loop l h b)) ≡ in_body (map view_statement b.items)
+pub inner_loop : (l : Line) (h : LoopHead) (b : Vec Statement) → in_inner (view_statement (statements.Loop l h b)) ≡ in_body (map view_statement b.items)
 inner_loop l h b = ap in_inner (view_loop_made l h b) ∙ in_statement_row (map view_statement b.items)
 
 -- one more statement of a body is noted: itself, and then the statements in it

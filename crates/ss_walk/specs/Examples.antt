@@ -7,7 +7,7 @@ use Rattle.ss_tree.specs.declared.condition.Relation.TheVariants.{Equal}
 use Rattle.ss_tree.specs.declared.head.PhraseKind.TheVariants.{With}
 use Rattle.ss_tree.specs.declared.preamble.Mode.TheVariants as modes
 use Rattle.ss_tree.specs.declared.statement.SetEnd.TheVariants as ends
-use Rattle.ss_tree.specs.Tree.{ExpressionTree, number, named, sum, no_expression, and_expression, no_term, and_term, NamedTree, compare, empty, from_end, over_range, over_members, over_class, let_statement, call_statement, start_simulation, if_statement, loop_statement, create_statement, create_every, schedule_new, cancel_statement, remove_end, reset_statement, print_statement, in_units, no_statement, and_statement, main, routine, event}
+use Rattle.ss_tree.specs.Tree.{ExpressionTree, number, named, sum, no_expression, and_expression, no_term, and_term, NamedTree, compare, empty, from_end, over_range, over_members, over_class, for_head, let_statement, call_statement, start_simulation, if_statement, loop_statement, create_statement, create_every, schedule_new, cancel_statement, remove_end, reset_statement, print_statement, in_units, no_statement, and_statement, main, routine, event}
 use Rattle.ss_walk.specs.declared.mention.Role.{Role}
 use Rattle.ss_walk.specs.declared.mention.Role.TheVariants.{Value, Target, Reset, Set, LoopVariable, Create, CreateEvery, ForEach, Schedule, Cancel, Call, Event, Given, Yielding, Define, Start}
 use Rattle.ss_walk.specs.declared.mention.Mentioned.{Mentioned}
@@ -54,22 +54,22 @@ pub an_if : in_statement (if_statement (line 4) ((empty (at (codes "QUEUE")) fal
 an_if = refl
 
 -- FOR I = 1 TO N (in line 7) WITH V(I) = 1 (in line 8) STOP .. (in line 9): the phrase has the line of the FOR
-pub a_loop : in_statement (loop_statement (line 7) (over_range (codes "I") (number (pos 1)) (name (codes "N")) None (record { kind = With; condition = (compare (name_at (codes "V") (name (codes "I"))) Equal (number (pos 1)) ∷ []) ∷ [] } ∷ [])) (and_statement (reset_statement (line 9) (at (codes "I") ∷ [])) no_statement)) ≡
+pub a_loop : in_statement (loop_statement (line 7) (for_head (over_range (codes "I") (number (pos 1)) (name (codes "N")) None (record { kind = With; condition = (compare (name_at (codes "V") (name (codes "I"))) Equal (number (pos 1)) ∷ []) ∷ [] } ∷ []))) (and_statement (reset_statement (line 9) (at (codes "I") ∷ [])) no_statement)) ≡
     said 7 LoopVariable (Name (codes "I")) 0 false ∷ said 7 Value (Name (codes "N")) 0 true ∷
     said 7 Value (Name (codes "V")) 1 false ∷ said 7 Value (Name (codes "I")) 0 true ∷
     said 9 Reset (Name (codes "I")) 0 true ∷ []
 a_loop = refl
 
 -- FOR EACH J IN QUEUE(M): the variable, the set, and the owner
-pub a_loop_over_a_set : in_statement (loop_statement (line 1) (over_members (codes "J") (at_of (codes "QUEUE") (name (codes "M"))) from_end true []) no_statement) ≡
+pub a_loop_over_a_set : in_statement (loop_statement (line 1) (for_head (over_members (codes "J") (at_of (codes "QUEUE") (name (codes "M"))) from_end true [])) no_statement) ≡
     said 1 LoopVariable (Name (codes "J")) 0 false ∷ said 1 Set (Name (codes "QUEUE")) 1 false ∷ said 1 Value (Name (codes "M")) 0 true ∷ []
 a_loop_over_a_set = refl
 
 -- FOR EACH MACHINE: its variable is the loop's; FOR EACH MACHINE CALLED M has one of its own
-pub a_loop_over_a_class : in_statement (loop_statement (line 1) (over_class (codes "MACHINE") None []) no_statement) ≡ said 1 ForEach (Name (codes "MACHINE")) 0 true ∷ []
+pub a_loop_over_a_class : in_statement (loop_statement (line 1) (for_head (over_class (codes "MACHINE") None [])) no_statement) ≡ said 1 ForEach (Name (codes "MACHINE")) 0 true ∷ []
 a_loop_over_a_class = refl
 
-pub a_loop_called : in_statement (loop_statement (line 1) (over_class (codes "MACHINE") (Some (codes "M")) []) no_statement) ≡
+pub a_loop_called : in_statement (loop_statement (line 1) (for_head (over_class (codes "MACHINE") (Some (codes "M")) [])) no_statement) ≡
     said 1 ForEach (Name (codes "MACHINE")) 0 false ∷ said 1 LoopVariable (Name (codes "M")) 0 false ∷ []
 a_loop_called = refl
 

@@ -5,7 +5,7 @@ use Rattle.ss_bytes.specs.declared.line.Line.{Line}
 use Rattle.ss_tree.specs.declared.expression.Sign.{Sign}
 use Rattle.ss_tree.specs.declared.expression.Designator.{Designator}
 use Rattle.ss_tree.specs.declared.expression.Designator.TheVariants as designators
-use Rattle.ss_tree.specs.Tree.{ExpressionTree, number, text, named, call, parenthesised, product, signed, sum, ExpressionRow, no_expression, and_expression, TermRow, no_term, and_term, NamedTree, TestTree, compare, empty, member, data_ended, ConditionTree, PhraseTree, GuardTree, StartTree, from_end, from_member, after_member, HeadTree, over_range, over_members, over_class, guarded, PositionTree, by_discipline, at_first, at_last, before, after, WhenTree, at_time, in_units, now, StatementTree, let_statement, add_statement, subtract_statement, call_statement, return_statement, stop_statement, read_statement, start_simulation, if_statement, loop_statement, find_statement, find_if_statement, create_statement, create_every, destroy_statement, file_statement, remove_end, remove_statement, schedule_new, schedule_statement, cancel_statement, reset_statement, print_statement, skip_statement, StatementRow, no_statement, and_statement, DefinitionTree, SectionKindTree, main, routine, event, SectionTree}
+use Rattle.ss_tree.specs.Tree.{ExpressionTree, number, text, named, call, parenthesised, product, signed, sum, ExpressionRow, no_expression, and_expression, TermRow, no_term, and_term, NamedTree, TestTree, compare, empty, member, data_ended, ConditionTree, PhraseTree, GuardTree, StartTree, from_end, from_member, after_member, HeadTree, over_range, over_members, over_class, LoopHeadTree, for_head, guarded, PositionTree, by_discipline, at_first, at_last, before, after, WhenTree, at_time, in_units, now, StatementTree, let_statement, add_statement, subtract_statement, call_statement, return_statement, stop_statement, read_statement, start_simulation, if_statement, loop_statement, find_statement, find_if_statement, create_statement, create_every, destroy_statement, file_statement, remove_end, remove_statement, schedule_new, schedule_statement, cancel_statement, reset_statement, print_statement, skip_statement, StatementRow, no_statement, and_statement, DefinitionTree, SectionKindTree, main, routine, event, SectionTree}
 use Rattle.ss_walk.specs.declared.mention.Role.{Role}
 use Rattle.ss_walk.specs.declared.mention.Role.TheVariants.{Value, Target, Reset, Set, LoopVariable, Create, CreateEvery, Destroy, ForEach, Schedule, Cancel, Call, Event, Given, Yielding, Define, Start}
 use Rattle.ss_walk.specs.declared.mention.Mentioned.{Mentioned}
@@ -116,7 +116,7 @@ in_phrases line phrases = flat_map (λ phrase. in_condition line phrase.conditio
 abbrev pub in_guards : Line → List GuardTree → List Mention
 in_guards line guards = flat_map (λ guard. in_condition line guard.condition) guards
 
--- the mentions of the head of a loop of this line
+-- the mentions of the head of a FOR of this line
 abbrev pub in_head : Line → HeadTree → List Mention
 in_head line (over_range variable from to step phrases) =
     plain line LoopVariable variable ∷ in_expression line from ++ in_expression line to ++ in_option (in_expression line) step ++
@@ -126,7 +126,11 @@ in_head line (over_members variable set start reverse phrases) =
 in_head line (over_class class called phrases) =
     class_named line ForEach (is_some called) class ∷ in_option (λ name. plain line LoopVariable name ∷ []) called ++
     in_phrases line phrases
-in_head line (guarded guards) = in_guards line guards
+
+-- the mentions of the head of a loop of this line
+abbrev pub in_loop_head : Line → LoopHeadTree → List Mention
+in_loop_head line (for_head head) = in_head line head
+in_loop_head line (guarded guards) = in_guards line guards
 
 -- ---- statements
 
@@ -176,7 +180,7 @@ in_itself (stop_statement line) = []
 in_itself (read_statement line targets) = in_all_named line Target targets
 in_itself (start_simulation line) = started line ∷ []
 in_itself (if_statement line condition first second) = in_condition line condition
-in_itself (loop_statement line head body) = in_head line head
+in_itself (loop_statement line head body) = in_loop_head line head
 in_itself (find_statement line head) = in_head line head
 in_itself (find_if_statement line head outcome first second) = in_head line head
 in_itself (reset_statement line targets) = in_all_named line Reset targets

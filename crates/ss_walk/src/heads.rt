@@ -1,14 +1,14 @@
 //! The names that the heads of loops mention.
 
 ghost use Rattle.std.specs.Prelude.{◌≡◌, ◌++◌, map, IfOk};
-ghost use Rattle.ss_tree.specs.View.{view_guard, view_head, view_phrase, view_start};
-ghost use Rattle.ss_walk.specs.Mentions.{in_guards, in_head, in_phrases, in_start};
+ghost use Rattle.ss_tree.specs.View.{view_guard, view_head, view_loop_head, view_phrase, view_start};
+ghost use Rattle.ss_walk.specs.Mentions.{in_guards, in_head, in_loop_head, in_phrases, in_start};
 
 use crate::conditions::note_condition;
 use crate::expressions::{note_class, note_expression, note_maybe, note_named, note_plain};
 use crate::mention::{Mention, Role};
 use ss_bytes::Line;
-use ss_tree::head::{Guard, Head, MemberStart, Phrase};
+use ss_tree::head::{Guard, Head, LoopHead, MemberStart, Phrase};
 use std::alloc::AllocError;
 
 // Notes the mentions of phrases.
@@ -43,7 +43,7 @@ fn note_start(into: &mut Vec<Mention>, line: Line, start: &MemberStart) -> Resul
     }
 }
 
-// Notes the mentions of the head of a loop.
+// Notes the mentions of the head of a FOR.
 pub(crate) fn note_head(into: &mut Vec<Mention>, line: Line, head: &Head) -> Result<(), AllocError>
     ensures { IfOk result (λ _. into.new.items ≡ into.old.items ++ in_head line (view_head head.now)) }
 {
@@ -84,6 +84,19 @@ pub(crate) fn note_head(into: &mut Vec<Mention>, line: Line, head: &Head) -> Res
             }
             note_phrases(into, line, phrases)
         }
-        Head::Guards { guards } => note_guards(into, line, guards),
+    }
+}
+
+// Notes the mentions of the head of a loop.
+pub(crate) fn note_loop_head(
+    into: &mut Vec<Mention>,
+    line: Line,
+    head: &LoopHead,
+) -> Result<(), AllocError>
+    ensures { IfOk result (λ _. into.new.items ≡ into.old.items ++ in_loop_head line (view_loop_head head.now)) }
+{
+    match head {
+        LoopHead::For(head) => note_head(into, line, head),
+        LoopHead::Guards(guards) => note_guards(into, line, guards),
     }
 }

@@ -9,7 +9,7 @@ use crate::expressions::{
     note_all_named, note_all_plain, note_class, note_expression, note_expressions, note_maybe,
     note_maybe_target, note_named, note_plain,
 };
-use crate::heads::note_head;
+use crate::heads::{note_head, note_loop_head};
 use crate::mention::{Mention, Mentioned, Role};
 use ss_bytes::{Line, Name};
 use ss_tree::expression::{Expression, Named};
@@ -198,9 +198,10 @@ fn note_itself(into: &mut Vec<Mention>, statement: &Statement) -> Result<(), All
             condition,
             ..
         } => note_condition(into, *line, condition),
-        Statement::Loop { line, head, .. }
-        | Statement::Find { line, head }
-        | Statement::FindIf { line, head, .. } => note_head(into, *line, head),
+        Statement::Loop { line, head, .. } => note_loop_head(into, *line, head),
+        Statement::Find { line, head } | Statement::FindIf { line, head, .. } => note_head(
+            into, *line, head,
+        ),
         Statement::Print { line, items, .. } => note_expressions(into, *line, items),
         Statement::Skip { line, count } => note_expression(into, *line, count),
         Statement::Reset { line, targets } => note_all_named(into, *line, Role::Reset, targets),

@@ -14,12 +14,12 @@ returns-in_err-locals-clause-refused c =
 pub new-requires : goal.new-requires
 new-requires c =
     typed c.kept_programs_resolve.ensures c.args.globals.now.names (whole_in c.args.globals.now.names c.args.globals.now.signatures.items) (view_program c.args.program.now) c.in_ok-resolved.field-0 c.in-Some.resolved
-    c.requires.formed c.requires.declared c.in_ok-locals.ensures.kept c.requires.names c.requires.whole (found_with c.args.globals.now.names (whole_in c.args.globals.now.names c.args.globals.now.signatures.items) c.deref.result.now (view_program c.args.program.now) c.in_ok-resolved.field-0 (c.deref.ensures.value ∙ c.in_ok-locals.ensures.locals) c.in_ok-resolved.ensures) c.in-Some.is
+    c.requires.declared c.in_ok-locals.ensures.kept c.requires.names c.requires.whole (found_with c.args.globals.now.names (whole_in c.args.globals.now.names c.args.globals.now.signatures.items) c.deref.result.now (view_program c.args.program.now) c.in_ok-resolved.field-0 (c.deref.ensures.value ∙ c.in_ok-locals.ensures.locals) c.in_ok-resolved.ensures) c.in-Some.is
 
 pub unreachable-requires : goal.unreachable-requires
 unreachable-requires c =
     not_missing c.kept_programs_resolve.ensures c.args.globals.now.names (whole_in c.args.globals.now.names c.args.globals.now.signatures.items) (view_program c.args.program.now) c.in_ok-resolved.field-0
-    c.requires.formed c.requires.declared c.in_ok-locals.ensures.kept c.requires.names c.requires.whole (found_with c.args.globals.now.names (whole_in c.args.globals.now.names c.args.globals.now.signatures.items) c.deref.result.now (view_program c.args.program.now) c.in_ok-resolved.field-0 (c.deref.ensures.value ∙ c.in_ok-locals.ensures.locals) c.in_ok-resolved.ensures) c.in-None.is
+    c.requires.declared c.in_ok-locals.ensures.kept c.requires.names c.requires.whole (found_with c.args.globals.now.names (whole_in c.args.globals.now.names c.args.globals.now.signatures.items) c.deref.result.now (view_program c.args.program.now) c.in_ok-resolved.field-0 (c.deref.ensures.value ∙ c.in_ok-locals.ensures.locals) c.in_ok-resolved.ensures) c.in-None.is
 
 pub returns-clause-nodes : goal.returns-clause-nodes
 returns-clause-nodes c =

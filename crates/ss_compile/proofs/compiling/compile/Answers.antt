@@ -11,10 +11,6 @@ returns-in-Err-of-clause-refused c =
     let read : IsTreeOf c.args.text.now tree = record { tokens = c.in-Ok.tokens.list; are = c.in-Ok.ensures.found; spelled = c.in-Ok-parse.ensures.found } in
     subst (RefusedFor c.args.text.now) (sym c.declared.ensures) (tables_refused c.args.text.now tree read c.in-Err-of.error c.in-Err-of.ensures.refused)
 
-pub check-requires-clause-formed : goal.check-requires-clause-formed
-check-requires-clause-formed c =
-    c.spelled_trees_are_formed.ensures c.in-Ok.tokens.list 64 (tree_seen c.in-Ok-parse.program) c.in-Ok-parse.ensures.found
-
 pub returns-in-Err-check-clause-refused : goal.returns-in-Err-check-clause-refused
 returns-in-Err-check-clause-refused c =
     let tree = tree_seen c.in-Ok-parse.program in
