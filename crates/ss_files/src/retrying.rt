@@ -27,7 +27,11 @@ impl<T> Retrying<T> {
 impl<T: Read> Read for Retrying<T> {
     ghost remaining = { λ r. T.remaining (retrying_inner r) };
 
-    fn read(&mut self, buf: &mut [u8]) -> io::Result<usize> {
+    fn read(&mut self, buf: &mut [u8]) -> io::Result<usize>
+        ensures bound { ReadsAtMost result buf.new }
+        ensures bytes { ReadConsumes (T.remaining (retrying_inner self.old)) (T.remaining (retrying_inner self.new)) result buf.new }
+        ensures retried { IfErr result (λ e. error_kind e ≢ ErrorKind.Interrupted) }
+    {
         read_again(&mut self.inner, buf)
     }
 }
@@ -35,11 +39,18 @@ impl<T: Read> Read for Retrying<T> {
 impl<T: Write> Write for Retrying<T> {
     ghost contents = { λ w. T.contents (retrying_inner w) };
 
-    fn write(&mut self, buf: &[u8]) -> io::Result<usize> {
+    fn write(&mut self, buf: &[u8]) -> io::Result<usize>
+        ensures bound { WritesAtMost result buf.now }
+        ensures bytes { WriteAppends (T.contents (retrying_inner self.old)) (T.contents (retrying_inner self.new)) result buf.now }
+        ensures retried { IfErr result (λ e. error_kind e ≢ ErrorKind.Interrupted) }
+    {
         write_again(&mut self.inner, buf)
     }
 
-    fn flush(&mut self) -> io::Result<()> {
+    fn flush(&mut self) -> io::Result<()>
+        ensures bytes { Keeps (T.contents (retrying_inner self.old)) (T.contents (retrying_inner self.new)) }
+        ensures retried { IfErr result (λ e. error_kind e ≢ ErrorKind.Interrupted) }
+    {
         flush_again(&mut self.inner)
     }
 }
