@@ -11,7 +11,7 @@ use thiserror::Error;
 
 /// Why a program is refused for what it does with its names and values, with the line of the first place
 /// where it breaks the rule; 0 for `NoMain`.
-#[derive(Clone, Copy, Debug, Error)]
+#[derive(Clone, Copy, Debug, PartialEq, Eq, Error)]
 pub enum CheckError {
     /// There is no MAIN.
     #[error("line {}: no MAIN", .0.0)]

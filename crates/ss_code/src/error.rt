@@ -6,7 +6,7 @@ ghost use Rattle.std.specs.Prelude.{◌≡◌};
 use std::alloc::AllocError;
 
 /// Why a program has no code.
-#[derive(Debug, Clone, Copy, thiserror::Error)]
+#[derive(Clone, Copy, Debug, PartialEq, Eq, thiserror::Error)]
 pub enum CodeError {
     /// The code has more instructions than the limit allows: refusal 81, which has no line.
     #[error("the program is too long")]

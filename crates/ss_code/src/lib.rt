@@ -3,8 +3,12 @@
 
 pub mod code;
 pub mod error;
-pub mod generate;
+mod generating;
 pub mod lines;
 pub mod model;
 mod sayings;
 mod statements;
+
+pub use code::Code;
+pub use error::CodeError;
+pub use generating::generate;

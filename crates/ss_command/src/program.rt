@@ -6,7 +6,8 @@ ghost use Rattle.ss_command.specs.Statuses.{ended_status};
 use ss_base::Counted;
 use ss_engine::{Outcome, Stop, compile, outcome_line, outcome_status, simulate};
 use ss_files::{
-    FileStore, Streams, Trouble, explain, open, read_file, read_source, tell_trouble, write_whole,
+    FileStore, Retrying, Streams, Trouble, explain, open, read_file, read_source, tell_trouble,
+    write_whole,
 };
 use ss_order::Order;
 use std::alloc::{AllocError, Global};
@@ -82,7 +83,7 @@ fn run_text<F: FileStore, O: Write + Drop>(
     }
 }
 
-// Runs a text with the data of this file, which is asked for a block at a time.
+// Runs a text with the data of this file, which is asked for a block at a time, and again where a signal interrupted that.
 fn run_with_input<R: Read + Drop, O: Write + Drop>(
     alloc: Global,
     text: &[u8],
@@ -90,13 +91,13 @@ fn run_with_input<R: Read + Drop, O: Write + Drop>(
     output: O,
     ticks: u64,
 ) -> Result<Outcome, Trouble> {
-    match BufReader::new(alloc, input) {
+    match BufReader::new(alloc, Retrying::new(input)) {
         Ok(reader) => run(alloc, text, reader, output, ticks),
         Err(_) => Err(Trouble::Memory),
     }
 }
 
-// Runs a text with the data of this reader, and writes its report in blocks.
+// Runs a text with the data of this reader, and writes its report in blocks. A write that a signal interrupted is made again.
 fn run<R: Read + Drop, O: Write + Drop>(
     alloc: Global,
     text: &[u8],
@@ -104,7 +105,7 @@ fn run<R: Read + Drop, O: Write + Drop>(
     output: O,
     ticks: u64,
 ) -> Result<Outcome, Trouble> {
-    match BufWriter::new(alloc, output) {
+    match BufWriter::new(alloc, Retrying::new(output)) {
         Ok(writer) => report(alloc, text, input, writer, ticks),
         Err(_) => Err(Trouble::Memory),
     }

@@ -6,9 +6,8 @@ ghost use Rattle.ss_compile.specs.Refusals.{refusal_of_lexer, refusal_of_parser,
 
 use crate::refusal::Refusal;
 use ss_check::{CheckError, check};
-use ss_code::error::CodeError;
-use ss_code::generate::generate;
 use ss_code::model::Model;
+use ss_code::{CodeError, generate};
 use ss_lex::{LexError, tokens};
 use ss_parse::{ParseError, parse};
 use ss_release::{release_checked, release_tree};

@@ -6,7 +6,7 @@ ghost use Rattle.ss_compile.specs.Refusals.{refusal_number, refusal_name, refusa
 use ss_bytes::Line;
 
 /// Why a text is refused, with the line in which that shows.
-#[derive(Clone, Copy)]
+#[derive(Clone, Copy, Debug, PartialEq, Eq)]
 pub enum Refusal {
     /// The text has more bytes than may be. Its line is 0.
     TooLong(Line),

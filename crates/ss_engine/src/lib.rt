@@ -7,5 +7,9 @@ mod simulating;
 
 pub use outcome::{Outcome, outcome_line, outcome_status};
 pub use simulating::simulate;
+pub use ss_base::{
+    Alpha, Counted, FaultKind, Faulty, FaultyRead, FaultyWrite, Line, MemoryRead, MemoryWrite,
+    Plan, Trouble,
+};
 pub use ss_compile::{Model, Refusal, compile};
 pub use ss_sessions::{Session, Stop};

@@ -9,7 +9,7 @@ use ss_sessions::Stop;
 use std::alloc::{AllocError, Global};
 
 /// What came of a text: why it is refused, or why its run stopped, and the ticks that the run used.
-#[derive(Clone, Copy)]
+#[derive(Clone, Copy, Debug, PartialEq, Eq)]
 pub enum Outcome {
     Refused(Refusal),
     Stopped(Stop, u64),

@@ -7,7 +7,7 @@ use ss_pending::Tie;
 use std::alloc::{AllocError, Global};
 
 /// A call of an event list.
-#[derive(Clone, Copy)]
+#[derive(Clone, Copy, Debug, PartialEq, Eq)]
 pub enum Call<'a> {
     /// Schedules a notice at a time, in units, under the rank of its class and its ties.
     Schedule {
@@ -25,7 +25,7 @@ pub enum Call<'a> {
 }
 
 /// What a call of an event list answered.
-#[derive(Clone, Copy, PartialEq)]
+#[derive(Clone, Copy, Debug, PartialEq, Eq)]
 pub enum Answer {
     Done,
     Faulted(FaultKind),

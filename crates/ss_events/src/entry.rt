@@ -32,7 +32,7 @@ const UNTOLD: u64 = u64::MAX;
 /// Where a notice stands among others: its time in units, the rank of its class, and its ties.
 ///
 /// The values are those at the moment when the key is made. A contract sees the record of the three.
-#[derive(Drop)]
+#[derive(Debug, Drop)]
 pub struct Key {
     time: i64,
     rank: usize,

@@ -1,1 +1,2 @@
+pub mod Retrying
 pub mod Statuses

@@ -2,6 +2,7 @@
 ghost use Rattle.std.specs.Prelude.{◌≡◌};
 ghost use Rattle.ss_files.specs.Statuses.{trouble_status};
 
+use crate::retrying::Retrying;
 use crate::trouble::Trouble;
 use ss_order::Misuse;
 use std::io::Write;
@@ -13,8 +14,9 @@ pub struct Streams<I, O, E> {
     pub errors: E,
 }
 
-/// Writes these bytes, and flushes.
-pub fn write_whole<O: Write + Drop>(mut output: O, bytes: &[u8]) -> Result<(), Trouble> {
+/// Writes these bytes, and flushes. A call that a signal interrupted is made again.
+pub fn write_whole<O: Write + Drop>(output: O, bytes: &[u8]) -> Result<(), Trouble> {
+    let mut output = Retrying::new(output);
     let written = output.write_all(bytes).and_then(|()| output.flush());
     match written {
         Ok(()) => Ok(()),
@@ -32,15 +34,12 @@ pub fn tell_trouble<E: Write + Drop>(trouble: Trouble, mut errors: E) -> u8
 }
 
 /// Gives the help that was asked for, or says what is wrong with the words, and answers the exit status.
-pub fn explain<O: Write + Drop, E: Write + Drop>(
-    misuse: &Misuse,
-    mut output: O,
-    mut errors: E,
-) -> u8 {
+pub fn explain<O: Write + Drop, E: Write + Drop>(misuse: &Misuse, output: O, mut errors: E) -> u8 {
     if misuse.status() != 0 {
         let _ = write!(errors, "{misuse}");
         return misuse.status();
     }
+    let mut output = Retrying::new(output);
     let written = write!(output, "{misuse}").and_then(|()| output.flush());
     match written {
         Ok(()) => 0,

@@ -7,7 +7,7 @@ use std::alloc::{AllocError, AllocFailed};
 use thiserror::Error;
 
 /// Why a text has no tokens, with the line in which that shows.
-#[derive(Clone, Copy, Debug, Error)]
+#[derive(Clone, Copy, Debug, PartialEq, Eq, Error)]
 pub enum LexError {
     /// The text has more than `SOURCE_LIMIT` bytes. Its line is 0.
     #[error("the text is too long")]

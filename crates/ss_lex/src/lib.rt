@@ -14,6 +14,6 @@ mod words;
 
 pub use error::LexError;
 pub use law::{one_answer, one_list};
-pub use ss_bytes::{NAME_LIMIT, Name, PictureLine};
+pub use ss_bytes::{Alpha, Line, NAME_LIMIT, Name, PictureLine};
 pub use ss_tokens::{Span, Symbol, Token, TokenKind, Tokens, Word};
 pub use text::{SOURCE_LIMIT, tokens};

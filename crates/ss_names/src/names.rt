@@ -52,7 +52,7 @@ impl Model for Names {
 }
 
 /// A global or a derived name, by its place in the table.
-#[derive(Clone, Copy)]
+#[derive(Clone, Copy, Debug, PartialEq, Eq)]
 pub struct NameId(pub usize);
 
 // What is numbered, and what names stand for.

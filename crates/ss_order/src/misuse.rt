@@ -6,7 +6,7 @@ use clap::Error;
 use std::fmt;
 
 /// Why the words of a command line give no order.
-#[derive(Drop)]
+#[derive(Debug, Drop)]
 pub enum Misuse {
     /// A word that can't stand there, or a call for help; its text is for the user.
     Words(Error),

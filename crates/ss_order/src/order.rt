@@ -11,7 +11,7 @@ use std::alloc::Global;
 use std::convert::AsStr;
 
 /// What a command line asks for. Files are named as the words name them.
-#[derive(Clone, Copy, PartialEq, Debug)]
+#[derive(Clone, Copy, Debug, PartialEq, Eq)]
 pub enum Order<'a> {
     /// Run the text on the standard input, with no input data and 1,000,000 ticks.
     Plain,

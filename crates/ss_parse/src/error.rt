@@ -7,7 +7,7 @@ use ss_bytes::Line;
 use thiserror::Error;
 
 /// Why tokens are refused, with a line of the text.
-#[derive(Clone, Copy, Debug, Error)]
+#[derive(Clone, Copy, Debug, PartialEq, Eq, Error)]
 pub enum ParseError {
     /// The tokens spell no program.
     #[error("line {}: no program goes on so", .0.0)]

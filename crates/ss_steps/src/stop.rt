@@ -1,7 +1,7 @@
 use ss_base::{FaultKind, Line};
 
 /// Why a run stands still.
-#[derive(Clone, Copy, PartialEq)]
+#[derive(Clone, Copy, Debug, PartialEq, Eq)]
 pub enum Stop {
     /// The program came to its end.
     Ended,

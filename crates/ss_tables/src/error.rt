@@ -10,7 +10,7 @@ use std::alloc::AllocError;
 use thiserror::Error;
 
 /// Why a program is refused for what it declares, with the line of the first place where it breaks the rule.
-#[derive(Clone, Copy, Debug, Error)]
+#[derive(Clone, Copy, Debug, PartialEq, Eq, Error)]
 pub enum TableError {
     /// Something is declared or said twice, or a local name hides what may not be hidden.
     #[error("line {}: declared twice", .0.0)]

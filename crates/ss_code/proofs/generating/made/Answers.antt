@@ -5,7 +5,7 @@ use Rattle.ss_machine_code.specs.Running.{Behaves, Lands}
 use Rattle.ss_machine_code.specs.Translation.{code_of}
 use Rattle.ss_code.proofs.Sizes.{code_size}
 use Rattle.ss_code.proofs.Whole.{no_code, instructions_whole, code_whole}
-use Rattle.ss_code.proofs.generate.made.Goals as goal
+use Rattle.ss_code.proofs.generating.made.Goals as goal
 
 pub returns-then-len-limit-clause-too_long : goal.returns-then-len-limit-clause-too_long
 returns-then-len-limit-clause-too_long c = λ q.

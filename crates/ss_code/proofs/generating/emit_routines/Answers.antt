@@ -3,7 +3,7 @@ use Rattle.std.proofs.lemmas.List.{drop_more}
 use Rattle.ss_program.specs.View.{view_body, view_routine}
 use Rattle.ss_machine_code.specs.Translation.{routine_bodies, routine_entry, section_code, block_prints}
 use Rattle.ss_code.proofs.Steps.{section_on, prints_on, routine_on}
-use Rattle.ss_code.proofs.generate.emit_routines.Goals as goal
+use Rattle.ss_code.proofs.generating.emit_routines.Goals as goal
 
 pub loop-routine-preserved : goal.loop-routine-preserved
 loop-routine-preserved c =

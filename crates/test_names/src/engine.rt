@@ -1,0 +1,106 @@
+//! The simulator, by the names of ss_engine alone.
+
+use ss_engine::{
+    Counted, FaultKind, Faulty, FaultyRead, FaultyWrite, Line, MemoryRead, MemoryWrite, Model,
+    Outcome, Plan, Refusal, Session, Stop, Trouble, compile, outcome_line, outcome_status,
+    simulate,
+};
+use std::alloc::{AllocError, Global};
+use std::test::Fail;
+
+static ANSWER: &[u8] = b"MAIN\nPRINT 1 LINE WITH 6*7 THUS\nANSWER ***\nEND";
+
+// It prints 1, 2 and 3, and uses a tick for each.
+static THREE: &[u8] = b"PREAMBLE NORMALLY, MODE IS INTEGER END\n\
+MAIN\n\
+FOR I = 1 TO 3\n\
+PRINT 1 LINE WITH I THUS\n\
+*\n\
+END";
+
+static TOO_FEW: &[u8] = b"PREAMBLE NORMALLY, MODE IS INTEGER END\nMAIN\nREAD X\nREAD Y\nEND";
+
+// A report of at most 100 bytes.
+fn report(alloc: Global) -> Result<MemoryWrite, AllocError> {
+    MemoryWrite::new(alloc, 100, Plan::smooth(4096), Trouble::Error)
+}
+
+// What came of a run with these data, and whether the report is this.
+fn ran<R: FaultyRead + Drop>(
+    alloc: Global,
+    text: &[u8],
+    data: R,
+    wanted: &[u8],
+) -> Result<(Outcome, bool), AllocError> {
+    let (outcome, _data, report) = simulate(alloc, text, data, report(alloc)?, &[1_000_000]);
+    Ok((outcome, report.bytes() == wanted))
+}
+
+#[test]
+fn a_text_is_run(rt: HostRuntime) -> Result<(), Fail> {
+    let data = Counted::new(b"".as_slice());
+    let ended = Outcome::Stopped(Stop::Ended, 0);
+    assert_eq!(rt;
+        ran(rt.alloc(), ANSWER, data, b"ANSWER  42\n")?,
+        (ended, true)
+    );
+    assert_eq!(rt; outcome_status(&ended), 0);
+    Ok(())
+}
+
+#[test]
+fn a_fault_has_its_line(rt: HostRuntime) -> Result<(), Fail> {
+    let data = MemoryRead::new(rt.alloc(), b"5 12x", Plan::smooth(1))?;
+    let fault = Outcome::Stopped(Stop::Fault(FaultKind::BadData, Line(4)), 0);
+    assert_eq!(rt; ran(rt.alloc(), TOO_FEW, data, b"")?, (fault, true));
+    assert_eq!(rt; outcome_status(&fault), 3);
+    Ok(())
+}
+
+#[test]
+fn a_text_is_refused(rt: HostRuntime) -> Result<(), Fail> {
+    let refused = Outcome::Refused(Refusal::NoMain(Line(0)));
+    let line = outcome_line(rt.alloc(), &refused)?;
+    assert_eq!(rt;
+        line.as_slice(),
+        b"refused 71 NoMain at line 0\n".as_slice()
+    );
+    Ok(())
+}
+
+// Whether a writer failed.
+fn has_failed<W: FaultyWrite>(writer: &W) -> bool {
+    writer.faults() > 0
+}
+
+#[test]
+fn a_writer_fails(rt: HostRuntime) -> Result<(), Fail> {
+    let data = Counted::new(b"".as_slice());
+    let plan = Plan::wrong_after_bytes(4096, 3);
+    let report = MemoryWrite::new(rt.alloc(), 100, plan, Trouble::Error)?;
+    let (outcome, _data, report) = simulate(rt.alloc(), THREE, data, report, &[3]);
+    assert_eq!(rt; outcome, Outcome::Stopped(Stop::Output, 2));
+    assert_eq!(rt; report.bytes(), b"1\n2".as_slice());
+    assert!(rt; has_failed(&report));
+    Ok(())
+}
+
+// What the pieces of a session answer, and how many ticks they used.
+fn pieces(alloc: Global, model: Model) -> Result<([Stop; 3], u64), AllocError> {
+    let data = MemoryRead::new(alloc, b"", Plan::smooth(1))?;
+    let Ok(mut session) = Session::start(alloc, model, data, report(alloc)?) else {
+        return Err(AllocError);
+    };
+    let stops = [session.run(1), session.run(1), session.run(1)];
+    let used = session.used();
+    let (_data, _report) = session.close();
+    Ok((stops, used))
+}
+
+#[test]
+fn a_session_runs_in_pieces(rt: HostRuntime) -> Result<(), Fail> {
+    let model = compile(rt.alloc(), THREE).map_err(|_| AllocError)?;
+    let stops = [Stop::Paused, Stop::Paused, Stop::Ended];
+    assert_eq!(rt; pieces(rt.alloc(), model)?, (stops, 3));
+    Ok(())
+}
