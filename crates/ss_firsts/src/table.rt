@@ -36,6 +36,11 @@ impl<K: Copy + Eq + Hash, V: Copy> Table<K, V> {
         }
     }
 
+    /// The seed with which it was made.
+    pub fn seed(&self) -> Seed {
+        *self.map.hasher()
+    }
+
     /// How many entries there are.
     pub fn len(&self) -> usize
         ensures { result ≡ length self.now }
