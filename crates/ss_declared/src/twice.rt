@@ -102,7 +102,7 @@ fn sets_again(
 {
     let owner = again(alloc, seed, Topic::Owner, sayings, found)?;
     let member = again(alloc, seed, Topic::Member, sayings, owner)?;
-    let defined = again(alloc, seed, Topic::Discipline, sayings, member)?;
+    let defined = again_said(alloc, seed, Topic::Discipline, Topic::Set, sayings, member)?;
     Ok(defined)
 }
 
