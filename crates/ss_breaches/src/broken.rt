@@ -14,6 +14,7 @@ use ss_declared::rules::{
     no_member, no_owner, rank_key, real_mode, tie_key, twice, unknown_class, unknown_set,
 };
 use ss_declared::{Broken, Globals, Rule, globals_of};
+use ss_firsts::Seed;
 use ss_sayings::Saying;
 use ss_tree::program::Section;
 use std::alloc::{AllocError, Global};
@@ -32,14 +33,14 @@ fn place_of(
     match rule {
         Rule::Twice => twice(alloc, globals, sayings),
         Rule::RealMode => real_mode(alloc, globals, sayings, sections),
-        Rule::UnknownClass => unknown_class(alloc, sayings),
-        Rule::UnknownSet => unknown_set(alloc, sayings),
-        Rule::NoOwner => no_owner(alloc, sayings),
-        Rule::NoMember => no_member(alloc, sayings),
-        Rule::RankKey => rank_key(alloc, sayings),
-        Rule::TallyTwice => tally_twice(alloc, sayings),
-        Rule::TooMany => too_many(alloc, sayings),
-        Rule::TieKey => tie_key(alloc, sayings),
+        Rule::UnknownClass => unknown_class(alloc, globals.seed(), sayings),
+        Rule::UnknownSet => unknown_set(alloc, globals.seed(), sayings),
+        Rule::NoOwner => no_owner(alloc, globals.seed(), sayings),
+        Rule::NoMember => no_member(alloc, globals.seed(), sayings),
+        Rule::RankKey => rank_key(alloc, globals.seed(), sayings),
+        Rule::TallyTwice => tally_twice(alloc, globals.seed(), sayings),
+        Rule::TooMany => too_many(alloc, globals.seed(), sayings),
+        Rule::TieKey => tie_key(alloc, globals.seed(), sayings),
     }
 }
 
@@ -94,18 +95,19 @@ fn first_broken(
 
 /// The first rule that a program breaks by what it declares, in the order of the rules' numbers, with the
 /// first line where it does; None where it keeps them all. The sayings are those of the program
-/// (`sayings_of` of ss_gathering), the sections its sections.
+/// (`sayings_of` of ss_gathering), the seed is made from them (`seed_of` of ss_declared), the sections are its sections.
 ///
 /// # Errors
 /// `AllocError` where memory is refused.
 pub fn refusal_of(
     alloc: Global,
+    seed: Seed,
     sayings: &[Saying],
     sections: &[Section],
 ) -> Result<Option<Broken>, AllocError>
     ensures { IfOk result (λ b. b ≡ refusal_by sayings.now (map view_section sections.now)) }
 {
-    let globals = globals_of(alloc, sayings)?;
+    let globals = globals_of(alloc, seed, sayings)?;
     let rules = [
         Rule::Twice,
         Rule::RealMode,

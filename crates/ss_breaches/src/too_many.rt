@@ -10,6 +10,7 @@ ghost use Rattle.ss_breaches.specs.Counts.{count_of, AreCounts, CountsOne};
 use ss_bytes::{Line, Name};
 use ss_declared::laws::later_lines_grow;
 use ss_declared::{class_lines, set_lines, sooner, sooner_if};
+use ss_firsts::Seed;
 use ss_sayings::{Said, Saying};
 use std::alloc::{AllocError, Global};
 use std::collections::HashMap;
@@ -51,15 +52,15 @@ fn attribute_class(said: &Said) -> Option<Name>
 /// How many attributes each class has, up to 64.
 #[derive(Drop)]
 pub struct Counts {
-    map: HashMap<Name, usize>,
+    map: HashMap<Name, usize, Seed>,
 }
 
 impl Counts {
-    fn new(alloc: Global) -> Counts
+    fn new(alloc: Global, seed: Seed) -> Counts
         ensures { result.map.entries ≡ [] }
     {
         Counts {
-            map: HashMap::new(alloc),
+            map: HashMap::with_hasher(alloc, seed),
         }
     }
 
@@ -109,13 +110,14 @@ impl Counts {
 /// What was found so far, or the first line of an attribute of a class that has 64 before it.
 fn attributes(
     alloc: Global,
+    seed: Seed,
     sayings: &[Saying],
     found: Option<Line>,
 ) -> Result<Option<Line>, AllocError>
     ensures { IfOk result (λ line. line ≡ soonest found (later_lines line_of is_past sayings.now)) }
 {
     later_lines_grow();
-    let mut counts = Counts::new(alloc);
+    let mut counts = Counts::new(alloc, seed);
     let mut found = found;
     for saying in sayings {
         found = sooner_if(found, counts.is_past(saying), saying.line);
@@ -125,13 +127,13 @@ fn attributes(
 }
 
 /// The first line of a class, a set or an attribute of one class past the first 64.
-pub fn too_many(alloc: Global, sayings: &[Saying]) -> Result<Option<Line>, AllocError>
+pub fn too_many(alloc: Global, seed: Seed, sayings: &[Saying]) -> Result<Option<Line>, AllocError>
     ensures { IfOk result (λ line. line ≡ first_line (too_many sayings.now)) }
 {
     let classes = class_lines(alloc, sayings)?;
     let class = past_most(None, &classes);
-    let sets = set_lines(alloc, sayings)?;
+    let sets = set_lines(alloc, seed, sayings)?;
     let set = past_most(class, &sets);
-    let attribute = attributes(alloc, sayings, set)?;
+    let attribute = attributes(alloc, seed, sayings, set)?;
     Ok(attribute)
 }

@@ -157,9 +157,12 @@ two_classes_of_members = refl
 pub set_defined_twice : refusal (declares (integers ∷ define_sets (line 2) (names1 pool) fifo ∷ class 3 job (belongs_to (names1 pool) ∷ []) ∷ system_pool 4 ∷ define_sets (line 5) (names1 pool) lifo ∷ [])) ≡ at Twice 5
 set_defined_twice = refl
 
--- also one that is no set
-pub no_set_defined_twice : refusal (declares (integers ∷ define_sets (line 2) (names2 pool pool) fifo ∷ [])) ≡ at Twice 2
+-- what is no set is refused as that, at the first
+pub no_set_defined_twice : refusal (declares (integers ∷ define_sets (line 2) (names1 pool) fifo ∷ define_sets (line 3) (names1 pool) fifo ∷ [])) ≡ at UnknownSet 2
 no_set_defined_twice = refl
+
+pub no_set_twice_in_one_define : refusal (declares (integers ∷ define_sets (line 2) (names2 pool pool) fifo ∷ [])) ≡ at UnknownSet 2
+no_set_twice_in_one_define = refl
 
 -- a DEFINE gives an attribute its mode, also before the EVERY
 pub mode_of_an_attribute : refusal (declares (variable 1 rank ∷ class 2 job (has (names1 rank) ∷ []) ∷ [])) ≡ None

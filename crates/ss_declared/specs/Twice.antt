@@ -65,10 +65,10 @@ hidings says = lines_where line_of (hides (declarations says)) says
 
 -- ---- the rule
 
--- a set has two owners, two classes of members or two DEFINEs, also where no clause owns it or belongs to it
+-- a set has two owners, two classes of members or two DEFINEs
 abbrev pub sets_again : List Saying → List Line
 sets_again says =
-    again topics.Owner anything says ++ again topics.Member anything says ++ again topics.Discipline anything says
+    again topics.Owner anything says ++ again topics.Member anything says ++ again topics.Discipline (is_said topics.Set says) says
 
 -- an attribute has two modes
 abbrev pub modes_again : List Saying → List Line

@@ -6,7 +6,7 @@ ghost use Rattle.ss_declared.specs.Classes.{kept_of, class_kept, AreClasses, Kee
 
 use crate::topic::{Thing, Topic, class_in, is_about, thing_of};
 use ss_bytes::Name;
-use ss_firsts::Table;
+use ss_firsts::{Seed, Table};
 use ss_sayings::Saying;
 use std::alloc::{AllocError, Global};
 
@@ -17,11 +17,11 @@ pub struct Classes {
 }
 
 impl Classes {
-    fn new(alloc: Global) -> Classes
+    fn new(alloc: Global, seed: Seed) -> Classes
         ensures { result.map ≡ [] }
     {
         Classes {
-            map: Table::new(alloc),
+            map: Table::new(alloc, seed),
         }
     }
 
@@ -66,10 +66,15 @@ impl Classes {
 }
 
 /// The classes that sayings about this tell, each the first.
-pub fn classes_said(alloc: Global, topic: Topic, sayings: &[Saying]) -> Result<Classes, AllocError>
+pub fn classes_said(
+    alloc: Global,
+    seed: Seed,
+    topic: Topic,
+    sayings: &[Saying],
+) -> Result<Classes, AllocError>
     ensures { IfOk result (λ classes. AreClasses topic sayings.now classes) }
 {
-    let mut classes = Classes::new(alloc);
+    let mut classes = Classes::new(alloc, seed);
     for saying in sayings {
         classes.note(topic, saying)?;
     }

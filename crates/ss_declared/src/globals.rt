@@ -14,7 +14,7 @@ use crate::lines::sooner_if;
 use crate::things::{Things, things_said};
 use crate::topic::Topic;
 use ss_bytes::{Line, Name};
-use ss_firsts::{Spelling, Table};
+use ss_firsts::{Seed, Spelling, Table};
 use ss_sayings::{Said, Saying};
 use ss_tree::preamble::ClassKind;
 use std::alloc::{AllocError, Global};
@@ -67,13 +67,18 @@ pub struct Globals {
 }
 
 impl Globals {
-    fn new(alloc: Global) -> Globals
+    fn new(alloc: Global, seed: Seed) -> Globals
         ensures { Tells [] result }
     {
         Globals {
-            map: Table::new(alloc),
+            map: Table::new(alloc, seed),
             clash: None,
         }
+    }
+
+    /// The seed with which it was made.
+    pub fn seed(&self) -> Seed {
+        self.map.seed()
     }
 
     /// The first line where a name is declared as another thing.
@@ -188,12 +193,13 @@ impl Globals {
 /// What some sayings declare, where these are the attributes.
 fn globals_with(
     alloc: Global,
+    seed: Seed,
     attributes: &Things,
     sayings: &[Saying],
 ) -> Result<Globals, AllocError>
     ensures { IfOk result (Tells (flat_map (saying_declares (has_global attributes.now)) sayings.now)) }
 {
-    let mut globals = Globals::new(alloc);
+    let mut globals = Globals::new(alloc, seed);
     for saying in sayings {
         globals.note(attributes, saying)?;
     }
@@ -204,9 +210,9 @@ fn globals_with(
 ///
 /// # Errors
 /// `AllocError` where memory is refused.
-pub fn globals_of(alloc: Global, sayings: &[Saying]) -> Result<Globals, AllocError>
+pub fn globals_of(alloc: Global, seed: Seed, sayings: &[Saying]) -> Result<Globals, AllocError>
     ensures { IfOk result (Tells (declarations sayings.now)) }
 {
-    let attributes = things_said(alloc, Topic::Attribute, sayings)?;
-    globals_with(alloc, &attributes, sayings)
+    let attributes = things_said(alloc, seed, Topic::Attribute, sayings)?;
+    globals_with(alloc, seed, &attributes, sayings)
 }

@@ -10,6 +10,7 @@ ghost use Rattle.ss_declared.specs.TooMany.{classes, is_new_set, sets};
 use crate::things::Things;
 use crate::topic::{Topic, is_about, thing_of};
 use ss_bytes::Line;
+use ss_firsts::Seed;
 use ss_sayings::Saying;
 use std::alloc::{AllocError, Global};
 
@@ -52,10 +53,10 @@ fn is_new_set(before: &Things, saying: &Saying) -> bool
 ///
 /// # Errors
 /// `AllocError` where memory is refused.
-pub fn set_lines(alloc: Global, sayings: &[Saying]) -> Result<Vec<Line>, AllocError>
+pub fn set_lines(alloc: Global, seed: Seed, sayings: &[Saying]) -> Result<Vec<Line>, AllocError>
     ensures { IfOk result (λ lines. lines.items ≡ sets sayings.now) }
 {
-    let mut before = Things::new(alloc);
+    let mut before = Things::new(alloc, seed);
     let mut lines = Vec::new(alloc);
     for saying in sayings {
         push_if(&mut lines, is_new_set(&before, saying), saying.line)?;

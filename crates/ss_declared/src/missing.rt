@@ -11,6 +11,7 @@ use crate::lines::sooner_if;
 use crate::things::{Things, things_said};
 use crate::topic::{Topic, is_about, thing_of};
 use ss_bytes::Line;
+use ss_firsts::Seed;
 use ss_sayings::Saying;
 use std::alloc::{AllocError, Global};
 
@@ -25,6 +26,7 @@ fn is_of_none(topic: Topic, saying: &Saying, things: &Things) -> bool
 /// about the other.
 pub fn missing(
     alloc: Global,
+    seed: Seed,
     topic: Topic,
     other: Topic,
     sayings: &[Saying],
@@ -32,7 +34,7 @@ pub fn missing(
 ) -> Result<Option<Line>, AllocError>
     ensures { IfOk result (λ line. line ≡ soonest found (missing topic other sayings.now)) }
 {
-    let things = things_said(alloc, other, sayings)?;
+    let things = things_said(alloc, seed, other, sayings)?;
     Ok(missing_among(topic, &things, sayings, found))
 }
 

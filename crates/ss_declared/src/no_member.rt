@@ -7,6 +7,7 @@ ghost use Rattle.ss_declared.specs.NoMember.{no_member};
 use crate::missing::missing;
 use crate::topic::Topic;
 use ss_bytes::Line;
+use ss_firsts::Seed;
 use ss_sayings::Saying;
 use std::alloc::{AllocError, Global};
 
@@ -14,8 +15,8 @@ use std::alloc::{AllocError, Global};
 ///
 /// # Errors
 /// `AllocError` where memory is refused.
-pub fn no_member(alloc: Global, sayings: &[Saying]) -> Result<Option<Line>, AllocError>
+pub fn no_member(alloc: Global, seed: Seed, sayings: &[Saying]) -> Result<Option<Line>, AllocError>
     ensures { IfOk result (λ line. line ≡ first_line (no_member sayings.now)) }
 {
-    missing(alloc, Topic::Owner, Topic::Member, sayings, None)
+    missing(alloc, seed, Topic::Owner, Topic::Member, sayings, None)
 }

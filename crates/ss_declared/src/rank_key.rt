@@ -13,6 +13,7 @@ use crate::classes::{Classes, classes_said};
 use crate::lines::sooner_if;
 use crate::topic::{Topic, thing_of};
 use ss_bytes::{Line, Name};
+use ss_firsts::Seed;
 use ss_sayings::{Said, Saying};
 use std::alloc::{AllocError, Global};
 use std::collections::HashMap;
@@ -137,10 +138,10 @@ fn misranked(ranks: &Ranks, attributes: &Classes, sayings: &[Saying]) -> Option<
 }
 
 /// What is known of the members of the sets of each DEFINE.
-fn ranks_said(alloc: Global, sayings: &[Saying]) -> Result<Ranks, AllocError>
+fn ranks_said(alloc: Global, seed: Seed, sayings: &[Saying]) -> Result<Ranks, AllocError>
     ensures { IfOk result (λ ranks. AreRanks sayings.now sayings.now ranks) }
 {
-    let classes = classes_said(alloc, Topic::Member, sayings)?;
+    let classes = classes_said(alloc, seed, Topic::Member, sayings)?;
     ranks_of(alloc, &classes, sayings)
 }
 
@@ -148,10 +149,10 @@ fn ranks_said(alloc: Global, sayings: &[Saying]) -> Result<Ranks, AllocError>
 ///
 /// # Errors
 /// `AllocError` where memory is refused.
-pub fn rank_key(alloc: Global, sayings: &[Saying]) -> Result<Option<Line>, AllocError>
+pub fn rank_key(alloc: Global, seed: Seed, sayings: &[Saying]) -> Result<Option<Line>, AllocError>
     ensures { IfOk result (λ line. line ≡ first_line (rank_key sayings.now)) }
 {
-    let ranks = ranks_said(alloc, sayings)?;
-    let attributes = classes_said(alloc, Topic::Attribute, sayings)?;
+    let ranks = ranks_said(alloc, seed, sayings)?;
+    let attributes = classes_said(alloc, seed, Topic::Attribute, sayings)?;
     Ok(misranked(&ranks, &attributes, sayings))
 }

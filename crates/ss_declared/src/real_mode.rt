@@ -142,9 +142,24 @@ fn unmoded(
     requires { Tells (declarations sayings.now) globals.now }
     ensures { IfOk result (λ line. line ≡ soonest found (unmoded sayings.now (map view_section sections.now))) }
 {
-    let attribute = missing(alloc, Topic::Attribute, Topic::Variable, sayings, found)?;
-    let parameter = missing(alloc, Topic::Parameter, Topic::Local, sayings, attribute)?;
-    let locals = things_said(alloc, Topic::Local, sayings)?;
+    let seed = globals.seed();
+    let attribute = missing(
+        alloc,
+        seed,
+        Topic::Attribute,
+        Topic::Variable,
+        sayings,
+        found,
+    )?;
+    let parameter = missing(
+        alloc,
+        seed,
+        Topic::Parameter,
+        Topic::Local,
+        sayings,
+        attribute,
+    )?;
+    let locals = things_said(alloc, seed, Topic::Local, sayings)?;
     let mentioned = unmoded_in(alloc, globals, &locals, sections, parameter)?;
     Ok(mentioned)
 }

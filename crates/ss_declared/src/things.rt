@@ -6,7 +6,7 @@ ghost use Rattle.ss_declared.specs.Topics.{thing_of};
 ghost use Rattle.ss_declared.specs.Things.{has_thing, with_thing, AreSaid};
 
 use crate::topic::{Thing, Topic, is_about, thing_of};
-use ss_firsts::Keys;
+use ss_firsts::{Keys, Seed};
 use ss_sayings::Saying;
 use std::alloc::{AllocError, Global};
 use std::marker::Model;
@@ -28,11 +28,11 @@ impl Model for Things {
 
 impl Things {
     /// Nothing.
-    pub fn new(alloc: Global) -> Things
+    pub fn new(alloc: Global, seed: Seed) -> Things
         ensures { result ≡ [] }
     {
         Things {
-            set: Keys::new(alloc),
+            set: Keys::new(alloc, seed),
         }
     }
 
@@ -61,10 +61,15 @@ impl Things {
 }
 
 /// What the sayings about this are of.
-pub fn things_said(alloc: Global, topic: Topic, sayings: &[Saying]) -> Result<Things, AllocError>
+pub fn things_said(
+    alloc: Global,
+    seed: Seed,
+    topic: Topic,
+    sayings: &[Saying],
+) -> Result<Things, AllocError>
     ensures { IfOk result (λ things. AreSaid topic sayings.now things) }
 {
-    let mut things = Things::new(alloc);
+    let mut things = Things::new(alloc, seed);
     for saying in sayings {
         things.note(topic, saying)?;
     }

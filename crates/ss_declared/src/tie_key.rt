@@ -11,6 +11,7 @@ use crate::classes::{Classes, classes_said};
 use crate::lines::sooner_if;
 use crate::topic::{Topic, thing_of};
 use ss_bytes::{Line, Name};
+use ss_firsts::Seed;
 use ss_sayings::{Said, Saying};
 use std::alloc::{AllocError, Global};
 
@@ -46,9 +47,9 @@ fn mistied(attributes: &Classes, sayings: &[Saying]) -> Option<Line>
 ///
 /// # Errors
 /// `AllocError` where memory is refused.
-pub fn tie_key(alloc: Global, sayings: &[Saying]) -> Result<Option<Line>, AllocError>
+pub fn tie_key(alloc: Global, seed: Seed, sayings: &[Saying]) -> Result<Option<Line>, AllocError>
     ensures { IfOk result (λ line. line ≡ first_line (tie_key sayings.now)) }
 {
-    let attributes = classes_said(alloc, Topic::Attribute, sayings)?;
+    let attributes = classes_said(alloc, seed, Topic::Attribute, sayings)?;
     Ok(mistied(&attributes, sayings))
 }

@@ -15,6 +15,7 @@ use crate::lines::sooner_if;
 use crate::things::{Things, things_said};
 use crate::topic::{Topic, is_about, thing_of};
 use ss_bytes::Line;
+use ss_firsts::Seed;
 use ss_sayings::Saying;
 use std::alloc::{AllocError, Global};
 
@@ -31,13 +32,14 @@ pub fn is_of_one(topic: Topic, saying: &Saying, things: &Things) -> bool
 /// `AllocError` where memory is refused.
 pub fn again(
     alloc: Global,
+    seed: Seed,
     topic: Topic,
     sayings: &[Saying],
     found: Option<Line>,
 ) -> Result<Option<Line>, AllocError>
     ensures { IfOk result (λ line. line ≡ soonest found (again topic anything sayings.now)) }
 {
-    let mut before = Things::new(alloc);
+    let mut before = Things::new(alloc, seed);
     let mut found = found;
     for saying in sayings {
         found = sooner_if(found, is_of_one(topic, saying, &before), saying.line);
@@ -56,6 +58,7 @@ fn is_of_both(topic: Topic, saying: &Saying, first: &Things, second: &Things) ->
 /// The same, where only these things count.
 fn again_among(
     alloc: Global,
+    seed: Seed,
     topic: Topic,
     counted: &Things,
     sayings: &[Saying],
@@ -63,7 +66,7 @@ fn again_among(
 ) -> Result<Option<Line>, AllocError>
     ensures { IfOk result (λ line. line ≡ soonest found (again topic (has_thing counted.now) sayings.now)) }
 {
-    let mut before = Things::new(alloc);
+    let mut before = Things::new(alloc, seed);
     let mut found = found;
     for saying in sayings {
         let counts = is_of_both(topic, saying, counted, &before);
@@ -76,6 +79,7 @@ fn again_among(
 /// The same, where things count of which some saying is about the other.
 fn again_said(
     alloc: Global,
+    seed: Seed,
     topic: Topic,
     other: Topic,
     sayings: &[Saying],
@@ -83,78 +87,90 @@ fn again_said(
 ) -> Result<Option<Line>, AllocError>
     ensures { IfOk result (λ line. line ≡ soonest found (again topic (is_said other sayings.now) sayings.now)) }
 {
-    let counted = things_said(alloc, other, sayings)?;
-    again_among(alloc, topic, &counted, sayings, found)
+    let counted = things_said(alloc, seed, other, sayings)?;
+    again_among(alloc, seed, topic, &counted, sayings, found)
 }
 
 /// A set with two owners, two classes of members or two DEFINEs.
 fn sets_again(
     alloc: Global,
+    seed: Seed,
     sayings: &[Saying],
     found: Option<Line>,
 ) -> Result<Option<Line>, AllocError>
     ensures { IfOk result (λ line. line ≡ soonest found (sets_again sayings.now)) }
 {
-    let owner = again(alloc, Topic::Owner, sayings, found)?;
-    let member = again(alloc, Topic::Member, sayings, owner)?;
-    let defined = again(alloc, Topic::Discipline, sayings, member)?;
+    let owner = again(alloc, seed, Topic::Owner, sayings, found)?;
+    let member = again(alloc, seed, Topic::Member, sayings, owner)?;
+    let defined = again_said(alloc, seed, Topic::Discipline, Topic::Set, sayings, member)?;
     Ok(defined)
 }
 
 /// NORMALLY, PRIORITY ORDER or MAIN that stands twice.
 fn statements_again(
     alloc: Global,
+    seed: Seed,
     sayings: &[Saying],
     found: Option<Line>,
 ) -> Result<Option<Line>, AllocError>
     ensures { IfOk result (λ line. line ≡ soonest found (statements_again sayings.now)) }
 {
-    let normally = again(alloc, Topic::Normally, sayings, found)?;
-    let order = again(alloc, Topic::PriorityOrder, sayings, normally)?;
-    let main = again(alloc, Topic::Main, sayings, order)?;
+    let normally = again(alloc, seed, Topic::Normally, sayings, found)?;
+    let order = again(alloc, seed, Topic::PriorityOrder, sayings, normally)?;
+    let main = again(alloc, seed, Topic::Main, sayings, order)?;
     Ok(main)
 }
 
 /// A class that is named twice in PRIORITY ORDER, or that has two BREAKs or two EVENT sections.
 fn classes_again(
     alloc: Global,
+    seed: Seed,
     sayings: &[Saying],
     found: Option<Line>,
 ) -> Result<Option<Line>, AllocError>
     ensures { IfOk result (λ line. line ≡ soonest found (classes_again sayings.now)) }
 {
-    let priority = again_said(alloc, Topic::Priority, Topic::Class, sayings, found)?;
-    let ties = again_said(alloc, Topic::Ties, Topic::Class, sayings, priority)?;
-    let event = again_said(alloc, Topic::Event, Topic::Class, sayings, ties)?;
+    let priority = again_said(alloc, seed, Topic::Priority, Topic::Class, sayings, found)?;
+    let ties = again_said(alloc, seed, Topic::Ties, Topic::Class, sayings, priority)?;
+    let event = again_said(alloc, seed, Topic::Event, Topic::Class, sayings, ties)?;
     Ok(event)
 }
 
 /// A parameter that repeats one, or a local DEFINE that does.
 fn locals_again(
     alloc: Global,
+    seed: Seed,
     sayings: &[Saying],
     found: Option<Line>,
 ) -> Result<Option<Line>, AllocError>
     ensures { IfOk result (λ line. line ≡ soonest found (locals_again sayings.now)) }
 {
-    let parameter = again(alloc, Topic::Parameter, sayings, found)?;
-    let local = again(alloc, Topic::Local, sayings, parameter)?;
+    let parameter = again(alloc, seed, Topic::Parameter, sayings, found)?;
+    let local = again(alloc, seed, Topic::Local, sayings, parameter)?;
     Ok(local)
 }
 
 /// What may be said once and is said again.
 fn repeats(
     alloc: Global,
+    seed: Seed,
     sayings: &[Saying],
     found: Option<Line>,
 ) -> Result<Option<Line>, AllocError>
     ensures { IfOk result (λ line. line ≡ soonest found (repeats sayings.now)) }
 {
-    let sets = sets_again(alloc, sayings, found)?;
-    let modes = again_said(alloc, Topic::Variable, Topic::Attribute, sayings, sets)?;
-    let statements = statements_again(alloc, sayings, modes)?;
-    let classes = classes_again(alloc, sayings, statements)?;
-    let locals = locals_again(alloc, sayings, classes)?;
+    let sets = sets_again(alloc, seed, sayings, found)?;
+    let modes = again_said(
+        alloc,
+        seed,
+        Topic::Variable,
+        Topic::Attribute,
+        sayings,
+        sets,
+    )?;
+    let statements = statements_again(alloc, seed, sayings, modes)?;
+    let classes = classes_again(alloc, seed, sayings, statements)?;
+    let locals = locals_again(alloc, seed, sayings, classes)?;
     Ok(locals)
 }
 
@@ -196,6 +212,6 @@ pub fn twice(
     requires { Tells (declarations sayings.now) globals.now }
     ensures { IfOk result (λ line. line ≡ first_line (twice sayings.now)) }
 {
-    let repeated = repeats(alloc, sayings, globals.clash())?;
+    let repeated = repeats(alloc, globals.seed(), sayings, globals.clash())?;
     Ok(hidings(globals, sayings, repeated))
 }

@@ -7,6 +7,7 @@ ghost use Rattle.ss_declared.specs.UnknownClass.{unknown_class};
 use crate::missing::missing;
 use crate::topic::Topic;
 use ss_bytes::Line;
+use ss_firsts::Seed;
 use ss_sayings::Saying;
 use std::alloc::{AllocError, Global};
 
@@ -14,10 +15,14 @@ use std::alloc::{AllocError, Global};
 ///
 /// # Errors
 /// `AllocError` where memory is refused.
-pub fn unknown_class(alloc: Global, sayings: &[Saying]) -> Result<Option<Line>, AllocError>
+pub fn unknown_class(
+    alloc: Global,
+    seed: Seed,
+    sayings: &[Saying],
+) -> Result<Option<Line>, AllocError>
     ensures { IfOk result (λ line. line ≡ first_line (unknown_class sayings.now)) }
 {
-    let priority = missing(alloc, Topic::Priority, Topic::Notice, sayings, None)?;
-    let ties = missing(alloc, Topic::Ties, Topic::Notice, sayings, priority)?;
+    let priority = missing(alloc, seed, Topic::Priority, Topic::Notice, sayings, None)?;
+    let ties = missing(alloc, seed, Topic::Ties, Topic::Notice, sayings, priority)?;
     Ok(ties)
 }

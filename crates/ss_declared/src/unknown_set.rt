@@ -7,6 +7,7 @@ ghost use Rattle.ss_declared.specs.UnknownSet.{unknown_set};
 use crate::missing::missing;
 use crate::topic::Topic;
 use ss_bytes::Line;
+use ss_firsts::Seed;
 use ss_sayings::Saying;
 use std::alloc::{AllocError, Global};
 
@@ -14,8 +15,12 @@ use std::alloc::{AllocError, Global};
 ///
 /// # Errors
 /// `AllocError` where memory is refused.
-pub fn unknown_set(alloc: Global, sayings: &[Saying]) -> Result<Option<Line>, AllocError>
+pub fn unknown_set(
+    alloc: Global,
+    seed: Seed,
+    sayings: &[Saying],
+) -> Result<Option<Line>, AllocError>
     ensures { IfOk result (λ line. line ≡ first_line (unknown_set sayings.now)) }
 {
-    missing(alloc, Topic::Discipline, Topic::Set, sayings, None)
+    missing(alloc, seed, Topic::Discipline, Topic::Set, sayings, None)
 }

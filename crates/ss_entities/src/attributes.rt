@@ -9,7 +9,7 @@ ghost use Rattle.ss_sayings.specs.Sayings.{NameBytes};
 
 use crate::entry::{Attribute, Class};
 use ss_bytes::Name;
-use ss_firsts::{Table, is_told};
+use ss_firsts::{Seed, Table, is_told};
 use ss_sayings::{Said, Saying};
 use ss_tree::preamble::Mode;
 use std::alloc::{AllocError, Global};
@@ -100,12 +100,12 @@ impl Attributes {
     }
 
     // None of so many classes.
-    fn none(alloc: Global, count: usize) -> Result<Attributes, AllocError>
+    fn none(alloc: Global, seed: Seed, count: usize) -> Result<Attributes, AllocError>
         ensures { IfOk result (λ a. a ≡ record { entries = []; fields = fields_of [] count }) }
     {
         let fields = no_fields(alloc, count)?;
         Ok(Attributes {
-            entries: Table::new(alloc),
+            entries: Table::new(alloc, seed),
             fields,
         })
     }
@@ -182,7 +182,7 @@ pub fn attributes_of(
 ) -> Result<Attributes, AllocError>
     ensures { IfOk result (AreAttributes usual defined.now (length classes.now) (firsts (flat_map (attribute_by classes.now) sayings.now))) }
 {
-    let mut attributes = Attributes::none(alloc, classes.as_slice().len())?;
+    let mut attributes = Attributes::none(alloc, classes.seed(), classes.len())?;
     for saying in sayings {
         note_attribute(&mut attributes, classes, usual, defined, saying)?;
     }

@@ -8,7 +8,7 @@ ghost use Rattle.ss_firsts.specs.Firsts.{firsts};
 use crate::entry::Class;
 use crate::telling::{Telling, firsts_told};
 use ss_bytes::Name;
-use ss_firsts::{Table, insert_first};
+use ss_firsts::{Seed, Table, insert_first};
 use ss_sayings::{Said, Saying};
 use ss_tree::preamble::Mode;
 use std::alloc::{AllocError, Global};
@@ -61,10 +61,14 @@ impl Telling for DefinedModes {
 }
 
 /// Each name that a DEFINE gives a mode, with the first.
-pub fn defined_modes(alloc: Global, sayings: &[Saying]) -> Result<Table<Name, Mode>, AllocError>
+pub fn defined_modes(
+    alloc: Global,
+    seed: Seed,
+    sayings: &[Saying],
+) -> Result<Table<Name, Mode>, AllocError>
     ensures { IfOk result (λ entries. entries ≡ firsts (flat_map (defined_by) sayings.now)) }
 {
-    firsts_told::<DefinedModes>(alloc, &(), sayings)
+    firsts_told::<DefinedModes>(alloc, seed, &(), sayings)
 }
 
 // The classes that are declared.
@@ -100,8 +104,12 @@ impl Telling for Classes {
 }
 
 /// The classes, in the order of the text.
-pub fn classes_of(alloc: Global, sayings: &[Saying]) -> Result<Table<Name, Class>, AllocError>
+pub fn classes_of(
+    alloc: Global,
+    seed: Seed,
+    sayings: &[Saying],
+) -> Result<Table<Name, Class>, AllocError>
     ensures { IfOk result (λ entries. entries ≡ firsts (flat_map (class_by) sayings.now)) }
 {
-    firsts_told::<Classes>(alloc, &(), sayings)
+    firsts_told::<Classes>(alloc, seed, &(), sayings)
 }

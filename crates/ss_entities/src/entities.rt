@@ -9,7 +9,7 @@ use crate::attributes::{Attributes, attributes_of};
 use crate::classes::{classes_of, defined_modes, usual_mode};
 use crate::entry::Class;
 use ss_bytes::Name;
-use ss_firsts::Table;
+use ss_firsts::{Seed, Table};
 use ss_sayings::Saying;
 use std::alloc::{AllocError, Global};
 
@@ -28,7 +28,7 @@ fn attributes_in(
 ) -> Result<Attributes, AllocError>
     ensures { IfOk result (AreAttributes (usual_mode sayings.now) (defined_modes sayings.now) (length classes.now) (firsts (flat_map (attribute_by classes.now) sayings.now))) }
 {
-    let defined = defined_modes(alloc, sayings)?;
+    let defined = defined_modes(alloc, classes.seed(), sayings)?;
     attributes_of(alloc, classes, usual_mode(sayings), &defined, sayings)
 }
 
@@ -36,12 +36,12 @@ fn attributes_in(
 ///
 /// # Errors
 /// `AllocError` where memory is refused.
-pub fn entities_of(alloc: Global, sayings: &[Saying]) -> Result<Entities, AllocError>
+pub fn entities_of(alloc: Global, seed: Seed, sayings: &[Saying]) -> Result<Entities, AllocError>
     ensures classes { IfOk result (λ e. e.classes ≡ classes sayings.now) }
     ensures attributes { IfOk result (λ e. e.attributes.entries ≡ attributes sayings.now) }
     ensures fields { IfOk result (λ e. e.attributes.fields ≡ fields sayings.now) }
 {
-    let classes = classes_of(alloc, sayings)?;
+    let classes = classes_of(alloc, seed, sayings)?;
     let attributes = attributes_in(alloc, &classes, sayings)?;
     Ok(Entities {
         classes,

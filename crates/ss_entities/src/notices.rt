@@ -42,7 +42,7 @@ pub fn notices_of(
     requires { classes.now ≡ classes_said sayings.now }
     ensures { IfOk result (λ n. n ≡ notices sayings.now) }
 {
-    let events = events_of(alloc, sayings)?;
+    let events = events_of(alloc, classes.seed(), sayings)?;
     let (events, ranks) = beside(events, ranks_of(alloc, classes, sayings))?;
     let (ordered, rank_keys) = beside((events, ranks), rank_keys_of(alloc, sayings))?;
     let (keyed, tie_keys) = beside((ordered, rank_keys), tie_keys_of(alloc, sayings))?;

@@ -110,6 +110,6 @@ pub fn ranks_of(
 ) -> Result<Table<Name, usize>, AllocError>
     ensures { IfOk result (λ entries. entries ≡ ranks_among classes.now sayings.now) }
 {
-    let first = firsts_told::<Priorities>(alloc, classes, sayings)?;
+    let first = firsts_told::<Priorities>(alloc, classes.seed(), classes, sayings)?;
     more_told::<Declared>(first, classes, sayings)
 }

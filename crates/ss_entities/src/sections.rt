@@ -8,7 +8,7 @@ ghost use Rattle.ss_entities.specs.Variables.{event_by, routine_by};
 use crate::entry::{Event, Routine};
 use crate::telling::{Telling, firsts_told};
 use ss_bytes::Name;
-use ss_firsts::{Table, insert_first};
+use ss_firsts::{Seed, Table, insert_first};
 use ss_sayings::{Said, Saying};
 use std::alloc::{AllocError, Global};
 
@@ -50,10 +50,14 @@ impl Telling for Routines {
 }
 
 /// The routines, in the order of the text.
-pub fn routines_of(alloc: Global, sayings: &[Saying]) -> Result<Table<Name, Routine>, AllocError>
+pub fn routines_of(
+    alloc: Global,
+    seed: Seed,
+    sayings: &[Saying],
+) -> Result<Table<Name, Routine>, AllocError>
     ensures { IfOk result (λ entries. entries ≡ firsts (flat_map (routine_by) sayings.now)) }
 {
-    firsts_told::<Routines>(alloc, &(), sayings)
+    firsts_told::<Routines>(alloc, seed, &(), sayings)
 }
 
 // The EVENT sections.
@@ -94,8 +98,12 @@ impl Telling for Events {
 }
 
 /// The EVENT sections, by the names that they have.
-pub fn events_of(alloc: Global, sayings: &[Saying]) -> Result<Table<Name, Event>, AllocError>
+pub fn events_of(
+    alloc: Global,
+    seed: Seed,
+    sayings: &[Saying],
+) -> Result<Table<Name, Event>, AllocError>
     ensures { IfOk result (λ entries. entries ≡ firsts (flat_map (event_by) sayings.now)) }
 {
-    firsts_told::<Events>(alloc, &(), sayings)
+    firsts_told::<Events>(alloc, seed, &(), sayings)
 }

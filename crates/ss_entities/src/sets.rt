@@ -9,7 +9,7 @@ use crate::entry::{Class, Ordering, Set};
 use crate::telling::{Telling, firsts_told};
 use ss_base::Owner;
 use ss_bytes::Name;
-use ss_firsts::{Keys, Table, insert_first, insert_if};
+use ss_firsts::{Keys, Seed, Table, insert_first, insert_if};
 use ss_sayings::{Said, Saying};
 use std::alloc::{AllocError, Global};
 
@@ -51,7 +51,7 @@ pub fn owners_of(
 ) -> Result<Table<Name, Owner>, AllocError>
     ensures { IfOk result (λ entries. entries ≡ firsts (flat_map (owner_by classes.now) sayings.now)) }
 {
-    firsts_told::<Owners>(alloc, classes, sayings)
+    firsts_told::<Owners>(alloc, classes.seed(), classes, sayings)
 }
 
 // The classes of the members of sets.
@@ -88,7 +88,7 @@ pub fn members_of(
 ) -> Result<Table<Name, usize>, AllocError>
     ensures { IfOk result (λ entries. entries ≡ firsts (flat_map (member_by classes.now) sayings.now)) }
 {
-    firsts_told::<Members>(alloc, classes, sayings)
+    firsts_told::<Members>(alloc, classes.seed(), classes, sayings)
 }
 
 // How DEFINE orders sets.
@@ -124,10 +124,14 @@ impl Telling for Orderings {
 }
 
 /// Each name that a DEFINE orders as a set, with the first.
-pub fn orderings_of(alloc: Global, sayings: &[Saying]) -> Result<Table<Name, Ordering>, AllocError>
+pub fn orderings_of(
+    alloc: Global,
+    seed: Seed,
+    sayings: &[Saying],
+) -> Result<Table<Name, Ordering>, AllocError>
     ensures { IfOk result (λ entries. entries ≡ firsts (flat_map (ordering_by) sayings.now)) }
 {
-    firsts_told::<Orderings>(alloc, &(), sayings)
+    firsts_told::<Orderings>(alloc, seed, &(), sayings)
 }
 
 // Adds a name, unless it is there.
@@ -156,10 +160,10 @@ fn note_set(names: &mut Keys<Name>, saying: &Saying) -> Result<(), AllocError>
 }
 
 /// The sets, in the order of the text.
-pub fn set_names(alloc: Global, sayings: &[Saying]) -> Result<Keys<Name>, AllocError>
+pub fn set_names(alloc: Global, seed: Seed, sayings: &[Saying]) -> Result<Keys<Name>, AllocError>
     ensures { IfOk result (λ names. names ≡ each_once (flat_map set_by sayings.now)) }
 {
-    let mut names = Keys::new(alloc);
+    let mut names = Keys::new(alloc, seed);
     for saying in sayings {
         note_set(&mut names, saying)?;
     }
@@ -209,7 +213,7 @@ fn ordered_sets(
 ) -> Result<Vec<Set>, AllocError>
     ensures { IfOk result (λ out. out.items ≡ map (set_of owners.now members.now (orderings_said sayings.now)) names.now) }
 {
-    let orderings = orderings_of(alloc, sayings)?;
+    let orderings = orderings_of(alloc, owners.seed(), sayings)?;
     sets_of(alloc, owners, members, &orderings, names.as_slice())
 }
 

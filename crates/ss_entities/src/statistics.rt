@@ -9,7 +9,7 @@ use crate::entry::Statistic;
 use crate::making::beside;
 use crate::telling::{Telling, firsts_told};
 use ss_bytes::Name;
-use ss_firsts::{Table, insert_first};
+use ss_firsts::{Seed, Table, insert_first};
 use ss_sayings::{Said, Saying};
 use ss_tree::preamble::{StatisticKind, Weighting};
 use std::alloc::{AllocError, Global};
@@ -41,10 +41,14 @@ impl Telling for Weighings {
 }
 
 /// What TALLY and ACCUMULATE name behind OF, each with how the first of them weighs its values.
-pub fn weighings_of(alloc: Global, sayings: &[Saying]) -> Result<Table<Name, Weighting>, AllocError>
+pub fn weighings_of(
+    alloc: Global,
+    seed: Seed,
+    sayings: &[Saying],
+) -> Result<Table<Name, Weighting>, AllocError>
     ensures { IfOk result (λ entries. entries ≡ firsts (flat_map (weighing_by) sayings.now)) }
 {
-    firsts_told::<Weighings>(alloc, &(), sayings)
+    firsts_told::<Weighings>(alloc, seed, &(), sayings)
 }
 
 // Keeps a statistic, where its subject has a history.
@@ -96,7 +100,7 @@ pub fn statistics_of(
 ) -> Result<Table<Name, Statistic>, AllocError>
     ensures { IfOk result (λ entries. entries ≡ firsts (flat_map (statistic_by weighings.now) sayings.now)) }
 {
-    firsts_told::<Statistics>(alloc, weighings, sayings)
+    firsts_told::<Statistics>(alloc, weighings.seed(), weighings, sayings)
 }
 
 /// What TALLY and ACCUMULATE say: what they are of, and the statistics.
@@ -110,11 +114,11 @@ pub struct Tellings {
 ///
 /// # Errors
 /// `AllocError` where memory is refused.
-pub fn tellings_of(alloc: Global, sayings: &[Saying]) -> Result<Tellings, AllocError>
+pub fn tellings_of(alloc: Global, seed: Seed, sayings: &[Saying]) -> Result<Tellings, AllocError>
     ensures weighings { IfOk result (λ t. t.weighings ≡ weighings sayings.now) }
     ensures statistics { IfOk result (λ t. t.statistics ≡ statistics sayings.now) }
 {
-    let weighings = weighings_of(alloc, sayings)?;
+    let weighings = weighings_of(alloc, seed, sayings)?;
     let statistics = statistics_of(alloc, &weighings, sayings);
     let (weighings, statistics) = beside(weighings, statistics)?;
     Ok(Tellings {

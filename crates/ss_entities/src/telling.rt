@@ -7,7 +7,7 @@ ghost use Rattle.ss_sayings.specs.Sayings.{NameBytes};
 ghost use Rattle.ss_sayings.specs.declared.saying.Saying.{Saying as SayingSeen};
 
 use ss_bytes::Name;
-use ss_firsts::Table;
+use ss_firsts::{Seed, Table};
 use ss_sayings::Saying;
 use std::alloc::{AllocError, Global};
 
@@ -48,10 +48,11 @@ pub fn more_told<T: Telling>(
 /// The first of what these sayings tell of each name.
 pub fn firsts_told<T: Telling>(
     alloc: Global,
+    seed: Seed,
     known: &T::Known,
     sayings: &[Saying],
 ) -> Result<Table<Name, T::Told>, AllocError>
     ensures { IfOk result (λ entries. entries ≡ firsts (flat_map (T.tells known.now) sayings.now)) }
 {
-    more_told::<T>(Table::new(alloc), known, sayings)
+    more_told::<T>(Table::new(alloc, seed), known, sayings)
 }

@@ -117,7 +117,7 @@ pub fn variables_of(
 ) -> Result<Table<Spelling, Variable>, AllocError>
     ensures { IfOk result (λ entries. entries ≡ firsts (flat_map (variable_by classes.now attributes.now) sayings.now)) }
 {
-    let mut entries = Table::new(alloc);
+    let mut entries = Table::new(alloc, classes.seed());
     for saying in sayings {
         note_variable(&mut entries, classes, attributes, saying)?;
     }

@@ -1,3 +1,2 @@
 pub mod Rooms
 pub mod Entries
-pub mod Places

@@ -52,18 +52,12 @@ pub fn is_told<V: Copy>(entries: &Table<Name, V>, name: &Name) -> bool
 pub fn key_at<V: Copy>(entries: &Table<Name, V>, number: usize) -> Option<Name>
     ensures { result ≡ slice_get (keys_of entries.now) number }
 {
-    match entries.as_slice().get(number) {
-        Some((name, _)) => Some(*name),
-        None => None,
-    }
+    entries.keys().get(number).copied()
 }
 
 /// What is told of the name of this number. None where there are not so many.
 pub fn value_at<V: Copy>(entries: &Table<Name, V>, number: usize) -> Option<V>
     ensures { result ≡ slice_get (values_of entries.now) number }
 {
-    match entries.as_slice().get(number) {
-        Some((_, value)) => Some(*value),
-        None => None,
-    }
+    entries.values().get(number).copied()
 }

@@ -3,65 +3,58 @@
 ghost use Rattle.std.specs.Prelude.{◌≡◌, ◌++◌, ◌∷◌, [], if◌then◌else◌, OnOk, OnErr};
 ghost use Rattle.std.specs.List.{position, list_any};
 
+use crate::seed::Seed;
+use indexmap::IndexSet;
 use std::alloc::{AllocError, Global};
-use std::collections::HashMap;
 use std::hash::Hash;
 use std::marker::Model;
 
-/// Keys in the order in which they came, each once; which place one has is found without a walk. A contract sees the list.
+/// Keys in the order in which they came, each once; the place of one is found without a walk. A contract sees the list.
 #[derive(Drop)]
 pub struct Keys<K: Copy + Eq + Hash> {
-    keys: Vec<K>,
-    // By key: where it stands.
-    places: HashMap<K, usize>,
+    set: IndexSet<K, Seed>,
 }
 
 impl<K: Copy + Eq + Hash> Model for Keys<K> {
-    ghost use Rattle.std.specs.Prelude.{◌≡◌, List};
-    ghost use Rattle.std.specs.List.{position};
-    ghost use Rattle.std.specs.HashMap.{get};
+    ghost use Rattle.std.specs.Prelude.{List};
 
     ghost Value = { List K };
 
-    ghost view = { λ s. s.keys.items };
-
-    ghost invariant = { λ s. (k : K) → get K.eq s.places k ≡ position (K.eq k) s.keys.items };
+    ghost view = { λ s. s.set.keys };
 }
 
 impl<K: Copy + Eq + Hash> Keys<K> {
-    /// No key.
-    pub fn new(alloc: Global) -> Keys<K>
+    /// No key. The seed is made from all that will come.
+    pub fn new(alloc: Global, seed: Seed) -> Keys<K>
         ensures { result ≡ [] }
     {
         Keys {
-            keys: Vec::new(alloc),
-            places: HashMap::new(alloc),
+            set: IndexSet::with_hasher(alloc, seed),
         }
     }
 
     /// The keys.
-    #[inline(always)]
     pub fn as_slice(&self) -> &[K]
         ensures { result.now ≡ self.now }
     {
-        &self.keys
+        self.set.as_slice()
     }
 
-    /// Where a key stands, if it is there.
+    /// The place of a key, if it is there.
     pub fn place(&self, key: &K) -> Option<usize>
         ensures { result ≡ position (K.eq key.now) self.now }
     {
-        self.places.get(key).copied()
+        self.set.get_index_of(key)
     }
 
     /// Whether a key is there.
     pub fn contains(&self, key: &K) -> bool
         ensures { result ≡ list_any (K.eq key.now) self.now }
     {
-        self.place(key).is_some()
+        self.set.contains(key)
     }
 
-    /// Puts a key behind the others, unless it is there.
+    /// Puts a key after the others, unless it is there.
     ///
     /// # Errors
     /// `AllocError` where memory is refused; then all stays as it was.
@@ -69,13 +62,7 @@ impl<K: Copy + Eq + Hash> Keys<K> {
         ensures ok { OnOk result (self.new ≡ (if list_any (K.eq key) self.old then self.old else self.old ++ key ∷ [])) }
         ensures err { OnErr result (self.new ≡ self.old) }
     {
-        if self.contains(&key) {
-            return Ok(());
-        }
-        self.keys.reserve(1)?;
-        let place = self.keys.len();
-        self.places.insert(key, place)?;
-        self.keys.push_reserved(key);
+        self.set.insert(key)?;
         Ok(())
     }
 }

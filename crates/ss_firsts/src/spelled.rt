@@ -28,8 +28,5 @@ pub fn insert_spelled<V: Copy>(
 pub fn spelled_at<V: Copy>(entries: &Table<Spelling, V>, number: usize) -> Option<V>
     ensures { result ≡ slice_get (values_of entries.now) number }
 {
-    match entries.as_slice().get(number) {
-        Some((_, value)) => Some(*value),
-        None => None,
-    }
+    entries.values().get(number).copied()
 }

@@ -47,7 +47,7 @@ module _ (says : List Saying) (sections : List SectionTree) (u : Unbroken says s
   record NotAgain : Type 0 where
     owners : again topics.Owner anything says ≡ []
     members : again topics.Member anything says ≡ []
-    disciplines : again topics.Discipline anything says ≡ []
+    disciplines : again topics.Discipline (is_said topics.Set says) says ≡ []
     variables : again topics.Variable (is_said topics.Attribute says) says ≡ []
     normally : again topics.Normally anything says ≡ []
     priority_orders : again topics.PriorityOrder anything says ≡ []
@@ -70,7 +70,7 @@ module _ (says : List Saying) (sections : List SectionTree) (u : Unbroken says s
       let e = both_empty s m d.0 in
       let owner = again topics.Owner anything says in
       let member = again topics.Member anything says in
-      let discipline = again topics.Discipline anything says in
+      let discipline = again topics.Discipline (is_said topics.Set says) says in
       let normal = again topics.Normally anything says in
       let order = again topics.PriorityOrder anything says in
       let main_again = again topics.Main anything says in
@@ -128,7 +128,7 @@ module _ (says : List Saying) (sections : List SectionTree) (u : Unbroken says s
     owners = once topics.Owner says not_again.owners;
     members = once topics.Member says not_again.members;
     variables = variables_once says agree not_again.variables;
-    disciplines = once topics.Discipline says not_again.disciplines;
+    disciplines = once_of topics.Discipline (is_said topics.Set says) says (λ t a e. by_any topics.Set (thing_of t) (needed topics.Discipline topics.Set says u.unknown_set t a e)) not_again.disciplines;
     priority_orders = once topics.PriorityOrder says not_again.priority_orders;
     priorities = once_of topics.Priority (is_said topics.Class says) says (λ t a e. notice_is_class (thing_of t) (needed topics.Priority topics.Notice says both_classes.0 t a e)) not_again.priorities;
     ties = once_of topics.Ties (is_said topics.Class says) says (λ t a e. notice_is_class (thing_of t) (needed topics.Ties topics.Notice says both_classes.1 t a e)) not_again.ties;

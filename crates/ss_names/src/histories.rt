@@ -47,8 +47,8 @@ pub fn histories_of(
     ensures { IfOk result (λ out. out.items ≡ map (history_of names.now) weighings.now) }
 {
     let mut out = Vec::new(alloc);
-    for (name, weighting) in weighings.as_slice() {
-        out.push(history_of(names, name, *weighting))?;
+    for (number, name) in weighings.keys().iter().enumerate() {
+        out.push(history_of(names, name, weighings.values()[number]))?;
     }
     Ok(out)
 }

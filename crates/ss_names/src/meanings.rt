@@ -11,7 +11,7 @@ ghost use Rattle.ss_entities.specs.Variables.{count_name};
 use crate::meaning::{Derived, Meaning};
 use crate::numbers::Numbers;
 use ss_bytes::Name;
-use ss_firsts::{Spelling, Table, insert_spelled, spelled_at};
+use ss_firsts::{Seed, Spelling, Table, insert_spelled, spelled_at};
 use ss_sayings::{Said, Saying};
 use ss_tree::preamble::ClassKind;
 use std::alloc::{AllocError, Global};
@@ -52,11 +52,11 @@ impl Model for Meanings {
 
 impl Meanings {
     // No names.
-    fn new(alloc: Global) -> Meanings
+    fn new(alloc: Global, seed: Seed) -> Meanings
         ensures { result ≡ [] }
     {
         Meanings {
-            map: Table::new(alloc),
+            map: Table::new(alloc, seed),
         }
     }
 
@@ -186,8 +186,8 @@ impl Meanings {
         requires { place < length self.now }
         ensures { slice_get (keys_of self.now) place ≡ Some result.now }
     {
-        match self.map.as_slice().get(place) {
-            Some((name, _)) => name.bytes(),
+        match self.map.keys().get(place) {
+            Some(name) => name.bytes(),
             None => &[],
         }
     }
@@ -203,7 +203,7 @@ impl Meanings {
     pub fn len(&self) -> usize
         ensures { result ≡ length self.now }
     {
-        self.map.as_slice().len()
+        self.map.len()
     }
 }
 
@@ -215,7 +215,7 @@ pub fn meanings_of(
 ) -> Result<Meanings, AllocError>
     ensures { IfOk result (λ names. names ≡ meanings_in numbers.now sayings.now) }
 {
-    let mut names = Meanings::new(alloc);
+    let mut names = Meanings::new(alloc, numbers.variables.seed());
     for saying in sayings {
         names.note(numbers, saying)?;
     }

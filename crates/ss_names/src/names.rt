@@ -18,7 +18,7 @@ use ss_entities::{
     Attribute, Class, Event, Notices, RankedBy, Routine, Set, Statistic, TiedBy, Variable, beside,
     notices_of, sets_in, usual_mode,
 };
-use ss_firsts::{Table, key_at, spelled_at, value_at};
+use ss_firsts::{Seed, Table, key_at, spelled_at, value_at};
 use ss_sayings::Saying;
 use ss_tree::preamble::Mode;
 use std::alloc::{AllocError, Global};
@@ -63,11 +63,11 @@ struct Named {
 }
 
 // What is numbered, and what names stand for, where this is said.
-fn named_in(alloc: Global, sayings: &[Saying]) -> Result<Named, AllocError>
+fn named_in(alloc: Global, seed: Seed, sayings: &[Saying]) -> Result<Named, AllocError>
     ensures numbers { IfOk result (λ n. n.numbers.value ≡ numbered sayings.now) }
     ensures names { IfOk result (λ n. n.names ≡ meanings_in (numbered sayings.now) sayings.now) }
 {
-    let numbers = Box::new(alloc, numbers_of(alloc, sayings)?)?;
+    let numbers = Box::new(alloc, numbers_of(alloc, seed, sayings)?)?;
     let names = meanings_of(alloc, &numbers, sayings);
     let (numbers, names) = beside(numbers, names)?;
     Ok(Named { numbers, names })
@@ -129,14 +129,14 @@ impl Names {
     }
 
     /// The table of a program of which this is said, also of one that breaks rules: of two declarations of
-    /// a name the first counts.
+    /// a name the first counts. The seed is made from all that is said.
     ///
     /// # Errors
     /// `AllocError` where memory is refused.
-    pub fn of(alloc: Global, sayings: &[Saying]) -> Result<Names, AllocError>
+    pub fn of(alloc: Global, seed: Seed, sayings: &[Saying]) -> Result<Names, AllocError>
         ensures { IfOk result (λ n. n ≡ declared sayings.now) }
     {
-        let named = named_in(alloc, sayings)?;
+        let named = named_in(alloc, seed, sayings)?;
         let told = told_in(alloc, &named.numbers, &named.names, sayings);
         let (named, told) = beside(named, told)?;
         let lists = Lists {
@@ -202,7 +202,7 @@ impl Names {
     pub fn classes(&self) -> usize
         ensures { result ≡ length self.now.classes }
     {
-        self.lists.numbers.entities.classes.as_slice().len()
+        self.lists.numbers.entities.classes.len()
     }
 
     /// The class of this number.
@@ -272,7 +272,7 @@ impl Names {
     pub fn variables(&self) -> usize
         ensures { result ≡ length self.now.variables }
     {
-        self.lists.numbers.variables.as_slice().len()
+        self.lists.numbers.variables.len()
     }
 
     /// The global variable of this number.
@@ -286,7 +286,7 @@ impl Names {
     pub fn routines(&self) -> usize
         ensures { result ≡ length self.now.routines }
     {
-        self.lists.numbers.others.routines.as_slice().len()
+        self.lists.numbers.others.routines.len()
     }
 
     /// The routine of this number.
@@ -307,7 +307,7 @@ impl Names {
     pub fn ranks(&self) -> usize
         ensures { result ≡ length self.now.ranks }
     {
-        self.lists.notices.ranks.as_slice().len()
+        self.lists.notices.ranks.len()
     }
 
     /// The number of the class of notices that has this place in the order of rank: those of PRIORITY ORDER
@@ -329,13 +329,7 @@ impl Names {
     pub fn statistics(&self) -> usize
         ensures { result ≡ length self.now.statistics }
     {
-        self.lists
-            .numbers
-            .others
-            .tellings
-            .statistics
-            .as_slice()
-            .len()
+        self.lists.numbers.others.tellings.statistics.len()
     }
 
     /// The statistic of this number.

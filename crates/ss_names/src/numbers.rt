@@ -14,7 +14,7 @@ use ss_entities::{
     Entities, Routine, Tellings, Variable, beside, entities_of, routines_of, set_names,
     tellings_of, variables_of,
 };
-use ss_firsts::{Keys, Spelling, Table};
+use ss_firsts::{Keys, Seed, Spelling, Table};
 use ss_sayings::Saying;
 use std::alloc::{AllocError, Global};
 use std::marker::Model;
@@ -117,15 +117,15 @@ impl Numbers {
 }
 
 // What some sayings number without a look at classes and attributes.
-fn others_of(alloc: Global, sayings: &[Saying]) -> Result<Box<Others>, AllocError>
+fn others_of(alloc: Global, seed: Seed, sayings: &[Saying]) -> Result<Box<Others>, AllocError>
     ensures set_names { IfOk result (λ o. o.value.set_names ≡ set_names_said sayings.now) }
     ensures routines { IfOk result (λ o. o.value.routines ≡ routines sayings.now) }
     ensures statistics { IfOk result (λ o. o.value.tellings.statistics ≡ statistics sayings.now) }
     ensures weighings { IfOk result (λ o. o.value.tellings.weighings ≡ weighings sayings.now) }
 {
-    let set_names = set_names(alloc, sayings)?;
-    let (set_names, routines) = beside(set_names, routines_of(alloc, sayings))?;
-    let (others, tellings) = beside((set_names, routines), tellings_of(alloc, sayings))?;
+    let set_names = set_names(alloc, seed, sayings)?;
+    let (set_names, routines) = beside(set_names, routines_of(alloc, seed, sayings))?;
+    let (others, tellings) = beside((set_names, routines), tellings_of(alloc, seed, sayings))?;
     let (set_names, routines) = others;
     let others = Others {
         set_names,
@@ -136,11 +136,11 @@ fn others_of(alloc: Global, sayings: &[Saying]) -> Result<Box<Others>, AllocErro
 }
 
 /// What some sayings number.
-pub fn numbers_of(alloc: Global, sayings: &[Saying]) -> Result<Numbers, AllocError>
+pub fn numbers_of(alloc: Global, seed: Seed, sayings: &[Saying]) -> Result<Numbers, AllocError>
     ensures { IfOk result (λ n. n ≡ numbered sayings.now) }
 {
-    let entities = Box::new(alloc, entities_of(alloc, sayings)?)?;
-    let (entities, others) = beside(entities, others_of(alloc, sayings))?;
+    let entities = Box::new(alloc, entities_of(alloc, seed, sayings)?)?;
+    let (entities, others) = beside(entities, others_of(alloc, seed, sayings))?;
     let variables = variables_of(
         alloc,
         &entities.classes,

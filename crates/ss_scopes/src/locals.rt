@@ -12,11 +12,12 @@ ghost use Rattle.ss_scopes.specs.Whole.{is_global, locals_of};
 use crate::globals::Globals;
 use crate::modes::{mode_in, modes_of};
 use ss_bytes::Name;
-use ss_firsts::{Table, insert_first, is_told, key_at};
+use ss_firsts::{Seed, Table, insert_first, is_told, key_at};
 use ss_tree::preamble::Mode;
 use ss_tree::program::Section;
 use ss_walk::{Mention, Mentioned, Role};
 use std::alloc::{AllocError, Global};
+use std::hash::{DefaultHasher, Hash};
 use std::marker::Model;
 
 /// The local variables of a section, each with its mode, in the order of their numbers.
@@ -64,6 +65,17 @@ fn is_local_at<G: Globals>(globals: &G, mention: &Mention, name: Name) -> bool
         || (is_variable(mention.role)
             && mention.subscripts == 0
             && globals.meaning_of(name).is_none())
+}
+
+// The seed for a table of names that are mentioned here.
+fn seed_of(mentions: &[Mention]) -> Seed {
+    let mut names = DefaultHasher::new();
+    for mention in mentions {
+        if let Mentioned::Name(name) = &mention.what {
+            name.hash(&mut names);
+        }
+    }
+    Seed::of(&names)
 }
 
 // Adds the local variable that is mentioned, where one is.
@@ -116,14 +128,14 @@ impl Locals {
     pub fn len(&self) -> usize
         ensures { result ≡ length self.now }
     {
-        self.entries.as_slice().len()
+        self.entries.len()
     }
 
     /// Whether there is none.
     pub fn is_empty(&self) -> bool
         ensures { result ≡ (length self.now == 0) }
     {
-        self.entries.as_slice().is_empty()
+        self.entries.is_empty()
     }
 
     /// The number of a local variable. None where the name isn't one.
@@ -159,7 +171,7 @@ fn collect<G: Globals>(
 ) -> Result<Table<Name, Option<Mode>>, AllocError>
     ensures { IfOk result (λ found. found ≡ firsts (map (moded_in usual modes.now) (flat_map (local_mentioned (is_global (G.whole globals.now).meanings)) mentions.now))) }
 {
-    let mut entries = Table::new(alloc);
+    let mut entries = Table::new(alloc, seed_of(mentions));
     for mention in mentions {
         add_mentioned(&mut entries, globals, modes, usual, mention)?;
     }

@@ -8,10 +8,20 @@ ghost use Rattle.ss_firsts.specs.Firsts.{firsts, same_name, with_first};
 ghost use Rattle.ss_scopes.specs.Locals.{all_defined, defined, or_usual};
 
 use ss_bytes::Name;
-use ss_firsts::{Table, insert_first};
+use ss_firsts::{Seed, Table, insert_first};
 use ss_tree::preamble::Mode;
 use ss_tree::program::LocalDefinition;
 use std::alloc::{AllocError, Global};
+use std::hash::{DefaultHasher, Hash};
+
+// The seed for a table of the names that these DEFINEs give a mode.
+fn seed_of(definitions: &[LocalDefinition]) -> Seed {
+    let mut names = DefaultHasher::new();
+    for definition in definitions {
+        definition.names.hash(&mut names);
+    }
+    Seed::of(&names)
+}
 
 // Adds the names that a DEFINE gives a mode.
 fn add_defined(
@@ -34,7 +44,7 @@ pub(crate) fn modes_of(
 ) -> Result<Table<Name, Option<Mode>>, AllocError>
     ensures { IfOk result (λ modes. modes ≡ firsts (all_defined (map view_definition definitions.now))) }
 {
-    let mut modes = Table::new(alloc);
+    let mut modes = Table::new(alloc, seed_of(definitions));
     for definition in definitions {
         add_defined(&mut modes, definition.mode, &definition.names)?;
     }

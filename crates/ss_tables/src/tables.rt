@@ -12,6 +12,7 @@ ghost use Rattle.ss_tables.specs.Tables.{AreTables, AreTablesOf, Tells};
 use crate::error::{TableError, error_of};
 use ss_base::Layout;
 use ss_breaches::refusal_of;
+use ss_declared::seed_of;
 use ss_gathering::sayings_of;
 use ss_laid::laws::layouts_are_there;
 use ss_meant::layout;
@@ -47,9 +48,10 @@ fn names_of(alloc: Global, sayings: &[Saying], sections: &[Section]) -> Result<N
     ensures made { IfOk result (λ names. names ≡ declared sayings.now) }
     ensures refused { IfErr result (λ e. Tells e (refusal_by sayings.now (map view_section sections.now))) }
 {
-    match refusal_of(alloc, sayings, sections)? {
+    let seed = seed_of(sayings);
+    match refusal_of(alloc, seed, sayings, sections)? {
         Some(broken) => Err(error_of(broken)),
-        None => Ok(Names::of(alloc, sayings)?),
+        None => Ok(Names::of(alloc, seed, sayings)?),
     }
 }
 

@@ -12,11 +12,12 @@ use crate::lines::line_if;
 use crate::uses::{SectionUses, is_main};
 use ss_base::Line;
 use ss_bytes::Name;
-use ss_firsts::Keys;
+use ss_firsts::{Keys, Seed};
 use ss_tree::preamble::ClassKind;
 use ss_tree::program::{Section, SectionKind};
 use ss_walk::{Mention, Role};
 use std::alloc::{AllocError, Global};
+use std::hash::{DefaultHasher, Hash};
 
 /// Whether one of some sections is MAIN.
 pub fn has_main(sections: &[Section]) -> bool
@@ -27,6 +28,17 @@ pub fn has_main(sections: &[Section]) -> bool
         found = found || is_main(&section.kind);
     }
     found
+}
+
+// The seed for a set of the names of the EVENT sections.
+fn seed_of(sections: &[Section]) -> Seed {
+    let mut names = DefaultHasher::new();
+    for section in sections {
+        if let SectionKind::Event { name, .. } = &section.kind {
+            name.hash(&mut names);
+        }
+    }
+    Seed::of(&names)
 }
 
 // Adds the name of an EVENT section.
@@ -46,7 +58,7 @@ fn add_event(events: &mut Keys<Name>, section: &Section) -> Result<(), AllocErro
 pub fn event_names(alloc: Global, sections: &[Section]) -> Result<Keys<Name>, AllocError>
     ensures { IfOk result (λ events. events ≡ with_names [] (event_names (map view_section sections.now))) }
 {
-    let mut events = Keys::new(alloc);
+    let mut events = Keys::new(alloc, seed_of(sections));
     for section in sections {
         add_event(&mut events, section)?;
     }

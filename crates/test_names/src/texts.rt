@@ -4,7 +4,6 @@ use crate::layers::jobs;
 use ss_base::{Counted, Line, MemoryWrite, Plan, Trouble};
 use ss_check::{CheckError, Checked, check};
 use ss_code::{Code, CodeError, generate};
-use ss_formed::laws::spelled_trees_are_formed;
 use ss_lex::{LexError, Span, Token, TokenKind, Tokens, Word, tokens};
 use ss_machine::{Machine, Source, Stop};
 use ss_parse::{ParseError, Program, parse};
@@ -28,7 +27,6 @@ enum Refused {
 
 // The code of a text, by each layer in turn.
 fn code_of(alloc: Global, text: &[u8]) -> Result<Code, Refused> {
-    spelled_trees_are_formed();
     let tokens = tokens(alloc, text).map_err(Refused::Lexer)?;
     let program: Program = parse(alloc, &tokens).map_err(Refused::Parser)?;
     let tables = match Tables::of(alloc, &program) {

@@ -1,29 +1,19 @@
-use Rattle.std.proofs.Common.{rules, ◌≡◌, ◌++◌, ◌∷◌, [], true, false, not, is_some, cond, Some, length, position, sym, ap, ◌∙◌}
-use Rattle.std.specs.Map.{keys_of}
+use Rattle.std.proofs.Common.{◌≡◌, ◌++◌, ◌∷◌, [], false, cond, Option, None, Some, is_some, refl, sym, ap, ◌∙◌}
 use Rattle.std.specs.HashMap.{get}
-use Rattle.ss_firsts.proofs.Places.{is_there, found_more}
+use Rattle.std.specs.Map.{lookup}
+use Rattle.indexmap.proofs.CallerLemmas.{insert_entry-new}
 use Rattle.ss_firsts.proofs.table.Table.insert_new.Goals as goal
 
-pub returns-then-is_some-clause-ok : goal.returns-then-is_some-clause-ok
-returns-then-is_some-clause-ok g c =
-    let there : is_some c.place.result ≡ true = search rules in
-    let es = c.args.self.now in
-    sym (ap (λ b. cond b es (es ++ (c.args.key, c.args.value) ∷ [])) (is_there (g.K.PartialEq.eq c.args.key) es ∙ ap is_some (sym c.place.ensures) ∙ there))
-
-pub invariant_of-self-2 : goal.invariant_of-self-2
-invariant_of-self-2 g c =
-    let eq = g.K.PartialEq.eq in
-    let es = c.self.inside.entries.items in
-    let gone : is_some c.place.result ≡ false = search rules in
-    let many : c.len-place.result ≡ length es = search rules in
-    let none : is_some (position (eq c.args.key) (keys_of es)) ≡ false = ap (λ l. is_some (position (eq c.args.key) (keys_of l))) c.self.view_is ∙ ap is_some (sym c.place.ensures) ∙ gone in
-    let is = λ (x : g.row.K.Denot). c.in_ok-insert.ensures.updates.0 x ∙ ap (λ n. cond (eq c.args.key x) (Some n) (get eq c.self.inside.places x)) many in
-    found_more eq g.met.K.Eq.laws (get eq c.self.inside.places) (get eq c.insert.new.self) es c.push_reserved.new.self.items c.args.key c.args.value none c.self.invariant is
-    (c.push_reserved.ensures.items ∙ ap (λ l. l ++ (c.args.key, c.args.value) ∷ []) c.reserve.ensures.items)
+none : {X : Type 0} → (o : Option X) → is_some o ≡ false → o ≡ None
+none None e = refl
+none (Some x) e = absurd cc
 
 pub returns-clause-ok : goal.returns-clause-ok
 returns-clause-ok g c =
-    let gone : is_some c.place.result ≡ false = search rules in
-    let es = c.args.self.now in
-    c.push_reserved.ensures.items ∙ ap (λ l. l ++ (c.args.key, c.args.value) ∷ []) (c.reserve.ensures.items ∙ c.self.view_is)
-    ∙ sym (ap (λ b. cond b es (es ++ (c.args.key, c.args.value) ∷ [])) (is_there (g.K.PartialEq.eq c.args.key) es ∙ ap is_some (sym c.place.ensures) ∙ gone))
+    let eq = g.K.PartialEq.eq in
+    let m = c.self.inside.map in
+    let absent : is_some (get eq m c.args.key) ≡ false = sym c.contains_key.ensures ∙ c.if-contains_key.false in
+    let there : is_some (lookup (eq c.args.key) c.args.self.now) ≡ false = ap (λ es. is_some (lookup (eq c.args.key) es)) (sym c.self.view_is) ∙ absent in
+    c.in_ok-insert.ensures.entries ∙ insert_entry-new eq m c.args.key c.args.value (none (get eq m c.args.key) absent)
+    ∙ ap (λ es. es ++ (c.args.key, c.args.value) ∷ []) c.self.view_is
+    ∙ sym (ap (λ b. cond b c.args.self.now (c.args.self.now ++ (c.args.key, c.args.value) ∷ [])) there)

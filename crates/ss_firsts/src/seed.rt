@@ -1,0 +1,32 @@
+//! What the hashes of a table begin with.
+
+use std::hash::{BuildHasher, DefaultHasher, Hasher};
+
+/// What the hash of each key of a table begins with. It is made from all that the table will hold, so that whoever writes a text
+/// can't choose its names by their hashes: another name makes other hashes of all of them.
+#[derive(Clone, Copy)]
+pub struct Seed {
+    start: DefaultHasher,
+}
+
+impl Seed {
+    /// The seed that a hash of all keys makes.
+    pub fn of(keys: &DefaultHasher) -> Seed {
+        let mut other = *keys;
+        other.write_u8(0xff);
+        let mut start = DefaultHasher::new();
+        start.write_u64(keys.finish());
+        start.write_u64(other.finish());
+        Seed { start }
+    }
+}
+
+impl BuildHasher for Seed {
+    type Hasher = DefaultHasher;
+
+    ghost build_hasher = { λ s. s.start };
+
+    fn build_hasher(&self) -> DefaultHasher {
+        self.start
+    }
+}
