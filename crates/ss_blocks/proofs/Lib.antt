@@ -11,6 +11,5 @@ pub mod Puts
 pub mod Rising
 pub mod Same
 pub mod Sharing
-pub mod Sparing
 pub mod Values
 pub mod WordKinds
