@@ -3,6 +3,7 @@ pub mod Count
 pub mod Cutting
 pub mod Entries
 pub mod Fills
+pub mod Holding
 pub mod Memory
 pub mod Numbers
 pub mod Paging
