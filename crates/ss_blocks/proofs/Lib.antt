@@ -3,6 +3,7 @@ pub mod Count
 pub mod Cutting
 pub mod Entries
 pub mod Fills
+pub mod Holding
 pub mod Memory
 pub mod Numbers
 pub mod Paging
@@ -11,6 +12,5 @@ pub mod Puts
 pub mod Rising
 pub mod Same
 pub mod Sharing
-pub mod Sparing
 pub mod Values
 pub mod WordKinds

@@ -3,5 +3,4 @@ pub mod Links
 pub mod Ownership
 pub mod Pages
 pub mod Places
-pub mod Spares
 pub mod Writes

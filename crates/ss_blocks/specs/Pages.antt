@@ -2,7 +2,8 @@
 use Rattle.std.specs.Prelude.{◌≡◌, ℕ, zero, suc, ◌+◌, ◌-◌, ◌*◌, ◌/◌, ◌%◌, ◌<◌, ◌≤◌, nat_le, cond, List, [], ◌∷◌, ◌++◌, length, Option, Some, None, slice_get}
 use Rattle.std.specs.Ordering.{nat_cmp}
 use Rattle.std.specs.BTreeMap.{is_at}
-use Rattle.std.specs.Map.{lookup, values_of}
+use Rattle.std.specs.List.Sorted.{IsStrictlySortedBy}
+use Rattle.std.specs.Map.{lookup, keys_of, values_of}
 use Rattle.std.specs.List.{sum_by}
 use Rattle.ss_blocks.specs.declared.store.Address.{Address}
 use Rattle.ss_blocks.specs.Places.{living}
@@ -29,8 +30,29 @@ abbrev pub slot : Option Page → ℕ → Option Address
 slot None k = None
 slot (Some p) k = in_page (slice_get p k)
 
+-- what a list has under a number
+abbrev pub under : {A : Type 0} → List (ℕ × A) → ℕ → Option A
+under xs q = lookup (is_at (nat_cmp q)) xs
+
 abbrev pub page_of : Pages → ℕ → Option Page
-page_of ps q = lookup (is_at (nat_cmp q)) ps
+page_of ps q = under ps q
+
+-- the numbers rise
+abbrev pub Rises : {A : Type 0} → List (ℕ × A) → Type 0
+Rises xs = IsStrictlySortedBy nat_cmp (keys_of xs)
+
+-- a row of spots, each with a number, and with a page or empty
+abbrev pub Spots : Type 0
+Spots = List (ℕ × Option Page)
+
+abbrev pub with_page : ℕ → Option Page → Pages → Pages
+with_page q None ps = ps
+with_page q (Some p) ps = (q, p) ∷ ps
+
+-- the pages of a row that are held
+abbrev pub held : Spots → Pages
+held [] = []
+held (s ∷ ss) = with_page s.0 s.1 (held ss)
 
 -- the place of the number i, from 0 on. The current page begins at `start`
 abbrev pub entry : Pages → Page → ℕ → ℕ → Option Address

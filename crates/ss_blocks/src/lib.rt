@@ -10,7 +10,6 @@ mod pages;
 pub mod placing;
 mod register;
 pub mod row;
-mod spares;
 mod store;
 
 pub use directory::Directory;

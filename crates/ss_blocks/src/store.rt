@@ -3,7 +3,6 @@ ghost use Rattle.std.specs.Prelude.{◌≡◌, ℕ, ◌+◌, ◌*◌, ◌^◌, �
 ghost use Rattle.ss_blocks.specs.Cells.{Word, blank, number, counter, link, Cells, words_at, word_at, put_word, without, blanks, IsNumber, IsCounter, IsLink, MayBeNumber, MayBeCounter, MayBeLink};
 ghost use Rattle.ss_blocks.specs.Ownership.{store_owns, store_lent};
 
-use crate::spares::{Reserve, Spares};
 use std::alloc::{AllocError, Allocator, Global};
 use std::marker::Model;
 
@@ -25,9 +24,9 @@ impl Clone for Address {
 
 impl Copy for Address {}
 
-/// An owner of blocks. It takes no space.
-#[derive(Drop)]
-pub(crate) struct Store {
+/// The owner of the blocks in `cells`, and of nothing else. It takes no space. It has no `Drop`: `close` alone lets go of it, once no
+/// block is left.
+struct Store {
     ghost cells: { Cells },
     ghost total: { ℕ },
 }
@@ -39,16 +38,17 @@ impl Model for Store {
 }
 
 impl Store {
-    pub(crate) fn new() -> Store
+    fn new() -> Store
         ensures { (result.cells ≡ []) × (result.total ≡ 0) }
     {
         Store {}
     }
 
-    /// Lets go of a store without blocks.
-    pub(crate) fn close(self)
+    fn close(self)
         requires { self.cells ≡ [] }
-    {}
+    {
+        let Store {} = self;
+    }
 
     fn place(&mut self, alloc: &Global, words: usize) -> Result<Address, AllocError>
         requires { (0 < words) × (words * 8 < 2 ^ 63) }
@@ -62,13 +62,7 @@ impl Store {
         }
     }
 
-    /// Gives a block of so many words to another owner, to whom they are blank.
-    pub(crate) fn pass(&mut self, to: &mut Store, _place: Address, _words: usize)
-        requires { (length (words_at self.old.cells _place.at) ≡ _words) × (0 < _words) }
-        ensures { ((self.new.cells ≡ without self.old.cells _place.at) × (self.new.total ≡ self.old.total)) × (words_at to.old.cells _place.at ≡ []) × (to.new.cells ≡ (_place.at, blanks _words) ∷ to.old.cells) × (to.new.total ≡ to.old.total) }
-    {}
-
-    pub(crate) fn give_back(&mut self, alloc: &Global, place: Address, words: usize)
+    fn give_back(&mut self, alloc: &Global, place: Address, words: usize)
         requires { (length (words_at self.old.cells place.at) ≡ words) × (0 < words) }
         ensures { (self.new.cells ≡ without self.old.cells place.at) × (self.new.total ≡ self.old.total) }
     {
@@ -147,8 +141,6 @@ pub struct Blocks {
     store: Store,
     touches: u64,
     placed: u64,
-    spares: Spares,
-    reserve: Reserve,
 }
 
 impl Model for Blocks {
@@ -172,8 +164,6 @@ impl Blocks {
             store: Store::new(),
             touches: 0,
             placed: 0,
-            spares: Spares::new(),
-            reserve: Reserve::new(),
         }
     }
 
@@ -186,26 +176,22 @@ impl Blocks {
         match blocks.place(alloc, words) {
             Ok(place) => Ok((blocks, place)),
             Err(e) => {
-                blocks.close(alloc);
+                blocks.close();
                 Err(e)
             }
         }
     }
 
-    /// Lets go of the store once no block is left, and of the blocks that were kept.
-    pub fn close(self, alloc: &Global)
+    /// Lets go of the store once no block is left.
+    pub fn close(self)
         requires { self.cells ≡ [] }
     {
         let Blocks {
             store,
             touches: _,
             placed: _,
-            spares,
-            reserve,
         } = self;
         store.close();
-        spares.close(alloc);
-        reserve.close(alloc);
     }
 
     /// How many blocks are placed and not given back.
@@ -256,33 +242,12 @@ impl Blocks {
         ensures placed { MatchResult result (λ p. (words_at self.old.cells p.at ≡ []) × (self.new.cells ≡ (p.at, blanks words) ∷ self.old.cells)) (λ _. self.new.cells ≡ self.old.cells) }
         ensures touches { (self.new.touches ≡ self.old.touches) × (self.new.total ≡ self.old.total) }
     {
-        match self.spares.take(&mut self.store, words) {
-            Some(place) => {
-                self.placed += 1;
-                Ok(place)
-            }
-            None => self.place_anew(alloc, words),
-        }
-    }
-
-    // The same without a look at the spare block of that size.
-    #[inline(never)]
-    fn place_anew(&mut self, alloc: &Global, words: usize) -> Result<Address, AllocError>
-        requires size { (0 < words) × (words * 8 < 2 ^ 63) }
-        requires room { length self.old.cells + 1 < 2 ^ 64 }
-        ensures placed { MatchResult result (λ p. (words_at self.old.cells p.at ≡ []) × (self.new.cells ≡ (p.at, blanks words) ∷ self.old.cells)) (λ _. self.new.cells ≡ self.old.cells) }
-        ensures touches { (self.new.touches ≡ self.old.touches) × (self.new.total ≡ self.old.total) }
-    {
-        let place = match self.reserve.take(&mut self.store, words) {
-            Some(place) => place,
-            None => self.store.place(alloc, words)?,
-        };
+        let place = self.store.place(alloc, words)?;
         self.placed += 1;
         Ok(place)
     }
 
-    /// Gives a block of so many words back. The others stay as they are. One of less than 32 words is kept for the next of its size,
-    /// if fewer than nine are.
+    /// Gives a block of so many words back to the allocator. The others stay as they are.
     #[inline(always)]
     #[tactic(auto, using(crate::proofs::Count::blocks_without))]
     pub fn give_back(&mut self, alloc: &Global, place: Address, words: usize)
@@ -290,24 +255,7 @@ impl Blocks {
         ensures cells { self.new.cells ≡ without self.old.cells place.at }
         ensures touches { (self.new.touches ≡ self.old.touches) × (self.new.total ≡ self.old.total) }
     {
-        if self.spares.keep(&mut self.store, place, words) {
-            self.placed -= 1;
-            return;
-        }
-        self.let_go(alloc, place, words);
-    }
-
-    // The same where the spare block of that size is there.
-    #[inline(never)]
-    #[tactic(auto, using(crate::proofs::Count::blocks_without))]
-    fn let_go(&mut self, alloc: &Global, place: Address, words: usize)
-        requires size { (length (words_at self.old.cells place.at) ≡ words) × (0 < words) }
-        ensures cells { self.new.cells ≡ without self.old.cells place.at }
-        ensures touches { (self.new.touches ≡ self.old.touches) × (self.new.total ≡ self.old.total) }
-    {
-        if !self.reserve.keep(&mut self.store, place, words) {
-            self.store.give_back(alloc, place, words);
-        }
+        self.store.give_back(alloc, place, words);
         self.placed -= 1;
     }
 

@@ -112,7 +112,7 @@ impl Records {
         );
         let words = layout.block_words(Owner::System);
         blocks.give_back(alloc, system, words);
-        blocks.close(alloc);
+        blocks.close();
     }
 
     /// The value of an attribute.
