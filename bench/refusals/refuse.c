@@ -1,5 +1,5 @@
-/* Loaded before the C library, it makes the Nth allocation answer none. N stands in REFUSED. As that allocation comes,
-   a byte is written to the open file whose number stands in TOLD. */
+/* Loaded before the C library, it makes the Nth allocation answer none. N is in the variable REFUSED. As that allocation comes,
+   a byte is written to the open file whose number is in the variable NOTED_IN. */
 #include <errno.h>
 #include <stdlib.h>
 #include <unistd.h>
@@ -10,17 +10,17 @@ extern void *__libc_realloc(void *, size_t);
 extern void *__libc_memalign(size_t, size_t);
 
 static long left;
-static int told;
+static int noted_in;
 
 __attribute__((constructor)) static void begin(void) {
-    const char *number = getenv("REFUSED"), *file = getenv("TOLD");
+    const char *number = getenv("REFUSED"), *file = getenv("NOTED_IN");
     left = number ? atol(number) : 0;
-    told = file ? atoi(file) : -1;
+    noted_in = file ? atoi(file) : -1;
 }
 
 static int is_refused(void) {
     if (left <= 0 || --left > 0) return 0;
-    if (write(told, "!", 1) != 1) abort();
+    if (write(noted_in, "!", 1) != 1) abort();
     errno = ENOMEM;
     return 1;
 }
