@@ -16,7 +16,7 @@ help:
 	@echo "make uninstall, with the same words"
 
 $(PROGRAM):
-	@echo "there is no $(PROGRAM): 'rt run' in crates/simscript builds it" >&2
+	@echo "there is no $(PROGRAM). 'rt run' in crates/simscript builds the proved program; PROGRAM=out/simscript is the one of ./simscript" >&2
 	@exit 1
 
 install: $(PROGRAM)
