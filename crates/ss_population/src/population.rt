@@ -6,7 +6,7 @@ ghost use Rattle.ss_base.specs.declared.layout.Owner.TheVariants.{Class};
 ghost use Rattle.ss_records.specs.Added.{Added};
 ghost use Rattle.ss_records.specs.Classed.{HasClass};
 ghost use Rattle.ss_records.specs.Kept.{IsPermanent};
-ghost use Rattle.ss_records.specs.State.{first_state, is_made, records_in, known_in, value_in, time_in, assigned, timed, created, created_all, destroyed, kind_of, modes_of, RefusedFor};
+ghost use Rattle.ss_records.specs.State.{first_state, is_made, records_in, known_in, value_in, time_in, assigned, timed, created, created_all, destroyed, kind_of, modes_of, no_value, RefusedFor};
 ghost use Rattle.ss_records.specs.Sets.{owner_kind, first_in, last_in, count_in, next_in, previous_in, owner_of_member};
 
 mod filing;
@@ -15,6 +15,12 @@ use ss_base::{FaultKind, Layout, Mode, Refused, Value};
 use ss_records::Heap;
 use std::alloc::{AllocError, Global};
 use std::marker::Model;
+
+// The last creation number.
+const LAST_NUMBER: i64 = 4611686018427387903;
+
+// How many entities a permanent class has at most.
+const MOST_ENTITIES: i64 = 1048576;
 
 /// The entities of a run. A contract sees them as a state of a heap.
 #[derive(Drop)]
@@ -162,6 +168,18 @@ impl Population {
         self.heap.owns_set(class)
     }
 
+    /// Whether `create` makes an entity where memory is not refused. Faults: 14 after the last number.
+    pub fn may_create(&self, class: usize) -> Result<(), FaultKind>
+        requires class { class < length self.now.layout.classes }
+        requires kind { IsPermanent (kind_of self.now.layout class) → ⊥ }
+        ensures { result ≡ no_value (created self.now class) }
+    {
+        match self.heap.known(class, LAST_NUMBER) {
+            Err(FaultKind::NeverCreated) => Ok(()),
+            _ => Err(FaultKind::Overflow),
+        }
+    }
+
     /// A new entity of a class whose entities come and go. Faults: 14 after the last number.
     #[inline(always)]
     pub fn create(&mut self, class: usize) -> Result<i64, Refused>
@@ -170,6 +188,20 @@ impl Population {
         ensures { MatchResult result (λ n. created self.old class ≡ Ok (n, self.new)) (λ e. (self.new ≡ self.old) × RefusedFor (created self.old class) e) }
     {
         self.heap.create(class)
+    }
+
+    /// Whether `create_all` makes so many entities of a permanent class where memory is not refused. Faults: 18 where they are
+    /// made, then 22 for a bad count.
+    pub fn may_create_all(&self, class: usize, count: i64) -> Result<(), FaultKind>
+        ensures { result ≡ no_value (created_all self.now class count) }
+    {
+        if self.is_made(class) {
+            return Err(FaultKind::CreatedTwice);
+        }
+        if count < 0 || count > MOST_ENTITIES {
+            return Err(FaultKind::BadCount);
+        }
+        Ok(())
     }
 
     /// All entities of a permanent class. Faults: 18 where they are made, then 22 for a bad count.

@@ -1,6 +1,6 @@
 -- Histories that start with their entities.
 use Rattle.std.proofs.Common.{arith, ◌≡◌, ℕ, zero, suc, ◌≤◌, ℤ, Bool, true, false, List, [], ◌∷◌, length, Option, Some, Ok, Err, refl, ap, ◌∙◌, sym, subst}
-use Rattle.std.specs.Prelude.{pos, negsuc, nat_le, ◌≤ℤ◌, slice_get, slice_set, replicate, Result as OkOr, if◌then◌else◌}
+use Rattle.std.specs.Prelude.{pos, negsuc, IsOk, nat_le, ◌≤ℤ◌, slice_get, slice_set, replicate, Result as OkOr, if◌then◌else◌}
 use Rattle.std.proofs.lemmas.Int.{ints}
 use Rattle.ss_base.specs.declared.fault.FaultKind.{FaultKind}
 use Rattle.ss_base.specs.declared.fault.FaultKind.TheVariants.{CreatedTwice, BadCount}
@@ -9,16 +9,16 @@ use Rattle.ss_base.specs.declared.layout.Layout.{Layout}
 use Rattle.ss_base.specs.declared.layout.Owner.{Owner}
 use Rattle.ss_base.specs.declared.layout.Owner.TheVariants.{Class}
 use Rattle.ss_program.specs.declared.sections.Statistic.{Statistic}
-use Rattle.ss_records.specs.State.{State, Record, MOST_ENTITIES, first_record, is_made, with_made, made_many, created_all, records_in}
+use Rattle.ss_records.specs.State.{State, Record, MOST_ENTITIES, first_record, is_made, with_made, made_many, created_all, records_in, no_value}
 use Rattle.ss_timeline.specs.Records.{columns_of, is_up_to, HasRooms}
-use Rattle.ss_meaning.specs.Values.{turned, due, where_fit}
+use Rattle.ss_meaning.specs.Values.{Fails, turned, due, where_fit}
 use Rattle.ss_pending.specs.PendingList.{PendingList}
 use Rattle.ss_meaning.specs.Store.{Notices, Column, Store, with_heap, with_histories}
 use Rattle.ss_meaning.specs.Histories.{starting}
 use Rattle.ss_meaning.specs.Entities.{is_permanent, with_all}
 use Rattle.ss_population.proofs.Counting.{length_replicate}
 use Rattle.ss_classes.specs.Layouts.{class_in}
-use Rattle.ss_store.specs.Seen.{Seen, with_seen, created_all_known}
+use Rattle.ss_store.specs.Seen.{Seen, GoesWell, with_seen, created_all_known}
 use Rattle.ss_timeline.specs.Times.{Times}
 
 -- ## All entities of a class
@@ -51,6 +51,28 @@ all_made st h c n e = by (is_made st c) n e
     by true n e = absurd cc
     by false (pos k) e = many k (nat_le k MOST_ENTITIES) e
     by false (negsuc k) e = absurd cc
+
+-- a fault is due, or none
+pub fault_due : {A : Type 0} (r : OkOr A FaultKind) (kind : FaultKind) → Err kind ≡ no_value r → r ≡ Err kind
+fault_due (Ok a) kind e = absurd cc
+fault_due (Err k) kind e = cc
+
+pub none_due : {A : Type 0} (r : OkOr A FaultKind) → Ok tt ≡ no_value r → IsOk r
+none_due (Ok a) e = refl
+none_due (Err k) e = absurd cc
+
+module _ (e : Seen) (class : ℕ) (n : ℤ) (permanent : is_permanent (class_in e.heap.layout class) ≡ true) where
+  pub all_fault : (kind : FaultKind) → created_all e.heap class n ≡ Err kind → (s : Store) → created_all_known class n (with_seen s e) ≡ Err (Fails kind)
+  all_fault kind made s =
+      ap (λ b. where_fit b (turned (with_all class (with_seen s e)) (due (created_all e.heap class n)))) permanent
+      ∙ ap (λ r. turned (with_all class (with_seen s e)) (due r)) made
+
+  pub all_well : IsOk (created_all e.heap class n) → GoesWell (created_all_known class n) e
+  all_well ok s = subst (λ b. IsOk (where_fit b (turned (with_all class (with_seen s e)) (due (created_all e.heap class n))))) (sym permanent) (by (created_all e.heap class n) ok)
+    where
+      by : (r : OkOr State FaultKind) → IsOk r → IsOk (turned (with_all class (with_seen s e)) (due r))
+      by (Ok h) ok = refl
+      by (Err k) ok = absurd cc
 
 -- room for more is room for less
 pub less_room : (l : Layout) (whose : Owner) (few many : ℤ) (ss : List Statistic) (room : List ℕ) → few ≤ℤ many → HasRooms l whose many ss room → HasRooms l whose few ss room

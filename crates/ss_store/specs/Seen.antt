@@ -1,5 +1,5 @@
 -- What is seen of a scene, and what is said of an operation on it.
-use Rattle.std.specs.Prelude.{◌≡◌, ℕ, slice_get, List, ℤ, pos, Option, Some, None, Result, Ok, Err}
+use Rattle.std.specs.Prelude.{◌≡◌, ℕ, slice_get, List, ℤ, pos, Option, Some, None, Result, Ok, Err, IsOk}
 use Rattle.ss_base.specs.declared.fault.FaultKind.{FaultKind}
 use Rattle.ss_base.specs.declared.fault.FaultKind.TheVariants.{CreatedTwice, Overflow}
 use Rattle.ss_base.specs.declared.layout.Mode.{Mode}
@@ -80,6 +80,10 @@ Gains {A} f old new (Err t) = ((s : Store) → f (with_seen s old) ≡ told {A =
 abbrev pub ChangesWhere : (Store → Type 0) → (Store → Result Store Meant) → (old new : Seen) → Result (Unit {0}) Trouble → Type 0
 ChangesWhere P f old new (Ok u) = (s : Store) → P (with_seen s old) → f (with_seen s old) ≡ Ok (with_seen s new)
 ChangesWhere P f old new (Err t) = ((s : Store) → P (with_seen s old) → f (with_seen s old) ≡ told {A = Store} (Err t)) × (new ≡ old)
+
+-- no trouble is due to an operation: it goes well in each store with what is seen
+abbrev pub GoesWell : {A : Type 0} → (Store → Result A Meant) → Seen → Type 0
+GoesWell f e = (s : Store) → IsOk (f (with_seen s e))
 
 -- an operation that needs memory changes what is seen and gives a value, or comes to a trouble and changes nothing; want of memory changes nothing
 abbrev pub Makes : {A : Type 0} → (Store → Result (A × Store) Meant) → (old new : Seen) → Result A Unmade → Type 0

@@ -1,14 +1,15 @@
 //! Entities: references, attributes, how many of a class there are, creating and destroying.
 
-ghost use Rattle.std.specs.Prelude.{◌≡◌, true, pos, Ok};
+ghost use Rattle.std.specs.Prelude.{◌≡◌, true, pos, Ok, Err};
 ghost use Rattle.ss_base.specs.declared.value.Value.TheVariants.{Whole};
 ghost use Rattle.ss_meaning.specs.Entities.{is_single, is_permanent, entity, attribute, time_of, made_count, made_one, gone, without};
 ghost use Rattle.ss_meaning.specs.Events.{with_time};
 ghost use Rattle.ss_meaning.specs.Store.{Store as StoreSeen};
 ghost use Rattle.ss_meaning.specs.Places.{is_of_mode, assigned_attribute};
 ghost use Rattle.ss_population.specs.Told.{numbered};
+ghost use Rattle.ss_population.specs.declared.trouble.Unmade.TheVariants.{Memory};
 ghost use Rattle.ss_classes.specs.Layouts.{class_in, kind_at};
-ghost use Rattle.ss_store.specs.Seen.{Looks, Changes, Notes, Makes, Grows, IsEarlier, as_value, count_open, number_made, created_all_known, mode_at, with_seen};
+ghost use Rattle.ss_store.specs.Seen.{Looks, Changes, Notes, Makes, Grows, GoesWell, IsEarlier, as_value, count_open, number_made, created_all_known, mode_at, with_seen};
 
 use crate::scene::Scene;
 use ss_base::{ClassKind, FaultKind, Mode, Refused, Value};
@@ -434,12 +435,25 @@ impl Scene {
     }
 
     /// All entities of a permanent class, so many, whose histories start. Faults: 18 where they are made, then 22 for a bad count.
+    /// It is out of memory only where neither is due.
     pub fn create_all(&mut self, class: usize, count: i64) -> Result<(), Unmade>
-        ensures { Grows (created_all_known class count) self.old self.new result }
+        ensures done { Grows (created_all_known class count) self.old self.new result }
+        ensures memory { result ≡ Err Memory → GoesWell (created_all_known class count) self.old }
     {
         if !self.is_permanent(class) {
             return Err(Unmade::Misfit);
         }
+        match self.population.may_create_all(class, count) {
+            Err(kind) => Err(Unmade::Fault(kind)),
+            Ok(()) => self.create_counted(class, count),
+        }
+    }
+
+    // The same of a count at which no fault is due: room for the histories is made first.
+    fn create_counted(&mut self, class: usize, count: i64) -> Result<(), Unmade>
+        requires permanent { is_permanent (class_in self.old.heap.layout class) ≡ true }
+        ensures { Grows (created_all_known class count) self.old self.new result }
+    {
         if self
             .timeline
             .reserve(self.population.layout(), class, count)
