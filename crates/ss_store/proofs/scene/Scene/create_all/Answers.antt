@@ -12,8 +12,8 @@ returns-in-Err-clause-done c =
     let same : to_z w64 (of_z w64 count) ≡ count = search rules in
     let permanent : is_permanent (class_in e.heap.layout class) ≡ true = sym c.is_permanent.ensures ∙ c.if-not-is_permanent.false in
     let due : Err kind ≡ no_value (created_all e.heap class count) =
-        subst (λ (h : State). Err kind ≡ no_value (created_all h class count)) (ap (λ (e : Seen). e.heap) c.self.view_is)
-        (subst (λ (z : ℤ). Err kind ≡ no_value (created_all c.self.inside.population class z)) same c.in-Err.ensures) in
+    subst (λ (h : State). Err kind ≡ no_value (created_all h class count)) (ap (λ (e : Seen). e.heap) c.self.view_is)
+    (subst (λ (z : ℤ). Err kind ≡ no_value (created_all c.self.inside.population class z)) same c.in-Err.ensures) in
     (all_fault e class count permanent kind (fault_due (created_all e.heap class count) kind due), refl)
 
 pub returns-in-Ok-clause-done : goal.returns-in-Ok-clause-done
@@ -28,6 +28,6 @@ returns-in-Ok-clause-memory c = λ memory.
     let same : to_z w64 (of_z w64 count) ≡ count = search rules in
     let permanent : is_permanent (class_in e.heap.layout class) ≡ true = sym c.is_permanent.ensures ∙ c.if-not-is_permanent.false in
     let due : Ok tt ≡ no_value (created_all e.heap class count) =
-        subst (λ (h : State). Ok tt ≡ no_value (created_all h class count)) (ap (λ (e : Seen). e.heap) c.self.view_is)
-        (subst (λ (z : ℤ). Ok tt ≡ no_value (created_all c.self.inside.population class z)) same c.in-Ok.ensures) in
+    subst (λ (h : State). Ok tt ≡ no_value (created_all h class count)) (ap (λ (e : Seen). e.heap) c.self.view_is)
+    (subst (λ (z : ℤ). Ok tt ≡ no_value (created_all c.self.inside.population class z)) same c.in-Ok.ensures) in
     all_well e class count permanent (none_due (created_all e.heap class count) due)
