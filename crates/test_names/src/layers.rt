@@ -8,7 +8,7 @@ use ss_events::{Key, Pending, Tie, TieShape};
 use ss_machine::{Missed, Source};
 use ss_picture::{Item, Picture};
 use ss_records::Heap;
-use ss_sets::{file, is_in, remove_first, remove_last};
+use ss_sets::{file, fits, is_in, remove_first, remove_last};
 use ss_stats::Totals;
 use std::alloc::{AllocError, Global};
 use std::test::Fail;
@@ -59,67 +59,92 @@ fn layouts_are_equal_where_they_say_the_same(rt: HostRuntime) -> Result<(), Fail
 }
 
 // A new JOB.
-fn create(heap: &mut Heap) -> Result<i64, Refused> {
-    match heap.layout().classes.first() {
-        Some(class) if class.kind == ClassKind::Temporary => heap.create(0),
-        _ => Err(Refused::Fault(FaultKind::WrongClass)),
+fn create(heap: &mut Heap) -> Option<i64> {
+    let layout = heap.layout();
+    let found = layout.classes.get(0)?;
+    let kind = found.kind;
+    match kind {
+        ClassKind::Permanent => None,
+        ClassKind::Temporary | ClassKind::Notice => heap.create(0).ok(),
     }
 }
 
 // Destroys a JOB.
-fn destroy(heap: &mut Heap, job: i64) -> Result<(), FaultKind> {
-    match heap.layout().classes.first() {
-        Some(class) if class.kind == ClassKind::Temporary => heap.destroy(0, job),
-        _ => Err(FaultKind::WrongClass),
+fn destroy(heap: &mut Heap, job: i64) -> Option<Result<(), FaultKind>> {
+    let layout = heap.layout();
+    let found = layout.classes.get(0)?;
+    let kind = found.kind;
+    match kind {
+        ClassKind::Permanent => None,
+        ClassKind::Temporary | ClassKind::Notice => Some(heap.destroy(0, job)),
     }
 }
 
 // The RANK of a JOB.
-fn rank(heap: &Heap, job: i64) -> Result<Value, FaultKind> {
-    match heap.layout().classes.first() {
-        Some(class) if !class.fields.is_empty() => heap.value(0, 0, job),
-        _ => Err(FaultKind::WrongClass),
-    }
+fn rank(heap: &Heap, job: i64) -> Option<Result<Value, FaultKind>> {
+    let layout = heap.layout();
+    let found = layout.classes.get(0)?;
+    let _mode = found.fields.get(0)?;
+    Some(heap.value(0, 0, job))
 }
 
 #[test]
 fn a_number_is_never_used_again(rt: HostRuntime) -> Result<(), Fail> {
     let layout = jobs(rt.alloc())?;
     let mut heap = Heap::new(rt.alloc(), layout)?;
-    assert_eq!(rt; create(&mut heap), Ok(1));
-    assert_eq!(rt; destroy(&mut heap, 1), Ok(()));
-    assert_eq!(rt; create(&mut heap), Ok(2));
-    assert_eq!(rt; rank(&heap, 1), Err(FaultKind::DestroyedEntity));
+    assert_eq!(rt; create(&mut heap), Some(1));
+    assert_eq!(rt; destroy(&mut heap, 1), Some(Ok(())));
+    assert_eq!(rt; create(&mut heap), Some(2));
+    assert_eq!(rt; rank(&heap, 1), Some(Err(FaultKind::DestroyedEntity)));
     Ok(())
 }
 
-// What these two JOBs answer when they are filed in the POOL, and then taken out of it.
-fn passed(heap: &mut Heap, jobs: [i64; 2]) -> Option<[Result<i64, FaultKind>; 3]> {
-    if heap.layout().sets.is_empty() {
+// Files a JOB in the POOL, in front of all others.
+fn put(heap: &mut Heap, job: i64) -> Option<Result<(), FaultKind>> {
+    let layout = heap.layout();
+    if layout.sets.is_empty() || !fits(layout, 0, &Discipline::Lifo) {
         return None;
     }
-    file(heap, &Discipline::Lifo, 0, 0, jobs[0]).ok()?;
-    file(heap, &Discipline::Lifo, 0, 0, jobs[1]).ok()?;
-    if is_in(heap, 0, 0, jobs[1]) != Ok(true) {
+    Some(file(heap, &Discipline::Lifo, 0, 0, job))
+}
+
+// Whether a JOB is in the POOL.
+fn is_there(heap: &mut Heap, job: i64) -> Option<Result<bool, FaultKind>> {
+    let layout = heap.layout();
+    if layout.sets.is_empty() {
         return None;
     }
-    Some([
-        remove_first(heap, 0, 0),
-        remove_last(heap, 0, 0),
-        remove_last(heap, 0, 0),
-    ])
+    Some(is_in(heap, 0, 0, job))
+}
+
+// Takes the first JOB out of the POOL, or the last.
+fn take(heap: &mut Heap, first: bool) -> Option<Result<i64, FaultKind>> {
+    let layout = heap.layout();
+    if layout.sets.is_empty() {
+        return None;
+    }
+    if first {
+        Some(remove_first(heap, 0, 0))
+    } else {
+        Some(remove_last(heap, 0, 0))
+    }
 }
 
 #[test]
 fn the_last_filed_comes_first(rt: HostRuntime) -> Result<(), Fail> {
     let layout = jobs(rt.alloc())?;
     let mut heap = Heap::new(rt.alloc(), layout)?;
-    let jobs = [
-        create(&mut heap).unwrap_or(0),
-        create(&mut heap).unwrap_or(0),
-    ];
-    let wanted = [Ok(2), Ok(1), Err(FaultKind::EmptySet)];
-    assert_eq!(rt; passed(&mut heap, jobs), Some(wanted));
+    assert_eq!(rt; (create(&mut heap), create(&mut heap)), (Some(1), Some(2)));
+    assert_eq!(rt;
+        (put(&mut heap, 1), put(&mut heap, 2)),
+        (Some(Ok(())), Some(Ok(())))
+    );
+    assert_eq!(rt; is_there(&mut heap, 2), Some(Ok(true)));
+    assert_eq!(rt;
+        (take(&mut heap, true), take(&mut heap, false)),
+        (Some(Ok(2)), Some(Ok(1)))
+    );
+    assert_eq!(rt; take(&mut heap, true), Some(Err(FaultKind::EmptySet)));
     Ok(())
 }
 
@@ -156,10 +181,9 @@ fn the_earliest_notice_is_next(rt: HostRuntime) -> Result<(), Fail> {
 #[test]
 fn a_tally_counts_and_sums(rt: HostRuntime) {
     let mut totals = Totals::tally();
-    assert_eq!(rt;
-        (totals.note(0, 4), totals.note(0, -2), totals.note(0, 7)),
-        (Ok(()), Ok(()), Ok(()))
-    );
+    assert_eq!(rt; totals.note(0, 4), Ok(()));
+    assert_eq!(rt; totals.note(0, -2), Ok(()));
+    assert_eq!(rt; totals.note(0, 7), Ok(()));
     assert_eq!(rt; (totals.number(0), totals.sum(0)), (3, Ok(9)));
     assert_eq!(rt; (totals.maximum(), totals.minimum()), (7, -2));
 }
