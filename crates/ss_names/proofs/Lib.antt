@@ -1,3 +1,4 @@
 mod Short
 mod Once
 mod Placed
+mod Pairs
