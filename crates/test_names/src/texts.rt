@@ -43,7 +43,7 @@ fn code_of(alloc: Global, text: &[u8]) -> Result<Code, Refused> {
 }
 
 // Why a text is refused.
-fn refused(alloc: Global, text: &[u8]) -> Option<Refused> {
+fn refusal_of(alloc: Global, text: &[u8]) -> Option<Refused> {
     match code_of(alloc, text) {
         Ok(code) => {
             code.release();
@@ -69,7 +69,7 @@ fn a_layer_refuses(rt: HostRuntime) {
         ),
     ];
     for (text, wanted) in rows {
-        assert_eq!(rt; refused(rt.alloc(), text), Some(wanted));
+        assert_eq!(rt; refusal_of(rt.alloc(), text), Some(wanted));
     }
 }
 
