@@ -16,6 +16,9 @@ use ss_records::Heap;
 use std::alloc::{AllocError, Global};
 use std::marker::Model;
 
+// The last creation number.
+const LAST_NUMBER: i64 = 4611686018427387903;
+
 // How many entities a permanent class has at most.
 const MOST_ENTITIES: i64 = 1048576;
 
@@ -163,6 +166,18 @@ impl Population {
         ensures { result ≡ false → (set : ℕ) → owner_kind self.now.layout set ≡ Class class → ⊥ }
     {
         self.heap.owns_set(class)
+    }
+
+    /// Whether `create` makes an entity where memory is not refused. Faults: 14 after the last number.
+    pub fn may_create(&self, class: usize) -> Result<(), FaultKind>
+        requires class { class < length self.now.layout.classes }
+        requires kind { IsPermanent (kind_of self.now.layout class) → ⊥ }
+        ensures { result ≡ no_value (created self.now class) }
+    {
+        match self.heap.known(class, LAST_NUMBER) {
+            Err(FaultKind::NeverCreated) => Ok(()),
+            _ => Err(FaultKind::Overflow),
+        }
     }
 
     /// A new entity of a class whose entities come and go. Faults: 14 after the last number.

@@ -22,7 +22,7 @@ use Rattle.ss_population.specs.Told.{told}
 use Rattle.ss_scheduling.specs.declared.scheduling.Filed.{Filed}
 use Rattle.ss_scheduling.specs.declared.scheduling.Filed.TheVariants as filings
 use Rattle.ss_scheduling.specs.declared.scheduling.Filed.TheVariants.{Done, Wanting}
-use Rattle.ss_store.specs.Seen.{Seen, with_seen}
+use Rattle.ss_store.specs.Seen.{Seen, GoesWell, with_seen}
 
 -- ## Operations in several steps
 
@@ -31,19 +31,19 @@ abbrev pub Leads : (Store → Result Store Meant) → (old new : Seen) → Resul
 Leads f old new (Ok u) = (s : Store) → f (with_seen s old) ≡ Ok (with_seen s new)
 Leads f old new (Err t) = (s : Store) → f (with_seen s old) ≡ told {A = Store} (Err t)
 
--- the same of one that gives a value as well and needs memory, want of which changes nothing
-abbrev pub Forms : {A : Type 0} → (Store → Result (A × Store) Meant) → (old new : Seen) → Result A Unmade → Type 0
-Forms f old new (Ok a) = (s : Store) → f (with_seen s old) ≡ Ok (a, with_seen s new)
-Forms {A} f old new (Err (unmade.Fault kind)) = (s : Store) → f (with_seen s old) ≡ told {A = A × Store} (Err (Fault kind))
-Forms {A} f old new (Err unmade.Misfit) = (s : Store) → f (with_seen s old) ≡ told {A = A × Store} (Err Misfit)
-Forms f old new (Err unmade.Memory) = new ≡ old
+-- the same of one that gives a value as well; it is out of memory only where what it does first goes well, and then nothing changes
+abbrev pub Forms : {A : Type 0} → (f first : Store → Result (A × Store) Meant) → (old new : Seen) → Result A Unmade → Type 0
+Forms f first old new (Ok a) = (s : Store) → f (with_seen s old) ≡ Ok (a, with_seen s new)
+Forms {A} f first old new (Err (unmade.Fault kind)) = (s : Store) → f (with_seen s old) ≡ told {A = A × Store} (Err (Fault kind))
+Forms {A} f first old new (Err unmade.Misfit) = (s : Store) → f (with_seen s old) ≡ told {A = A × Store} (Err Misfit)
+Forms f first old new (Err unmade.Memory) = GoesWell first old × (new ≡ old)
 
--- the same of one that gives no value; where memory is wanting, what it does first is done
+-- the same of one that gives no value; it is out of memory only where no trouble is due, and what it does first is done
 abbrev pub Goes : (f first : Store → Result Store Meant) → (old new : Seen) → Result (Unit {0}) Unmade → Type 0
 Goes f first old new (Ok u) = (s : Store) → f (with_seen s old) ≡ Ok (with_seen s new)
 Goes f first old new (Err (unmade.Fault kind)) = (s : Store) → f (with_seen s old) ≡ told {A = Store} (Err (Fault kind))
 Goes f first old new (Err unmade.Misfit) = (s : Store) → f (with_seen s old) ≡ told {A = Store} (Err Misfit)
-Goes f first old new (Err unmade.Memory) = (s : Store) → first (with_seen s old) ≡ Ok (with_seen s new)
+Goes f first old new (Err unmade.Memory) = GoesWell f old × ((s : Store) → first (with_seen s old) ≡ Ok (with_seen s new))
 
 -- an operation looks, and needs memory for what it finds
 abbrev pub Finds : {A : Type 0} → (Store → Result A Meant) → Seen → Result A Unmade → Type 0
@@ -52,7 +52,14 @@ Finds {A} f e (Err (unmade.Fault kind)) = (s : Store) → f (with_seen s e) ≡ 
 Finds {A} f e (Err unmade.Misfit) = (s : Store) → f (with_seen s e) ≡ told {A = A} (Err Misfit)
 Finds f e (Err unmade.Memory) = Unit {0}
 
--- the same where what it finds is put somewhere
+-- the same of one that is out of memory only where it finds something
+abbrev pub Gets : {A : Type 0} → (Store → Result A Meant) → Seen → Result A Unmade → Type 0
+Gets f e (Ok a) = (s : Store) → f (with_seen s e) ≡ Ok a
+Gets {A} f e (Err (unmade.Fault kind)) = (s : Store) → f (with_seen s e) ≡ told {A = A} (Err (Fault kind))
+Gets {A} f e (Err unmade.Misfit) = (s : Store) → f (with_seen s e) ≡ told {A = A} (Err Misfit)
+Gets f e (Err unmade.Memory) = GoesWell f e
+
+-- what is found, where it is put somewhere
 abbrev pub put_there : {A : Type 0} → A → Result (Unit {0}) Unmade → Result A Unmade
 put_there a (Ok u) = Ok a
 put_there a (Err t) = Err t
@@ -120,6 +127,12 @@ IsUntied es class rank = (ranked_from 0 es class ≡ ranked_at es (Some rank)) �
 -- what filing a notice does once its key and its number are known
 abbrev pub scheduled_known : SortKey → (number : ℤ) → Store → Result Store Meant
 scheduled_known key n s = unless_fault (int_lt key.time s.scene.time) PastTime (turned (with_pending s) (due (scheduled key n s.scene.pending)))
+
+-- why a notice is not filed whose key wants memory: for the fault that is due to each key of this time, or none is
+abbrev pub IsUnfiled : (time notice : ℤ) → Seen → Unmade → Type 0
+IsUnfiled t n e (unmade.Fault kind) = (key : SortKey) → key.time ≡ t → (s : Store) → scheduled_known key n (with_seen s e) ≡ told {A = Store} (Err (Fault kind))
+IsUnfiled t n e unmade.Misfit = ⊥
+IsUnfiled t n e unmade.Memory = (key : SortKey) → key.time ≡ t → GoesWell (scheduled_known key n) e
 
 -- what SCHEDULE THE does to a notice that is not pending
 abbrev pub scheduled_anew : (class : ℕ) → (x : Value) → List Value → (time : ℤ) → Store → Result Store Meant
