@@ -70,7 +70,7 @@ static uint64_t sip_finish(Sip s) {
 
 static uint32_t in_table(uint64_t hash) { return (uint32_t)(hash ^ hash >> 32) & (GROUPS - 1); }
 
-// The seed of ss_firsts, made from the names of standard input.
+// The seed of ss_names_declarations, made from the names of standard input.
 static Sip seed_of_names(void) {
     Sip keys = sip_new();
     char line[64];

@@ -5,7 +5,7 @@
 //! standard output; how the run ended, where it didn't simply end, is told on standard error.
 #![tactic(auto)]
 
-use ss_command::{Disk, Streams, perform, without_words, words};
+use simscript_commands::{Disk, Streams, perform, without_words, words};
 use std::process::ExitCode;
 
 fn main(rt: HostRuntime) -> ExitCode {

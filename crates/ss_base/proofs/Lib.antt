@@ -1,2 +1,4 @@
+pub mod Capitals
+pub mod Texts
 pub mod Given
 pub mod Whole

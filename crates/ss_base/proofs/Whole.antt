@@ -1,11 +1,10 @@
 -- Whole numbers that fit 64 bits.
-use Rattle.std.proofs.Common.{◌≡◌, ℕ, ◌^◌, ◌≤◌, ◌<◌, Bool, true, false, refl, ◌∙◌, ap, arith}
+use Rattle.std.proofs.Common.{◌≡◌, ℕ, ◌^◌, ◌≤◌, ◌<◌, Bool, true, false, refl, ◌∙◌, ap, arith, w64, of_z, to_z}
 use Rattle.std.proofs.lemmas.Bool.{le-leb, leb-true, lt-ltb, ltb-true, and_from, and_parts}
 use Rattle.std.proofs.lemmas.Int.{to_z-of_z}
 use Rattle.std.specs.Prelude.{cond, ℤ, pos, negsuc, FitsSigned, Ok, Err, Option, Some, None, SomeIff, ok_or, int_rem, int_div}
 use Rattle.std.specs.Int.{CanDivide}
 use Rattle.std.specs.Ordering.{int_eq}
-use Rattle.std.proofs.Common.{w64, of_z, to_z}
 use Rattle.std.proofs.lemmas.Bool.Decides.{Decides-int_eq}
 use lib.Signed.{mag_rem}
 use Rattle.ss_base.specs.declared.fault.FaultKind.TheVariants.{Overflow, ZeroDivisor}

@@ -1,3 +1,6 @@
+pub mod Names
+pub mod Room
+pub mod Values
 pub mod Arithmetic
 pub mod Counted
 pub mod Failures
@@ -7,6 +10,3 @@ pub mod Memory
 pub mod Order
 pub mod Plain
 pub mod Plan
-pub use Rattle.ss_bytes.specs.Room
-pub use Rattle.ss_bytes.specs.Values
-pub use Rattle.ss_bytes.specs.declared.line.Line

@@ -2,8 +2,8 @@ ghost use Rattle.std.specs.Prelude.{◌≡◌, IfOk, IsTrue, length};
 ghost use Rattle.std.specs.List.{list_all};
 ghost use Rattle.ss_base.specs.Layout.{first_value, is_layout, is_narrow, is_sound, layout_of, names_classes};
 
+use crate::alpha::Alpha;
 use crate::value::Value;
-use ss_bytes::Alpha;
 use std::alloc::{AllocError, Global};
 use std::marker::Model;
 

@@ -1,16 +1,21 @@
-//! What every layer of the simulator uses: lines, values, faults, arithmetic, layouts, and readers and writers.
+//! What every room uses: lines, texts, names, values, faults, arithmetic, layouts, and readers and writers.
 #![tactic(auto)]
 
+mod alpha;
 mod arithmetic;
 mod counted;
 mod equality;
 mod fault;
 mod faulty;
 mod layout;
+mod line;
 mod memory;
+mod name;
+mod picture_line;
 mod plan;
 mod value;
 
+pub use alpha::{Alpha, TEXT_LIMIT};
 pub use arithmetic::{div_f, minus, mod_f, plus, times};
 pub use counted::Counted;
 pub use fault::{FaultKind, Refused};
@@ -19,7 +24,9 @@ pub use layout::{
     ClassKind, ClassLayout, Discipline, Layout, Mode, Owner, RankKey, RankKeys, SetLayout,
     copied_disciplines,
 };
+pub use line::Line;
 pub use memory::{MemoryRead, MemoryWrite, Trouble};
+pub use name::{NAME_LIMIT, Name};
+pub use picture_line::PictureLine;
 pub use plan::Plan;
-pub use ss_bytes::{Alpha, Line, TEXT_LIMIT};
 pub use value::Value;

@@ -6,8 +6,8 @@ ghost use Rattle.std.specs.Ordering.{as_partial_cmp};
 ghost use Rattle.ss_base.specs.Layout.{mode_of};
 ghost use Rattle.ss_base.specs.Order.{value_cmp, value_cmp_total};
 
+use crate::alpha::Alpha;
 use crate::layout::Mode;
-use ss_bytes::Alpha;
 use std::cmp::Ordering;
 
 /// What a variable, a field or an item holds.

@@ -2,21 +2,21 @@
 use Rattle.std.proofs.Common.{◌≡◌, ◌≤◌, List, map, Option, Some, None, sym, ap, subst, ◌∙◌}
 use Rattle.ss_tree.specs.Nodes.{nodes as tree_nodes}
 use Rattle.ss_tree.specs.Tree.{ProgramTree}
-use Rattle.ss_scopes.specs.Locals.{Moded}
-use Rattle.ss_scopes.specs.Whole.{Whole, locals_of}
-use Rattle.ss_uses.specs.Refusal.{refusal}
-use Rattle.ss_declared.specs.Broken.{refusal as declared_refusal}
+use Rattle.ss_check_scopes.specs.Locals.{Moded}
+use Rattle.ss_check_scopes.specs.Whole.{Whole, locals_of}
+use Rattle.ss_check_rules.specs.Refusal.{refusal}
+use Rattle.ss_tables_rules.specs.Broken.{refusal as declared_refusal}
 use Rattle.ss_names.specs.Table.{Table, table}
-use Rattle.ss_globals.specs.WholeOf.{whole_of}
+use Rattle.ss_check_scopes.specs.WholeOf.{whole_of}
 use Rattle.ss_program.specs.declared.sections.Program.{Program as ProgramValue}
 use Rattle.ss_program.specs.Nodes.{nodes}
 use Rattle.ss_program.specs.Program.{Program}
 use Rattle.ss_program.specs.View.{view_option, view_program}
 use Rattle.ss_program.specs.WellTyped.{WellTyped}
-use Rattle.ss_whole.specs.Resolved.{resolved, resolved_with_locals}
-use Rattle.ss_whole.proofs.Found.{by_their_locals}
-use Rattle.ss_links.specs.Laws.{KeptProgramsResolve}
-use Rattle.ss_sizes.specs.Laws.{ProgramsStaySmall}
+use Rattle.ss_check_programs.specs.Resolved.{resolved, resolved_with_locals}
+use Rattle.ss_check_programs.proofs.Found.{by_their_locals}
+use Rattle.ss_check_laws.specs.ProgramLaws.{KeptProgramsResolve}
+use Rattle.ss_check_laws.specs.SizeLaws.{ProgramsStaySmall}
 use Rattle.ss_check.specs.Checking.{Becomes, program_of}
 
 -- what was found by local variables is what is found by what the program says of its names, whose they are

@@ -1,15 +1,15 @@
 -- What a program that breaks no rule becomes, and why another is refused.
 use Rattle.std.specs.Prelude.{◌≡◌, Option, Some, None}
 use Rattle.ss_tree.specs.Tree.{ProgramTree}
-use Rattle.ss_uses.specs.declared.rule.Broken.{Broken}
-use Rattle.ss_uses.specs.declared.rule.Rule.TheVariants as rules
-use Rattle.ss_uses.specs.Refusal.{refusal}
+use Rattle.ss_check_rules.specs.declared.rule.Broken.{Broken}
+use Rattle.ss_check_rules.specs.declared.rule.Rule.TheVariants as rules
+use Rattle.ss_check_rules.specs.Refusal.{refusal}
 use Rattle.ss_names.specs.Table.{table}
-use Rattle.ss_globals.specs.WholeOf.{whole_of}
+use Rattle.ss_check_scopes.specs.WholeOf.{whole_of}
 use Rattle.ss_program.specs.declared.sections.Program.{Program as ProgramValue}
 use Rattle.ss_program.specs.Program.{Program}
 use Rattle.ss_program.specs.View.{view_program}
-use Rattle.ss_whole.specs.Resolved.{resolved}
+use Rattle.ss_check_programs.specs.Resolved.{resolved}
 use Rattle.ss_tables.specs.Tables.{TellsWhat}
 use Rattle.ss_check.specs.declared.error.CheckError.{CheckError}
 use Rattle.ss_check.specs.declared.error.CheckError.TheVariants as errors

@@ -3,11 +3,11 @@
 ghost use Rattle.std.specs.Prelude.{◌≡◌, ◌≤◌, map, None, OnOk, IfOk, IfErr};
 ghost use Rattle.ss_tree.specs.Nodes.{nodes as tree_nodes};
 ghost use Rattle.ss_tree.specs.View.{view_program, view_section};
-ghost use Rattle.ss_declared.specs.Broken.{refusal as declared_refusal};
+ghost use Rattle.ss_tables_rules.specs.Broken.{refusal as declared_refusal};
 ghost use Rattle.ss_names.specs.Table.{table};
-ghost use Rattle.ss_globals.specs.WholeOf.{whole_in, whole_of};
-ghost use Rattle.ss_scopes.specs.Whole.{locals_of};
-ghost use Rattle.ss_uses.specs.Refusal.{refusal};
+ghost use Rattle.ss_check_scopes.specs.WholeOf.{whole_in, whole_of};
+ghost use Rattle.ss_check_scopes.specs.Whole.{locals_of};
+ghost use Rattle.ss_check_rules.specs.Refusal.{refusal};
 ghost use Rattle.ss_program.specs.Checking.{program_in};
 ghost use Rattle.ss_program.specs.Nodes.{nodes};
 ghost use Rattle.ss_program.specs.View.{view_program as program_seen};
@@ -15,16 +15,15 @@ ghost use Rattle.ss_tables.specs.Tables.{AreTablesOf};
 ghost use Rattle.ss_check.specs.Checking.{Becomes, Tells, refusal_of};
 
 use crate::error::{CheckError, error_of};
-use ss_globals::ProgramGlobals;
-use ss_links::laws::kept_programs_resolve;
-use ss_misuses::judge;
+use ss_check_laws::program_laws::kept_programs_resolve;
+use ss_check_laws::size_laws::laws as laws_of_nodes;
+use ss_check_programs::resolve;
+use ss_check_rules::judge;
+use ss_check_scopes::{Locals, ProgramGlobals};
 use ss_program::checked::Checked;
-use ss_release::release_tree;
-use ss_scopes::Locals;
-use ss_sizes::laws::laws as laws_of_nodes;
 use ss_tables::Tables;
 use ss_tree::program::Program;
-use ss_whole::resolve;
+use ss_tree::release::release_tree;
 use std::alloc::Global;
 
 // The local variables of each section; refuses a program that breaks a rule on what it does with its names.

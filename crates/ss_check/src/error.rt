@@ -4,8 +4,8 @@ ghost use Rattle.std.specs.Prelude.{◌≡◌, Some};
 ghost use Rattle.ss_check.specs.declared.error.CheckError.TheVariants.{Memory};
 ghost use Rattle.ss_check.specs.Checking.{Tells};
 
-use ss_bytes::Line;
-use ss_uses::{Broken, Rule};
+use ss_base::Line;
+use ss_check_rules::{Broken, Rule};
 use std::alloc::AllocError;
 use thiserror::Error;
 

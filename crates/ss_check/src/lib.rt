@@ -6,5 +6,5 @@ mod error;
 
 pub use checking::check;
 pub use error::CheckError;
-pub use ss_links::laws::kept_programs_resolve;
+pub use ss_check_laws::program_laws::kept_programs_resolve;
 pub use ss_program::checked::Checked;

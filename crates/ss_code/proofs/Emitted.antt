@@ -8,10 +8,10 @@ use Rattle.ss_program.specs.declared.statement.Statement.TheVariants as forms
 use Rattle.ss_program.specs.Program as p
 use Rattle.ss_program.specs.Program.{Statement}
 use Rattle.ss_program.specs.View.{view_expression, view_place, view_target, view_position, view_owner, view_when, view_restart, view_item, view_statement}
-use Rattle.ss_machine_code.specs.declared.instruction.Instruction.{Instruction}
-use Rattle.ss_machine_code.specs.declared.instruction.Instruction.TheVariants as i
-use Rattle.ss_machine_code.specs.Machine.{Lines}
-use Rattle.ss_machine_code.specs.Translation.{values_code, gives_code, shown_code, values_taken, statement_code, statement_prints}
+use Rattle.ss_code_instructions.specs.declared.instruction.Instruction.{Instruction}
+use Rattle.ss_code_instructions.specs.declared.instruction.Instruction.TheVariants as i
+use Rattle.ss_code_instructions.specs.Machine.{Lines}
+use Rattle.ss_code_instructions.specs.Translation.{values_code, gives_code, shown_code, values_taken, statement_code, statement_prints}
 
 -- nothing was, where there was no memory
 pub failed : (P : Type 0) (Q : AllocError → Type 0) (r : Result (Unit {0}) AllocError) → IsErrAnd r Q → OnOk r P

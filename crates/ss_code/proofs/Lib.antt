@@ -1,3 +1,5 @@
+mod Rows
+mod Looped
 mod Emitted
 mod Sizes
 mod Steps

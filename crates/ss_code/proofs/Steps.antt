@@ -1,9 +1,9 @@
 -- One more item of a list whose code, lines and entries are made one behind the other.
 use Rattle.std.proofs.Common.{◌≡◌, ℕ, List, [], ◌∷◌, ◌+◌, ◌++◌, length, ap, sym, ◌∙◌, append_assoc, length-append}
 use Rattle.ss_program.specs.Program.{Routine, Event, Block}
-use Rattle.ss_machine_code.specs.Machine.{Entry, Lines}
-use Rattle.ss_machine_code.specs.declared.instruction.Instruction.{Instruction}
-use Rattle.ss_machine_code.specs.Translation.{block_prints, section_code, sections_prints, sections_code, routine_entry, event_entry, routine_entries, event_entries}
+use Rattle.ss_code_instructions.specs.Machine.{Entry, Lines}
+use Rattle.ss_code_instructions.specs.declared.instruction.Instruction.{Instruction}
+use Rattle.ss_code_instructions.specs.Translation.{block_prints, section_code, sections_prints, sections_code, routine_entry, event_entry, routine_entries, event_entries}
 
 -- what an item adds goes from what is left to what is made
 pub moved : {A : Type 0} (old new add rest left want : List A) → old ++ left ≡ want → left ≡ add ++ rest → new ≡ old ++ add → new ++ rest ≡ want

@@ -4,9 +4,9 @@ use Rattle.ss_meaning.specs.Meaning.{setting_of, tie_shapes}
 use Rattle.ss_base.specs.declared.layout.Mode.{Mode}
 use Rattle.ss_program.specs.Program.{Program, Routine, Event, Block}
 use Rattle.ss_code.specs.Emitted.{Said, said_by}
-use Rattle.ss_machine_code.specs.declared.instruction.Instruction.{Instruction}
-use Rattle.ss_machine_code.specs.Machine.{Entry, Lines, Code}
-use Rattle.ss_machine_code.specs.Translation.{section_code, block_prints, sections_prints, sections_code, routine_bodies, event_bodies, routine_entries, event_entries, main_code, routines_code, prints_of_main, code_of}
+use Rattle.ss_code_instructions.specs.declared.instruction.Instruction.{Instruction}
+use Rattle.ss_code_instructions.specs.Machine.{Entry, Lines, Code}
+use Rattle.ss_code_instructions.specs.Translation.{section_code, block_prints, sections_prints, sections_code, routine_bodies, event_bodies, routine_entries, event_entries, main_code, routines_code, prints_of_main, code_of}
 
 -- how many PRINTs stand before the events
 before_events : (p : Program) → length (block_prints p.main ++ sections_prints (routine_bodies p.routines)) ≡ prints_of_main p + length (sections_prints (routine_bodies p.routines))

@@ -1,3 +1,3 @@
+pub mod Operations
 pub mod Emitted
 pub mod Limits
-pub use Rattle.ss_listing.specs.Listing

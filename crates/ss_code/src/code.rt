@@ -1,17 +1,17 @@
 //! The code of a program.
 
 ghost use Rattle.std.specs.Prelude.{◌≡◌, ◌<◌, ◌^◌, length, map, slice_get, IfOk};
-ghost use Rattle.ss_listing.specs.Listing.{listing_of};
+ghost use Rattle.ss_code_listing.specs.Listing.{listing_of};
 ghost use Rattle.ss_code.specs.Emitted.{IsCode};
 
 use crate::lines::Lines;
 use ss_base::{Discipline, Layout, Mode};
-use ss_listing::listing::listing;
-use ss_machine_code::entry::Entry;
-use ss_machine_code::instruction::Instruction;
-use ss_notices::NoticeClass;
-use ss_pending::TieShape;
+use ss_code_instructions::NoticeClass;
+use ss_code_instructions::entry::Entry;
+use ss_code_instructions::instruction::Instruction;
+use ss_code_listing::listing::listing;
 use ss_program::sections::Statistic;
+use ss_world::TieShape;
 use std::alloc::{AllocError, Global};
 use std::marker::Model;
 
@@ -50,7 +50,7 @@ pub struct Code {
 }
 
 impl Model for Code {
-    ghost use Rattle.ss_machine_code.specs.Machine.{Code as CodeValue};
+    ghost use Rattle.ss_code_instructions.specs.Machine.{Code as CodeValue};
     ghost use Rattle.ss_code.specs.Emitted.{IsCode};
 
     ghost Value = { CodeValue };

@@ -2,10 +2,10 @@
 
 ghost use Rattle.std.specs.Prelude.{◌≡◌, map, IfOk};
 ghost use Rattle.ss_program.specs.View.{view_item};
-ghost use Rattle.ss_machine_code.specs.Translation.{item_kind, lines_of};
+ghost use Rattle.ss_code_instructions.specs.Translation.{item_kind, lines_of};
 
-use ss_loops::pieces::items::kind_of;
-use ss_machine_code::item::ItemKind;
+use crate::items::kind_of;
+use ss_code_instructions::item::ItemKind;
 use ss_picture::Picture;
 use ss_program::statement::Item;
 use std::alloc::{AllocError, Global};
@@ -21,7 +21,7 @@ pub struct Lines {
 }
 
 impl Model for Lines {
-    ghost use Rattle.ss_machine_code.specs.Machine.{Lines as LinesValue};
+    ghost use Rattle.ss_code_instructions.specs.Machine.{Lines as LinesValue};
 
     ghost Value = { LinesValue };
 

@@ -1,7 +1,7 @@
 //! What may be run.
 
 ghost use Rattle.std.specs.Prelude.{◌≡◌, IfOk};
-ghost use Rattle.ss_code.specs.Listing.{listing_of};
+ghost use Rattle.ss_code_listing.specs.Listing.{listing_of};
 
 use crate::code::Code;
 use std::alloc::{AllocError, Global};
@@ -13,7 +13,7 @@ pub struct Model {
 }
 
 impl std::marker::Model for Model {
-    ghost use Rattle.ss_machine_code.specs.Machine.{Code as CodeValue};
+    ghost use Rattle.ss_code_instructions.specs.Machine.{Code as CodeValue};
 
     ghost Value = { CodeValue };
 

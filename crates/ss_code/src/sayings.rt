@@ -1,16 +1,16 @@
 //! What a program says of its classes and sets, its notices and its statistics, copied for its code.
 
 ghost use Rattle.std.specs.Prelude.{◌≡◌, slice_get, map, IfOk};
-ghost use Rattle.ss_states.specs.State.{modes_of};
+ghost use Rattle.ss_world.specs.State.{modes_of};
 ghost use Rattle.ss_meaning.specs.Meaning.{tie_shapes, said_of};
 ghost use Rattle.ss_program.specs.View.{view_event, view_program};
 ghost use Rattle.ss_code.specs.Emitted.{said_by};
 
 use crate::code::Sayings;
 use ss_base::{Layout, Mode, copied_disciplines};
-use ss_notices::NoticeClass;
-use ss_pending::TieShape;
+use ss_code_instructions::NoticeClass;
 use ss_program::sections::{Event, Program};
+use ss_world::TieShape;
 use std::alloc::{AllocError, Global};
 
 // The mode of a field, where there is one.

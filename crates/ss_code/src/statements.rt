@@ -3,21 +3,21 @@
 ghost use Rattle.std.specs.Prelude.{◌≡◌, ◌+◌, ◌∷◌, ◌++◌, [], length, map, IfOk, OnOk};
 ghost use Rattle.ss_program.specs.Program.{Simulate};
 ghost use Rattle.ss_program.specs.View.{view_expression, view_condition, view_place, view_item, view_statement, view_body};
-ghost use Rattle.ss_machine_code.specs.declared.instruction.Instruction.TheVariants.{Jump, Call, Destroy, Cancel, Skip, Print};
-ghost use Rattle.ss_machine_code.specs.Translation.{expression_code, values_code, condition_code, gives_code, if_code, shown_code, values_taken, lines_of, statement_code, statement_prints, block_code, block_prints, section_code};
+ghost use Rattle.ss_code_instructions.specs.declared.instruction.Instruction.TheVariants.{Jump, Call, Destroy, Cancel, Skip, Print};
+ghost use Rattle.ss_code_instructions.specs.Translation.{expression_code, values_code, condition_code, gives_code, if_code, shown_code, values_taken, lines_of, statement_code, statement_prints, block_code, block_prints, section_code};
 
+use crate::conditions::{emit_condition, emit_phrases};
+use crate::emit::{emit_expression, emit_values, put};
+use crate::events::{emit_restarts, emit_schedule, emit_schedule_new};
+use crate::items::{count_values, emit_items};
 use crate::lines::Lines;
-use ss_base::Line;
-use ss_loops::events::{emit_restarts, emit_schedule, emit_schedule_new};
-use ss_loops::loops::{emit_find, emit_for, emit_loop};
-use ss_loops::pieces::conditions::{emit_condition, emit_phrases};
-use ss_loops::pieces::emit::{emit_expression, emit_values, put};
-use ss_loops::pieces::items::{count_values, emit_items};
-use ss_loops::pieces::places::{
+use crate::loops::{emit_find, emit_for, emit_loop};
+use crate::places::{
     emit_change, emit_create, emit_creates, emit_gives, emit_let, emit_reads, emit_remove_end,
 };
-use ss_loops::pieces::sets::{emit_file, emit_remove};
-use ss_machine_code::instruction::Instruction;
+use crate::sets::{emit_file, emit_remove};
+use ss_base::Line;
+use ss_code_instructions::instruction::Instruction;
 use ss_program::condition::Condition;
 use ss_program::expression::Expression;
 use ss_program::statement::{Item, Place, Statement};

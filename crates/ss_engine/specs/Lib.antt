@@ -1,5 +1,8 @@
-pub use Rattle.ss_compile.specs.Refusals
-pub use Rattle.ss_compile.specs.Accepting
+pub mod Refusals
+pub mod Accepting
+pub mod Laws
+pub mod Sessions
+pub mod Headline
+pub mod Standing
 pub mod Outcomes
 pub mod Simulation
-pub use Rattle.ss_compile.specs.Laws

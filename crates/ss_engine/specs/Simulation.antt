@@ -2,13 +2,13 @@
 use Rattle.std.specs.Prelude.{ℕ, List}
 use Rattle.std.specs.declared.option.Option.{Option}
 use Rattle.ss_program.specs.Program.{Program}
-use Rattle.ss_sessions.specs.Stop.{Stop}
+use Rattle.ss_machine.specs.Stop.{Stop}
 use Rattle.ss_engine.specs.declared.outcome.Outcome.{Outcome}
 use Rattle.ss_engine.specs.declared.outcome.Outcome.TheVariants.{Refused, Stopped}
-use Rattle.ss_compile.specs.Accepting.{IsProgramOf, RefusedFor, Compiles}
-use Rattle.ss_machine_code.specs.Machine.{Code}
-use Rattle.ss_sessions.specs.Headline.{Simulated}
-use Rattle.ss_sessions.specs.Standing.{Stood}
+use Rattle.ss_engine.specs.Accepting.{IsProgramOf, RefusedFor, Compiles}
+use Rattle.ss_code_instructions.specs.Machine.{Code}
+use Rattle.ss_engine.specs.Headline.{Simulated}
+use Rattle.ss_engine.specs.Standing.{Stood}
 
 -- the text is well formed, and the run of its program that used so many ticks stopped so
 pub record IsSimulated {R W : Type 0} (remaining : R → Option (List ℕ)) (contents : W → Option (List ℕ)) (text : List ℕ) (stop : Stop) (used : ℕ) (reader new_reader : R) (writer new_writer : W) : Type 0 where

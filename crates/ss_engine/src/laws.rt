@@ -1,15 +1,15 @@
 //! Laws of what a text means.
 
 ghost use Rattle.std.specs.Prelude.{◌≢◌, ℕ, List, []};
-ghost use Rattle.ss_machine_code.specs.Machine.{Code};
-ghost use Rattle.ss_sessions.specs.declared.session.Session.{Session};
-ghost use Rattle.ss_sessions.specs.Sessions.{HasRun, session_machine, session_reader, session_writer, stands_so};
-ghost use Rattle.ss_compile.specs.Accepting.{Compiles};
+ghost use Rattle.ss_code_instructions.specs.Machine.{Code};
+ghost use Rattle.ss_engine.specs.declared.session.Session.{Session};
+ghost use Rattle.ss_engine.specs.Sessions.{HasRun, session_machine, session_reader, session_writer, stands_so};
+ghost use Rattle.ss_engine.specs.Accepting.{Compiles};
 ghost use Rattle.ss_engine.specs.Simulation.{IsSimulated};
 
+use crate::session_laws::sessions_are_meant as laws_of_sessions;
+pub use crate::text_laws::{laws, longer_bounds_extend_the_report};
 use ss_base::{FaultyRead, FaultyWrite};
-pub use ss_compile::laws::{laws, longer_bounds_extend_the_report};
-use ss_sessions::laws::sessions_are_meant as laws_of_sessions;
 
 /// A caller's own session of a text is what `simulate` is: after any list of runs, with whatever ticks, its writer took
 /// exactly the report that the text means for the input and all those ticks, and the session stands still as the meaning

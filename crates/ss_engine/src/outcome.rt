@@ -3,9 +3,9 @@
 ghost use Rattle.std.specs.Prelude.{◌≡◌, IfOk};
 ghost use Rattle.ss_engine.specs.Outcomes.{stop_status, status_of, told, stop_told, outcome_told};
 
+use crate::refusal::Refusal;
 use itoa::Buffer;
-use ss_compile::Refusal;
-use ss_sessions::Stop;
+use ss_machine::Stop;
 use std::alloc::{AllocError, Global};
 
 /// What came of a text: why it is refused, or why its run stopped, and the ticks that the run used.

@@ -2,16 +2,17 @@
 
 ghost use Rattle.std.specs.Prelude.{◌≡◌, ◌≤◌, ℕ};
 ghost use Rattle.ss_base.specs.Failures.{HasRisen};
-ghost use Rattle.ss_compile.specs.declared.refusal.Refusal.{Refusal as RefusalSeen};
-ghost use Rattle.ss_sessions.specs.Headline.{handed_out};
+ghost use Rattle.ss_engine.specs.declared.refusal.Refusal.{Refusal as RefusalSeen};
+ghost use Rattle.ss_engine.specs.Headline.{handed_out};
 ghost use Rattle.ss_engine.specs.Simulation.{ComesTo, StandsSo};
-ghost use Rattle.ss_sessions.specs.Stop.{Stop as StopSeen};
+ghost use Rattle.ss_machine.specs.Stop.{Stop as StopSeen};
 
+use crate::compiling::compile;
 use crate::laws::laws;
 use crate::outcome::Outcome;
+use crate::run::run_model;
 use ss_base::{FaultyRead, FaultyWrite};
-use ss_compile::compile;
-use ss_sessions::{Stop, run_model};
+use ss_machine::Stop;
 use std::alloc::Global;
 
 /// A text compiled, and run with the input of this reader and this writer for its report, once for

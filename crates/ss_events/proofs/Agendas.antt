@@ -13,8 +13,8 @@ use Rattle.ss_events.specs.HeapEntries.{HeapEntries, all_of, notices_of, IsLed, 
 use Rattle.ss_events.specs.Slots.{no_entry}
 use Rattle.ss_events.specs.Sifting.{IsLogarithmic}
 use Rattle.ss_events.specs.HeapOrder.{IsHeap}
-use Rattle.ss_pending.specs.Order.{comes_before}
-use Rattle.ss_pending.specs.PendingList.{PendingList, scheduling_limit, is_pending, without, earlier, least, next, after_next}
+use Rattle.ss_world.specs.Order.{comes_before}
+use Rattle.ss_world.specs.PendingList.{PendingList, scheduling_limit, is_pending, without, earlier, least, next, after_next}
 use Rattle.ss_events.specs.InOrder.{put, in_order, numbers_of, IsAgenda}
 use Rattle.ss_events.proofs.EntryOrder.{entries_rank, tied_numbers}
 use Rattle.ss_events.proofs.Heaps.{first}

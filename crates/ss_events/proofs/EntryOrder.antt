@@ -9,7 +9,7 @@ use Rattle.std.proofs.lemmas.List.Sorted.{ranks_by}
 use Rattle.ss_base.specs.declared.value.Value.{Value}
 use Rattle.ss_base.specs.Order.{value_cmp_total}
 use Rattle.ss_events.specs.declared.entry.Entry.{Entry}
-use Rattle.ss_pending.specs.Order.{directed_order, tie_order, key_order, entry_order, comes_before}
+use Rattle.ss_world.specs.Order.{directed_order, tie_order, key_order, entry_order, comes_before}
 
 directed_antisymm : (p q : Bool) (v w : Value) → directed_order p q v w ≡ ordering_reverse (directed_order q p w v)
 directed_antisymm false false v w = value_cmp_total.antisymm v w

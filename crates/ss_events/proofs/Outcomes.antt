@@ -3,8 +3,8 @@ use Rattle.std.proofs.Common.{◌≡◌, ◌≢◌, ◌==◌, ℤ, Bool, true, f
 use Rattle.std.proofs.lemmas.Bool.Decides.{nat_tests}
 use Rattle.ss_base.specs.declared.fault.FaultKind.{FaultKind}
 use Rattle.ss_base.specs.declared.fault.FaultKind.TheVariants.{AlreadyScheduled, NotScheduled, Overflow}
-use Rattle.ss_pending.specs.SortKey.{SortKey}
-use Rattle.ss_pending.specs.PendingList.{PendingList, scheduling_limit, is_pending, without, with_entry, scheduled, cancelled}
+use Rattle.ss_world.specs.SortKey.{SortKey}
+use Rattle.ss_world.specs.PendingList.{PendingList, scheduling_limit, is_pending, without, with_entry, scheduled, cancelled}
 
 -- ---- schedule
 

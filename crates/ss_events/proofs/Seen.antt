@@ -13,7 +13,7 @@ use Rattle.ss_events.specs.declared.entry.directory.Directory.{Directory}
 use Rattle.ss_events.specs.declared.entry.places.Slot.{Slot}
 use Rattle.ss_events.specs.declared.entry.places.Stand.{Stand}
 use Rattle.ss_events.specs.HeapEntries.{Lines, notices_of, event_of, IsLed, AreBehind}
-use Rattle.ss_pending.specs.Order.{comes_before}
+use Rattle.ss_world.specs.Order.{comes_before}
 use Rattle.ss_events.specs.Slots.{no_entry, no_kept, no_stand, behind, untold, told_ranks, told_numbers, kept, stand, mark_of, order_of, told_by, IsBut, entry_at, heads, followers, IsTaken, AreHeld}
 use Rattle.ss_events.proofs.Lists.{each_fails, none_passes, first_at, first_nowhere}
 use Rattle.ss_events.proofs.Marks.{notice_in, in-untold, told_small, told_again, told_mark}

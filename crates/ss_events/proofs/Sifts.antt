@@ -12,7 +12,7 @@ use Rattle.std.proofs.Math.Nat.{mul-le-mul_right}
 use Rattle.ss_events.specs.declared.entry.Entry.{Entry}
 use Rattle.ss_events.specs.HeapEntries.{HeapEntries, but_one}
 use Rattle.ss_events.specs.HeapOrder.{IsChild, IsHeap, IsUnderParent, IsOverChildren, IsHeapBut, IsFirstChild}
-use Rattle.ss_pending.specs.Order.{comes_before}
+use Rattle.ss_world.specs.Order.{comes_before}
 use Rattle.ss_events.specs.Sifting.{Raises, CostsToRaise, Lowers, CostsToLower, Mends, CostsToMend, IsLogarithmic}
 use Rattle.ss_events.specs.Digits.{binary_digits}
 use Rattle.std.specs.Int.Digits.{digits_of, number_from_digits}

@@ -4,7 +4,7 @@ use Rattle.std.proofs.lemmas.List.Sorted.{IsPermutation-append_left, IsPermutati
 use Rattle.ss_events.specs.declared.entry.Entry.{Entry}
 use Rattle.ss_events.specs.HeapEntries.{Lines, Advances, Removes}
 use Rattle.ss_events.specs.HeapOrder.{IsHeap, IsHeapBut}
-use Rattle.ss_pending.specs.Order.{comes_before}
+use Rattle.ss_world.specs.Order.{comes_before}
 use Rattle.ss_events.proofs.Lines.{swap_two}
 use Rattle.ss_events.proofs.Sifts.{taken_long, taken_all, taken_last, taken_but, followed_long, followed_heap}
 

@@ -9,9 +9,9 @@ use Rattle.std.proofs.lemmas.Bool.{cases_eq, cases_lt, lt-ltb, le-ltb}
 use Rattle.std.proofs.lemmas.Bool.Decides.{nat_tests}
 use Rattle.std.proofs.lemmas.Cmp.{tied_itself, nat_cmp_total, int_cmp_total}
 use Rattle.std.proofs.lemmas.Int.{ints}
-use Rattle.ss_pending.specs.declared.ties.Tie.{Tie}
+use Rattle.ss_world.specs.declared.ties.Tie.{Tie}
 use Rattle.ss_events.specs.declared.entry.Entry.{Entry}
-use Rattle.ss_pending.specs.Order.{tie_order, key_order, comes_before}
+use Rattle.ss_world.specs.Order.{tie_order, key_order, comes_before}
 use Rattle.ss_events.specs.Slots.{is_tied, untold, told_ranks, told_numbers, order_of, IsBut}
 
 by_tests : (b c : Bool) (r s : Ordering) → (b ≡ false → c ≡ false → ⊥) → b ≡ is_lt (ordering_then (ordering_then (cond b Less (cond c Greater Equal)) r) s)

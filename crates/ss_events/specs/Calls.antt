@@ -6,8 +6,8 @@ use Rattle.ss_events.specs.declared.calls.Call.{Call}
 use Rattle.ss_events.specs.declared.calls.Call.TheVariants.{Schedule, Cancel, Least, Take}
 use Rattle.ss_events.specs.declared.calls.Answer.{Answer}
 use Rattle.ss_events.specs.declared.calls.Answer.TheVariants.{Done, Faulted, Next}
-use Rattle.ss_pending.specs.declared.ties.TieShape.{TieShape}
-use Rattle.ss_pending.specs.PendingList.{PendingList, FitsClass, scheduled, cancelled, next, after_next}
+use Rattle.ss_world.specs.declared.ties.TieShape.{TieShape}
+use Rattle.ss_world.specs.PendingList.{PendingList, FitsClass, scheduled, cancelled, next, after_next}
 
 -- what a call fits, where it schedules: its key fits a class
 abbrev pub FitsCall : List (List TieShape) → Call → Type 0

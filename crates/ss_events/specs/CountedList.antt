@@ -1,6 +1,6 @@
 -- What a contract sees of an event list.
 use Rattle.std.specs.Prelude.{ℕ}
-use Rattle.ss_pending.specs.PendingList.{PendingList}
+use Rattle.ss_world.specs.PendingList.{PendingList}
 
 -- the event list, with the comparisons and the moves of the last call that could change it
 pub record CountedList : Type 0 where

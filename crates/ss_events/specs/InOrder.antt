@@ -5,8 +5,8 @@ use Rattle.std.specs.List.{IsDistinct, All}
 use Rattle.ss_events.specs.declared.entry.Entry.{Entry}
 use Rattle.ss_events.specs.HeapEntries.{notices_of}
 use Rattle.ss_events.specs.HeapOrder.{IsHeap}
-use Rattle.ss_pending.specs.Order.{comes_before}
-use Rattle.ss_pending.specs.PendingList.{scheduling_limit}
+use Rattle.ss_world.specs.Order.{comes_before}
+use Rattle.ss_world.specs.PendingList.{scheduling_limit}
 
 -- an entry put among entries in the order of scheduling
 abbrev pub put : Entry → List Entry → List Entry

@@ -4,7 +4,7 @@ use Rattle.std.specs.List.Sorted.{IsPermutation}
 use Rattle.ss_events.specs.declared.entry.Entry.{Entry}
 use Rattle.ss_events.specs.HeapEntries.{HeapEntries}
 use Rattle.ss_events.specs.HeapOrder.{IsHeap, IsHeapBut, IsUnderParent, IsOverChildren}
-use Rattle.ss_pending.specs.Order.{comes_before}
+use Rattle.ss_world.specs.Order.{comes_before}
 use Rattle.ss_events.specs.Digits.{binary_digits}
 
 -- the entry at `from` rose to the place `to`, under its parent, and if it moved it is over its children

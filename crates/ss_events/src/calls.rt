@@ -3,7 +3,7 @@ ghost use Rattle.std.specs.Prelude.{◌≡◌, IfOk, OnOk, OnErr, All, IsTrue, �
 use crate::entry::Key;
 use crate::pending::Pending;
 use ss_base::{FaultKind, Refused};
-use ss_pending::Tie;
+use ss_world::Tie;
 use std::alloc::{AllocError, Global};
 
 /// A call of an event list.
@@ -35,7 +35,7 @@ pub enum Answer {
 
 impl Pending {
     ghost use Rattle.std.specs.Result.{result_unwrap_or};
-    ghost use Rattle.ss_pending.specs.PendingList.{FitsClass, scheduled, cancelled};
+    ghost use Rattle.ss_world.specs.PendingList.{FitsClass, scheduled, cancelled};
     ghost use Rattle.ss_events.specs.Calls.{FitsCall, outcome_of, answer_of, after_call, answers_of, after_calls};
 
     /// Whether each key under which one of these calls schedules fits its class.

@@ -1,7 +1,7 @@
 // Which of the children of an entry comes first.
 ghost use Rattle.std.specs.Prelude.{ℕ, ◌≡◌, ◌<◌, ◌≤◌, ◌+◌, ◌*◌, ◌^◌, length, MatchOption, is_some, if◌then◌else◌};
 ghost use Rattle.ss_events.specs.HeapOrder.{IsFirstOf, IsFirstAmong, IsFirstChild};
-ghost use Rattle.ss_pending.specs.Order.{comes_before};
+ghost use Rattle.ss_world.specs.Order.{comes_before};
 
 use crate::entry::Heap;
 

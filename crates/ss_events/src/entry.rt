@@ -3,7 +3,7 @@
 //! Nothing but this module reads a key, and none of its functions hands an entry out. So two keys are compared and an
 //! entry is put into a place only by `Heap`, which counts it.
 ghost use Rattle.std.specs.Prelude.{◌≡◌, ◌<◌, ◌*◌, [], pos, IfOk, IfSome, IsTrue, ◌↔◌, int_lt, map};
-ghost use Rattle.ss_pending.specs.PendingList.{FitsClass};
+ghost use Rattle.ss_world.specs.PendingList.{FitsClass};
 ghost use Rattle.ss_events.specs.Slots.{is_tied, no_entry, no_mark, order_of, mark_of, told_by, told_ranks, told_numbers};
 
 mod directory;
@@ -14,7 +14,7 @@ mod places;
 use crate::key::fits_class;
 pub use heap::Heap;
 pub(crate) use places::MANY;
-use ss_pending::{Tie, TieShape};
+use ss_world::{Tie, TieShape};
 use std::alloc::{AllocError, Global};
 use std::marker::Model;
 
@@ -40,7 +40,7 @@ pub struct Key {
 }
 
 impl Model for Key {
-    ghost use Rattle.ss_pending.specs.SortKey.{SortKey};
+    ghost use Rattle.ss_world.specs.SortKey.{SortKey};
 
     ghost Value = { SortKey };
 
@@ -119,7 +119,7 @@ struct Entry {
 }
 
 impl Model for Entry {
-    ghost use Rattle.ss_pending.specs.PendingNotice.{PendingNotice};
+    ghost use Rattle.ss_world.specs.PendingNotice.{PendingNotice};
 
     ghost Value = { PendingNotice };
 

@@ -1,8 +1,8 @@
 // Whether ties are those of a class.
 ghost use Rattle.std.specs.Prelude.{◌≡◌, ◌↔◌, IsTrue, Some, map, slice_get};
-ghost use Rattle.ss_pending.specs.Shape.{shape_of};
+ghost use Rattle.ss_world.specs.Shape.{shape_of};
 
-use ss_pending::{Tie, TieShape};
+use ss_world::{Tie, TieShape};
 
 // Whether a rank is that of one of these classes, and the ties have the shapes of that class.
 pub(crate) fn fits_class(classes: &[Vec<TieShape>], rank: usize, ties: &[Tie]) -> bool

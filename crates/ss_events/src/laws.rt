@@ -3,8 +3,8 @@ ghost use Rattle.std.specs.Prelude.{◌≡◌, false, [], List, All, Contains, I
 ghost use Rattle.std.specs.Cmp.{IsTotalOrder};
 ghost use Rattle.std.specs.declared.cmp.Ordering.TheVariants.{Equal};
 ghost use Rattle.ss_events.specs.declared.entry.Entry.{Entry};
-ghost use Rattle.ss_pending.specs.Order.{entry_order, comes_before};
-ghost use Rattle.ss_pending.specs.PendingList.{least};
+ghost use Rattle.ss_world.specs.Order.{entry_order, comes_before};
+ghost use Rattle.ss_world.specs.PendingList.{least};
 
 /// The order of entries is total, and it doesn't part only what came of one scheduling.
 pub fn order_is_total()

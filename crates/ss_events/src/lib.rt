@@ -13,4 +13,4 @@ pub use calls::{Answer, Call};
 pub use entry::{Key, MOST_SCHEDULINGS};
 pub use laws::{least_comes_first, order_is_total};
 pub use pending::Pending;
-pub use ss_pending::{Tie, TieShape};
+pub use ss_world::{Tie, TieShape};

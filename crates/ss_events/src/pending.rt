@@ -1,11 +1,11 @@
 ghost use Rattle.std.specs.Prelude.{◌≡◌, ℕ, ◌+◌, ◌*◌, ◌<◌, ◌≤◌, true, false, [], IfOk, IfErr, OnOk, OnErr, Ok, Err, Some, slice_get, length, map, IsTrue, ◌↔◌};
-ghost use Rattle.ss_pending.specs.Shape.{shape_of};
+ghost use Rattle.ss_world.specs.Shape.{shape_of};
 
 use crate::entry::{Heap, Key, MOST_SCHEDULINGS, TOLD_NUMBERS, TOLD_RANKS};
 use crate::key;
 use crate::sift::{insert, insert_told, take_out};
 use ss_base::{FaultKind, Refused};
-use ss_pending::{Tie, TieShape};
+use ss_world::{Tie, TieShape};
 use std::alloc::{AllocError, Global};
 use std::marker::Model;
 
@@ -37,7 +37,7 @@ impl Model for Pending {
 
 impl Pending {
     ghost use Rattle.ss_events.specs.Digits.{binary_digits};
-    ghost use Rattle.ss_pending.specs.PendingList.{none_pending, FitsClass, is_pending, scheduled, IsRefusal, cancelled, next, after_next};
+    ghost use Rattle.ss_world.specs.PendingList.{none_pending, FitsClass, is_pending, scheduled, IsRefusal, cancelled, next, after_next};
 
     /// No notice is pending. `classes` has the shapes of the ties of each class, by its rank.
     pub fn new(alloc: Global, classes: &[Vec<TieShape>]) -> Result<Pending, AllocError>

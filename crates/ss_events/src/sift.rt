@@ -6,7 +6,7 @@ ghost use Rattle.std.specs.Ordering.{int_eq};
 ghost use Rattle.std.specs.List.{list_any};
 ghost use Rattle.std.specs.List.Sorted.{IsPermutation};
 ghost use Rattle.ss_events.specs.HeapOrder.{IsHeap};
-ghost use Rattle.ss_pending.specs.Order.{comes_before};
+ghost use Rattle.ss_world.specs.Order.{comes_before};
 ghost use Rattle.ss_events.specs.Slots.{told_ranks, told_numbers};
 ghost use Rattle.ss_events.specs.Sifting.{Raises, CostsToRaise, Lowers, CostsToLower, Mends, CostsToMend, IsLogarithmic};
 

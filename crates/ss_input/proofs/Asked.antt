@@ -1,6 +1,6 @@
 -- When the reader is asked.
 use Rattle.std.proofs.Common.{◌≡◌, ◌≢◌, inl, inr, ℕ, Bool, true, false, not, List, [], ◌∷◌, drop, Some, refl, sym, ap, ◌∙◌}
-use Rattle.ss_reading.specs.Blocks.{BlockSeen, first_of}
+use Rattle.ss_input.specs.Blocks.{BlockSeen, first_of}
 use Rattle.ss_input.specs.Sources.{behind, Suffices, Unasked, StandsBefore, HasWord}
 use Rattle.ss_input.specs.Words.{is_separator, is_word_byte}
 use Rattle.ss_input.proofs.Passages.{some_first}

@@ -8,7 +8,7 @@ use Rattle.std.proofs.lemmas.List.{append-nil, take-append-drop, drop-drop, leng
 use Rattle.ss_base.specs.declared.layout.Mode.TheVariants.{Integer}
 use Rattle.ss_base.specs.declared.value.Value.TheVariants.{Whole}
 use Rattle.ss_base.specs.Arithmetic.{fits_64_bits}
-use Rattle.ss_reading.specs.Blocks.{first_of}
+use Rattle.ss_input.specs.Blocks.{first_of}
 use Rattle.ss_input.specs.declared.source.Source.{Source}
 use Rattle.ss_input.specs.Sources.{Passes, StandsBefore}
 use Rattle.ss_input.specs.Inputs.{source_block, source_gap, IsAtHand, IsBeforeWord, Reaches, Reads}

@@ -4,7 +4,7 @@ use Rattle.std.proofs.lemmas.List.{append_assoc, append-nil, length-append, take
 use Rattle.std.proofs.lemmas.List.Folds.{list_all-append}
 use Rattle.std.specs.Io.KnownBytes.{Consumes, Keeps}
 use Rattle.std.specs.List.{list_all}
-use Rattle.ss_reading.specs.Blocks.{BlockSeen, Looks, Unread, first_of}
+use Rattle.ss_input.specs.Blocks.{BlockSeen, Looks, Unread, first_of}
 use Rattle.ss_input.specs.Sources.{Gives, Passes, Passed, GapPassed, WordPassed, StandsBefore, Wants}
 use Rattle.ss_input.specs.Words.{is_separator, is_word_byte}
 

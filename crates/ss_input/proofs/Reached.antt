@@ -6,7 +6,7 @@ use Rattle.std.proofs.lemmas.List.{append_assoc, length-append}
 use Rattle.std.proofs.lemmas.List.Folds.{list_all-append}
 use Rattle.ss_base.specs.declared.fault.FaultKind.TheVariants.{BadData}
 use Rattle.ss_input.specs.declared.source.Source.{Source}
-use Rattle.ss_reading.specs.Blocks.{BlockSeen, first_of}
+use Rattle.ss_input.specs.Blocks.{BlockSeen, first_of}
 use Rattle.ss_input.specs.Sources.{Gives, Passes, Passed, GapPassed, WordPassed, StandsBefore}
 use Rattle.ss_input.specs.Inputs.{source_block, source_gap, Reaches, Stands, Reads, Finds}
 use Rattle.ss_input.specs.Words.{is_separator, is_word_byte, from_word, word_at, next_word, is_ended, no_word}

@@ -6,7 +6,7 @@ use Rattle.ss_base.specs.Failures.{raised}
 use Rattle.ss_input.specs.declared.source.Missed.{Missed}
 use Rattle.ss_input.specs.declared.source.Missed.TheVariants.{Fault, Input}
 use Rattle.ss_input.specs.declared.source.Source.{Source}
-use Rattle.ss_reading.specs.Blocks.{BlockSeen}
+use Rattle.ss_input.specs.Blocks.{BlockSeen}
 use Rattle.ss_input.specs.Sources.{GapPassed, StandsBefore}
 use Rattle.ss_input.specs.Words.{is_separator, is_word_byte}
 use Rattle.ss_input.specs.Numbers.{BeginsWith}

@@ -2,7 +2,7 @@
 use Rattle.std.specs.Prelude.{◌≡◌, ◌≢◌, ◌⊎◌, ℕ, ◌+◌, Bool, true, false, List, [], ◌∷◌, ◌++◌, length, if◌then◌else◌, Option}
 use Rattle.std.specs.List.{list_all}
 use Rattle.std.specs.Io.KnownBytes.{Consumes}
-use Rattle.ss_reading.specs.Blocks.{BlockSeen}
+use Rattle.ss_input.specs.Blocks.{BlockSeen}
 use Rattle.ss_input.specs.Words.{is_separator, is_word_byte}
 
 -- the reader gave some bytes, none after its end

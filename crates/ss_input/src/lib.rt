@@ -1,9 +1,10 @@
-//! The words of the input data.
+//! The words of the input data, read a block at a time.
 #![tactic(auto)]
 
+mod block;
 mod number;
 mod passing;
 mod source;
 
+pub use block::{BLOCK, Block, ReadFailed};
 pub use source::{Missed, Source};
-pub use ss_reading::{BLOCK, ReadFailed};

@@ -3,12 +3,12 @@
 ghost use Rattle.std.specs.List.{list_all};
 ghost use Rattle.std.specs.Prelude.{length, take, ◌≡◌, ◌≤◌, ◌+◌, ◌∷◌, [], true, false, ℕ, Ok, Some, None, OnErr};
 ghost use Rattle.ss_base.specs.Failures.{errors_after};
-ghost use Rattle.ss_reading.specs.Blocks.{KnowsEnd, Unread};
+ghost use Rattle.ss_input.specs.Blocks.{KnowsEnd, Unread};
 ghost use Rattle.ss_input.specs.Sources.{Gives, Passes, Passed, GapPassed, WordPassed, StandsBefore, Suffices, Unasked, Wants};
 ghost use Rattle.ss_input.specs.Words.{is_separator, is_word_byte};
 
+use crate::block::{Block, ReadFailed};
 use ss_base::FaultyRead;
-use ss_reading::{Block, ReadFailed};
 
 /// The most bytes of a word.
 pub const WORD_LIMIT: usize = 64;

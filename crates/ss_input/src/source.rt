@@ -6,15 +6,15 @@ ghost use Rattle.ss_base.specs.declared.value.Value.TheVariants.{Whole, Text};
 ghost use Rattle.ss_base.specs.declared.layout.Mode.TheVariants.{Integer, Alpha as AlphaMode};
 ghost use Rattle.ss_base.specs.Failures.{HasRisen, HasRisenBy};
 ghost use Rattle.ss_input.specs.declared.source.Missed.{Missed as MissedSeen};
-ghost use Rattle.ss_reading.specs.Blocks.{KnowsEnd};
+ghost use Rattle.ss_input.specs.Blocks.{KnowsEnd};
 ghost use Rattle.ss_input.specs.Sources.{Gives, GapPassed, StandsBefore, Suffices, Unasked, HasWord, Wants, Lacks};
 ghost use Rattle.ss_input.specs.Inputs.{source_block, source_gap, source_missed, source_reader, IsFresh, IsAtHand, IsBeforeWord, Reads, Finds, Reaches, missed_of, failures_after};
 ghost use Rattle.ss_input.specs.Words.{is_separator, is_word_byte, is_ended, next_word, value_given};
 
+use crate::block::{Block, ReadFailed};
 use crate::number::{number_read, number_standing, separators};
 use crate::passing::{SEPARATOR_LIMIT, WORD_LIMIT, pass_gap, pass_word};
 use ss_base::{Alpha, FaultKind, FaultyRead};
-use ss_reading::{Block, ReadFailed};
 use std::marker::Model;
 
 /// Why no word was read.

@@ -3,7 +3,7 @@ use Rattle.std.proofs.Common.{◌≡◌, ℕ, zero, suc, ◌+◌, ◌<◌, ◌�
 use Rattle.std.specs.List.{prefix_len, list_all}
 use Rattle.std.proofs.lemmas.Bool.{eqb-true}
 use Rattle.std.proofs.lemmas.List.{append-nil, drop-drop}
-use Rattle.ss_bytes.specs.Values.{is_text_byte}
+use Rattle.ss_base.specs.Values.{is_text_byte}
 use Rattle.ss_lex.specs.Pieces.{Piece, separator, word, comment, open_comment, quoted, open_quoted, single, spelled, is_separator, is_word_byte, is_quotable, is_apostrophe, begins, opens_comment, is_apart, is_closed, Fits, IsCut, meaning}
 use Rattle.ss_lex.specs.declared.meaning.Meaning.TheVariants as meanings
 use Rattle.ss_lex.specs.Reading.{longer, comment_at, quotable_length, quoted_at, run_length, piece_at, cut, pieces}

@@ -2,7 +2,7 @@
 use Rattle.std.proofs.Common.{◌≡◌, ℕ, Bool, true, false, ◌||◌, List, [], ◌∷◌, ◌++◌, refl, sym, ap, ◌∙◌, inl, inr}
 use Rattle.std.specs.Prelude.{if◌then◌else◌}
 use Rattle.std.specs.List.{list_any}
-use Rattle.ss_tokens.specs.declared.token.Token.{Token}
+use Rattle.ss_lex.specs.declared.token.Token.{Token}
 use Rattle.ss_lex.specs.Tokens.{is_trigger, is_print, number_in, first_number, is_print_or_trigger, has_kind, number_due}
 use Rattle.ss_lex.specs.Collecting.{ends_in_print, number_behind, IsKept}
 use Rattle.ss_lex.proofs.Cutting.{which}

@@ -1,7 +1,7 @@
 -- Reading a text, from line to line.
 use Rattle.std.proofs.Common.{◌≡◌, ℕ, zero, suc, ◌+◌, ◌-◌, ◌<◌, ◌≤◌, max, List, [], ◌∷◌, ◌++◌, length, Option, Some, MatchOption, append_assoc, refl, sym, ap, subst, ◌∙◌, arith, inl, inr, ◌==◌}
 use Rattle.std.proofs.lemmas.List.{append-nil}
-use Rattle.ss_tokens.specs.declared.token.Token.{Token}
+use Rattle.ss_lex.specs.declared.token.Token.{Token}
 use Rattle.ss_lex.specs.declared.error.LexError.{LexError}
 use Rattle.ss_lex.specs.Lines.{with_first, lines_of}
 use Rattle.ss_lex.specs.Tokens.{tokens_of, called_by, picture_at, AreTokensOf}

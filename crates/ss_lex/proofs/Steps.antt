@@ -1,7 +1,7 @@
 -- The piece at the front of a line.
 use Rattle.std.proofs.Common.{◌≡◌, ℕ, suc, ◌+◌, true, false, ◌==◌, List, [], ◌∷◌, length, take, drop, refl, sym, ap, ◌∙◌, arith}
 use Rattle.std.proofs.lemmas.List.{drop-drop}
-use Rattle.ss_bytes.specs.Values.{text_of}
+use Rattle.ss_base.specs.Values.{text_of}
 use Rattle.ss_lex.specs.declared.meaning.Meaning.{Meaning}
 use Rattle.ss_lex.specs.declared.meaning.Meaning.TheVariants as meanings
 use Rattle.ss_lex.specs.declared.meaning.Fault.TheVariants.{OpenText}

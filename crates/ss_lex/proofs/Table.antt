@@ -11,8 +11,8 @@ use Rattle.std.proofs.lemmas.List.Sorted.{searchable_from_sorted}
 use Rattle.std.proofs.lemmas.Bool.{cases_lt}
 use Rattle.std.proofs.lemmas.Map.Text.{is_eq-slice_cmp}
 use denote.Enum.Bare.{sameb, same_true}
-use Rattle.ss_tokens.specs.contracts.word.Word.{the_type}
-use Rattle.ss_tokens.specs.declared.word.Word.{Word}
+use Rattle.ss_lex.specs.contracts.word.Word.{the_type}
+use Rattle.ss_lex.specs.declared.word.Word.{Word}
 use Rattle.ss_lex.specs.Parts.{part, part_for}
 use Rattle.ss_lex.specs.Words.{reserved, found_in}
 

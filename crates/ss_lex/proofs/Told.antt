@@ -4,7 +4,7 @@ use Rattle.std.specs.Prelude.{if◌then◌else◌}
 use Rattle.std.specs.Option.{option_or}
 use Rattle.std.proofs.lemmas.List.{append-nil}
 use Rattle.std.proofs.lemmas.Bool.Decides.{nat_tests}
-use Rattle.ss_tokens.specs.declared.token.Token.{Token}
+use Rattle.ss_lex.specs.declared.token.Token.{Token}
 use Rattle.ss_lex.specs.declared.meaning.Meaning.{Meaning}
 use Rattle.ss_lex.specs.declared.meaning.Meaning.TheVariants as meanings
 use Rattle.ss_lex.specs.declared.meaning.Fault.{Fault}

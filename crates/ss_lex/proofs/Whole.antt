@@ -3,11 +3,11 @@ use Rattle.std.proofs.Common.{◌≡◌, ◌≢◌, ℕ, ◌+◌, ◌≤◌, Boo
 use Rattle.std.specs.Prelude.{if◌then◌else◌}
 use Rattle.std.specs.List.{list_all}
 use Rattle.std.proofs.lemmas.Bool.Decides.{nat_tests}
-use Rattle.ss_tokens.specs.declared.token.Token.{Token}
+use Rattle.ss_lex.specs.declared.token.Token.{Token}
 use Rattle.ss_lex.specs.declared.error.LexError.{LexError}
 use Rattle.ss_lex.specs.declared.error.LexError.TheVariants as errors
 use Rattle.ss_lex.specs.Lines.{source_limit, is_character, first_foreign, lines_of}
-use Rattle.ss_tokens.specs.Listings.{Listing}
+use Rattle.ss_lex.specs.Listings.{Listing}
 use Rattle.ss_lex.specs.Tokens.{AreTokens, AreTokensOf}
 use Rattle.ss_lex.specs.Refusals.{IsRefused, IsRefusedIn}
 use Rattle.ss_lex.proofs.Cutting.{both_true}

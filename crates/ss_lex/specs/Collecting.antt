@@ -1,7 +1,7 @@
 -- What is kept beside the tokens so far, to know of the next trigger word how many pictures it calls for.
 use Rattle.std.specs.Prelude.{◌≡◌, ℕ, Bool, false, if◌then◌else◌, List, [], ◌∷◌}
-use Rattle.ss_tokens.specs.declared.token.TokenKind.{TokenKind}
-use Rattle.ss_tokens.specs.declared.token.Token.{Token}
+use Rattle.ss_lex.specs.declared.token.TokenKind.{TokenKind}
+use Rattle.ss_lex.specs.declared.token.Token.{Token}
 use Rattle.ss_lex.specs.Tokens.{is_print, is_print_or_trigger, number_in, number_due}
 
 -- the last token is PRINT

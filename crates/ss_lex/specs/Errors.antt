@@ -1,6 +1,6 @@
 -- How a refusal is reported.
 use Rattle.std.specs.Prelude.{ℕ, List, codes}
-use Rattle.ss_bytes.specs.declared.line.Line.{Line}
+use Rattle.ss_base.specs.declared.line.Line.{Line}
 use Rattle.ss_lex.specs.declared.error.LexError.{LexError}
 use Rattle.ss_lex.specs.declared.error.LexError.TheVariants.{TooLong, NotAscii, BadNumber, OpenText, AlphaTooLong, PictureCut, NameTooLong, Memory}
 

@@ -1,3 +1,4 @@
+pub mod Listings
 pub mod Collecting
 pub mod Errors
 pub mod Laws

@@ -1,6 +1,6 @@
 -- The bytes of a text, and its lines.
 use Rattle.std.specs.Prelude.{ℕ, ◌+◌, Bool, ◌||◌, ◌==◌, List, [], ◌∷◌, Option, Some, None, if◌then◌else◌}
-use Rattle.ss_bytes.specs.Values.{is_text_byte}
+use Rattle.ss_base.specs.Values.{is_text_byte}
 
 -- the most bytes of a text
 abbrev pub source_limit : ℕ

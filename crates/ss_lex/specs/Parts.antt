@@ -1,6 +1,6 @@
 -- The reserved words in parts.
 use Rattle.std.specs.Prelude.{ℕ, List, take, drop, nat_lt, if◌then◌else◌}
-use Rattle.ss_tokens.specs.declared.word.Word.{Word}
+use Rattle.ss_lex.specs.declared.word.Word.{Word}
 use Rattle.ss_lex.specs.Words.{reserved}
 
 -- so many of the reserved words, from this place on

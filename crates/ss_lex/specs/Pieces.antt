@@ -3,11 +3,11 @@ use Rattle.std.specs.Prelude.{◌≡◌, ℕ, ◌+◌, ◌<◌, Bool, true, fals
 use Rattle.std.specs.Option.{option_or}
 use Rattle.std.specs.Char.{is_ascii_alphanumeric}
 use Rattle.std.specs.List.{list_all}
-use Rattle.ss_bytes.specs.Values.{is_text_byte, text_of}
+use Rattle.ss_base.specs.Values.{is_text_byte, text_of}
 use Rattle.ss_lex.specs.Words.{is_period, without_end_periods, word_meaning}
-use Rattle.ss_tokens.specs.declared.token.Symbol.{Symbol}
-use Rattle.ss_tokens.specs.declared.token.Symbol.TheVariants.{OpenParenthesis, CloseParenthesis, Comma, Plus, Minus, Star, Equals, Other}
-use Rattle.ss_tokens.specs.declared.token.TokenKind.TheVariants as kinds
+use Rattle.ss_lex.specs.declared.token.Symbol.{Symbol}
+use Rattle.ss_lex.specs.declared.token.Symbol.TheVariants.{OpenParenthesis, CloseParenthesis, Comma, Plus, Minus, Star, Equals, Other}
+use Rattle.ss_lex.specs.declared.token.TokenKind.TheVariants as kinds
 use Rattle.ss_lex.specs.declared.meaning.Fault.{Fault}
 use Rattle.ss_lex.specs.declared.meaning.Fault.TheVariants.{OpenText, AlphaTooLong}
 use Rattle.ss_lex.specs.declared.meaning.Meaning.{Meaning}

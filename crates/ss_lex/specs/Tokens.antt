@@ -1,11 +1,11 @@
 -- When a list of tokens is that of a text.
 use Rattle.std.specs.Prelude.{◌≡◌, ℕ, zero, suc, ◌+◌, ◌≤◌, Bool, true, false, ◌||◌, IsTrue, List, [], ◌∷◌, ◌++◌, length, None, unsigned_abs, if◌then◌else◌}
 use Rattle.std.specs.List.{list_any, list_all}
-use Rattle.ss_tokens.specs.declared.word.Word.{Word}
-use Rattle.ss_tokens.specs.declared.word.Word.TheVariants as words
-use Rattle.ss_tokens.specs.declared.token.TokenKind.{TokenKind}
-use Rattle.ss_tokens.specs.declared.token.TokenKind.TheVariants as kinds
-use Rattle.ss_tokens.specs.declared.token.Token.{Token}
+use Rattle.ss_lex.specs.declared.word.Word.{Word}
+use Rattle.ss_lex.specs.declared.word.Word.TheVariants as words
+use Rattle.ss_lex.specs.declared.token.TokenKind.{TokenKind}
+use Rattle.ss_lex.specs.declared.token.TokenKind.TheVariants as kinds
+use Rattle.ss_lex.specs.declared.token.Token.{Token}
 use Rattle.ss_lex.specs.declared.meaning.Meaning.{Meaning}
 use Rattle.ss_lex.specs.declared.meaning.Meaning.TheVariants as meanings
 use Rattle.ss_lex.specs.Lines.{source_limit, is_character, lines_of, picture_of}

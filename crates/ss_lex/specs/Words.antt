@@ -3,11 +3,11 @@ use Rattle.std.specs.Prelude.{ℕ, ◌+◌, ◌*◌, ◌-◌, Bool, ◌||◌, �
 use Rattle.std.specs.Char.{is_ascii_alphabetic}
 use Rattle.std.specs.List.{list_any}
 use Rattle.std.specs.Str.{bytes_eq}
-use Rattle.ss_bytes.specs.Names.{name_limit, in_capitals}
-use Rattle.ss_tokens.specs.declared.word.Word.{Word}
-use Rattle.ss_tokens.specs.declared.word.Word.TheVariants as words
-use Rattle.ss_tokens.specs.declared.token.TokenKind.{TokenKind}
-use Rattle.ss_tokens.specs.declared.token.TokenKind.TheVariants as kinds
+use Rattle.ss_base.specs.Names.{name_limit, in_capitals}
+use Rattle.ss_lex.specs.declared.word.Word.{Word}
+use Rattle.ss_lex.specs.declared.word.Word.TheVariants as words
+use Rattle.ss_lex.specs.declared.token.TokenKind.{TokenKind}
+use Rattle.ss_lex.specs.declared.token.TokenKind.TheVariants as kinds
 use Rattle.ss_lex.specs.declared.meaning.Fault.TheVariants.{BadNumber, NameTooLong}
 use Rattle.ss_lex.specs.declared.meaning.Meaning.{Meaning}
 use Rattle.ss_lex.specs.declared.meaning.Meaning.TheVariants as meanings

@@ -9,7 +9,7 @@ use crate::collected::{Collected, is_trigger};
 use crate::error::LexError;
 use crate::meaning::{Fault, Meaning};
 use crate::pieces::step;
-use ss_bytes::Line;
+use ss_base::Line;
 
 /// The refusal for a fault in this line.
 fn refusal_of(fault: Fault, line: Line) -> LexError

@@ -5,8 +5,9 @@ ghost use Rattle.ss_lex.specs.Tokens.{is_trigger, is_print, number_in};
 ghost use Rattle.ss_lex.specs.Lines.{picture_of};
 
 use crate::meaning::Meaning;
-use ss_bytes::{Line, PictureLine};
-use ss_tokens::{Span, Token, TokenKind, Word};
+use crate::token::{Span, Token, TokenKind};
+use crate::word::Word;
+use ss_base::{Line, PictureLine};
 use std::alloc::{AllocError, Global};
 use std::marker::Model;
 
@@ -51,7 +52,7 @@ pub struct Collected {
 
 impl Model for Collected {
     ghost use Rattle.std.specs.Prelude.{List};
-    ghost use Rattle.ss_tokens.specs.declared.token.Token.{Token};
+    ghost use Rattle.ss_lex.specs.declared.token.Token.{Token};
     ghost use Rattle.ss_lex.specs.Collecting.{IsKept};
 
     ghost Value = { List Token };

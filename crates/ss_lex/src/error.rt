@@ -2,7 +2,7 @@ ghost use Rattle.std.specs.Prelude.{◌≡◌};
 ghost use Rattle.ss_lex.specs.Errors.{error_number, error_name, error_line};
 ghost use Rattle.ss_lex.specs.declared.error.LexError.TheVariants.{Memory};
 
-use ss_bytes::Line;
+use ss_base::Line;
 use std::alloc::{AllocError, AllocFailed};
 use thiserror::Error;
 

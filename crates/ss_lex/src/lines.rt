@@ -7,7 +7,7 @@ ghost use Rattle.ss_lex.specs.Reading.{is_in_line, foreign_refusal};
 
 use crate::error::LexError;
 use crate::pieces::tail;
-use ss_bytes::Line;
+use ss_base::Line;
 
 fn is_character(b: u8) -> bool
     ensures { result ≡ is_character b }

@@ -1,4 +1,4 @@
-use ss_tokens::TokenKind;
+use crate::token::TokenKind;
 
 /// What can be wrong with a piece of a line.
 #[derive(Clone, Copy)]

@@ -1,14 +1,14 @@
 //! The pieces of a line of code.
 
 ghost use Rattle.std.specs.Prelude.{◌≡◌, ◌≤◌, ◌+◌, ◌==◌, [], ◌∷◌, drop, length, MatchOption};
-ghost use Rattle.ss_bytes.specs.Values.{text_of};
+ghost use Rattle.ss_base.specs.Values.{text_of};
 ghost use Rattle.ss_lex.specs.Pieces.{is_separator, is_word_byte, is_quotable, begins, opens_comment, symbol_of, text_meaning};
 ghost use Rattle.ss_lex.specs.Reading.{run_length, quotable_length, comment_at, quote_step_of, step_of};
 
 use crate::meaning::{Fault, Meaning};
+use crate::token::{Symbol, TokenKind};
 use crate::words::word_meaning;
-use ss_bytes::Alpha;
-use ss_tokens::{Symbol, TokenKind};
+use ss_base::Alpha;
 
 fn is_separator(b: u8) -> bool
     ensures { result ≡ is_separator b }

@@ -2,7 +2,7 @@ ghost use Rattle.std.specs.Prelude.{◌≡◌, map};
 ghost use Rattle.ss_lex.specs.Parts.{part, part_for};
 ghost use Rattle.ss_lex.specs.Words.{found_in, reserved};
 
-use ss_tokens::Word;
+use crate::word::Word;
 
 /// A reserved word behind its spelling.
 type Row = (&'static [u8], Word);

@@ -1,7 +1,7 @@
 //! The tokens of a text.
 
 ghost use Rattle.std.specs.Prelude.{◌≡◌, ◌≢◌, ◌≤◌, ◌<◌, ◌+◌, ◌^◌, List, [], length, IfOk, IfErr};
-ghost use Rattle.ss_tokens.specs.declared.token.Token.{Token};
+ghost use Rattle.ss_lex.specs.declared.token.Token.{Token};
 ghost use Rattle.ss_lex.specs.Lines.{source_limit, lines_of};
 ghost use Rattle.ss_lex.specs.Tokens.{AreTokens, AreTokensOf};
 ghost use Rattle.ss_lex.specs.Refusals.{IsRefused, IsRefusedIn};
@@ -11,8 +11,8 @@ use crate::code::code_line;
 use crate::collected::Collected;
 use crate::error::LexError;
 use crate::lines::{check_characters, first_line, line_count};
-use ss_bytes::Line;
-use ss_tokens::Tokens;
+use crate::token_list::Tokens;
+use ss_base::Line;
 use std::alloc::Global;
 
 /// The most bytes of a text.

@@ -5,8 +5,8 @@ ghost use Rattle.ss_lex.specs.Words.{is_period, without_end_periods, name_meanin
 
 use crate::meaning::{Fault, Meaning};
 use crate::reserved::reserved_word;
-use ss_bytes::Name;
-use ss_tokens::TokenKind;
+use crate::token::TokenKind;
+use ss_base::Name;
 
 /// The largest number of a text.
 const LARGEST: u64 = 9_223_372_036_854_775_807;

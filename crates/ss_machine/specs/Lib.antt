@@ -1,7 +1,6 @@
-pub use Rattle.ss_steps.specs.Runs
-pub use Rattle.ss_steps.specs.Measure
-pub use Rattle.ss_steps.specs.Start
+pub use Rattle.ss_machine_steps.specs.Runs
+pub use Rattle.ss_machine_steps.specs.Start
+pub use Rattle.ss_machine_steps.specs.declared.stop.Stop
 pub mod Onward
 pub mod Suited
 pub mod Held
-pub use Rattle.ss_steps.specs.declared.stop.Stop

@@ -8,4 +8,4 @@ mod step;
 
 pub use machine::Machine;
 pub use ss_input::{Missed, Source};
-pub use ss_steps::stop::Stop;
+pub use ss_machine_steps::stop::Stop;

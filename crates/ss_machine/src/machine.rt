@@ -2,25 +2,25 @@
 
 ghost use Rattle.std.specs.Prelude.{◌≡◌, ◌+◌, ◌-◌, ◌*◌, ◌^◌, ◌≤◌, min, length, IfOk, Some, None};
 ghost use Rattle.ss_base.specs.Failures.{HasRisen, HasRisenBy};
-ghost use Rattle.ss_reading.specs.Blocks.{KnowsEnd};
+ghost use Rattle.ss_input.specs.Blocks.{KnowsEnd};
 ghost use Rattle.ss_input.specs.Inputs.{source_block, source_missed, source_reader};
-ghost use Rattle.ss_steps.specs.Start.{Continues};
+ghost use Rattle.ss_machine_steps.specs.Start.{Continues};
 ghost use Rattle.ss_machine.specs.Held.{IsFirst, answer_again, kept_after};
-ghost use Rattle.ss_steps.specs.Runs.{Ran};
+ghost use Rattle.ss_machine_steps.specs.Runs.{Ran};
 
 use crate::beginning::{beside, first_parts};
 use crate::running::{Counts, run};
 use ss_base::{FaultyRead, FaultyWrite};
 use ss_code::code::Code;
-use ss_fused::fused::Fused;
+use ss_code_instructions::laws::laws;
 use ss_input::Source;
-use ss_machine_code::laws::laws;
+use ss_joins::fused::Fused;
+use ss_machine_instructions::working::Working;
+use ss_machine_steps::first::release_working;
+use ss_machine_steps::laws::run_laws;
+use ss_machine_steps::showing::Buffers;
+use ss_machine_steps::stop::Stop;
 use ss_picture::Sink;
-use ss_steps::first::release_working;
-use ss_steps::laws::run_laws;
-use ss_steps::showing::Buffers;
-use ss_steps::stop::Stop;
-use ss_working::working::Working;
 use std::alloc::{AllocError, Global};
 use std::marker::Model;
 

@@ -8,8 +8,8 @@ use Rattle.ss_base.specs.declared.layout.ClassKind.{ClassKind}
 use Rattle.ss_base.specs.declared.layout.ClassKind.TheVariants.{Permanent, Temporary, Notice}
 use Rattle.ss_base.specs.declared.layout.ClassLayout.{ClassLayout}
 use Rattle.ss_base.specs.declared.layout.Owner.TheVariants.{Class}
-use Rattle.ss_states.specs.State.{State, modes_of, known_in, value_in, time_in, created, created_all, records_in, destroyed}
-use Rattle.ss_pending.specs.PendingList.{is_pending}
+use Rattle.ss_world.specs.State.{State, modes_of, known_in, value_in, time_in, created, created_all, records_in, destroyed}
+use Rattle.ss_world.specs.PendingList.{is_pending}
 use Rattle.ss_program.specs.declared.expression.Variable.TheVariants.{Global}
 use Rattle.ss_program.specs.declared.statement.Counted.{Counted}
 use Rattle.ss_meaning.specs.Values.{Trouble, if_ok, turned, due, sure, where_fit, unless_fault, number_of}

@@ -6,14 +6,14 @@ use Rattle.ss_base.specs.declared.layout.RankKey.{RankKey}
 use Rattle.ss_base.specs.declared.layout.Owner.TheVariants.{System}
 use Rattle.ss_base.specs.declared.layout.Discipline.TheVariants.{Fifo}
 use Rattle.ss_base.specs.Arithmetic.{in_64_bits, plus_of}
-use Rattle.ss_states.specs.State.{LAST_NUMBER}
-use Rattle.ss_pending.specs.Order.{comes_before}
-use Rattle.ss_pending.specs.PendingList.{scheduling_limit}
+use Rattle.ss_world.specs.State.{LAST_NUMBER}
+use Rattle.ss_world.specs.Order.{comes_before}
+use Rattle.ss_world.specs.PendingList.{scheduling_limit}
 use Rattle.ss_stats.specs.History.{tally_limit}
 use Rattle.ss_base.specs.declared.value.Value.TheVariants.{Whole}
-use Rattle.ss_program.specs.Item.TheVariants.{Is}
-use Rattle.ss_program.specs.Numerals.{numeral}
-use Rattle.ss_program.specs.Pictures.{picture_fields, filled}
+use Rattle.ss_picture.specs.declared.items.Item.TheVariants.{Is}
+use Rattle.ss_picture.specs.Numerals.{numeral}
+use Rattle.ss_picture.specs.Pictures.{picture_fields, filled}
 use Rattle.ss_program.specs.declared.expression.Fold.TheVariants.{Number, Sum, Maximum, Minimum}
 use Rattle.ss_program.specs.declared.sections.Subject.TheVariants.{OfVariable, OfCount}
 use Rattle.ss_program.specs.declared.sections.Weighting.TheVariants.{Tally, Accumulate}

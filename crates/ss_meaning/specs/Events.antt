@@ -6,9 +6,9 @@ use Rattle.ss_base.specs.declared.value.Value.{Value}
 use Rattle.ss_base.specs.declared.value.Value.TheVariants.{Whole}
 use Rattle.ss_base.specs.declared.layout.RankKey.{RankKey}
 use Rattle.ss_base.specs.Arithmetic.{plus_of}
-use Rattle.ss_states.specs.State.{Record, notice, timed}
-use Rattle.ss_pending.specs.declared.ties.Tie.{Tie}
-use Rattle.ss_pending.specs.PendingList.{is_pending, scheduled, cancelled, next, after_next}
+use Rattle.ss_world.specs.State.{Record, notice, timed}
+use Rattle.ss_world.specs.declared.ties.Tie.{Tie}
+use Rattle.ss_world.specs.PendingList.{is_pending, scheduled, cancelled, next, after_next}
 use Rattle.ss_program.specs.declared.expression.Variable.TheVariants.{Global}
 use Rattle.ss_meaning.specs.Values.{Trouble, if_ok, turned, due, sure, unless_fault, number_of}
 use Rattle.ss_meaning.specs.Store.{Notices, Store, with_heap, with_pending}

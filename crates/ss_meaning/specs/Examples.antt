@@ -4,8 +4,8 @@ use Rattle.ss_base.specs.declared.fault.FaultKind.TheVariants.{Overflow, ZeroDiv
 use Rattle.ss_base.specs.declared.value.Value.TheVariants.{Text}
 use Rattle.ss_base.specs.declared.layout.Mode.TheVariants.{Integer, Alpha}
 use Rattle.ss_base.specs.Arithmetic.{in_64_bits, plus_of, minus_of, times_of, quotient_of, remainder_of}
-use Rattle.ss_program.specs.Numerals.{numeral}
-use Rattle.ss_program.specs.Pictures.{picture_fields, filled}
+use Rattle.ss_picture.specs.Numerals.{numeral}
+use Rattle.ss_picture.specs.Pictures.{picture_fields, filled}
 use Rattle.ss_program.specs.declared.expression.Variable.TheVariants.{Local}
 use Rattle.ss_program.specs.declared.expression.Sign.TheVariants.{Plus, Minus}
 use Rattle.ss_program.specs.declared.expression.Operator.TheVariants.{Add, Subtract, Multiply, Quotient, Remainder}

@@ -1,3 +1,8 @@
+pub use Rattle.ss_input.specs.Words
+pub use Rattle.ss_program.specs.declared.statement.End
+pub use Rattle.ss_world.specs.PendingList
+pub use Rattle.ss_world.specs.State
+pub use Rattle.ss_world.specs.declared.ties.TieShape
 pub mod Values
 pub mod Store
 pub mod Histories
@@ -15,8 +20,5 @@ pub mod Building
 pub mod Examples
 pub mod SetExamples
 pub mod EventExamples
-pub use Rattle.ss_program.specs.declared.statement.End
-pub use Rattle.ss_input.specs.Words
-pub use Rattle.ss_pending.specs.PendingList
-pub use Rattle.ss_pending.specs.declared.ties.TieShape
-pub use Rattle.ss_states.specs.State
+pub mod Fitting
+pub mod Laws

@@ -1,7 +1,7 @@
 -- Loops: the candidates of a FOR, their phrases, and loops led by WHILE or UNTIL.
 use Rattle.std.specs.Prelude.{ℕ, zero, suc, ◌-◌, ◌^◌, Bool, true, false, List, [], ◌∷◌, ℤ, pos, ◌+ℤ◌, int_le, int_lt, Option, Some, None, Result, Ok, if◌then◌else◌}
 use Rattle.std.specs.Int.{int_min}
-use Rattle.ss_bytes.specs.declared.line.Line.{Line}
+use Rattle.ss_base.specs.declared.line.Line.{Line}
 use Rattle.ss_base.specs.declared.fault.FaultKind.TheVariants.{LoopStep}
 use Rattle.ss_base.specs.declared.value.Value.{Value}
 use Rattle.ss_base.specs.declared.value.Value.TheVariants.{Whole}

@@ -6,15 +6,15 @@
 -- left, and goes on with a value or is left. The store (Store) has the variables and, in the scene, everything else.
 use Rattle.std.specs.Prelude.{ℕ, zero, suc, ◌==◌, Bool, ◌++◌, List, [], ◌∷◌, map, length, pos, Option, Some, None, slice_get, if◌then◌else◌}
 use Rattle.std.specs.List.{flat_map}
-use Rattle.ss_bytes.specs.declared.line.Line.{Line}
+use Rattle.ss_base.specs.declared.line.Line.{Line}
 use Rattle.ss_base.specs.declared.fault.FaultKind.{FaultKind}
 use Rattle.ss_base.specs.declared.value.Value.{Value}
 use Rattle.ss_base.specs.declared.layout.Mode.{Mode}
 use Rattle.ss_base.specs.declared.layout.Owner.TheVariants.{System}
 use Rattle.ss_base.specs.declared.layout.Layout.{Layout}
-use Rattle.ss_states.specs.State.{first_state, modes_of}
-use Rattle.ss_pending.specs.declared.ties.TieShape.{TieShape}
-use Rattle.ss_pending.specs.PendingList.{none_pending}
+use Rattle.ss_world.specs.State.{first_state, modes_of}
+use Rattle.ss_world.specs.declared.ties.TieShape.{TieShape}
+use Rattle.ss_world.specs.PendingList.{none_pending}
 use Rattle.ss_program.specs.Program.{Routine, Event, Program}
 use Rattle.ss_meaning.specs.Store.{Notices, Setting, Scene, Store, firsts, opened, yielded}
 use Rattle.ss_meaning.specs.Histories.{no_histories, started}

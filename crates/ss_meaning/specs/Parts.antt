@@ -1,6 +1,6 @@
 -- Parts of a program: each does something to the world, and goes on with a value or is left; and ticks, which bound them.
 use Rattle.std.specs.Prelude.{ℕ, zero, suc, Bool, true, false, List, ◌++◌, Option, Some, None, Result, Ok, Err}
-use Rattle.ss_bytes.specs.declared.line.Line.{Line}
+use Rattle.ss_base.specs.declared.line.Line.{Line}
 use Rattle.ss_base.specs.declared.fault.FaultKind.{FaultKind}
 use Rattle.ss_base.specs.declared.value.Value.{Value}
 use Rattle.ss_meaning.specs.Values.{Trouble, Fails, Misfit}

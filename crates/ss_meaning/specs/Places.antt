@@ -4,7 +4,7 @@ use Rattle.ss_base.specs.declared.fault.FaultKind.TheVariants.{CreatedTwice}
 use Rattle.ss_base.specs.declared.value.Value.{Value}
 use Rattle.ss_base.specs.declared.layout.Mode.{Mode}
 use Rattle.ss_base.specs.Layout.{mode_of}
-use Rattle.ss_states.specs.State.{assigned, is_made}
+use Rattle.ss_world.specs.State.{assigned, is_made}
 use Rattle.ss_program.specs.declared.expression.Variable.{Variable}
 use Rattle.ss_program.specs.declared.expression.Variable.TheVariants.{Global, Local}
 use Rattle.ss_program.specs.declared.sections.Subject.TheVariants.{OfVariable, OfAttribute}

@@ -4,8 +4,8 @@ use Rattle.ss_base.specs.declared.fault.FaultKind.TheVariants.{NoEntity, NeverCr
 use Rattle.ss_base.specs.declared.layout.Mode.TheVariants.{Integer}
 use Rattle.ss_base.specs.declared.layout.Discipline.TheVariants.{Lifo}
 use Rattle.ss_base.specs.Arithmetic.{in_64_bits, plus_of, quotient_of}
-use Rattle.ss_program.specs.Numerals.{numeral}
-use Rattle.ss_program.specs.Pictures.{picture_fields, filled}
+use Rattle.ss_picture.specs.Numerals.{numeral}
+use Rattle.ss_picture.specs.Pictures.{picture_fields, filled}
 use Rattle.ss_program.specs.declared.expression.Variable.TheVariants.{Global, Local}
 use Rattle.ss_program.specs.declared.expression.Sign.TheVariants.{Plus}
 use Rattle.ss_program.specs.declared.expression.Operator.TheVariants.{Add, Quotient}

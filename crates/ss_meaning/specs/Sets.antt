@@ -12,9 +12,9 @@ use Rattle.ss_base.specs.declared.layout.Owner.{Owner}
 use Rattle.ss_base.specs.declared.layout.Owner.TheVariants.{System, Class}
 use Rattle.ss_base.specs.declared.layout.SetLayout.{SetLayout}
 use Rattle.ss_base.specs.declared.layout.Layout.{Layout}
-use Rattle.ss_states.specs.State.{State, modes_of}
-use Rattle.ss_states.specs.Sets.{member_class, joiner, owner, first_in, last_in, count_in, next_in, previous_in, owner_of_member, filed_first, filed_last, filed_before, filed_after, removed}
-use Rattle.ss_states.specs.Disciplines.{first_removed, last_removed, member_test, filed}
+use Rattle.ss_world.specs.State.{State, modes_of}
+use Rattle.ss_world.specs.Sets.{member_class, joiner, owner, first_in, last_in, count_in, next_in, previous_in, owner_of_member, filed_first, filed_last, filed_before, filed_after, removed}
+use Rattle.ss_world.specs.Disciplines.{first_removed, last_removed, member_test, filed}
 use Rattle.ss_program.specs.declared.expression.SetQuery.{SetQuery}
 use Rattle.ss_program.specs.declared.expression.SetQuery.TheVariants.{FirstMember, LastMember, MemberCount}
 use Rattle.ss_program.specs.declared.expression.MemberQuery.{MemberQuery}

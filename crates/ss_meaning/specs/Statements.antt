@@ -1,6 +1,6 @@
 -- Statements: what each does to the world, in the order of the manual.
 use Rattle.std.specs.Prelude.{ℕ, List, [], ◌∷◌, length, Result}
-use Rattle.ss_bytes.specs.declared.line.Line.{Line}
+use Rattle.ss_base.specs.declared.line.Line.{Line}
 use Rattle.ss_base.specs.declared.value.Value.{Value}
 use Rattle.ss_base.specs.declared.layout.Mode.{Mode}
 use Rattle.ss_input.specs.Words.{Given, value_given}

@@ -1,13 +1,13 @@
 -- What a program works on: its variables, and the scene with everything else.
 use Rattle.std.specs.Prelude.{ℕ, zero, suc, List, [], ◌∷◌, ◌++◌, map, ℤ, Option, Some, None, Result, Ok, Err, slice_get, if◌then◌else◌}
-use Rattle.ss_bytes.specs.declared.line.Line.{Line}
+use Rattle.ss_base.specs.declared.line.Line.{Line}
 use Rattle.ss_base.specs.declared.value.Value.{Value}
 use Rattle.ss_base.specs.declared.layout.Mode.{Mode}
 use Rattle.ss_base.specs.declared.layout.RankKey.{RankKey}
 use Rattle.ss_base.specs.declared.layout.Discipline.{Discipline}
 use Rattle.ss_base.specs.Layout.{mode_of, first_value}
-use Rattle.ss_states.specs.State.{State}
-use Rattle.ss_pending.specs.PendingList.{PendingList}
+use Rattle.ss_world.specs.State.{State}
+use Rattle.ss_world.specs.PendingList.{PendingList}
 use Rattle.ss_stats.specs.History.{History}
 use Rattle.ss_program.specs.declared.expression.Variable.{Variable}
 use Rattle.ss_program.specs.declared.expression.Variable.TheVariants.{Global, Local}

@@ -12,10 +12,10 @@ use Rattle.ss_base.specs.declared.layout.Mode.{Mode}
 use Rattle.ss_base.specs.declared.layout.Mode.TheVariants.{Integer, Alpha}
 use Rattle.ss_base.specs.Arithmetic.{plus_of, minus_of, times_of, quotient_of, remainder_of}
 use Rattle.ss_base.specs.Order.{value_cmp}
-use Rattle.ss_program.specs.Field.{Field}
-use Rattle.ss_program.specs.Item.{Item}
-use Rattle.ss_program.specs.Item.TheVariants.{Is, Mean}
-use Rattle.ss_program.specs.Pictures.{filled, field_count, picture_fields}
+use Rattle.ss_picture.specs.declared.field.Field.{Field}
+use Rattle.ss_picture.specs.declared.items.Item.{Item}
+use Rattle.ss_picture.specs.declared.items.Item.TheVariants.{Is, Mean}
+use Rattle.ss_picture.specs.Pictures.{filled, field_count, picture_fields}
 use Rattle.ss_program.specs.declared.expression.Sign.{Sign}
 use Rattle.ss_program.specs.declared.expression.Sign.TheVariants.{Plus, Minus}
 use Rattle.ss_program.specs.declared.expression.Operator.{Operator}

@@ -1,6 +1,6 @@
-//! The meaning of a resolved program: what a run writes, and how it ends.
-//!
-//! The crate has definitions alone (`specs/`), which the machine and its code are measured by.
+//! The meaning of a resolved program, and that a well-typed one never goes wrong.
 #![tactic(auto)]
+
+pub mod laws;
 
 pub use ss_program as program;

@@ -1,3 +1,4 @@
+mod Fields
 mod Short
 mod Once
 mod Placed

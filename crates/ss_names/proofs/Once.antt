@@ -1,8 +1,8 @@
 -- That each name stands once.
 use Rattle.std.specs.List.{flat_map}
-use Rattle.ss_sayings.specs.Sayings.{sayings}
-use Rattle.ss_firsts.specs.Firsts.{firsts}
-use Rattle.ss_firsts.proofs.Entries.{entry_of_key, firsts_once, place_from}
+use Rattle.ss_names_declarations.specs.Sayings.{sayings}
+use Rattle.ss_names_declarations.specs.Firsts.{firsts}
+use Rattle.ss_names_declarations.proofs.Entries.{entry_of_key, firsts_once, place_from}
 use Rattle.ss_names.specs.Laws.{NamesStandOnce}
 use Rattle.ss_names.specs.Meanings.{meaning_by, numbered}
 

@@ -13,25 +13,25 @@ use Rattle.ss_tree.specs.declared.preamble.Mode.{Mode}
 use Rattle.ss_tree.specs.declared.preamble.ClassKind.{ClassKind}
 use Rattle.ss_tree.specs.declared.preamble.ClassKind.TheVariants as class_kinds
 use Rattle.ss_tree.specs.declared.preamble.StatisticKind.{StatisticKind}
-use Rattle.ss_sayings.specs.declared.saying.Said.{Said}
-use Rattle.ss_sayings.specs.declared.saying.Said.TheVariants as said
-use Rattle.ss_sayings.specs.declared.saying.Saying.{Saying}
-use Rattle.ss_sayings.specs.Sayings.{NameBytes, sayings}
-use Rattle.ss_entities.specs.declared.entry.Attribute.{Attribute}
-use Rattle.ss_entities.specs.declared.entry.Class.{Class}
-use Rattle.ss_entities.specs.declared.entry.Set.{Set}
+use Rattle.ss_names_declarations.specs.declared.saying.Said.{Said}
+use Rattle.ss_names_declarations.specs.declared.saying.Said.TheVariants as said
+use Rattle.ss_names_declarations.specs.declared.saying.Saying.{Saying}
+use Rattle.ss_names_declarations.specs.Sayings.{NameBytes, sayings}
+use Rattle.ss_names.specs.declared.entry.Attribute.{Attribute}
+use Rattle.ss_names.specs.declared.entry.Class.{Class}
+use Rattle.ss_names.specs.declared.entry.Set.{Set}
 use Rattle.ss_names.specs.declared.meaning.Meaning.{Meaning}
 use Rattle.ss_names.specs.declared.meaning.Meaning.TheVariants as meanings
-use Rattle.ss_entities.specs.declared.entry.Statistic.{Statistic}
-use Rattle.ss_entities.specs.Entities.{attribute_by, attribute_classes, attribute_told, attributes_behind, classes, defined_modes, fields_among, fields_of, member_by, member_told, orderings, owner_by, owner_told, set_members, set_names, set_of, set_owners, usual_mode}
-use Rattle.ss_firsts.specs.Firsts.{entry_beside, entry_if, firsts, place_among, place_in, same_name, told_of, with_first}
-use Rattle.ss_firsts.proofs.Entries.{keys_append}
+use Rattle.ss_names.specs.declared.entry.Statistic.{Statistic}
+use Rattle.ss_names.specs.Entities.{attribute_by, attribute_classes, attribute_told, attributes_behind, classes, defined_modes, fields_among, fields_of, member_by, member_told, orderings, owner_by, owner_told, set_members, set_names, set_of, set_owners, usual_mode}
+use Rattle.ss_names_declarations.specs.Firsts.{entry_beside, entry_if, firsts, place_among, place_in, same_name, told_of, with_first}
+use Rattle.ss_names_declarations.proofs.Entries.{keys_append}
 use Rattle.ss_names.specs.Laws.{AttributesArePlaced, IsClassOrSystem, IsPlaced, NumbersArePlaces, RanksAreClasses, SetsArePlaced, StatisticsHaveHistories}
 use Rattle.ss_names.specs.Meanings.{class_meaning, class_meanings, count_meaning, class_name_meaning, meaning_by, meaning_told, numbered, set_meanings}
-use Rattle.ss_entities.specs.Statistics.{statistic_by, statistic_of, statistic_told, weighings}
+use Rattle.ss_names.specs.Statistics.{statistic_by, statistic_of, statistic_told, weighings}
 use Rattle.ss_names.specs.Histories.{history_of}
 use Rattle.ss_names.specs.Table.{declared}
-use Rattle.ss_entities.specs.Variables.{count_name, declared_by, declared_told, is_notice_class, notice, priority_by, priority_told}
+use Rattle.ss_names.specs.Variables.{count_name, declared_by, declared_told, is_notice_class, notice, priority_by, priority_told}
 
 -- ---- what is told of all names
 

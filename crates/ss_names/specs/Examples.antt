@@ -1,7 +1,7 @@
 -- Worked examples: the tables of small programs, read off by hand.
 use Rattle.std.specs.Prelude.{◌≡◌, ℕ, Bool, true, false, [], ◌∷◌, Option, Some, None, codes, refl}
 use Rattle.ss_base.specs.declared.layout.Owner.TheVariants as owners
-use Rattle.ss_bytes.specs.declared.line.Line.{Line}
+use Rattle.ss_base.specs.declared.line.Line.{Line}
 use Rattle.ss_tree.specs.declared.preamble.ClassKind.{ClassKind}
 use Rattle.ss_tree.specs.declared.preamble.ClassKind.TheVariants.{Permanent, Temporary, EventNotice}
 use Rattle.ss_tree.specs.declared.preamble.Key.{Key}
@@ -10,18 +10,18 @@ use Rattle.ss_tree.specs.declared.preamble.Mode.TheVariants.{Integer, Alpha}
 use Rattle.ss_tree.specs.declared.preamble.StatisticKind.TheVariants as folds
 use Rattle.ss_tree.specs.declared.preamble.Weighting.TheVariants.{Tally, Accumulate}
 use Rattle.ss_tree.specs.Tree.{has, owns, belongs_to, ranked, permanent_entities, temporary_entities, event_notices, every, normally, system_owns, define_variables, define_sets, priority_order, break_ties, statistics, main, routine, event, ProgramTree, SectionKindTree, SectionTree}
-use Rattle.ss_sayings.specs.declared.saying.SetRule.TheVariants as rules
-use Rattle.ss_sayings.specs.Sayings.{NameBytes}
-use Rattle.ss_entities.specs.declared.entry.Attribute.{Attribute}
-use Rattle.ss_entities.specs.declared.entry.Class.{Class}
+use Rattle.ss_names_declarations.specs.declared.saying.SetRule.TheVariants as rules
+use Rattle.ss_names_declarations.specs.Sayings.{NameBytes}
+use Rattle.ss_names.specs.declared.entry.Attribute.{Attribute}
+use Rattle.ss_names.specs.declared.entry.Class.{Class}
 use Rattle.ss_names.specs.declared.meaning.Derived.TheVariants.{Predecessor}
 use Rattle.ss_names.specs.declared.meaning.Meaning.{Meaning}
 use Rattle.ss_names.specs.declared.meaning.Meaning.TheVariants as meanings
 use Rattle.ss_names.specs.declared.meaning.Subject.TheVariants as subjects
-use Rattle.ss_entities.specs.declared.entry.Variable.{Variable}
-use Rattle.ss_entities.specs.declared.entry.VariableKind.{VariableKind}
-use Rattle.ss_entities.specs.declared.entry.VariableKind.TheVariants.{Defined, OfClass, CountOf}
-use Rattle.ss_firsts.specs.Firsts.{place_in, told_of}
+use Rattle.ss_names.specs.declared.entry.Variable.{Variable}
+use Rattle.ss_names.specs.declared.entry.VariableKind.{VariableKind}
+use Rattle.ss_names.specs.declared.entry.VariableKind.TheVariants.{Defined, OfClass, CountOf}
+use Rattle.ss_names_declarations.specs.Firsts.{place_in, told_of}
 use Rattle.ss_names.specs.Table.{table}
 
 abbrev line : ℕ → Line

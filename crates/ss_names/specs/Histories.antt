@@ -1,10 +1,10 @@
 -- The histories that statistics tell of.
 use Rattle.std.specs.Prelude.{List, map, Option, Some, None}
 use Rattle.ss_tree.specs.declared.preamble.Weighting.{Weighting}
-use Rattle.ss_sayings.specs.declared.saying.Saying.{Saying}
-use Rattle.ss_sayings.specs.Sayings.{NameBytes}
-use Rattle.ss_firsts.specs.Firsts.{told_of}
-use Rattle.ss_entities.specs.Statistics.{weighings}
+use Rattle.ss_names_declarations.specs.declared.saying.Saying.{Saying}
+use Rattle.ss_names_declarations.specs.Sayings.{NameBytes}
+use Rattle.ss_names_declarations.specs.Firsts.{told_of}
+use Rattle.ss_names.specs.Statistics.{weighings}
 use Rattle.ss_names.specs.declared.meaning.Derived.TheVariants.{MemberCount}
 use Rattle.ss_names.specs.declared.meaning.History.{History}
 use Rattle.ss_names.specs.declared.meaning.Meaning.{Meaning}

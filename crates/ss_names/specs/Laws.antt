@@ -4,10 +4,10 @@ use Rattle.std.specs.Map.{keys_of}
 use Rattle.ss_base.specs.declared.layout.Owner.{Owner}
 use Rattle.ss_base.specs.declared.layout.Owner.TheVariants as owners
 use Rattle.ss_tree.specs.Tree.{ProgramTree}
-use Rattle.ss_sayings.specs.Sayings.{NameBytes}
+use Rattle.ss_names_declarations.specs.Sayings.{NameBytes}
 use Rattle.ss_names.specs.declared.meaning.Meaning.{Meaning}
 use Rattle.ss_names.specs.declared.meaning.Meaning.TheVariants as meanings
-use Rattle.ss_firsts.specs.Firsts.{place_in, told_of}
+use Rattle.ss_names_declarations.specs.Firsts.{place_in, told_of}
 use Rattle.ss_names.specs.Table.{Table, table}
 
 -- the numbers of what a name stands for are those of something in the table

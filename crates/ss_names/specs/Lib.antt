@@ -1,3 +1,9 @@
+pub mod Rows
+pub mod Entities
+pub mod Variables
+pub mod Statistics
+pub mod Keys
+pub mod Notices
 pub mod Meanings
 pub mod Histories
 pub mod Table

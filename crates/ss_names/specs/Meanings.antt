@@ -4,23 +4,23 @@ use Rattle.std.specs.List.{flat_map}
 use Rattle.ss_tree.specs.declared.preamble.ClassKind.{ClassKind}
 use Rattle.ss_tree.specs.declared.preamble.ClassKind.TheVariants as class_kinds
 use Rattle.ss_tree.specs.declared.preamble.Weighting.{Weighting}
-use Rattle.ss_sayings.specs.declared.saying.Said.{Said}
-use Rattle.ss_sayings.specs.declared.saying.Said.TheVariants as said
-use Rattle.ss_sayings.specs.declared.saying.Saying.{Saying}
-use Rattle.ss_sayings.specs.Sayings.{NameBytes}
-use Rattle.ss_entities.specs.declared.entry.Attribute.{Attribute}
-use Rattle.ss_entities.specs.declared.entry.Class.{Class}
+use Rattle.ss_names_declarations.specs.declared.saying.Said.{Said}
+use Rattle.ss_names_declarations.specs.declared.saying.Said.TheVariants as said
+use Rattle.ss_names_declarations.specs.declared.saying.Saying.{Saying}
+use Rattle.ss_names_declarations.specs.Sayings.{NameBytes}
+use Rattle.ss_names.specs.declared.entry.Attribute.{Attribute}
+use Rattle.ss_names.specs.declared.entry.Class.{Class}
 use Rattle.ss_names.specs.declared.meaning.Derived.{Derived}
 use Rattle.ss_names.specs.declared.meaning.Derived.TheVariants.{FirstMember, LastMember, MemberCount, Predecessor, Successor, Membership}
 use Rattle.ss_names.specs.declared.meaning.Meaning.{Meaning}
 use Rattle.ss_names.specs.declared.meaning.Meaning.TheVariants as meanings
-use Rattle.ss_entities.specs.declared.entry.Routine.{Routine}
-use Rattle.ss_entities.specs.declared.entry.Statistic.{Statistic}
-use Rattle.ss_entities.specs.declared.entry.Variable.{Variable}
-use Rattle.ss_entities.specs.Entities.{attributes, classes, fields, set_names}
-use Rattle.ss_firsts.specs.Firsts.{entry_if, firsts, place_among, place_in}
-use Rattle.ss_entities.specs.Statistics.{statistics, weighings}
-use Rattle.ss_entities.specs.Variables.{count_name, routines, variables}
+use Rattle.ss_names.specs.declared.entry.Routine.{Routine}
+use Rattle.ss_names.specs.declared.entry.Statistic.{Statistic}
+use Rattle.ss_names.specs.declared.entry.Variable.{Variable}
+use Rattle.ss_names.specs.Entities.{attributes, classes, fields, set_names}
+use Rattle.ss_names_declarations.specs.Firsts.{entry_if, firsts, place_among, place_in}
+use Rattle.ss_names.specs.Statistics.{statistics, weighings}
+use Rattle.ss_names.specs.Variables.{count_name, routines, variables}
 
 -- what is numbered: classes, attributes, sets, global variables, statistics and routines
 pub record Numbered : Type 0 where

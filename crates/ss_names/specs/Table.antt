@@ -3,25 +3,25 @@ use Rattle.std.specs.Prelude.{ℕ, List, Option}
 use Rattle.ss_tree.specs.declared.preamble.Mode.{Mode}
 use Rattle.ss_tree.specs.declared.preamble.Weighting.{Weighting}
 use Rattle.ss_tree.specs.Tree.{ProgramTree}
-use Rattle.ss_sayings.specs.declared.saying.Saying.{Saying}
-use Rattle.ss_sayings.specs.Sayings.{NameBytes, sayings}
-use Rattle.ss_entities.specs.declared.entry.Attribute.{Attribute}
-use Rattle.ss_entities.specs.declared.entry.Class.{Class}
-use Rattle.ss_entities.specs.declared.entry.Event.{Event}
+use Rattle.ss_names_declarations.specs.declared.saying.Saying.{Saying}
+use Rattle.ss_names_declarations.specs.Sayings.{NameBytes, sayings}
+use Rattle.ss_names.specs.declared.entry.Attribute.{Attribute}
+use Rattle.ss_names.specs.declared.entry.Class.{Class}
+use Rattle.ss_names.specs.declared.entry.Event.{Event}
 use Rattle.ss_names.specs.declared.meaning.History.{History}
 use Rattle.ss_names.specs.declared.meaning.Meaning.{Meaning}
-use Rattle.ss_entities.specs.declared.entry.Routine.{Routine}
-use Rattle.ss_entities.specs.declared.entry.Set.{Set}
-use Rattle.ss_entities.specs.declared.entry.Statistic.{Statistic}
-use Rattle.ss_entities.specs.declared.entry.Variable.{Variable}
-use Rattle.ss_entities.specs.declared.keys.RankedBy.{RankedBy}
-use Rattle.ss_entities.specs.declared.keys.TiedBy.{TiedBy}
-use Rattle.ss_entities.specs.Entities.{attributes, classes, fields, set_names, sets, usual_mode}
-use Rattle.ss_entities.specs.Keys.{rank_keys, tie_keys}
+use Rattle.ss_names.specs.declared.entry.Routine.{Routine}
+use Rattle.ss_names.specs.declared.entry.Set.{Set}
+use Rattle.ss_names.specs.declared.entry.Statistic.{Statistic}
+use Rattle.ss_names.specs.declared.entry.Variable.{Variable}
+use Rattle.ss_names.specs.declared.keys.RankedBy.{RankedBy}
+use Rattle.ss_names.specs.declared.keys.TiedBy.{TiedBy}
+use Rattle.ss_names.specs.Entities.{attributes, classes, fields, set_names, sets, usual_mode}
+use Rattle.ss_names.specs.Keys.{rank_keys, tie_keys}
 use Rattle.ss_names.specs.Meanings.{meanings_in, numbered}
-use Rattle.ss_entities.specs.Statistics.{statistics, weighings}
+use Rattle.ss_names.specs.Statistics.{statistics, weighings}
 use Rattle.ss_names.specs.Histories.{histories}
-use Rattle.ss_entities.specs.Variables.{events, ranks, routines, variables}
+use Rattle.ss_names.specs.Variables.{events, ranks, routines, variables}
 
 -- ---- the table
 

@@ -1,13 +1,13 @@
 //! The histories that statistics tell of.
 
 ghost use Rattle.std.specs.Prelude.{◌≡◌, map, IfOk};
-ghost use Rattle.ss_firsts.specs.Firsts.{told_of};
+ghost use Rattle.ss_names_declarations.specs.Firsts.{told_of};
 ghost use Rattle.ss_names.specs.Histories.{history_of, subject_of};
 
 use crate::meaning::{Derived, History, Meaning, Subject};
 use crate::meanings::Meanings;
-use ss_bytes::Name;
-use ss_firsts::Table;
+use ss_base::Name;
+use ss_names_declarations::Table;
 use ss_tree::preamble::Weighting;
 use std::alloc::{AllocError, Global};
 

@@ -4,15 +4,14 @@ ghost use Rattle.std.specs.Prelude.{◌≡◌, ◌<◌, [], ◌∷◌, length, s
 ghost use Rattle.std.specs.List.{flat_map, fold};
 ghost use Rattle.std.specs.Map.{keys_of, values_of};
 ghost use Rattle.ss_names.specs.declared.meaning.Meaning.TheVariants as meanings;
-ghost use Rattle.ss_firsts.specs.Firsts.{entry_if, firsts, place_among, place_in, told_of, with_first};
+ghost use Rattle.ss_names_declarations.specs.Firsts.{entry_if, firsts, place_among, place_in, told_of, with_first};
 ghost use Rattle.ss_names.specs.Meanings.{class_meanings, class_name_meaning, count_meaning, derived_entry, letter_of, meaning_by, meaning_told, meanings_in, set_meanings, variable_meaning};
-ghost use Rattle.ss_entities.specs.Variables.{count_name};
+ghost use Rattle.ss_names.specs.Variables.{count_name};
 
 use crate::meaning::{Derived, Meaning};
 use crate::numbers::Numbers;
-use ss_bytes::Name;
-use ss_firsts::{Seed, Spelling, Table, insert_spelled, spelled_at};
-use ss_sayings::{Said, Saying};
+use ss_base::Name;
+use ss_names_declarations::{Said, Saying, Seed, Spelling, Table, insert_spelled, spelled_at};
 use ss_tree::preamble::ClassKind;
 use std::alloc::{AllocError, Global};
 use std::marker::Model;
@@ -39,9 +38,9 @@ pub struct Meanings {
 impl Model for Meanings {
     ghost use Rattle.std.specs.Prelude.{◌≡◌, true, List};
     ghost use Rattle.std.specs.Map.{keys_of};
-    ghost use Rattle.ss_sayings.specs.Sayings.{NameBytes};
+    ghost use Rattle.ss_names_declarations.specs.Sayings.{NameBytes};
     ghost use Rattle.ss_names.specs.declared.meaning.Meaning.{Meaning};
-    ghost use Rattle.ss_firsts.specs.Spellings.{are_short};
+    ghost use Rattle.ss_names_declarations.specs.Spellings.{are_short};
 
     ghost Value = { List (NameBytes × Meaning) };
 

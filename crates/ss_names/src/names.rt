@@ -2,24 +2,25 @@
 
 ghost use Rattle.std.specs.Prelude.{◌≡◌, ◌<◌, [], length, slice_get, get_or, option_map, Some, IfOk};
 ghost use Rattle.std.specs.Map.{keys_of, values_of};
-ghost use Rattle.ss_entities.specs.Entities.{classes as classes_said, sets as sets_said};
-ghost use Rattle.ss_firsts.specs.Firsts.{place_in, told_of};
+ghost use Rattle.ss_names.specs.Entities.{classes as classes_said, sets as sets_said};
+ghost use Rattle.ss_names_declarations.specs.Firsts.{place_in, told_of};
 ghost use Rattle.ss_names.specs.Meanings.{meanings_in, numbered};
-ghost use Rattle.ss_entities.specs.Notices.{notices as notices_said};
+ghost use Rattle.ss_names.specs.Notices.{notices as notices_said};
 ghost use Rattle.ss_names.specs.Histories.{histories as histories_said};
 ghost use Rattle.ss_names.specs.Table.{declared};
 
+use crate::classes::usual_mode;
+use crate::entry::{Attribute, Class, Event, Routine, Set, Statistic, Variable};
 use crate::histories::histories_of;
+use crate::keys::{RankedBy, TiedBy};
+use crate::making::beside;
 use crate::meaning::{History, Meaning};
 use crate::meanings::{Meanings, meanings_of};
+use crate::notices::{Notices, notices_of};
 use crate::numbers::{Numbers, numbers_of};
-use ss_bytes::Name;
-use ss_entities::{
-    Attribute, Class, Event, Notices, RankedBy, Routine, Set, Statistic, TiedBy, Variable, beside,
-    notices_of, sets_in, usual_mode,
-};
-use ss_firsts::{Seed, Table, key_at, spelled_at, value_at};
-use ss_sayings::Saying;
+use crate::sets::sets_in;
+use ss_base::Name;
+use ss_names_declarations::{Saying, Seed, Table, key_at, spelled_at, value_at};
 use ss_tree::preamble::Mode;
 use std::alloc::{AllocError, Global};
 use std::marker::Model;

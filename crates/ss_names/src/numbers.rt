@@ -1,21 +1,23 @@
 //! What has a number.
 
 ghost use Rattle.std.specs.Prelude.{◌≡◌, option_map, IfOk};
-ghost use Rattle.ss_firsts.specs.Firsts.{place_among, place_in};
-ghost use Rattle.ss_entities.specs.Entities.{attributes, classes, fields, set_names as set_names_said};
-ghost use Rattle.ss_entities.specs.Statistics.{statistics, weighings};
-ghost use Rattle.ss_entities.specs.Variables.{routines};
+ghost use Rattle.ss_names_declarations.specs.Firsts.{place_among, place_in};
+ghost use Rattle.ss_names.specs.Entities.{attributes, classes, fields, set_names as set_names_said};
+ghost use Rattle.ss_names.specs.Statistics.{statistics, weighings};
+ghost use Rattle.ss_names.specs.Variables.{routines};
 ghost use Rattle.ss_names.specs.declared.meaning.Meaning.TheVariants as meanings;
 ghost use Rattle.ss_names.specs.Meanings.{class_name_meaning, count_meaning, numbered, variable_meaning};
 
+use crate::entities::{Entities, entities_of};
+use crate::entry::{Routine, Variable};
+use crate::making::beside;
 use crate::meaning::Meaning;
-use ss_bytes::Name;
-use ss_entities::{
-    Entities, Routine, Tellings, Variable, beside, entities_of, routines_of, set_names,
-    tellings_of, variables_of,
-};
-use ss_firsts::{Keys, Seed, Spelling, Table};
-use ss_sayings::Saying;
+use crate::sections::routines_of;
+use crate::sets::set_names;
+use crate::statistics::{Tellings, tellings_of};
+use crate::variables::variables_of;
+use ss_base::Name;
+use ss_names_declarations::{Keys, Saying, Seed, Spelling, Table};
 use std::alloc::{AllocError, Global};
 use std::marker::Model;
 

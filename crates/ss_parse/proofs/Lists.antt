@@ -1,6 +1,6 @@
 -- Lines of tokens.
 use Rattle.std.proofs.Common.{◌<◌, suc, zero, get_or, arith, inl, inr, ℕ, List, [], ◌∷◌, length, refl}
-use Rattle.ss_tokens.specs.declared.token.Token.{Token}
+use Rattle.ss_lex.specs.declared.token.Token.{Token}
 use Rattle.ss_parse.specs.Promise.{Line_of_one}
 
 -- a token's line is that of one of them

@@ -1,13 +1,13 @@
 -- Preambles: what is read is spelled, and what is spelled is read.
 use Rattle.std.proofs.Common.{◌≡◌, ℕ, zero, suc, ◌<◌, ◌≤◌, Bool, true, false, ◌||◌, List, [], ◌∷◌, ◌++◌, length, map, drop, Option, Some, None, Result, Ok, Err, refl, sym, ap, subst, ◌∙◌, arith, inl, inr, ◌⊎◌}
 use Rattle.std.proofs.lemmas.List.{append-nil, map_push}
-use Rattle.ss_bytes.specs.declared.line.Line.{Line}
-use Rattle.ss_tokens.specs.declared.word.Word.{Word}
-use Rattle.ss_tokens.specs.declared.word.Word.TheVariants as words
-use Rattle.ss_tokens.specs.declared.token.Span.{Span}
-use Rattle.ss_tokens.specs.declared.token.TokenKind.{TokenKind}
-use Rattle.ss_tokens.specs.declared.token.TokenKind.TheVariants as kinds
-use Rattle.ss_tokens.specs.declared.token.Token.{Token}
+use Rattle.ss_base.specs.declared.line.Line.{Line}
+use Rattle.ss_lex.specs.declared.word.Word.{Word}
+use Rattle.ss_lex.specs.declared.word.Word.TheVariants as words
+use Rattle.ss_lex.specs.declared.token.Span.{Span}
+use Rattle.ss_lex.specs.declared.token.TokenKind.{TokenKind}
+use Rattle.ss_lex.specs.declared.token.TokenKind.TheVariants as kinds
+use Rattle.ss_lex.specs.declared.token.Token.{Token}
 use Rattle.ss_tree.specs.declared.preamble.Mode.{Mode}
 use Rattle.ss_tree.specs.declared.preamble.ClassKind.{ClassKind}
 use Rattle.ss_tree.specs.declared.preamble.Key.{Key}
@@ -17,27 +17,27 @@ use Rattle.ss_tree.specs.declared.preamble.StatisticKind.{StatisticKind}
 use Rattle.ss_tree.specs.declared.preamble.Statistic.{Statistic}
 use Rattle.ss_tree.specs.declared.preamble.PreambleStatement.{PreambleStatement}
 use Rattle.ss_tree.specs.Tree.{ClauseTree, has, owns, belongs_to, OrderTree, fifo, lifo, ranked, PreambleTree, permanent_entities, temporary_entities, event_notices, every, normally, system_owns, define_variables, define_sets, priority_order, break_ties, statistics}
-use Rattle.ss_grammar.specs.declared.failure.Fault.{Fault}
-use Rattle.ss_grammar.specs.declared.failure.Failure.{Failure}
-use Rattle.ss_grammar.specs.declared.failure.Failure.TheVariants as failures
-use Rattle.ss_grammar.specs.declared.classes.Class.TheVariants as alike
-use Rattle.ss_grammar.specs.Openers.{openers}
-use Rattle.ss_grammar.specs.Shapes.{Shape, ◌▷◌, nothing, never, either, provided, separator, Word_is, Name_is, Said, at, first_line, listed}
-use Rattle.ss_grammar.specs.Words.{has_word, Item_is, perhaps_listed}
-use Rattle.ss_grammar.specs.Reading.{Reader, ◌>>=◌, Fails, word, is, begins, begins_by, expect, in_table, taken, name_of, behind, closed, apply, comma, skip_separator, begins_more, list_of}
-use Rattle.ss_grammar.specs.ReadWords.{fail, begins_class, begins_noisy, among, begins_among, begins_name, begins_item, items}
-use Rattle.ss_grammar.proofs.Tools.{bind_ok, which, chosen, carry, or_false, ok_or_err}
-use Rattle.ss_grammar.proofs.Marks.{token, token_less, no_skip, begins_table}
-use Rattle.ss_grammar.proofs.Depth.{upto_same, Bounded, bounded_bind, bounded_if}
-use Rattle.ss_grammar.proofs.ReaderLaws.{Reads, Item, nowise, Made, made_reads, said_reads, apply_reads, seq_reads, behind_reads, bind_reads, marked_reads, closed_reads, optional_reads, fewer_reads, item_of, item_marked, maybe_list_reads, expect_reads}
-use Rattle.ss_grammar.proofs.Rows as rows_laws
-use Rattle.ss_grammar.proofs.Rows.{first_and_reads, list_reads, separated_item, Loop, loop_of, with_front, with_front_more}
-use Rattle.ss_grammar.proofs.WordLaws.{word_in_reads, optional_class_reads, done_reads, fail_reads, noisy_mark_reads, noisy_begins, noisy_less, name_reads, name_begins, name_no_and, name_less, names_reads, items_reads, perhaps_listed_reads, either_reads, item_made, no_word}
-use Rattle.ss_statements.specs.SpelledStatements.{noisy}
+use Rattle.ss_parse_expressions.specs.declared.failure.Fault.{Fault}
+use Rattle.ss_parse_expressions.specs.declared.failure.Failure.{Failure}
+use Rattle.ss_parse_expressions.specs.declared.failure.Failure.TheVariants as failures
+use Rattle.ss_parse_expressions.specs.declared.classes.Class.TheVariants as alike
+use Rattle.ss_parse_expressions.specs.Openers.{openers}
+use Rattle.ss_parse_expressions.specs.Shapes.{Shape, ◌▷◌, nothing, never, either, provided, separator, Word_is, Name_is, Said, at, first_line, listed}
+use Rattle.ss_parse_expressions.specs.Words.{has_word, Item_is, perhaps_listed}
+use Rattle.ss_parse_expressions.specs.Reading.{Reader, ◌>>=◌, Fails, word, is, begins, begins_by, expect, in_table, taken, name_of, behind, closed, apply, comma, skip_separator, begins_more, list_of}
+use Rattle.ss_parse_expressions.specs.ReadWords.{fail, begins_class, begins_noisy, among, begins_among, begins_name, begins_item, items}
+use Rattle.ss_parse_expressions.proofs.Tools.{bind_ok, which, chosen, carry, or_false, ok_or_err}
+use Rattle.ss_parse_expressions.proofs.Marks.{token, token_less, no_skip, begins_table}
+use Rattle.ss_parse_expressions.proofs.Depth.{upto_same, Bounded, bounded_bind, bounded_if}
+use Rattle.ss_parse_expressions.proofs.ReaderLaws.{Reads, Item, nowise, Made, made_reads, said_reads, apply_reads, seq_reads, behind_reads, bind_reads, marked_reads, closed_reads, optional_reads, fewer_reads, item_of, item_marked, maybe_list_reads, expect_reads}
+use Rattle.ss_parse_expressions.proofs.Rows as rows_laws
+use Rattle.ss_parse_expressions.proofs.Rows.{first_and_reads, list_reads, separated_item, Loop, loop_of, with_front, with_front_more}
+use Rattle.ss_parse_expressions.proofs.WordLaws.{word_in_reads, optional_class_reads, done_reads, fail_reads, noisy_mark_reads, noisy_begins, noisy_less, name_reads, name_begins, name_no_and, name_less, names_reads, items_reads, perhaps_listed_reads, either_reads, item_made, no_word}
+use Rattle.ss_parse_statements.specs.SpelledStatements.{noisy}
 use Rattle.ss_parse.specs.SpelledPreambles.{Key_is, Keys_are, Statistic_is, Clause_is, Clauses_are, Order_is, article, preamble_line, weighting_word, preamble_first, Preamble_behind, Preamble_from, group_behind, Preambles_are, Whole_preamble}
-use Rattle.ss_elements.specs.Words.{mode_of, rank_of, statistic_of}
+use Rattle.ss_parse_expressions.specs.WordTables.{mode_of, rank_of, statistic_of}
 use Rattle.ss_parse.specs.ReadPreambles.{key_tree, key, then_rank, then_key, keys, statistic_tree, statistic_kind, statistic, found, clause, clause_word, begins_clause, clauses, ranking, order, permanent_at, temporary_at, notices_at, every_at, normally_at, system_at, define_end, define_at, priority_at, break_at, statistics_at, preamble_at, preamble_word, begins_preamble, preamble_in, preamble_row, preambles, whole_preamble}
-use Rattle.ss_statements.proofs.FirstWords.{Form, plain_form, by_word_reads, first_less}
+use Rattle.ss_parse_statements.proofs.FirstWords.{Form, plain_form, by_word_reads, first_less}
 
 -- ---- what continues a statement of a preamble
 

@@ -1,16 +1,16 @@
 -- Whole token lists: what is promised of parsing follows from the laws of reading.
 use Rattle.std.proofs.Common.{◌≡◌, ℕ, suc, ◌<◌, ◌≤◌, max, List, [], ◌∷◌, length, Result, Ok, Err, refl, sym, subst, ◌∙◌, arith, inl, inr}
-use Rattle.ss_tokens.specs.declared.token.Token.{Token}
-use Rattle.ss_grammar.specs.declared.failure.Fault.{Fault}
-use Rattle.ss_grammar.specs.declared.failure.Fault.TheVariants.{Syntax, TooDeep}
+use Rattle.ss_lex.specs.declared.token.Token.{Token}
+use Rattle.ss_parse_expressions.specs.declared.failure.Fault.{Fault}
+use Rattle.ss_parse_expressions.specs.declared.failure.Fault.TheVariants.{Syntax, TooDeep}
 use Rattle.ss_tree.specs.Tree.{ProgramTree}
-use Rattle.ss_grammar.specs.Openers.{openers}
+use Rattle.ss_parse_expressions.specs.Openers.{openers}
 use Rattle.ss_parse.specs.SpelledPrograms.{Program_is, Spell}
 use Rattle.ss_parse.specs.Promise.{Without_tree, One_tree}
-use Rattle.ss_grammar.specs.Reading.{◌>>=◌}
+use Rattle.ss_parse_expressions.specs.Reading.{◌>>=◌}
 use Rattle.ss_parse.specs.ReadPrograms.{none_left, program_in, program_of}
-use Rattle.ss_grammar.proofs.Tools.{bind_ok, result_is}
-use Rattle.ss_grammar.proofs.Depth.{Upto, upto_bind, upto_same, Bounded}
+use Rattle.ss_parse_expressions.proofs.Tools.{bind_ok, result_is}
+use Rattle.ss_parse_expressions.proofs.Depth.{Upto, upto_bind, upto_same, Bounded}
 use Rattle.ss_parse.proofs.ProgramLaws.{program_reads}
 
 none_is : (p q : ProgramTree) (rest : List Token) → none_left (p, rest) ≡ Ok q → (p ≡ q) × (rest ≡ [])

@@ -1,6 +1,6 @@
 -- How a refusal is reported.
 use Rattle.std.specs.Prelude.{ℕ, List, codes}
-use Rattle.ss_bytes.specs.declared.line.Line.{Line}
+use Rattle.ss_base.specs.declared.line.Line.{Line}
 use Rattle.ss_parse.specs.declared.error.ParseError.{ParseError}
 use Rattle.ss_parse.specs.declared.error.ParseError.TheVariants.{Syntax, TooDeep, Memory}
 

@@ -1,11 +1,11 @@
 -- What reading a program promises.
 use Rattle.std.specs.Prelude.{◌≡◌, ℕ, ◌<◌, ◌⊎◌, List, [], ◌∷◌}
-use Rattle.ss_bytes.specs.declared.line.Line.{Line}
-use Rattle.ss_tokens.specs.declared.token.Token.{Token}
+use Rattle.ss_base.specs.declared.line.Line.{Line}
+use Rattle.ss_lex.specs.declared.token.Token.{Token}
 use Rattle.ss_parse.specs.declared.error.ParseError.{ParseError}
 use Rattle.ss_parse.specs.declared.error.ParseError.TheVariants as errors
 use Rattle.ss_tree.specs.Tree.{ProgramTree}
-use Rattle.ss_grammar.specs.Openers.{openers}
+use Rattle.ss_parse_expressions.specs.Openers.{openers}
 use Rattle.ss_parse.specs.SpelledPrograms.{Spell}
 
 -- The tokens have no tree of so many levels.

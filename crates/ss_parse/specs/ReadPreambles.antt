@@ -1,9 +1,9 @@
 -- Reading preambles from left to right.
 use Rattle.std.specs.Prelude.{ℕ, zero, suc, Bool, true, false, List, [], ◌∷◌, length, Option, Some, None, Ok, if◌then◌else◌}
-use Rattle.ss_bytes.specs.declared.line.Line.{Line}
-use Rattle.ss_tokens.specs.declared.word.Word.{Word}
-use Rattle.ss_tokens.specs.declared.word.Word.TheVariants as words
-use Rattle.ss_tokens.specs.declared.token.Token.{Token}
+use Rattle.ss_base.specs.declared.line.Line.{Line}
+use Rattle.ss_lex.specs.declared.word.Word.{Word}
+use Rattle.ss_lex.specs.declared.word.Word.TheVariants as words
+use Rattle.ss_lex.specs.declared.token.Token.{Token}
 use Rattle.ss_tree.specs.declared.preamble.ClassKind.{ClassKind}
 use Rattle.ss_tree.specs.declared.preamble.Key.{Key}
 use Rattle.ss_tree.specs.declared.preamble.Weighting.{Weighting}
@@ -11,13 +11,13 @@ use Rattle.ss_tree.specs.declared.preamble.Weighting.TheVariants as weightings
 use Rattle.ss_tree.specs.declared.preamble.StatisticKind.{StatisticKind}
 use Rattle.ss_tree.specs.declared.preamble.Statistic.{Statistic}
 use Rattle.ss_tree.specs.Tree.{ClauseTree, has, owns, belongs_to, OrderTree, fifo, lifo, ranked, PreambleTree, permanent_entities, temporary_entities, event_notices, every, normally, system_owns, define_variables, define_sets, priority_order, break_ties, statistics}
-use Rattle.ss_grammar.specs.declared.classes.Class.TheVariants as alike
-use Rattle.ss_grammar.specs.Reading.{Reader, ◌>>=◌, word, begins, begins_by, expect, in_table, taken, name_of, seq, behind, closed, apply, maybe_list, choose, first_and, list_of}
-use Rattle.ss_grammar.specs.ReadWords.{done, fail, skip_class, begins_noisy, expect_noisy, begins_among, begins_name, names, items}
+use Rattle.ss_parse_expressions.specs.declared.classes.Class.TheVariants as alike
+use Rattle.ss_parse_expressions.specs.Reading.{Reader, ◌>>=◌, word, begins, begins_by, expect, in_table, taken, name_of, seq, behind, closed, apply, maybe_list, choose, first_and, list_of}
+use Rattle.ss_parse_expressions.specs.ReadWords.{done, fail, skip_class, begins_noisy, expect_noisy, begins_among, begins_name, names, items}
 use Rattle.ss_parse.specs.SpelledPreambles.{group_behind}
-use Rattle.ss_elements.specs.Words.{mode_of, rank_of, statistic_of}
-use Rattle.ss_simple.specs.ReadSimple.{behind_the}
-use Rattle.ss_statements.specs.ReadStatements.{by_word}
+use Rattle.ss_parse_expressions.specs.WordTables.{mode_of, rank_of, statistic_of}
+use Rattle.ss_parse_statements.specs.ReadSimple.{behind_the}
+use Rattle.ss_parse_statements.specs.ReadStatements.{by_word}
 
 -- ---- parts
 

@@ -1,20 +1,20 @@
 -- Reading programs from left to right.
 use Rattle.std.specs.Prelude.{ℕ, suc, Bool, true, false, List, [], ◌∷◌, Result, Ok, Err}
-use Rattle.ss_bytes.specs.declared.line.Line.{Line}
-use Rattle.ss_tokens.specs.declared.word.Word.{Word}
-use Rattle.ss_tokens.specs.declared.word.Word.TheVariants as words
-use Rattle.ss_tokens.specs.declared.token.Token.{Token}
-use Rattle.ss_grammar.specs.declared.failure.Fault.{Fault}
-use Rattle.ss_grammar.specs.declared.failure.Fault.TheVariants.{Syntax}
+use Rattle.ss_base.specs.declared.line.Line.{Line}
+use Rattle.ss_lex.specs.declared.word.Word.{Word}
+use Rattle.ss_lex.specs.declared.word.Word.TheVariants as words
+use Rattle.ss_lex.specs.declared.token.Token.{Token}
+use Rattle.ss_parse_expressions.specs.declared.failure.Fault.{Fault}
+use Rattle.ss_parse_expressions.specs.declared.failure.Fault.TheVariants.{Syntax}
 use Rattle.ss_tree.specs.declared.preamble.Mode.{Mode}
 use Rattle.ss_tree.specs.Tree.{PreambleTree, DefinitionTree, SectionKindTree, main, routine, event, SectionTree, ProgramTree, StatementTree}
-use Rattle.ss_grammar.specs.declared.classes.Class.TheVariants as classes
-use Rattle.ss_grammar.specs.ReadWords.{done, fail, skip_class, begins_among, names}
-use Rattle.ss_grammar.specs.Reading.{Reader, ◌>>=◌, word, begins, expect, in_table, taken, name_of, flag, seq, behind, closed, apply, lined, maybe_list, rows}
-use Rattle.ss_elements.specs.Words.{mode_of}
+use Rattle.ss_parse_expressions.specs.declared.classes.Class.TheVariants as classes
+use Rattle.ss_parse_expressions.specs.ReadWords.{done, fail, skip_class, begins_among, names}
+use Rattle.ss_parse_expressions.specs.Reading.{Reader, ◌>>=◌, word, begins, expect, in_table, taken, name_of, flag, seq, behind, closed, apply, lined, maybe_list, rows}
+use Rattle.ss_parse_expressions.specs.WordTables.{mode_of}
 use Rattle.ss_parse.specs.ReadPreambles.{whole_preamble}
-use Rattle.ss_simple.specs.ReadSimple.{behind_the}
-use Rattle.ss_statements.specs.ReadStatements.{by_word, statements_in}
+use Rattle.ss_parse_statements.specs.ReadSimple.{behind_the}
+use Rattle.ss_parse_statements.specs.ReadStatements.{by_word, statements_in}
 
 -- ---- sections
 

@@ -1,8 +1,8 @@
 -- Which tokens spell a preamble.
 use Rattle.std.specs.Prelude.{◌≡◌, ℕ, List, [], ◌∷◌, Option, Some, None}
-use Rattle.ss_bytes.specs.declared.line.Line.{Line}
-use Rattle.ss_tokens.specs.declared.word.Word.{Word}
-use Rattle.ss_tokens.specs.declared.word.Word.TheVariants as words
+use Rattle.ss_base.specs.declared.line.Line.{Line}
+use Rattle.ss_lex.specs.declared.word.Word.{Word}
+use Rattle.ss_lex.specs.declared.word.Word.TheVariants as words
 use Rattle.ss_tree.specs.declared.preamble.Mode.{Mode}
 use Rattle.ss_tree.specs.declared.preamble.ClassKind.{ClassKind}
 use Rattle.ss_tree.specs.declared.preamble.ClassKind.TheVariants as classes
@@ -11,11 +11,11 @@ use Rattle.ss_tree.specs.declared.preamble.Weighting.{Weighting}
 use Rattle.ss_tree.specs.declared.preamble.Weighting.TheVariants as weightings
 use Rattle.ss_tree.specs.declared.preamble.Statistic.{Statistic}
 use Rattle.ss_tree.specs.Tree.{ClauseTree, has, owns, belongs_to, OrderTree, fifo, lifo, ranked, PreambleTree, permanent_entities, temporary_entities, event_notices, every, normally, system_owns, define_variables, define_sets, priority_order, break_ties, statistics}
-use Rattle.ss_grammar.specs.declared.classes.Class.TheVariants as alike
-use Rattle.ss_grammar.specs.Shapes.{Shape, ◌▷◌, nothing, optional, provided, Word_is, Name_is, Said, first_and, listed, at}
-use Rattle.ss_grammar.specs.Words.{One_of, the, Item_is, perhaps_listed}
-use Rattle.ss_statements.specs.SpelledStatements.{noisy}
-use Rattle.ss_elements.specs.Words.{mode_of, rank_of, statistic_of}
+use Rattle.ss_parse_expressions.specs.declared.classes.Class.TheVariants as alike
+use Rattle.ss_parse_expressions.specs.Shapes.{Shape, ◌▷◌, nothing, optional, provided, Word_is, Name_is, Said, first_and, listed, at}
+use Rattle.ss_parse_expressions.specs.Words.{One_of, the, Item_is, perhaps_listed}
+use Rattle.ss_parse_statements.specs.SpelledStatements.{noisy}
+use Rattle.ss_parse_expressions.specs.WordTables.{mode_of, rank_of, statistic_of}
 
 -- ---- parts
 

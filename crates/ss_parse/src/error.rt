@@ -3,7 +3,7 @@
 ghost use Rattle.std.specs.Prelude.{◌≡◌};
 ghost use Rattle.ss_parse.specs.Errors.{error_number, error_name, error_line};
 
-use ss_bytes::Line;
+use ss_base::Line;
 use thiserror::Error;
 
 /// Why tokens are refused, with a line of the text.

@@ -7,5 +7,5 @@ mod reading;
 
 pub use error::ParseError;
 pub use parser::{one_tree, parse};
-pub use ss_tokens::Tokens;
+pub use ss_lex::Tokens;
 pub use ss_tree::program::Program;

@@ -7,9 +7,9 @@ ghost use Rattle.ss_parse.specs.Promise.{Is_refused, Has_line, Line_of_one, One_
 
 use crate::error::ParseError;
 use crate::reading::programs::program;
-use ss_bytes::Line;
-use ss_grammar::failure::{Failure, Fault};
-use ss_tokens::{Token, Tokens};
+use ss_base::Line;
+use ss_lex::{Token, Tokens};
+use ss_parse_expressions::failure::{Failure, Fault};
 use ss_tree::program::Program;
 use std::alloc::Global;
 

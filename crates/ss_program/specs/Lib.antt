@@ -1,3 +1,4 @@
+pub use Rattle.ss_picture.specs.declared.items.Item
 pub mod Program
 pub mod View
 pub mod Views
@@ -5,7 +6,3 @@ pub mod WellTyped
 pub mod Nodes
 pub mod Examples
 pub mod Checking
-pub use Rattle.ss_picture.specs.declared.items.Item
-pub use Rattle.ss_picture.specs.Numerals
-pub use Rattle.ss_picture.specs.Pictures
-pub use Rattle.ss_picture.specs.declared.field.Field

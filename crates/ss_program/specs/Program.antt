@@ -1,6 +1,6 @@
 -- The resolved program as plain data: each name is replaced by the number of what it stands for, and what is meant without being written is written out.
 use Rattle.std.specs.Prelude.{ℕ, Bool, List, Option}
-use Rattle.ss_base.specs.Line.{Line}
+use Rattle.ss_base.specs.declared.line.Line.{Line}
 use Rattle.ss_base.specs.declared.value.Value.{Value}
 use Rattle.ss_base.specs.declared.layout.Mode.{Mode}
 use Rattle.ss_base.specs.declared.layout.RankKey.{RankKey}

@@ -3,7 +3,7 @@ use Rattle.std.specs.Prelude.{◌≡◌, List, map, refl}
 use Rattle.std.specs.List.{fold}
 use Rattle.std.proofs.Common.{ap, ◌∙◌}
 use Rattle.std.specs.Global.{Vec, Box}
-use Rattle.ss_base.specs.Line.{Line}
+use Rattle.ss_base.specs.declared.line.Line.{Line}
 use Rattle.ss_program.specs.declared.expression.Operation.{Operation}
 use Rattle.ss_program.specs.declared.expression.Expression.TheVariants as variants
 use Rattle.ss_program.specs.declared.expression.Expression as expressions

@@ -8,5 +8,6 @@ pub mod checking;
 pub mod condition;
 pub mod expression;
 pub mod head;
+pub mod release;
 pub mod sections;
 pub mod statement;

@@ -1,19 +1,19 @@
 ghost use Rattle.std.specs.Prelude.{◌≡◌, ◌+◌, ◌*◌, ◌^◌, ◌<◌, ◌≤◌, true, false, if◌then◌else◌, length, pos, MatchResult, IfSome, Ok, Err, Some, None, IsOk, slice_get, ⊤, ℕ};
 ghost use Rattle.ss_base.specs.Layout.{mode_of};
 ghost use Rattle.ss_base.specs.declared.layout.Owner.TheVariants.{Class};
-ghost use Rattle.ss_states.specs.State.{State, first_state, known_in, known_notice_in, kind_of, modes_of, value_in, time_in, created, created_all, destroyed, assigned, timed, RefusedFor, living_numbers, living_records};
-ghost use Rattle.ss_states.specs.Disciplines.{first_removed, last_removed, member_test, owned};
-ghost use Rattle.ss_states.specs.Sets.{member_class, owner, owner_kind, first_in, last_in, count_in, next_in, previous_in, owner_of_member, filed_first, filed_last, filed_before, filed_after, removed, Apart};
-ghost use Rattle.ss_records.specs.Added.{Added};
-ghost use Rattle.ss_records.specs.Classed.{HasClass};
-ghost use Rattle.ss_records.specs.Kept.{IsPermanent};
-ghost use Rattle.ss_records.specs.Skimming.{IsSkimmed};
-ghost use Rattle.ss_records.specs.Passing.{ranks_past, first_where, before_where};
+ghost use Rattle.ss_world.specs.State.{State, first_state, known_in, known_notice_in, kind_of, modes_of, value_in, time_in, created, created_all, destroyed, assigned, timed, RefusedFor, living_numbers, living_records};
+ghost use Rattle.ss_world.specs.Disciplines.{first_removed, last_removed, member_test, owned};
+ghost use Rattle.ss_world.specs.Sets.{member_class, owner, owner_kind, first_in, last_in, count_in, next_in, previous_in, owner_of_member, filed_first, filed_last, filed_before, filed_after, removed, Apart};
+ghost use Rattle.ss_records_entities.specs.Added.{Added};
+ghost use Rattle.ss_records_entities.specs.Classed.{HasClass};
+ghost use Rattle.ss_records_words.specs.Kept.{IsPermanent};
+ghost use Rattle.ss_records_entities.specs.Skimming.{IsSkimmed};
+ghost use Rattle.ss_records_entities.specs.Passing.{ranks_past, first_where, before_where};
 
-use crate::records::Records;
-use crate::sets::{Member, WholeMember};
-use crate::skimming::{Filter, Skimmed};
 use ss_base::{FaultKind, Layout, Mode, Refused, Value};
+use ss_records_entities::records::Records;
+use ss_records_entities::sets::{Member, WholeMember};
+use ss_records_entities::skimming::{Filter, Skimmed};
 use std::alloc::{AllocError, Global};
 use std::marker::Model;
 
@@ -29,8 +29,8 @@ pub struct Heap {
 }
 
 impl Model for Heap {
-    ghost use Rattle.ss_states.specs.State.{Heaped};
-    ghost use Rattle.ss_records.specs.Parts.{IsKept, heaped};
+    ghost use Rattle.ss_world.specs.State.{Heaped};
+    ghost use Rattle.ss_records_entities.specs.Parts.{IsKept, heaped};
 
     ghost Value = { Heaped };
 

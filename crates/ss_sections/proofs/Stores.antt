@@ -8,9 +8,9 @@ use Rattle.ss_base.specs.declared.layout.Mode.{Mode}
 use Rattle.ss_base.specs.declared.layout.Mode.TheVariants.{Integer, Alpha}
 use Rattle.ss_base.specs.Layout.{mode_of}
 use Rattle.ss_input.specs.Words.{value_given}
-use Rattle.ss_states.specs.State.{State, notice, created, created_all, destroyed, assigned, is_made, timed}
-use Rattle.ss_states.specs.Sets.{count_in, removed}
-use Rattle.ss_pending.specs.PendingList.{is_pending, scheduled, cancelled, next}
+use Rattle.ss_world.specs.State.{State, notice, created, created_all, destroyed, assigned, is_made, timed}
+use Rattle.ss_world.specs.Sets.{count_in, removed}
+use Rattle.ss_world.specs.PendingList.{is_pending, scheduled, cancelled, next}
 use Rattle.ss_program.specs.declared.expression.Sign.{Sign}
 use Rattle.ss_program.specs.declared.expression.Variable.{Variable}
 use Rattle.ss_program.specs.declared.expression.Variable.TheVariants.{Global, Local}
@@ -27,7 +27,7 @@ use Rattle.ss_meaning.specs.Sets.{Filing, member, owner_number, recounted, filed
 use Rattle.ss_meaning.specs.Events.{Ranked, ranked, ties_of, endowed, with_time, prepared, made_notice, filed_notice, rescheduled, unscheduled, Beginning, attributes, saved_or_gone, Coming, ranked_as, coming_as, coming_with, next_event, begun}
 use Rattle.ss_meaning.specs.Statistics.{subject_of, bearer, present, reset}
 use Rattle.ss_meaning.specs.Statements.{with_input, read_word}
-use Rattle.ss_machine_code.specs.Machine.{changed, visited}
+use Rattle.ss_code_instructions.specs.Machine.{changed, visited}
 use Rattle.ss_sections.proofs.Only.{Only, Where, only_then, only_each, only_turned, only_made, only_weaker, only_fit, only_unless}
 use Rattle.ss_sections.proofs.Laid.{laid_due, with_due, assigned_laid, timed_laid, created_laid, all_laid, destroyed_laid, removed_laid, end_laid, filing_laid}
 

@@ -5,8 +5,8 @@ use Rattle.std.specs.Ordering.{match_ordering}
 use Rattle.std.proofs.Math.Seq.{drop-cons}
 use Rattle.ss_base.specs.Order.{value_cmp}
 use Rattle.ss_base.specs.declared.layout.RankKey.{RankKey}
-use Rattle.ss_states.specs.State.{State}
-use Rattle.ss_states.specs.Disciplines.{value_of, ranks_after}
+use Rattle.ss_world.specs.State.{State}
+use Rattle.ss_world.specs.Disciplines.{value_of, ranks_after}
 
 pub by_key : (st : State) (c i : ℕ) (ks : List RankKey) (k : RankKey) (y x : ℤ) (order : Ordering) → i < length ks → value_cmp (value_of st c (slice_index_or ks i k).field y) (value_of st c (slice_index_or ks i k).field x) ≡ order → ranks_after st c (drop i ks) y x ≡ ranks_after st c ks y x → match_ordering order (slice_index_or ks i k).high (ranks_after st c (drop (i + 1) ks) y x) (not (slice_index_or ks i k).high) ≡ ranks_after st c ks y x
 by_key st c i ks k y x order within is so =

@@ -5,10 +5,10 @@ use Rattle.std.specs.Ordering.{match_ordering}
 use Rattle.ss_base.specs.Order.{value_cmp}
 use Rattle.ss_base.specs.declared.value.Value.{Value}
 use Rattle.ss_base.specs.declared.layout.RankKey.{RankKey}
-use Rattle.ss_states.specs.State.{State}
-use Rattle.ss_states.specs.Lists.{In}
-use Rattle.ss_states.specs.Sets.{owner, member_class, Apart}
-use Rattle.ss_states.specs.Disciplines.{value_of, ranks_after, passed, owned}
+use Rattle.ss_world.specs.State.{State}
+use Rattle.ss_world.specs.Lists.{In}
+use Rattle.ss_world.specs.Sets.{owner, member_class, Apart}
+use Rattle.ss_world.specs.Disciplines.{value_of, ranks_after, passed, owned}
 use Rattle.ss_records.specs.Passing.{ranks_past, first_where, before_where}
 use Rattle.ss_sets.specs.Walks.{first_after, as_member}
 use Rattle.ss_sets.proofs.Walking.{member_by}

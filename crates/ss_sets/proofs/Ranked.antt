@@ -6,10 +6,10 @@ use Rattle.ss_base.specs.declared.fault.FaultKind.TheVariants.{FiledTwice, NotFi
 use Rattle.ss_base.specs.declared.layout.ClassKind.{ClassKind}
 use Rattle.ss_base.specs.declared.layout.ClassKind.TheVariants.{Permanent, Temporary, Notice}
 use Rattle.ss_base.specs.declared.layout.RankKey.{RankKey}
-use Rattle.ss_states.specs.State.{State, Record, and_then, entity, entity_of_kind, kind_of, number_in, members_of, contains, owner_of, is_filed}
-use Rattle.ss_states.specs.Lists.{In}
-use Rattle.ss_states.specs.Sets.{joiner, owner, member_class, as_number, owner_of_member, put_before, put_in, put_beside, with_list_of, filed_last, filed_before, Apart}
-use Rattle.ss_states.specs.Disciplines.{ranks_after, put_ranked, owned_by, owned, filed_ranked}
+use Rattle.ss_world.specs.State.{State, Record, and_then, entity, entity_of_kind, kind_of, number_in, members_of, contains, owner_of, is_filed}
+use Rattle.ss_world.specs.Lists.{In}
+use Rattle.ss_world.specs.Sets.{joiner, owner, member_class, as_number, owner_of_member, put_before, put_in, put_beside, with_list_of, filed_last, filed_before, Apart}
+use Rattle.ss_world.specs.Disciplines.{ranks_after, put_ranked, owned_by, owned, filed_ranked}
 use Rattle.ss_sets.specs.Walks.{first_after, filed_at}
 use Rattle.ss_sets.proofs.Same.{same, differs, false_is_not_true}
 use Rattle.ss_sets.proofs.Members.{went_on, stopped}

@@ -7,12 +7,12 @@ use Rattle.std.specs.declared.cmp.Ordering.{Ordering}
 use Rattle.std.specs.Ordering.{match_ordering}
 use Rattle.ss_base.specs.Order.{value_cmp}
 use Rattle.ss_base.specs.declared.value.Value.{Value}
-use Rattle.ss_states.specs.State.{State, and_then, members_of, number_in, value_in, modes_of}
-use Rattle.ss_states.specs.Lists.{head0, In, NotIn, Distinct}
-use Rattle.ss_states.specs.Sets.{joiner, owner, member_class, follower, members_by, companions, first_in, next_in, Apart}
+use Rattle.ss_world.specs.State.{State, and_then, members_of, number_in, value_in, modes_of}
+use Rattle.ss_world.specs.Lists.{head0, In, NotIn, Distinct}
+use Rattle.ss_world.specs.Sets.{joiner, owner, member_class, follower, members_by, companions, first_in, next_in, Apart}
 use Rattle.std.proofs.lemmas.List.Elements.{All-head, All-tail}
 use Rattle.ss_base.specs.declared.layout.Layout.{Layout}
-use Rattle.ss_states.specs.Disciplines.{AreFields, value_of, value_or_zero, ranks_after, passed, owned_by, owned}
+use Rattle.ss_world.specs.Disciplines.{AreFields, value_of, value_or_zero, ranks_after, passed, owned_by, owned}
 use Rattle.ss_sets.specs.Walks.{first_after, as_member}
 use Rattle.ss_sets.proofs.Same.{same, differs, by_same}
 use Rattle.ss_sets.proofs.Members.{stopped}

@@ -1,2 +1,2 @@
-pub use Rattle.ss_states.specs.Disciplines
+pub use Rattle.ss_world.specs.Disciplines
 pub mod Walks

@@ -2,9 +2,9 @@
 use Rattle.std.specs.Prelude.{ℕ, zero, suc, cond, List, [], ◌∷◌, ℤ, pos, negsuc, Option, Some, None, Result}
 use Rattle.ss_base.specs.declared.fault.FaultKind.{FaultKind}
 use Rattle.ss_base.specs.declared.layout.RankKey.{RankKey}
-use Rattle.ss_states.specs.State.{State}
-use Rattle.ss_states.specs.Sets.{filed_before, filed_last}
-use Rattle.ss_states.specs.Disciplines.{ranks_after}
+use Rattle.ss_world.specs.State.{State}
+use Rattle.ss_world.specs.Sets.{filed_before, filed_last}
+use Rattle.ss_world.specs.Disciplines.{ranks_after}
 
 -- a member, or none, which calls answer as 0
 abbrev pub as_member : ℤ → Option ℤ

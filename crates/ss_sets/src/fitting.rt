@@ -1,6 +1,6 @@
 // Whether a discipline fits a set.
 ghost use Rattle.std.specs.Prelude.{◌↔◌, ◌<◌, length, IsTrue};
-ghost use Rattle.ss_states.specs.Disciplines.{Fits};
+ghost use Rattle.ss_world.specs.Disciplines.{Fits};
 
 use ss_base::{Discipline, Layout};
 

@@ -3,9 +3,9 @@ ghost use Rattle.std.specs.Prelude.{◌≡◌, ℤ, ◌+◌, ◌<◌, ◌≤◌,
 ghost use Rattle.std.specs.Ordering.{match_ordering, int_cmp, nat_cmp};
 ghost use Rattle.std.specs.Cmp.Lexicographic.{slice_cmp};
 ghost use Rattle.ss_base.specs.Order.{value_cmp};
-ghost use Rattle.ss_states.specs.State.{and_then, modes_of};
-ghost use Rattle.ss_states.specs.Sets.{owner, member_class, first_in};
-ghost use Rattle.ss_states.specs.Disciplines.{value_of, ranks_after, passed, passed_by, owned, filed_ranked, filed, AreFields, Fits};
+ghost use Rattle.ss_world.specs.State.{and_then, modes_of};
+ghost use Rattle.ss_world.specs.Sets.{owner, member_class, first_in};
+ghost use Rattle.ss_world.specs.Disciplines.{value_of, ranks_after, passed, passed_by, owned, filed_ranked, filed, AreFields, Fits};
 ghost use Rattle.ss_sets.specs.Walks.{first_after, as_member, filed_at};
 
 use ss_base::{Alpha, Discipline, FaultKind, Mode, RankKey, Value};

@@ -1,6 +1,6 @@
 // Taking out the first or the last member, and the test of membership.
 ghost use Rattle.std.specs.Prelude.{◌≡◌, ◌+◌, ◌<◌, ◌≤◌, length, MatchResult, Ok, Err};
-ghost use Rattle.ss_states.specs.Disciplines.{first_removed, last_removed, member_test};
+ghost use Rattle.ss_world.specs.Disciplines.{first_removed, last_removed, member_test};
 
 use ss_base::FaultKind;
 use ss_records::Heap;

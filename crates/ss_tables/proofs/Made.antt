@@ -1,9 +1,9 @@
 -- The tables of a program of which this is said and that has these sections.
 use Rattle.std.proofs.Common.{◌≡◌, List, None, ap, sym, ◌∙◌}
 use Rattle.ss_tree.specs.Tree.{ProgramTree, SectionTree}
-use Rattle.ss_sayings.specs.declared.saying.Saying.{Saying}
-use Rattle.ss_sayings.specs.Sayings.{sayings}
-use Rattle.ss_declared.specs.Broken.{refusal, refusal_by}
+use Rattle.ss_names_declarations.specs.declared.saying.Saying.{Saying}
+use Rattle.ss_names_declarations.specs.Sayings.{sayings}
+use Rattle.ss_tables_rules.specs.Broken.{refusal, refusal_by}
 use Rattle.ss_names.specs.Table.{Table, declared}
 use Rattle.ss_tables.specs.Tables.{AreTablesOf}
 

@@ -6,10 +6,10 @@ use Rattle.std.specs.Cmp.Lexicographic.{bytes_decides}
 use Rattle.std.proofs.lemmas.List.Quantifiers.{position-Some}
 use Rattle.std.proofs.lemmas.Option.{slice_get-get_or}
 use Rattle.ss_tree.specs.Tree.{ProgramTree}
-use Rattle.ss_sayings.specs.Sayings.{NameBytes}
+use Rattle.ss_names_declarations.specs.Sayings.{NameBytes}
 use Rattle.ss_names.specs.declared.meaning.Meaning.{Meaning}
 use Rattle.ss_names.specs.declared.names.NameId.{NameId}
-use Rattle.ss_firsts.specs.Firsts.{place_among, place_in, same_name}
+use Rattle.ss_names_declarations.specs.Firsts.{place_among, place_in, same_name}
 use Rattle.ss_names.specs.Laws.{NamesStandOnce}
 use Rattle.ss_names.specs.Table.{Table, table}
 

@@ -1,9 +1,9 @@
 -- The tables of a program, and why a program has none.
 use Rattle.std.specs.Prelude.{◌≡◌, Option, Some, None, IfSome}
 use Rattle.ss_tree.specs.Tree.{ProgramTree}
-use Rattle.ss_declared.specs.declared.rule.Broken.{Broken}
-use Rattle.ss_declared.specs.declared.rule.Rule.TheVariants as rules
-use Rattle.ss_declared.specs.Broken.{refusal}
+use Rattle.ss_tables_rules.specs.declared.rule.Broken.{Broken}
+use Rattle.ss_tables_rules.specs.declared.rule.Rule.TheVariants as rules
+use Rattle.ss_tables_rules.specs.Broken.{refusal}
 use Rattle.ss_names.specs.Table.{Table, table}
 use Rattle.ss_tables.specs.declared.error.TableError.{TableError}
 use Rattle.ss_tables.specs.declared.error.TableError.TheVariants as errors

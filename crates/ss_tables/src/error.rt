@@ -5,7 +5,7 @@ ghost use Rattle.ss_tables.specs.declared.error.TableError.TheVariants.{Memory};
 ghost use Rattle.ss_tables.specs.Tables.{Tells};
 
 use ss_base::Line;
-use ss_declared::{Broken, Rule};
+use ss_tables_rules::{Broken, Rule};
 use std::alloc::AllocError;
 use thiserror::Error;
 

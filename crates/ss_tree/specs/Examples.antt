@@ -1,6 +1,6 @@
 -- How many nodes small trees have, counted by hand.
 use Rattle.std.specs.Prelude.{◌≡◌, pos, true, false, [], ◌∷◌, Some, codes, refl}
-use Rattle.ss_bytes.specs.declared.line.Line.{Line}
+use Rattle.ss_base.specs.declared.line.Line.{Line}
 use Rattle.ss_tree.specs.declared.expression.Sign.TheVariants.{Plus, Minus}
 use Rattle.ss_tree.specs.declared.expression.Designator.TheVariants.{Name}
 use Rattle.ss_tree.specs.declared.expression.Function.TheVariants.{Mod}

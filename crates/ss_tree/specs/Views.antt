@@ -9,8 +9,8 @@ use Rattle.ss_tree.specs.declared.expression.Term.{Term}
 use Rattle.ss_tree.specs.declared.expression.Expression.TheVariants as variants
 use Rattle.ss_tree.specs.declared.expression.Expression.{Expression, Row_of-Expression, end_of-Expression, more_of-Expression, items-the_row-Expression, items_hidden-the_row-Expression-0, Row_of-Term, end_of-Term, more_of-Term, items-the_row-Term, items_hidden-the_row-Term-1}
 use Rattle.ss_tree.specs.declared.expression.Expression.TheBlock.{hidden-the_row-Expression-0, hidden-the_row-Term-1}
-use Rattle.ss_tree.specs.Tree.{ExpressionTree, number, text, named, call, parenthesised, product, signed, sum, expression_row, and_expression, and_term, term_row}
-use Rattle.ss_bytes.specs.declared.line.Line.{Line}
+use Rattle.ss_tree.specs.Tree.{ExpressionTree, number, text, named, call, parenthesised, product, signed, sum, expression_row, and_expression, and_term, term_row, and_statement, statement_row, if_statement, loop_statement, find_if_statement}
+use Rattle.ss_base.specs.declared.line.Line.{Line}
 use Rattle.ss_tree.specs.declared.condition.Condition.{Condition}
 use Rattle.ss_tree.specs.declared.head.Head.{Head}
 use Rattle.ss_tree.specs.declared.head.LoopHead.{LoopHead}
@@ -18,7 +18,6 @@ use Rattle.ss_tree.specs.declared.statement.FindOutcome.{FindOutcome}
 use Rattle.ss_tree.specs.declared.statement.Statement.TheVariants as statements
 use Rattle.ss_tree.specs.declared.statement.Statement.{Statement, Row_of-Statement, end_of-Statement, more_of-Statement, items-the_row-Statement, items_hidden-the_row-Statement-0}
 use Rattle.ss_tree.specs.declared.statement.Statement.TheBlock.{hidden-the_row-Statement-0}
-use Rattle.ss_tree.specs.Tree.{and_statement, statement_row, if_statement, loop_statement, find_if_statement}
 use Rattle.ss_tree.specs.View.{view_expression, view_expressions, view_terms, view_term, view_condition, view_head, view_loop_head, view_statement, view_statements}
 
 pub view_expressions_listed : (n : _) (k : Row_of-Expression n) → view_expressions k ≡ expression_row (map view_expression (items-the_row-Expression n k))

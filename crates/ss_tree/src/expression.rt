@@ -1,6 +1,6 @@
 //! Expressions, and the places that a program names.
 
-use ss_bytes::{Alpha, Name};
+use ss_base::{Alpha, Name};
 
 /// The sign before a term.
 #[derive(Clone, Copy)]

@@ -2,7 +2,7 @@
 
 use crate::condition::Condition;
 use crate::expression::{Expression, Named};
-use ss_bytes::Name;
+use ss_base::Name;
 
 /// What a phrase does with a candidate, by its condition.
 #[derive(Clone, Copy)]

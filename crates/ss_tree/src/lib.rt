@@ -9,4 +9,5 @@ pub mod expression;
 pub mod head;
 pub mod preamble;
 pub mod program;
+pub mod release;
 pub mod statement;

@@ -1,6 +1,6 @@
 //! The statements of a preamble.
 
-use ss_bytes::{Line, Name};
+use ss_base::{Line, Name};
 
 /// What a value is.
 #[derive(Clone, Copy)]

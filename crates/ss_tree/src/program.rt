@@ -2,7 +2,7 @@
 
 use crate::preamble::{Mode, PreambleStatement};
 use crate::statement::Statement;
-use ss_bytes::{Line, Name};
+use ss_base::{Line, Name};
 
 /// A DEFINE at the head of a section's body.
 #[derive(Drop)]

@@ -3,7 +3,7 @@
 use crate::condition::Condition;
 use crate::expression::{Expression, Named};
 use crate::head::{Head, LoopHead};
-use ss_bytes::{Line, Name, PictureLine};
+use ss_base::{Line, Name, PictureLine};
 
 /// Where a member is filed.
 #[derive(Drop)]

@@ -3,13 +3,16 @@
 use crate::layers::jobs;
 use ss_base::{Counted, Line, MemoryWrite, Plan, Trouble};
 use ss_check::{CheckError, Checked, check};
-use ss_code::{Code, CodeError, generate};
+use ss_code::code::Code;
+use ss_code::error::CodeError;
+use ss_code::generate;
 use ss_lex::{LexError, Span, Token, TokenKind, Tokens, Word, tokens};
 use ss_machine::{Machine, Source, Stop};
 use ss_parse::{ParseError, Program, parse};
 use ss_picture::Sink;
-use ss_release::{release_checked, release_tree};
+use ss_program::release::release_checked;
 use ss_tables::{NameId, TableError, Tables};
+use ss_tree::release::release_tree;
 use std::alloc::{AllocError, Global};
 use std::test::Fail;
 

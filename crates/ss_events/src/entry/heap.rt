@@ -6,7 +6,7 @@ ghost use Rattle.std.specs.List.Sorted.{IsPermutation};
 ghost use Rattle.ss_events.specs.declared.entry.Entry.{Entry};
 ghost use Rattle.ss_events.specs.HeapEntries.{lines_of, notices_of, event_of, Removes, Leaves, AreBehind};
 ghost use Rattle.ss_events.specs.HeapOrder.{IsFirstOf, IsFirstAmong};
-ghost use Rattle.ss_pending.specs.Order.{comes_before};
+ghost use Rattle.ss_world.specs.Order.{comes_before};
 ghost use Rattle.ss_events.specs.Slots.{mark_of, told_ranks, told_numbers};
 ghost use Rattle.ss_events.specs.declared.entry.places.Stand.{Stand as StandSeen};
 

@@ -1,10 +1,10 @@
 // How values, ties, keys and entries compare.
 ghost use Rattle.std.specs.Prelude.{◌≡◌};
-ghost use Rattle.ss_pending.specs.Order.{tie_order, key_order, entry_order, comes_before};
+ghost use Rattle.ss_world.specs.Order.{tie_order, key_order, entry_order, comes_before};
 ghost use Rattle.std.specs.Cmp.Lexicographic.{slice_cmp};
 
 use super::{Entry, Key};
-use ss_pending::Tie;
+use ss_world::Tie;
 use std::cmp::Ordering;
 
 fn tie_order(a: &Tie, b: &Tie) -> Ordering
@@ -48,7 +48,7 @@ fn key_order(a: &Key, b: &Key) -> Ordering
 }
 
 // Whether `a` comes out before `b`.
-#[tactic(auto, unfolding(ss_pending::specs::Order::comes_before))]
+#[tactic(auto, unfolding(ss_world::specs::Order::comes_before))]
 pub(super) fn comes_before(a: &Entry, b: &Entry) -> bool
     ensures { result ≡ comes_before a.now b.now }
 {

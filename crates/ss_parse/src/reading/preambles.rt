@@ -2,24 +2,24 @@
 
 ghost use Rattle.std.specs.Prelude.{◌≡◌, None, map};
 ghost use Rattle.ss_tree.specs.View.{view_clause, view_order, view_preamble};
-ghost use Rattle.ss_grammar.specs.Reading.{Gives, word, begins, expect, behind, closed, maybe_list, begins_by, begins_more, taken, in_table};
-ghost use Rattle.ss_tokens.specs.declared.word.Word.TheVariants.{Include, Variable};
-ghost use Rattle.ss_grammar.specs.ReadWords.{begins_name, names};
+ghost use Rattle.ss_parse_expressions.specs.Reading.{Gives, word, begins, expect, behind, closed, maybe_list, begins_by, begins_more, taken, in_table};
+ghost use Rattle.ss_lex.specs.declared.word.Word.TheVariants.{Include, Variable};
+ghost use Rattle.ss_parse_expressions.specs.ReadWords.{begins_name, names};
 ghost use Rattle.ss_parse.specs.SpelledPreambles.{group_behind};
-ghost use Rattle.ss_elements.specs.Words.{mode_of, rank_of, statistic_of};
+ghost use Rattle.ss_parse_expressions.specs.WordTables.{mode_of, rank_of, statistic_of};
 ghost use Rattle.ss_parse.specs.ReadPreambles.{then_rank, keys, statistic_kind, found, clause, begins_clause, clause_list, clauses, ranking, order, permanent_at, temporary_at, notices_at, every_at, normally_at, system_at, define_end, define_at, priority_at, break_at, statistics_at, preamble_at, begins_preamble, preamble_in, preambles, whole_preamble};
 
-use ss_bytes::{Line, Name};
-use ss_elements::words::{mode_of, rank_of, statistic_of};
-use ss_grammar::classes::{Class, skip_class};
-use ss_grammar::failure::Failure;
-use ss_grammar::names::{begins_name, items, name, names};
-use ss_grammar::steps::{alone, beside};
-use ss_grammar::tokens::{
+use ss_base::{Line, Name};
+use ss_lex::{Symbol, Token, TokenKind, Word};
+use ss_parse_expressions::classes::{Class, skip_class};
+use ss_parse_expressions::failure::Failure;
+use ss_parse_expressions::names::{begins_name, items, name, names};
+use ss_parse_expressions::steps::{alone, beside};
+use ss_parse_expressions::tokens::{
     begins_symbol, begins_word, behind_first, expect_word, skip_separator, skip_word, syntax,
 };
-use ss_statements::statements::{begins_noisy, expect_noisy};
-use ss_tokens::{Symbol, Token, TokenKind, Word};
+use ss_parse_expressions::words::{mode_of, rank_of, statistic_of};
+use ss_parse_statements::statements::{begins_noisy, expect_noisy};
 use ss_tree::preamble::{
     ClassKind, Clause, Key, Mode, PreambleStatement, SetOrder, Statistic, StatisticKind, Weighting,
 };

@@ -1,22 +1,22 @@
 //! Programs.
 
 ghost use Rattle.std.specs.Prelude.{◌≡◌, map};
-ghost use Rattle.ss_grammar.specs.Shapes.{first_line};
+ghost use Rattle.ss_parse_expressions.specs.Shapes.{first_line};
 ghost use Rattle.ss_tree.specs.View.{view_definition, view_kind, view_statement, view_section, view_program};
-ghost use Rattle.ss_grammar.specs.Reading.{Gives, word, begins, expect, behind, maybe_list, rows};
-ghost use Rattle.ss_grammar.specs.ReadWords.{names};
+ghost use Rattle.ss_parse_expressions.specs.Reading.{Gives, word, begins, expect, behind, maybe_list, rows};
+ghost use Rattle.ss_parse_expressions.specs.ReadWords.{names};
 ghost use Rattle.ss_parse.specs.ReadPrograms.{begins_section, saving, routine_kind, event_kind, kind_at, variables, definition, definitions, body_in, section_at, section_in, program_in, program_of};
 
 use crate::reading::preambles::{preamble, variable_mode};
-use ss_bytes::{Line, Name};
-use ss_elements::nesting::levels;
-use ss_grammar::classes::{Class, skip_class};
-use ss_grammar::failure::Failure;
-use ss_grammar::names::{name, names};
-use ss_grammar::steps::beside;
-use ss_grammar::tokens::{begins_word, behind_first, expect_word, skip_word, syntax};
-use ss_statements::statements::statements;
-use ss_tokens::{Token, TokenKind, Word};
+use ss_base::{Line, Name};
+use ss_lex::{Token, TokenKind, Word};
+use ss_parse_expressions::classes::{Class, skip_class};
+use ss_parse_expressions::failure::Failure;
+use ss_parse_expressions::names::{name, names};
+use ss_parse_expressions::nesting::levels;
+use ss_parse_expressions::steps::beside;
+use ss_parse_expressions::tokens::{begins_word, behind_first, expect_word, skip_word, syntax};
+use ss_parse_statements::statements::statements;
 use ss_tree::preamble::Mode;
 use ss_tree::program::{LocalDefinition, Program, Section, SectionKind};
 use ss_tree::statement::Statement;

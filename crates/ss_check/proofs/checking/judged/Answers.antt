@@ -1,7 +1,7 @@
 use Rattle.std.proofs.Common.{ap, ◌∙◌}
 use Rattle.ss_tree.specs.View.{view_program}
-use Rattle.ss_uses.specs.Refusal.{refusal}
-use Rattle.ss_globals.specs.WholeOf.{whole_in}
+use Rattle.ss_check_rules.specs.Refusal.{refusal}
+use Rattle.ss_check_scopes.specs.WholeOf.{whole_in}
 use Rattle.ss_tables.proofs.Refused.{refused_so}
 use Rattle.ss_check.specs.Checking.{Tells}
 use Rattle.ss_check.proofs.Kept.{becomes, found_with, not_missing, small, typed}

@@ -1,6 +1,6 @@
 use Rattle.std.proofs.Common.{◌≡◌, ◌++◌, drop, length, map}
 use Rattle.ss_program.specs.View.{view_event}
-use Rattle.ss_machine_code.specs.Translation.{sections_code, sections_prints, event_bodies, event_entries}
+use Rattle.ss_code_instructions.specs.Translation.{sections_code, sections_prints, event_bodies, event_entries}
 use Rattle.ss_code.proofs.generating.emit_events.Given as goal
 
 abbrev pub invariant-loop-event : goal.invariant-loop-event

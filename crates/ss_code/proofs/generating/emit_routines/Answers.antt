@@ -1,7 +1,7 @@
 use Rattle.std.proofs.Common.{rules, ◌+◌, get_or, drop, ◌≡◌, ◌∷◌, ◌++◌, [], length, map, ap, sym, ◌∙◌}
 use Rattle.std.proofs.lemmas.List.{drop_more}
 use Rattle.ss_program.specs.View.{view_body, view_routine}
-use Rattle.ss_machine_code.specs.Translation.{routine_bodies, routine_entry, section_code, block_prints}
+use Rattle.ss_code_instructions.specs.Translation.{routine_bodies, routine_entry, section_code, block_prints}
 use Rattle.ss_code.proofs.Steps.{section_on, prints_on, routine_on}
 use Rattle.ss_code.proofs.generating.emit_routines.Goals as goal
 

@@ -1,6 +1,6 @@
 use Rattle.std.proofs.Common.{◌≡◌, ◌++◌, drop, length, map}
 use Rattle.ss_program.specs.View.{view_routine}
-use Rattle.ss_machine_code.specs.Translation.{sections_code, sections_prints, routine_bodies, routine_entries}
+use Rattle.ss_code_instructions.specs.Translation.{sections_code, sections_prints, routine_bodies, routine_entries}
 use Rattle.ss_code.proofs.generating.emit_routines.Given as goal
 
 abbrev pub invariant-loop-routine : goal.invariant-loop-routine

@@ -1,8 +1,8 @@
 use Rattle.std.proofs.Common.{sym, subst, ◌∙◌, ◌≡◌, ap, arith, length, map}
 use Rattle.std.proofs.Math.Logic.{∥∥₁_map}
 use Rattle.ss_program.specs.View.{view_program, view_body, view_routine, view_event}
-use Rattle.ss_machine_code.specs.Running.{Behaves, Lands}
-use Rattle.ss_machine_code.specs.Translation.{code_of}
+use Rattle.ss_code_instructions.specs.Running.{Behaves, Lands}
+use Rattle.ss_code_instructions.specs.Translation.{code_of}
 use Rattle.ss_code.proofs.Sizes.{code_size}
 use Rattle.ss_code.proofs.Whole.{no_code, instructions_whole, code_whole}
 use Rattle.ss_code.proofs.generating.made.Goals as goal

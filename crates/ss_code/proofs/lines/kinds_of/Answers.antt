@@ -1,7 +1,7 @@
 use Rattle.std.proofs.Common.{◌≡◌, ◌∷◌, [], ◌+◌, ◌++◌, drop, map, ap, sym, ◌∙◌}
 use Rattle.std.proofs.lemmas.List.{drop_more}
 use Rattle.ss_program.specs.View.{view_item}
-use Rattle.ss_machine_code.specs.Translation.{item_kind}
+use Rattle.ss_code_instructions.specs.Translation.{item_kind}
 use Rattle.ss_code.proofs.Steps.{moved}
 use Rattle.ss_code.proofs.lines.kinds_of.Goals as goal
 

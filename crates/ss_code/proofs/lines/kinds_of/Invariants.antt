@@ -1,6 +1,6 @@
 use Rattle.std.proofs.Common.{◌≡◌, ◌++◌, drop, map}
 use Rattle.ss_program.specs.View.{view_item}
-use Rattle.ss_machine_code.specs.Translation.{item_kind}
+use Rattle.ss_code_instructions.specs.Translation.{item_kind}
 use Rattle.ss_code.proofs.lines.kinds_of.Given as goal
 
 abbrev pub invariant-loop-item : goal.invariant-loop-item

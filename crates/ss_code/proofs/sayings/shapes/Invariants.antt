@@ -1,6 +1,6 @@
 use Rattle.std.proofs.Common.{◌≡◌, take, slice_get}
 use Rattle.std.specs.List.{flat_map}
-use Rattle.ss_states.specs.State.{modes_of}
+use Rattle.ss_world.specs.State.{modes_of}
 use Rattle.ss_meaning.specs.Meaning.{tie_shape}
 use Rattle.ss_code.proofs.sayings.shapes.Given as goal
 

@@ -2,7 +2,7 @@ use Rattle.std.proofs.Common.{◌≡◌, ℕ, List, [], ◌∷◌, refl, ◌+◌
 use Rattle.std.proofs.lemmas.Result.{on_ok_weaker}
 use Rattle.ss_program.specs.View.{view_expression, view_place, view_target, view_when, view_restart, view_item, view_condition, view_guard, view_phrase, view_head, view_statement, view_body}
 use Rattle.ss_program.specs.Views.{view_if_made, view_loop_made, view_for_made, view_find_made}
-use Rattle.ss_machine_code.specs.Translation.{reads_code, creates_code, schedule_new_code, schedule_code, restarts_code, if_code, loop_code, for_code, find_code, phrases_code, lines_of, statement_code, statement_prints, block_code, block_prints}
+use Rattle.ss_code_instructions.specs.Translation.{reads_code, creates_code, schedule_new_code, schedule_code, restarts_code, if_code, loop_code, for_code, find_code, phrases_code, lines_of, statement_code, statement_prints, block_code, block_prints}
 use Rattle.ss_code.proofs.Emitted.{failed, emitted, unprinted, let_seen, change_seen, simulate_seen, return_seen, stop_seen, create_seen, destroy_seen, file_seen, remove_end_seen, remove_seen, cancel_seen, skip_seen, call_seen, read_seen, create_every_seen, schedule_new_seen, schedule_seen, reset_seen, print_seen, called, printed}
 use Rattle.ss_code.proofs.statements.+statements.Goals as goal
 

@@ -1,6 +1,6 @@
 use Rattle.std.proofs.Common.{◌≡◌, ◌++◌, drop, length}
 use Rattle.ss_program.specs.View.{view_body}
-use Rattle.ss_machine_code.specs.Translation.{block_code, block_prints}
+use Rattle.ss_code_instructions.specs.Translation.{block_code, block_prints}
 use Rattle.ss_code.proofs.statements.+statements.Given as goal
 
 abbrev pub invariant-emit_body-loop-s : goal.invariant-emit_body-loop-s

@@ -1,6 +1,6 @@
 use Rattle.std.proofs.Common.{◌+◌, ap, subst, arith}
 use Rattle.ss_events.specs.HeapOrder.{IsFirstOf}
-use Rattle.ss_pending.specs.Order.{comes_before}
+use Rattle.ss_world.specs.Order.{comes_before}
 use Rattle.ss_events.proofs.EntryOrder.{entries_rank}
 use Rattle.ss_events.proofs.Heaps.{only, pair, joined}
 use Rattle.ss_events.proofs.children.first_of_few.Goals as goal

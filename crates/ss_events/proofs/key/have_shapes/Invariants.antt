@@ -1,5 +1,5 @@
 use Rattle.std.proofs.Common.{◌≡◌, map, take}
-use Rattle.ss_pending.specs.Shape.{shape_of}
+use Rattle.ss_world.specs.Shape.{shape_of}
 use Rattle.ss_events.proofs.key.have_shapes.Given as goal
 
 -- the ties so far have their shapes

@@ -1,5 +1,5 @@
 use Rattle.std.proofs.Common.{◌≡◌, true, false, get_or, ap, sym, subst, arith, ◌∙◌, swap}
-use Rattle.ss_pending.specs.Order.{comes_before}
+use Rattle.ss_world.specs.Order.{comes_before}
 use Rattle.ss_events.proofs.Sifts.{sinking_few, sinking_steps, sinking_rests, sinking_leaf}
 use Rattle.ss_events.proofs.sift.lower.Goals as goal
 

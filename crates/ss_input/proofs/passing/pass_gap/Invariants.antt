@@ -1,5 +1,5 @@
 use Rattle.std.proofs.Common.{◌≡◌}
-use Rattle.ss_reading.specs.Blocks.{KnowsEnd}
+use Rattle.ss_input.specs.Blocks.{KnowsEnd}
 use Rattle.ss_input.specs.Sources.{GapPassed, Suffices, Unasked}
 use Rattle.ss_input.specs.Words.{is_separator}
 use Rattle.ss_input.proofs.passing.pass_gap.Given as goal

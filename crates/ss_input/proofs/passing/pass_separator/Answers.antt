@@ -1,5 +1,5 @@
 use Rattle.std.proofs.Common.{rules, [], ◌∷◌, not, Some, None, refl, sym, ap, subst}
-use Rattle.ss_reading.specs.Blocks.{Looks}
+use Rattle.ss_input.specs.Blocks.{Looks}
 use Rattle.ss_input.specs.Words.{is_separator, is_word_byte}
 use Rattle.ss_input.proofs.Asked.{unasked_look, unasked_one}
 use Rattle.ss_input.proofs.Passages.{passes_one, passes_look, stands_at, stands_at_end}

@@ -1,5 +1,5 @@
 use Rattle.std.proofs.Common.{◌≡◌, length, take}
-use Rattle.ss_reading.specs.Blocks.{KnowsEnd}
+use Rattle.ss_input.specs.Blocks.{KnowsEnd}
 use Rattle.ss_input.specs.Sources.{WordPassed, Suffices, Unasked}
 use Rattle.ss_input.specs.Words.{is_word_byte}
 use Rattle.ss_input.proofs.passing.pass_word.Given as goal

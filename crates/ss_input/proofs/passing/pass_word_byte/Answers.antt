@@ -1,5 +1,5 @@
 use Rattle.std.proofs.Common.{◌≡◌, [], ◌∷◌, true, not, Some, None, sym, ap, subst}
-use Rattle.ss_reading.specs.Blocks.{Looks}
+use Rattle.ss_input.specs.Blocks.{Looks}
 use Rattle.ss_input.specs.Sources.{Passes}
 use Rattle.ss_input.specs.Words.{is_separator, is_word_byte}
 use Rattle.ss_input.proofs.Asked.{unasked_look, unasked_one}

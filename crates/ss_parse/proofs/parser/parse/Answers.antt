@@ -1,9 +1,9 @@
 use Rattle.std.proofs.Common.{◌≡◌, ℕ, ◌<◌, List, ap, subst, ◌∙◌, Err}
-use Rattle.ss_tokens.specs.declared.token.Token.{Token}
-use Rattle.ss_grammar.specs.declared.failure.Fault.{Fault}
+use Rattle.ss_lex.specs.declared.token.Token.{Token}
+use Rattle.ss_parse_expressions.specs.declared.failure.Fault.{Fault}
 use Rattle.ss_tree.specs.View.{view_program}
 use Rattle.ss_parse.specs.SpelledPrograms.{Spell}
-use Rattle.ss_grammar.specs.Openers.{openers}
+use Rattle.ss_parse_expressions.specs.Openers.{openers}
 use Rattle.ss_parse.specs.Promise.{Without_tree}
 use Rattle.ss_parse.specs.ReadPrograms.{program_of}
 use Rattle.ss_parse.proofs.Whole.{program_sound, none_at_all, none_of_64, tokens_there}

@@ -4,9 +4,9 @@ use Rattle.std.proofs.lemmas.Int.{to_z-of_z}
 use Rattle.ss_base.specs.declared.value.Value.TheVariants.{Whole}
 use Rattle.ss_base.specs.declared.layout.Mode.TheVariants.{Integer}
 use Rattle.ss_base.specs.declared.layout.RankKey.{RankKey}
-use Rattle.ss_states.specs.State.{modes_of}
-use Rattle.ss_states.specs.Sets.{member_class, owner}
-use Rattle.ss_states.specs.Disciplines.{value_of, passed, owned}
+use Rattle.ss_world.specs.State.{modes_of}
+use Rattle.ss_world.specs.Sets.{member_class, owner}
+use Rattle.ss_world.specs.Disciplines.{value_of, passed, owned}
 use Rattle.ss_sets.specs.Walks.{first_after}
 use Rattle.ss_sets.proofs.Past.{none_below}
 use Rattle.ss_sets.proofs.Walking.{first_field}

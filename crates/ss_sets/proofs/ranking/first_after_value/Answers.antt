@@ -2,10 +2,10 @@ use Rattle.std.proofs.Common.{rules, ◌≡◌, ◌<◌, ℕ, List, ◌∷◌, l
 use Rattle.std.specs.Prelude.{IsOk}
 use Rattle.ss_base.specs.declared.layout.RankKey.{RankKey}
 use Rattle.ss_base.specs.declared.layout.Layout.{Layout}
-use Rattle.ss_states.specs.State.{State, and_then, modes_of}
-use Rattle.ss_states.specs.Lists.{head0}
-use Rattle.ss_states.specs.Sets.{owner, first_in, member_class}
-use Rattle.ss_states.specs.Disciplines.{passed, owned, AreFields}
+use Rattle.ss_world.specs.State.{State, and_then, modes_of}
+use Rattle.ss_world.specs.Lists.{head0}
+use Rattle.ss_world.specs.Sets.{owner, first_in, member_class}
+use Rattle.ss_world.specs.Disciplines.{passed, owned, AreFields}
 use Rattle.ss_sets.specs.Walks.{first_after, as_member}
 use Rattle.ss_sets.proofs.Walking.{onward, leader, onward_all, first_leads, at_hand, next_is, stops, passes, found_first, not_found, Looked, looked, never_lost, first_field, other_fields}
 use Rattle.ss_sets.proofs.ranking.first_after_value.Goals as goal

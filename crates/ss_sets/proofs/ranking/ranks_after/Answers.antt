@@ -2,7 +2,7 @@ use Rattle.std.proofs.Common.{rules, ◌≡◌, Less, Equal, Greater, w64, to_z,
 use Rattle.std.specs.Prelude.{slice_index_or, false}
 use Rattle.ss_base.specs.Order.{value_cmp}
 use Rattle.ss_base.specs.declared.layout.RankKey.{RankKey}
-use Rattle.ss_states.specs.Disciplines.{value_of}
+use Rattle.ss_world.specs.Disciplines.{value_of}
 use Rattle.ss_sets.proofs.Keys.{by_key}
 use Rattle.ss_sets.proofs.ranking.ranks_after.Goals as goal
 

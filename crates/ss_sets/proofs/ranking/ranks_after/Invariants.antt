@@ -1,5 +1,5 @@
 use Rattle.std.proofs.Common.{◌≡◌, drop}
-use Rattle.ss_states.specs.Disciplines.{ranks_after}
+use Rattle.ss_world.specs.Disciplines.{ranks_after}
 use Rattle.ss_sets.proofs.ranking.ranks_after.Given as goal
 
 abbrev pub invariant-loop-key : goal.invariant-loop-key

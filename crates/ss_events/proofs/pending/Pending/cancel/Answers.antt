@@ -6,8 +6,8 @@ use Rattle.std.proofs.lemmas.List.Sorted.{IsPermutation-append_right, IsPermutat
 use Rattle.ss_events.specs.declared.entry.Entry.{Entry}
 use Rattle.ss_events.specs.HeapEntries.{HeapEntries, lines_of, all_of, notices_of, Leaves}
 use Rattle.ss_events.specs.HeapOrder.{IsHeap}
-use Rattle.ss_pending.specs.Order.{comes_before}
-use Rattle.ss_pending.specs.PendingList.{is_pending, without}
+use Rattle.ss_world.specs.Order.{comes_before}
+use Rattle.ss_world.specs.PendingList.{is_pending, without}
 use Rattle.ss_events.specs.Sifting.{IsLogarithmic}
 use Rattle.ss_events.proofs.Agendas.{found-pending, found-at, agenda-taken, in_order-taken, work_of}
 use Rattle.ss_events.proofs.Outcomes.{cancelled-pending, cancelled-none}

@@ -1,5 +1,5 @@
 use Rattle.std.proofs.Common.{ap, refl, sym, to_z-of_z, arith}
-use Rattle.ss_pending.specs.PendingList.{is_pending}
+use Rattle.ss_world.specs.PendingList.{is_pending}
 use Rattle.ss_events.proofs.Agendas.{found-pending, none_left}
 use Rattle.ss_events.proofs.pending.Pending.is_scheduled.Goals as goal
 

@@ -1,6 +1,6 @@
 use Rattle.std.proofs.Common.{◌≡◌, false, ◌≢◌, ◌+◌, ◌∷◌, ◌∙◌, map, ℤ, w64, int_eq, to_z, of_z, IsPermutation, is_ok, Ok, length, ap, refl, sym, subst, to_z-of_z, arith}
 use Rattle.std.proofs.lemmas.Result.{err_from_is_err_and}
-use Rattle.ss_pending.specs.PendingList.{scheduling_limit, with_entry}
+use Rattle.ss_world.specs.PendingList.{scheduling_limit, with_entry}
 use Rattle.std.specs.List.{list_any}
 use Rattle.std.proofs.lemmas.Bool.{or_parts}
 use Rattle.ss_events.specs.HeapEntries.{HeapEntries, all_of, notices_of, AreBehind}

@@ -1,7 +1,7 @@
 use Rattle.std.proofs.Common.{◌<◌, ◌∷◌, ◌∙◌, Some, length, map, get_or, ap, subst, sym, arith, IsPermutation}
 use Rattle.std.specs.Cmp.{int_eq_equiv}
 use Rattle.ss_events.specs.HeapEntries.{HeapEntries, all_of, AreBehind}
-use Rattle.ss_pending.specs.PendingList.{without}
+use Rattle.ss_world.specs.PendingList.{without}
 use Rattle.ss_events.specs.InOrder.{in_order}
 use Rattle.ss_events.specs.Sifting.{IsLogarithmic}
 use Rattle.ss_events.proofs.Agendas.{next-none, after_next-none, next-first, after_next-first, agenda-taken, in_order-taken, work_of}

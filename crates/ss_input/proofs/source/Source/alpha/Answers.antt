@@ -1,7 +1,7 @@
 use Rattle.std.proofs.Common.{◌≡◌, Ok, Err, ◌∙◌, sym, ap}
 use Rattle.ss_base.specs.declared.layout.Mode.TheVariants.{Alpha}
 use Rattle.ss_base.specs.declared.value.Value.TheVariants.{Text}
-use Rattle.ss_reading.specs.Blocks.{BlockSeen}
+use Rattle.ss_input.specs.Blocks.{BlockSeen}
 use Rattle.ss_input.specs.Inputs.{failures_after}
 use Rattle.ss_input.specs.Words.{value_given}
 use Rattle.ss_input.proofs.Failures.{never_falls, failed_once}

@@ -1,5 +1,5 @@
 use Rattle.std.proofs.Common.{◌≡◌, false, Ok, Err, ◌∙◌, sym, ap, subst}
-use Rattle.ss_reading.specs.Blocks.{BlockSeen}
+use Rattle.ss_input.specs.Blocks.{BlockSeen}
 use Rattle.ss_input.specs.Inputs.{Reads, failures_after}
 use Rattle.ss_input.specs.Words.{is_ended}
 use Rattle.ss_input.proofs.Failures.{never_falls, failed_once}

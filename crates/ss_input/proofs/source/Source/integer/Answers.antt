@@ -1,7 +1,7 @@
 use Rattle.std.proofs.Common.{◌≡◌, drop, Ok, Err, pos, to_z, w64, ◌∙◌, sym, ap, subst, arith}
 use Rattle.ss_base.specs.declared.layout.Mode.TheVariants.{Integer}
 use Rattle.ss_base.specs.declared.value.Value.TheVariants.{Whole}
-use Rattle.ss_reading.specs.Blocks.{BlockSeen}
+use Rattle.ss_input.specs.Blocks.{BlockSeen}
 use Rattle.std.proofs.lemmas.Int.{to_z_pos}
 use Rattle.ss_input.specs.Inputs.{source_block, Reads, failures_after}
 use Rattle.ss_input.specs.Numbers.{BeginsWith}

@@ -2,7 +2,7 @@ use Rattle.std.proofs.Common.{rules, ◌≡◌, ◌≤◌, take, length, Ok, Err
 use Rattle.ss_base.specs.declared.fault.FaultKind.TheVariants.{EndOfData, BadData}
 use Rattle.ss_input.specs.declared.source.Missed.TheVariants.{Fault, Input}
 use Rattle.ss_input.specs.declared.source.Source.{Source}
-use Rattle.ss_reading.specs.Blocks.{first_of}
+use Rattle.ss_input.specs.Blocks.{first_of}
 use Rattle.ss_input.specs.Words.{next_word, word_at}
 use Rattle.ss_input.specs.Inputs.{Reaches, Reads, Finds, source_block}
 use Rattle.ss_input.proofs.Reached.{too_many_found, none_found, word_found, too_long_found, finds_so}

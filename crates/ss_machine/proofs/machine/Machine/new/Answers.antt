@@ -1,10 +1,10 @@
 use Rattle.std.proofs.Common.{◌≡◌, [], IfOk, List, refl, subst}
 use Rattle.ss_joins.specs.declared.fused.Micro.{Micro}
 use Rattle.ss_fused.specs.Fitting.{IsFitted}
-use Rattle.ss_fused.specs.Fused.{AreFused}
-use Rattle.ss_working.specs.declared.working.Working.{Working}
-use Rattle.ss_working.specs.Holding.{frames_of}
-use Rattle.ss_steps.specs.Start.{IsAtStart}
+use Rattle.ss_joins.specs.Fused.{AreFused}
+use Rattle.ss_machine_instructions.specs.declared.working.Working.{Working}
+use Rattle.ss_machine_instructions.specs.Holding.{frames_of}
+use Rattle.ss_machine_steps.specs.Start.{IsAtStart}
 use Rattle.ss_machine.proofs.First.{first_ready}
 use Rattle.ss_machine.proofs.machine.Machine.new.Goals as goal
 

@@ -1,7 +1,7 @@
 use Rattle.std.proofs.Common.{rules, ◌≡◌, ◌+◌, ◌-◌, ◌*◌, ◌≤◌, ◌^◌, length, min, refl, sym, ap, subst, inr, ◌∙◌, arith}
-use Rattle.ss_steps.specs.Start.{Continues}
+use Rattle.ss_machine_steps.specs.Start.{Continues}
 use Rattle.ss_machine.specs.Held.{Held, answer_again}
-use Rattle.ss_steps.specs.Runs.{Ran}
+use Rattle.ss_machine_steps.specs.Runs.{Ran}
 use Rattle.ss_machine.proofs.First.{kept_none}
 use Rattle.std.proofs.lemmas.Option.{none-some, same_Some}
 use Rattle.ss_machine.proofs.machine.Machine.run.Goals as goal

@@ -1,7 +1,7 @@
 use Rattle.std.proofs.Common.{◌≡◌, ap, subst, ◌∙◌}
 use Rattle.std.specs.Prelude.{MatchResult, Ok}
-use Rattle.ss_states.specs.State.{Heaped, State, RefusedFor, created}
-use Rattle.ss_records.specs.Parts.{state}
+use Rattle.ss_world.specs.State.{Heaped, State, RefusedFor, created}
+use Rattle.ss_records_entities.specs.Parts.{state}
 use Rattle.ss_records.proofs.heap.Heap.create.Goals as goal
 
 pub returns-clause-done : goal.returns-clause-done

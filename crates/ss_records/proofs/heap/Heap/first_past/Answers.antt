@@ -3,12 +3,12 @@ use Rattle.std.specs.Prelude.{MatchResult, IsOk}
 use Rattle.std.proofs.lemmas.Int.{to_z-of_z}
 use Rattle.ss_base.specs.declared.value.Value.TheVariants.{Whole}
 use Rattle.ss_base.specs.declared.layout.Mode.TheVariants.{Integer}
-use Rattle.ss_states.specs.State.{Heaped, State, modes_of}
-use Rattle.ss_states.specs.Sets.{member_class, owner}
-use Rattle.ss_states.specs.Disciplines.{owned}
-use Rattle.ss_records.specs.declared.records.Records.{Records}
-use Rattle.ss_records.specs.Parts.{IsKept, state}
-use Rattle.ss_records.specs.Passing.{ranks_past, first_where, before_where}
+use Rattle.ss_world.specs.State.{Heaped, State, modes_of}
+use Rattle.ss_world.specs.Sets.{member_class, owner}
+use Rattle.ss_world.specs.Disciplines.{owned}
+use Rattle.ss_records_entities.specs.declared.records.Records.{Records}
+use Rattle.ss_records_entities.specs.Parts.{IsKept, state}
+use Rattle.ss_records_entities.specs.Passing.{ranks_past, first_where, before_where}
 use Rattle.ss_records.proofs.heap.Heap.first_past.Goals as goal
 
 pub start-requires : goal.start-requires

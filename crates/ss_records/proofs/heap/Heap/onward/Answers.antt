@@ -1,10 +1,10 @@
 use Rattle.std.proofs.Common.{◌≡◌, true, Ok, ap, subst, ◌∙◌}
 use Rattle.std.specs.Prelude.{IfSome, if◌then◌else◌}
 use Rattle.std.proofs.lemmas.Int.{to_z-of_z}
-use Rattle.ss_states.specs.State.{Heaped, State}
-use Rattle.ss_states.specs.Sets.{next_in, previous_in}
-use Rattle.ss_states.specs.Disciplines.{member_test}
-use Rattle.ss_records.specs.Parts.{state}
+use Rattle.ss_world.specs.State.{Heaped, State}
+use Rattle.ss_world.specs.Sets.{next_in, previous_in}
+use Rattle.ss_world.specs.Disciplines.{member_test}
+use Rattle.ss_records_entities.specs.Parts.{state}
 use Rattle.ss_records.proofs.heap.Heap.onward.Goals as goal
 
 pub returns-clause-found : goal.returns-clause-found

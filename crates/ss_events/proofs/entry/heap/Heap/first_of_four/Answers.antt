@@ -1,7 +1,7 @@
 use Rattle.std.proofs.Common.{◌≡◌, ◌+◌, subst, arith}
 use Rattle.ss_events.specs.HeapEntries.{HeapEntries}
 use Rattle.ss_events.specs.HeapOrder.{IsFirstOf, IsFirstAmong}
-use Rattle.ss_pending.specs.Order.{comes_before}
+use Rattle.ss_world.specs.Order.{comes_before}
 use Rattle.ss_events.proofs.EntryOrder.{entries_rank}
 use Rattle.ss_events.proofs.Heaps.{pair, joined}
 use Rattle.ss_events.proofs.entry.heap.Heap.first_of_four.Goals as goal

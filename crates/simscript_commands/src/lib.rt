@@ -1,0 +1,10 @@
+//! The commands of the program: what its command line asks for, done over any files and streams.
+#![tactic(auto)]
+
+mod program;
+
+pub use program::{perform, tell};
+pub use simscript_order::{Disk, FileStore, Misuse, Order, Streams, Trouble, without_words, words};
+pub use ss_engine::{
+    Model, Outcome, Refusal, Stop, compile, outcome_line, outcome_status, simulate,
+};

@@ -1,0 +1,194 @@
+//! The program over any files and streams.
+ghost use Rattle.std.specs.Prelude.{◌≡◌, ◌⊎◌};
+ghost use Rattle.ss_engine.specs.Outcomes.{status_of};
+ghost use Rattle.simscript_commands.specs.Statuses.{ended_status};
+
+use simscript_order::{
+    FileStore, Order, Retrying, Streams, Trouble, explain, open, read_file, read_source,
+    tell_trouble, write_whole,
+};
+use ss_base::Counted;
+use ss_engine::{Outcome, Stop, compile, outcome_line, outcome_status, simulate};
+use std::alloc::{AllocError, Global};
+use std::convert::AsStr;
+use std::io::{BufReader, BufWriter, Read, Write};
+
+/// The ticks of a run whose words name none.
+const TICKS: u64 = 1_000_000;
+
+/// Does what the words of a command line ask for, the program's name first, and answers the exit
+/// status: 0 where it was done or help was asked for, 1 for a refused text, 2 for wrong words, 3 for
+/// a fault of the run, 4 for a pause, 5 for want of memory, 6 where a file or a stream failed.
+///
+/// What is asked for goes to the output, in blocks; one line on the errors says why the status isn't
+/// 0.
+pub fn perform<F: FileStore, S: AsStr, I: Read + Drop, O: Write + Drop, E: Write + Drop>(
+    alloc: Global,
+    words: &[S],
+    files: &F,
+    streams: Streams<I, O, E>,
+) -> u8 {
+    let Streams {
+        input,
+        output,
+        errors,
+    } = streams;
+    match Order::of(alloc, words) {
+        Ok(order) => tell(alloc, obey(alloc, order, files, input, output), errors),
+        Err(misuse) => explain(&misuse, output, errors),
+    }
+}
+
+// Does what an order says.
+fn obey<F: FileStore, I: Read + Drop, O: Write + Drop>(
+    alloc: Global,
+    order: Order<'_>,
+    files: &F,
+    input: I,
+    output: O,
+) -> Result<Outcome, Trouble> {
+    match order {
+        Order::Plain => run(alloc, &read_source(alloc, input)?, &[][..], output, TICKS),
+        Order::Check(name) => check(alloc, &read_file(alloc, files, name)?, output),
+        Order::List(name) => list(alloc, &read_file(alloc, files, name)?, output),
+        Order::Run(name, data, ticks) => {
+            run_text(
+                alloc,
+                &read_file(alloc, files, name)?,
+                files,
+                data,
+                output,
+                ticks,
+            )
+        }
+    }
+}
+
+// Runs a text with the data in the file of this name, or with none.
+fn run_text<F: FileStore, O: Write + Drop>(
+    alloc: Global,
+    text: &[u8],
+    files: &F,
+    data: Option<&str>,
+    output: O,
+    ticks: u64,
+) -> Result<Outcome, Trouble> {
+    match data {
+        None => run(alloc, text, &[][..], output, ticks),
+        Some(name) => {
+            let input = open(files, name, Trouble::Input)?;
+            run_with_input(alloc, text, input, output, ticks)
+        }
+    }
+}
+
+// Runs a text with the data of this file, which is asked for a block at a time, and again where a signal interrupted that.
+fn run_with_input<R: Read + Drop, O: Write + Drop>(
+    alloc: Global,
+    text: &[u8],
+    input: R,
+    output: O,
+    ticks: u64,
+) -> Result<Outcome, Trouble> {
+    match BufReader::new(alloc, Retrying::new(input)) {
+        Ok(reader) => run(alloc, text, reader, output, ticks),
+        Err(_) => Err(Trouble::Memory),
+    }
+}
+
+// Runs a text with the data of this reader, and writes its report in blocks. A write that a signal interrupted is made again.
+fn run<R: Read + Drop, O: Write + Drop>(
+    alloc: Global,
+    text: &[u8],
+    input: R,
+    output: O,
+    ticks: u64,
+) -> Result<Outcome, Trouble> {
+    match BufWriter::new(alloc, Retrying::new(output)) {
+        Ok(writer) => report(alloc, text, input, writer, ticks),
+        Err(_) => Err(Trouble::Memory),
+    }
+}
+
+// Runs a text with the data of this reader, and writes its report to this writer, which is flushed
+// at the end.
+fn report<R: Read + Drop, W: Write + Drop>(
+    alloc: Global,
+    text: &[u8],
+    input: R,
+    output: W,
+    ticks: u64,
+) -> Result<Outcome, Trouble> {
+    let (reader, writer) = (Counted::new(input), Counted::new(output));
+    let (outcome, _reader, writer) = simulate(alloc, text, reader, writer, &[ticks]);
+    match writer.into_inner().flush() {
+        Ok(()) => Ok(outcome),
+        Err(_) => Err(Trouble::Report),
+    }
+}
+
+// Compiles a text, and prints that it is accepted.
+fn check<O: Write + Drop>(alloc: Global, text: &[u8], output: O) -> Result<Outcome, Trouble> {
+    match compile(alloc, text) {
+        Ok(model) => {
+            model.release();
+            print(output, b"accepted\n")
+        }
+        Err(refusal) => Ok(Outcome::Refused(refusal)),
+    }
+}
+
+// Compiles a text, and prints its code.
+fn list<O: Write + Drop>(alloc: Global, text: &[u8], output: O) -> Result<Outcome, Trouble> {
+    match compile(alloc, text) {
+        Ok(model) => {
+            let listing = model.listing(alloc);
+            model.release();
+            print_listing(listing, output)
+        }
+        Err(refusal) => Ok(Outcome::Refused(refusal)),
+    }
+}
+
+// Prints a listing, where there was memory for it.
+fn print_listing<O: Write + Drop>(
+    listing: Result<Vec<u8>, AllocError>,
+    output: O,
+) -> Result<Outcome, Trouble> {
+    match listing {
+        Ok(lines) => print(output, &lines),
+        Err(_) => Err(Trouble::Memory),
+    }
+}
+
+// Prints these bytes, with which all is done.
+fn print<O: Write + Drop>(output: O, bytes: &[u8]) -> Result<Outcome, Trouble> {
+    match write_whole(output, bytes) {
+        Ok(()) => Ok(Outcome::Stopped(Stop::Ended, 0)),
+        Err(trouble) => Err(trouble),
+    }
+}
+
+/// Tells how an order ended, and answers the exit status: that of the outcome or of what stopped the
+/// program, or that of memory where the line that tells of it could not be made.
+pub fn tell<E: Write + Drop>(alloc: Global, ended: Result<Outcome, Trouble>, errors: E) -> u8
+    ensures { (result ≡ ended_status ended) ⊎ (result ≡ 5) }
+{
+    match ended {
+        Ok(outcome) => tell_outcome(alloc, &outcome, errors),
+        Err(trouble) => tell_trouble(trouble, errors),
+    }
+}
+
+// Tells of an outcome by its line. A line that can't be written is lost, and the status stands.
+fn tell_outcome<E: Write + Drop>(alloc: Global, outcome: &Outcome, mut errors: E) -> u8
+    ensures { (result ≡ status_of outcome.now) ⊎ (result ≡ 5) }
+{
+    match outcome_line(alloc, outcome) {
+        Ok(line) => {
+            let _ = errors.write_all(&line);
+            outcome_status(outcome)
+        }
+        Err(_) => tell_trouble(Trouble::Memory, errors),
+    }
+}

@@ -1,0 +1,48 @@
+//! The standard streams, and what is written to them but for a report.
+ghost use Rattle.std.specs.Prelude.{◌≡◌};
+ghost use Rattle.simscript_order.specs.TroubleStatuses.{trouble_status};
+
+use crate::misuse::Misuse;
+use crate::retrying::Retrying;
+use crate::trouble::Trouble;
+use std::io::Write;
+
+/// The standard streams of a process.
+pub struct Streams<I, O, E> {
+    pub input: I,
+    pub output: O,
+    pub errors: E,
+}
+
+/// Writes these bytes, and flushes. A call that a signal interrupted is made again.
+pub fn write_whole<O: Write + Drop>(output: O, bytes: &[u8]) -> Result<(), Trouble> {
+    let mut output = Retrying::new(output);
+    let written = output.write_all(bytes).and_then(|()| output.flush());
+    match written {
+        Ok(()) => Ok(()),
+        Err(_) => Err(Trouble::Report),
+    }
+}
+
+/// Tells of what stopped the program, and answers the exit status.
+pub fn tell_trouble<E: Write + Drop>(trouble: Trouble, mut errors: E) -> u8
+    ensures { result ≡ trouble_status trouble }
+{
+    let text = trouble.text();
+    let _ = writeln!(errors, "{text}");
+    trouble.status()
+}
+
+/// Gives the help that was asked for, or says what is wrong with the words, and answers the exit status.
+pub fn explain<O: Write + Drop, E: Write + Drop>(misuse: &Misuse, output: O, mut errors: E) -> u8 {
+    if misuse.status() != 0 {
+        let _ = write!(errors, "{misuse}");
+        return misuse.status();
+    }
+    let mut output = Retrying::new(output);
+    let written = write!(output, "{misuse}").and_then(|()| output.flush());
+    match written {
+        Ok(()) => 0,
+        Err(_) => tell_trouble(Trouble::Report, errors),
+    }
+}

@@ -1,0 +1,38 @@
+//! What stops the program before a run has an outcome.
+ghost use Rattle.std.specs.Prelude.{◌≡◌};
+ghost use Rattle.simscript_order.specs.TroubleStatuses.{trouble_status};
+
+/// Why the program stops with no outcome of a run.
+#[derive(Clone, Copy, Debug, PartialEq, Eq)]
+pub enum Trouble {
+    /// The text can't be opened or read.
+    Source,
+    /// The input data can't be opened.
+    Input,
+    /// The report, or what is printed in its place, can't be written.
+    Report,
+    /// Memory was refused.
+    Memory,
+}
+
+impl Trouble {
+    /// The exit status.
+    pub fn status(self) -> u8
+        ensures { result ≡ trouble_status self }
+    {
+        match self {
+            Trouble::Memory => 5,
+            Trouble::Source | Trouble::Input | Trouble::Report => 6,
+        }
+    }
+
+    /// The line that tells of it, without its end.
+    pub fn text(self) -> &'static str {
+        match self {
+            Trouble::Source => "cannot read source",
+            Trouble::Input => "cannot read input",
+            Trouble::Report => "cannot write report",
+            Trouble::Memory => "out of memory",
+        }
+    }
+}

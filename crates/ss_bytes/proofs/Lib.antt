@@ -1,2 +1,0 @@
-pub mod Capitals
-pub mod Texts

@@ -1,0 +1,62 @@
+-- Loops around what a FOR goes over, with its phrases.
+use Rattle.std.proofs.Common.{◌≡◌, Option, Some, None, refl, ap}
+use Rattle.std.specs.Global.{Vec}
+use Rattle.ss_base.specs.declared.line.Line.{Line}
+use Rattle.ss_tree.specs.Tree.{HeadTree}
+use Rattle.ss_program.specs.declared.head.Head.{Head as HeadMade}
+use Rattle.ss_program.specs.declared.head.Phrase.{Phrase as PhraseMade}
+use Rattle.ss_program.specs.declared.statement.Statement.{Statement as Made}
+use Rattle.ss_program.specs.declared.statement.Statement.TheVariants as made
+use Rattle.ss_program.specs.Program.{Block, Find, For}
+use Rattle.ss_program.specs.View.{view_body, view_statement as view_made}
+use Rattle.ss_names_meaning.specs.declared.error.ResolveError.{ResolveError}
+use Rattle.ss_names_meaning.specs.declared.error.ResolveError.TheVariants.{Memory, Unresolved}
+use Rattle.ss_names_meaning.specs.Answers.{◌>>=◌, each, Fails}
+use Rattle.ss_names_meaning.specs.Contexts.{Context}
+use Rattle.ss_names_meaning.specs.Heads.{head, phrase, phrases_of}
+use Rattle.ss_check_bodies.specs.Results.{over, over_seen}
+use Rattle.ss_names_meaning.specs.Statements.{find, for_over}
+use Rattle.ss_check_bodies.proofs.Nested.{find_made, for_made}
+
+abbrev pair_of : {A B : Type 0} → Option A → Option B → Option (A × B)
+pair_of r s = r >>= λ x. s >>= λ y. Some (x, y)
+
+abbrev first_of : {A B : Type 0} → Option (A × B) → Option A
+first_of None = None
+first_of (Some z) = Some z.0
+
+abbrev second_of : {A B : Type 0} → Option (A × B) → Option B
+second_of None = None
+second_of (Some z) = Some z.1
+
+pair_found : {A B : Type 0} (r : Option A) (s : Option B) (p : A) (q : B) → pair_of r s ≡ Some (p, q) → (r ≡ Some p) × (s ≡ Some q)
+pair_found None s p q h = absurd cc
+pair_found (Some x) None p q h = absurd cc
+pair_found (Some x) (Some y) p q h = (ap first_of h, ap second_of h)
+
+pair_none : {A B C : Type 0} (r : Option A) (s : Option B) (f : A → B → Option C) → pair_of r s ≡ None → (r >>= λ x. s >>= λ y. f x y) ≡ None
+pair_none None s f h = refl
+pair_none (Some x) None f h = refl
+pair_none (Some x) (Some y) f h = absurd cc
+
+pair_fails : {A B C : Type 0} (r : Option A) (s : Option B) (f : A → B → Option C) (e : ResolveError) → Fails e (pair_of r s) → Fails e (r >>= λ x. s >>= λ y. f x y)
+pair_fails r s f Memory h = tt
+pair_fails r s f Unresolved h = pair_none r s f h
+
+pub for_given : (c : Context) (line : Line) (t : HeadTree) (h : HeadMade) (ps : Vec PhraseMade) (a : Vec Made) →
+    over c t ≡ Some (over_seen (h, ps)) → for_over line c t (view_body a.items) ≡ Some (view_made (made.For line h ps a))
+for_given c line t h ps a e =
+    let found = pair_found (head c t) (each (phrase c) (phrases_of t)) _ _ e in
+    for_made c line t h ps a found.0 found.1
+
+pub for_fails : (c : Context) (line : Line) (t : HeadTree) (a : Block) (e : ResolveError) → Fails e (over c t) → Fails e (for_over line c t a)
+for_fails c line t a e h = pair_fails (head c t) (each (phrase c) (phrases_of t)) (λ x y. Some (For line x y a)) e h
+
+pub find_given : (c : Context) (line : Line) (t : HeadTree) (h : HeadMade) (ps : Vec PhraseMade) (a b : Vec Made) →
+    over c t ≡ Some (over_seen (h, ps)) → find line c t (view_body a.items) (view_body b.items) ≡ Some (view_made (made.Find line h ps a b))
+find_given c line t h ps a b e =
+    let found = pair_found (head c t) (each (phrase c) (phrases_of t)) _ _ e in
+    find_made c line t h ps a b found.0 found.1
+
+pub find_fails : (c : Context) (line : Line) (t : HeadTree) (a b : Block) (e : ResolveError) → Fails e (over c t) → Fails e (find line c t a b)
+find_fails c line t a b e h = pair_fails (head c t) (each (phrase c) (phrases_of t)) (λ x y. Some (Find line x y a b)) e h

@@ -1,0 +1,324 @@
+-- Worked examples: expressions and statements in the sections of a small program, read off by hand.
+use Rattle.std.specs.Prelude.{◌≡◌, ℕ, nat_eq, [], ◌∷◌, pos, List, Option, Some, None, codes, refl}
+use Rattle.std.specs.Cmp.Lexicographic.{pointwise}
+use Rattle.std.specs.Map.{lookup}
+use Rattle.ss_base.specs.declared.layout.ClassKind.{ClassKind}
+use Rattle.ss_base.specs.declared.layout.ClassKind.TheVariants.{Permanent, Temporary, Notice}
+use Rattle.ss_base.specs.declared.layout.Mode.TheVariants.{Integer}
+use Rattle.ss_base.specs.declared.line.Line.{Line}
+use Rattle.ss_base.specs.declared.value.Value.TheVariants.{Whole}
+use Rattle.ss_tree.specs.declared.expression.Designator.{Designator}
+use Rattle.ss_tree.specs.declared.expression.Designator.TheVariants.{Name, TimeV, TimeA}
+use Rattle.ss_tree.specs.declared.expression.Function.TheVariants.{Div}
+use Rattle.ss_tree.specs.declared.expression.Sign.TheVariants as signs
+use Rattle.ss_tree.specs.declared.statement.FindOutcome.TheVariants as outcomes
+use Rattle.ss_tree.specs.Tree.{ExpressionTree, number, named, call, parenthesised, sum, product, no_expression, and_expression, no_term, and_term, NamedTree, over_class, by_discipline, at_time, StatementTree, call_statement, read_statement, stop_statement, find_if_statement, create_statement, create_every, file_statement, schedule_new, reset_statement, print_statement, no_statement, and_statement}
+use Rattle.ss_names_declarations.specs.Sayings.{NameBytes}
+use Rattle.ss_program.specs.declared.expression.Fold.TheVariants.{Sum}
+use Rattle.ss_program.specs.declared.expression.MemberQuery.TheVariants.{Successor}
+use Rattle.ss_program.specs.declared.expression.Operator.TheVariants.{Add, Subtract, Multiply}
+use Rattle.ss_program.specs.declared.expression.SetQuery.TheVariants.{MemberCount}
+use Rattle.ss_program.specs.declared.expression.Variable.{Variable}
+use Rattle.ss_program.specs.declared.expression.Variable.TheVariants.{Global, Local}
+use Rattle.ss_program.specs.Program.{Expression, Constant, Fetch, Attribute, OfSystemSet, OfSet, OfMember, TimeOf, Figure, Calculate, AValue, AMean, AMeanOf, TheSystem, Entity, ToVariable, ToAttribute, ToCount, ByDiscipline, At, Each, Call, Stop, Read, Find, Create, CreateEvery, File, ScheduleNew, Reset, Print, Done, Then}
+use Rattle.ss_names_meaning.specs.declared.meaning.ClassMeant.{ClassMeant}
+use Rattle.ss_names_meaning.specs.declared.meaning.Meaning.{Meaning}
+use Rattle.ss_names_meaning.specs.declared.meaning.Meaning.TheVariants as meanings
+use Rattle.ss_names_meaning.specs.declared.meaning.SetMeant.{SetMeant}
+use Rattle.ss_names_meaning.specs.declared.meaning.SetMeant.TheVariants.{OfSystem, OfEntity}
+use Rattle.ss_names_meaning.specs.Answers.{each}
+use Rattle.ss_names_meaning.specs.Contexts.{Context}
+use Rattle.ss_names_meaning.specs.Expressions.{expression, item, subscript, two, factors, terms, target}
+use Rattle.ss_names_meaning.specs.Heads.{head}
+use Rattle.ss_names_meaning.specs.Statements.{statement, statements}
+
+-- ---- the program
+
+-- PREAMBLE
+-- NORMALLY, MODE IS INTEGER
+-- PERMANENT ENTITIES
+-- EVERY MACHINE OWNS A QUEUE
+-- TEMPORARY ENTITIES
+-- EVERY JOB HAS A RANK AND MAY BELONG TO A QUEUE, A POOL
+-- EVENT NOTICES
+-- EVERY BELL HAS A TONE
+-- THE SYSTEM OWNS A POOL
+-- ACCUMULATE LOAD AS THE SUM, LEVEL AS THE MEAN OF N.POOL
+-- TALLY GRADE AS THE MEAN OF RANK
+-- END
+-- ROUTINE SHOW GIVEN JOB
+-- END
+
+abbrev told : {V : Type 0} → List (NameBytes × V) → NameBytes → Option V
+told entries name = lookup (pointwise nat_eq name) entries
+
+-- what its names mean as values or targets in a section in which JOB means this variable; MACHINE, N.MACHINE, JOB and
+-- BELL are the global variables 0 to 3
+abbrev meaning_where : Variable → Designator → Option Meaning
+meaning_where job (Name name) = told (
+    (codes "MACHINE", meanings.Variable (Global 0) (Some Integer)) ∷ (codes "N.MACHINE", meanings.Count (record { class = 0; variable = 1 })) ∷
+    (codes "JOB", meanings.Variable job (Some Integer)) ∷ (codes "RANK", meanings.Attribute 1 0 (Some Integer) job) ∷
+    (codes "N.QUEUE", meanings.OfSet MemberCount 0 (Global 0)) ∷ (codes "N.POOL", meanings.OfSystemSet MemberCount 1) ∷
+    (codes "S.POOL", meanings.OfMember Successor 1 job) ∷ (codes "BELL", meanings.Variable (Global 3) (Some Integer)) ∷
+    (codes "LOAD", meanings.Figure Sum 0) ∷ (codes "LEVEL", meanings.Mean 0) ∷ (codes "GRADE", meanings.MeanOf 1 job) ∷ []) name
+meaning_where job TimeV = Some meanings.Clock
+meaning_where job TimeA = Some meanings.NoticeTime
+
+abbrev set_meant : Designator → Option SetMeant
+set_meant (Name name) = told ((codes "QUEUE", OfEntity 0 (Global 0)) ∷ (codes "POOL", OfSystem 1) ∷ []) name
+set_meant TimeV = None
+set_meant TimeA = None
+
+abbrev class_with : ℕ → ClassKind → ℕ → Variable → Option ℕ → ClassMeant
+class_with class kind attributes variable count = record { class = class; kind = kind; attributes = attributes; variable = variable; count = count }
+
+abbrev class_where : Variable → NameBytes → Option ClassMeant
+class_where job name = told (
+    (codes "MACHINE", class_with 0 Permanent 0 (Global 0) (Some 1)) ∷ (codes "JOB", class_with 1 Temporary 1 job None) ∷
+    (codes "BELL", class_with 2 Notice 1 (Global 3) None) ∷ []) name
+
+abbrev statistic_meant : Designator → Option ℕ
+statistic_meant (Name name) = told ((codes "N.POOL", 0) ∷ (codes "RANK", 1) ∷ []) name
+statistic_meant TimeV = None
+statistic_meant TimeA = None
+
+abbrev where_job_is : Variable → Context
+where_job_is job = record {
+  meaning = meaning_where job;
+  set = set_meant;
+  class = class_where job;
+  routine = told ((codes "SHOW", record { routine = 0; given = 1; yielding = 0 }) ∷ []);
+  statistic = statistic_meant;
+}
+
+-- MAIN, and the routine, whose parameter JOB hides the variable of the class
+abbrev in_main : Context
+in_main = where_job_is (Global 2)
+
+abbrev in_routine : Context
+in_routine = where_job_is (Local 0)
+
+abbrev line : ℕ → Line
+line n = record { 0 = n }
+
+-- a name without a subscript, and with one
+abbrev plain_name : NameBytes → ExpressionTree
+plain_name name = named (Name name) no_expression
+
+abbrev with_subscript : Designator → ExpressionTree → ExpressionTree
+with_subscript d e = named d (and_expression e no_expression)
+
+abbrev named_plainly : NameBytes → NamedTree
+named_plainly name = record { designator = Name name; subscripts = no_expression }
+
+abbrev whole : ℕ → Expression
+whole n = Constant (Whole (pos n))
+
+-- ---- expressions
+
+-- RANK is that of the JOB in the variable JOB; where a parameter has the name of the class, that of the one in the parameter
+pub attribute_implied : expression in_main (plain_name (codes "RANK")) ≡ Some (Attribute 1 0 (Fetch (Global 2)))
+unfolding expression subscript
+attribute_implied = refl
+
+pub attribute_hidden : expression in_routine (plain_name (codes "RANK")) ≡ Some (Attribute 1 0 (Fetch (Local 0)))
+unfolding expression subscript
+attribute_hidden = refl
+
+-- RANK(5), and RANK(5, 5)
+pub attribute_of : expression in_main (with_subscript (Name (codes "RANK")) (number (pos 5))) ≡ Some (Attribute 1 0 (whole 5))
+unfolding expression subscript
+attribute_of = refl
+
+pub two_subscripts : expression in_main (named (Name (codes "RANK")) (and_expression (number (pos 5)) (and_expression (number (pos 5)) no_expression))) ≡ None
+unfolding expression subscript
+two_subscripts = refl
+
+-- N.QUEUE is that of the MACHINE in the variable MACHINE, N.POOL that of THE SYSTEM, which takes no subscript
+pub owner_implied : expression in_main (plain_name (codes "N.QUEUE")) ≡ Some (OfSet MemberCount 0 (Fetch (Global 0)))
+unfolding expression subscript
+owner_implied = refl
+
+pub of_the_system : expression in_main (plain_name (codes "N.POOL")) ≡ Some (OfSystemSet MemberCount 1)
+unfolding expression subscript
+of_the_system = refl
+
+pub system_subscript : expression in_main (with_subscript (Name (codes "N.POOL")) (number (pos 1))) ≡ None
+unfolding expression subscript
+system_subscript = refl
+
+-- S.POOL is told of the JOB in the variable JOB
+pub member_implied : expression in_main (plain_name (codes "S.POOL")) ≡ Some (OfMember Successor 1 (Fetch (Global 2)))
+unfolding expression subscript
+member_implied = refl
+
+-- LOAD
+pub figure : expression in_main (plain_name (codes "LOAD")) ≡ Some (Figure Sum 0)
+unfolding expression subscript
+figure = refl
+
+-- LEVEL is a mean, and no value
+pub mean_as_value : expression in_main (plain_name (codes "LEVEL")) ≡ None
+unfolding expression subscript
+mean_as_value = refl
+
+-- TIME.A takes a subscript
+pub time_alone : expression in_main (named TimeA no_expression) ≡ None
+unfolding expression subscript
+time_alone = refl
+
+pub time_of_bell : expression in_main (with_subscript TimeA (plain_name (codes "BELL"))) ≡ Some (TimeOf (Fetch (Global 3)))
+unfolding expression subscript
+time_of_bell = refl
+
+-- a set is no value
+pub set_as_value : expression in_main (plain_name (codes "POOL")) ≡ None
+unfolding expression subscript
+set_as_value = refl
+
+-- 1 - 2 * 3 + N.MACHINE
+pub sum_from_the_left :
+    expression in_main (sum (number (pos 1)) (and_term signs.Minus (product (number (pos 2)) (and_expression (number (pos 3)) no_expression)) (and_term signs.Plus (plain_name (codes "N.MACHINE")) no_term))) ≡
+    Some (Calculate Add (Calculate Subtract (whole 1) (Calculate Multiply (whole 2) (whole 3))) (Fetch (Global 1)))
+unfolding expression subscript factors terms
+sum_from_the_left = refl
+
+-- DIV.F(7)
+pub one_argument : expression in_main (call Div (and_expression (number (pos 7)) no_expression)) ≡ None
+unfolding expression two
+one_argument = refl
+
+-- ---- items of PRINT
+
+-- LEVEL, in parentheses and without, is a mean
+pub mean_alone : item in_main (plain_name (codes "LEVEL")) ≡ Some (AMean 0)
+unfolding expression subscript
+mean_alone = refl
+
+pub mean_in_parentheses : item in_main (parenthesised (parenthesised (plain_name (codes "LEVEL")))) ≡ Some (AMean 0)
+unfolding expression subscript
+mean_in_parentheses = refl
+
+-- .. and takes no subscript
+pub mean_subscript : item in_main (with_subscript (Name (codes "LEVEL")) (number (pos 1))) ≡ None
+unfolding expression subscript
+mean_subscript = refl
+
+-- GRADE is that of the JOB in the variable JOB, GRADE(5) that of another
+pub mean_implied : item in_main (plain_name (codes "GRADE")) ≡ Some (AMeanOf 1 (Fetch (Global 2)))
+unfolding expression subscript
+mean_implied = refl
+
+pub mean_of : item in_main (with_subscript (Name (codes "GRADE")) (number (pos 5))) ≡ Some (AMeanOf 1 (whole 5))
+unfolding expression subscript
+mean_of = refl
+
+-- LEVEL + 1 is nothing
+pub mean_in_a_sum : item in_main (sum (plain_name (codes "LEVEL")) (and_term signs.Plus (number (pos 1)) no_term)) ≡ None
+unfolding expression subscript terms
+mean_in_a_sum = refl
+
+-- LOAD is a value
+pub value_alone : item in_main (parenthesised (plain_name (codes "LOAD"))) ≡ Some (AValue (Figure Sum 0))
+unfolding expression subscript
+value_alone = refl
+
+-- ---- targets
+
+-- N. of a class may be assigned, N. of a set not
+pub count_as_target : target in_main (named_plainly (codes "N.MACHINE")) ≡ Some (ToCount (record { class = 0; variable = 1 }))
+unfolding subscript
+count_as_target = refl
+
+pub members_as_target : target in_main (named_plainly (codes "N.POOL")) ≡ None
+unfolding subscript
+members_as_target = refl
+
+pub mean_as_target : target in_main (named_plainly (codes "LEVEL")) ≡ None
+unfolding subscript
+mean_as_target = refl
+
+-- ---- statements
+
+-- CREATE A JOB; the class is made also where its variable is hidden
+pub create_job : statement in_main (create_statement (line 12) (codes "JOB") None) ≡ Some (Create (line 12) 1 (ToVariable (Global 2)))
+unfolding statement
+create_job = refl
+
+pub create_hidden : statement in_routine (create_statement (line 12) (codes "JOB") None) ≡ Some (Create (line 12) 1 (ToVariable (Local 0)))
+unfolding statement
+create_hidden = refl
+
+-- CREATE A MACHINE, and CREATE EVERY MACHINE
+pub create_permanent : statement in_main (create_statement (line 12) (codes "MACHINE") None) ≡ None
+unfolding statement
+create_permanent = refl
+
+pub create_machines : statement in_main (create_every (line 12) (codes "MACHINE" ∷ [])) ≡ Some (CreateEvery (line 12) (record { class = 0; variable = 1 } ∷ []))
+unfolding statement each
+create_machines = refl
+
+-- FILE JOB IN QUEUE, which is that of the MACHINE in the variable MACHINE
+pub file_in_queue :
+    statement in_main (file_statement (line 12) (plain_name (codes "JOB")) by_discipline (named_plainly (codes "QUEUE"))) ≡
+    Some (File (line 12) 0 (Fetch (Global 2)) ByDiscipline (Entity (Fetch (Global 0))))
+unfolding statement expression subscript
+file_in_queue = refl
+
+-- FILE JOB IN POOL
+pub file_in_pool :
+    statement in_main (file_statement (line 12) (plain_name (codes "JOB")) by_discipline (named_plainly (codes "POOL"))) ≡
+    Some (File (line 12) 1 (Fetch (Global 2)) ByDiscipline TheSystem)
+unfolding statement expression subscript
+file_in_pool = refl
+
+-- SCHEDULE A BELL GIVEN 8 AT 9; a BELL has one attribute, so GIVEN 8, 8 is too much
+pub schedule_bell :
+    statement in_main (schedule_new (line 12) (codes "BELL") None (number (pos 8) ∷ []) (at_time (number (pos 9)))) ≡
+    Some (ScheduleNew (line 12) 2 (ToVariable (Global 3)) (whole 8 ∷ []) (At (whole 9)))
+unfolding statement expression each
+schedule_bell = refl
+
+pub schedule_too_much :
+    statement in_main (schedule_new (line 12) (codes "BELL") None (number (pos 8) ∷ number (pos 8) ∷ []) (at_time (number (pos 9)))) ≡ None
+unfolding statement expression each
+schedule_too_much = refl
+
+-- CALL SHOW GIVING 1, and CALL SHOW
+pub call_show : statement in_main (call_statement (line 12) (codes "SHOW") (number (pos 1) ∷ []) []) ≡ Some (Call (line 12) 0 (whole 1 ∷ []) [])
+unfolding statement expression each
+call_show = refl
+
+pub call_without : statement in_main (call_statement (line 12) (codes "SHOW") [] []) ≡ None
+unfolding statement expression each
+call_without = refl
+
+-- READ RANK
+pub read_rank :
+    statement in_main (read_statement (line 12) (named_plainly (codes "RANK") ∷ [])) ≡
+    Some (Read (line 12) (record { place = ToAttribute 1 0 (Fetch (Global 2)); mode = Integer } ∷ []))
+unfolding statement subscript each
+read_rank = refl
+
+-- PRINT 1 LINE WITH LEVEL, RANK THUS, and a picture
+pub print_mean :
+    statement in_main (print_statement (line 12) (plain_name (codes "LEVEL") ∷ plain_name (codes "RANK") ∷ []) (codes "*.* *" ∷ [])) ≡
+    Some (Print (line 12) (AMean 0 ∷ AValue (Attribute 1 0 (Fetch (Global 2))) ∷ []) (codes "*.* *" ∷ []))
+unfolding statement expression subscript each
+print_mean = refl
+
+-- RESET THE TOTALS OF N.POOL, and of N.QUEUE, which has no statistic
+pub reset_load : statement in_main (reset_statement (line 12) (named_plainly (codes "N.POOL") ∷ [])) ≡ Some (Reset (line 12) (record { statistic = 0; of = None } ∷ []))
+unfolding statement subscript each
+reset_load = refl
+
+pub reset_nothing : statement in_main (reset_statement (line 12) (named_plainly (codes "N.QUEUE") ∷ [])) ≡ None
+unfolding statement subscript each
+reset_nothing = refl
+
+-- FOR EACH MACHINE, FIND THE FIRST CASE IF NONE STOP ALWAYS
+pub find_machine :
+    statement in_main (find_if_statement (line 12) (over_class (codes "MACHINE") None []) outcomes.None (and_statement (stop_statement (line 13)) no_statement) no_statement) ≡
+    Some (Find (line 12) (Each (Global 0) 0) [] Done (Then Stop Done))
+unfolding statement statements head each
+find_machine = refl

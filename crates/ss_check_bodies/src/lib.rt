@@ -1,0 +1,20 @@
+//! Each name of a program replaced by what it stands for.
+#![tactic(auto)]
+
+mod bodies;
+mod classes;
+mod conditions;
+mod entities;
+mod expressions;
+mod heads;
+mod items;
+mod lists;
+mod loops;
+mod notices;
+mod places;
+mod results;
+mod statements;
+mod words;
+
+pub use bodies::resolve_body;
+pub use ss_names_meaning::{ClassMeant, Meaning, ResolveError, RoutineMeant, Scope, SetMeant};

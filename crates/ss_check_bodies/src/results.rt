@@ -1,0 +1,39 @@
+//! Steps that may fail, one after the other.
+
+ghost use Rattle.std.specs.Prelude.{◌≡◌};
+ghost use Rattle.ss_names_meaning.specs.declared.error.ResolveError.TheVariants.{Unresolved};
+ghost use Rattle.ss_names_meaning.specs.Answers.{Gives, where_holds};
+ghost use Rattle.ss_check_bodies.specs.Results.{Beside};
+
+use ss_names_meaning::ResolveError;
+
+/// What was made first, beside what was made next, unless that failed.
+pub(crate) fn beside<A: Drop, B>(
+    first: A,
+    next: Result<B, ResolveError>,
+) -> Result<(A, B), ResolveError>
+    ensures { Beside first next result }
+{
+    match next {
+        Ok(next) => Ok((first, next)),
+        Err(e) => Err(e),
+    }
+}
+
+/// A value, where a test holds.
+pub(crate) fn where_holds<T: Drop>(holds: bool, value: T) -> Result<T, ResolveError>
+    ensures { Gives (λ x. x) result (where_holds holds value) }
+{
+    if holds {
+        Ok(value)
+    } else {
+        Err(ResolveError::Unresolved)
+    }
+}
+
+/// That there is no resolved form, though something was made on the way, which goes.
+pub(crate) fn unresolved<T: Drop>(_made: T) -> ResolveError
+    ensures { result ≡ Unresolved }
+{
+    ResolveError::Unresolved
+}

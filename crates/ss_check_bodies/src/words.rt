@@ -1,0 +1,82 @@
+//! Words that stand for themselves.
+
+ghost use Rattle.std.specs.Prelude.{◌≡◌};
+ghost use Rattle.ss_names_meaning.specs.Conditions.{relation_of};
+ghost use Rattle.ss_names_meaning.specs.Expressions.{operator_of, sign_of};
+ghost use Rattle.ss_names_meaning.specs.Heads.{guard_kind_of, phrase_kind_of};
+ghost use Rattle.ss_names_meaning.specs.Statements.{end_of};
+
+use ss_program::condition::Relation;
+use ss_program::expression::{Operator, Sign};
+use ss_program::head::{GuardKind, PhraseKind};
+use ss_program::statement::End;
+use ss_tree::condition::Relation as RelationWord;
+use ss_tree::expression::Sign as SignWord;
+use ss_tree::head::{GuardKind as GuardWord, PhraseKind as PhraseWord};
+use ss_tree::statement::SetEnd as EndWord;
+
+// The sign before a term.
+pub(crate) fn sign_of(sign: SignWord) -> Sign
+    ensures { result ≡ sign_of sign }
+{
+    match sign {
+        SignWord::Plus => Sign::Plus,
+        SignWord::Minus => Sign::Minus,
+    }
+}
+
+// What joins a further term to a sum.
+pub(crate) fn operator_of(sign: SignWord) -> Operator
+    ensures { result ≡ operator_of sign }
+{
+    match sign {
+        SignWord::Plus => Operator::Add,
+        SignWord::Minus => Operator::Subtract,
+    }
+}
+
+// How two values compare.
+pub(crate) fn relation_of(relation: RelationWord) -> Relation
+    ensures { result ≡ relation_of relation }
+{
+    match relation {
+        RelationWord::Equal => Relation::Equal,
+        RelationWord::NotEqual => Relation::NotEqual,
+        RelationWord::Less => Relation::Less,
+        RelationWord::Greater => Relation::Greater,
+        RelationWord::LessOrEqual => Relation::LessOrEqual,
+        RelationWord::GreaterOrEqual => Relation::GreaterOrEqual,
+    }
+}
+
+// What a phrase does.
+pub(crate) fn phrase_kind_of(kind: PhraseWord) -> PhraseKind
+    ensures { result ≡ phrase_kind_of kind }
+{
+    match kind {
+        PhraseWord::With => PhraseKind::With,
+        PhraseWord::Unless => PhraseKind::Unless,
+        PhraseWord::While => PhraseKind::While,
+        PhraseWord::Until => PhraseKind::Until,
+    }
+}
+
+// How a condition ends a loop.
+pub(crate) fn guard_kind_of(kind: GuardWord) -> GuardKind
+    ensures { result ≡ guard_kind_of kind }
+{
+    match kind {
+        GuardWord::While => GuardKind::While,
+        GuardWord::Until => GuardKind::Until,
+    }
+}
+
+// An end of a set.
+pub(crate) fn end_of(end: EndWord) -> End
+    ensures { result ≡ end_of end }
+{
+    match end {
+        EndWord::First => End::First,
+        EndWord::Last => End::Last,
+    }
+}

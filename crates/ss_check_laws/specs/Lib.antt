@@ -1,0 +1,9 @@
+pub mod Rules
+pub mod Links
+pub mod BodyLaws
+pub mod Parameters
+pub mod Signed
+pub mod Programs
+pub mod ProgramLaws
+pub mod Examples
+pub mod SizeLaws

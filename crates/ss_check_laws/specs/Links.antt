@@ -1,0 +1,148 @@
+-- What a name stands for is what the rules on uses know of it, and its numbers are those of something in the program.
+use Rattle.std.specs.Prelude.{◌≡◌, ℕ, true, List, length, slice_get, Some, Contains}
+use Rattle.ss_base.specs.declared.layout.Mode.{Mode}
+use Rattle.ss_base.specs.declared.layout.Mode.TheVariants.{Integer}
+use Rattle.ss_base.specs.declared.layout.ClassKind.{ClassKind}
+use Rattle.ss_base.specs.declared.layout.ClassKind.TheVariants as class_kinds
+use Rattle.ss_base.specs.declared.layout.Owner.TheVariants.{System}
+use Rattle.ss_tree.specs.declared.expression.Designator.TheVariants.{Name, TimeV, TimeA}
+use Rattle.ss_tree.specs.declared.preamble.ClassKind.{ClassKind as ClassWord}
+use Rattle.ss_tree.specs.declared.preamble.ClassKind.TheVariants as class_words
+use Rattle.ss_names_uses.specs.Mentions.{NameBytes}
+use Rattle.ss_check_scopes.specs.declared.known.Holder.{Holder}
+use Rattle.ss_check_scopes.specs.declared.known.Holder.TheVariants.{Program as TheProgram, Entity as EachOf}
+use Rattle.ss_check_scopes.specs.declared.known.Known.{Known}
+use Rattle.ss_check_scopes.specs.declared.known.Known.TheVariants as knowns
+use Rattle.ss_check_scopes.specs.Locals.{Moded}
+use Rattle.ss_check_scopes.specs.Meanings.{meaning_in}
+use Rattle.ss_check_scopes.specs.Whole.{Whole}
+use Rattle.ss_check_rules.specs.Unknown.{has_value, is_told_here}
+use Rattle.ss_check_rules.specs.Modes.{mode_in}
+use Rattle.ss_program.specs.declared.expression.Variable.{Variable}
+use Rattle.ss_program.specs.declared.expression.Variable.TheVariants.{Global}
+use Rattle.ss_program.specs.declared.statement.Counted.{Counted}
+use Rattle.ss_program.specs.Program.{ToVariable, Routine}
+use Rattle.ss_program.specs.WellTyped.{Scope, mode_at, kind_of, fields_of, field_mode, owner_of, IsOwned, IsSet, IsAlone, IsOfEntities, HasSubject, TakesMode}
+use Rattle.ss_names_meaning.specs.declared.meaning.Meaning.{Meaning}
+use Rattle.ss_names_meaning.specs.declared.meaning.Meaning.TheVariants as meanings
+use Rattle.ss_names_meaning.specs.declared.meaning.SetMeant.{SetMeant}
+use Rattle.ss_names_meaning.specs.declared.meaning.SetMeant.TheVariants.{OfSystem, OfEntity}
+use Rattle.ss_names_meaning.specs.declared.meaning.ClassMeant.{ClassMeant}
+use Rattle.ss_names_meaning.specs.declared.meaning.RoutineMeant.{RoutineMeant}
+use Rattle.ss_names_meaning.specs.Contexts.{Context}
+
+module _ (w : Whole) (locals : Moded) (s : Scope) where
+  -- ---- values and targets
+
+  -- the variable is the one that has an entity of the class where none is written
+  abbrev pub IsImplied : NameBytes → Variable → Type 0
+  IsImplied class x = (m : Mode) × (mode_in w locals class ≡ Some m) × (mode_at s x ≡ Some m)
+
+  -- a variable of the mode
+  abbrev pub IsVariable : Mode → Meaning → Type 0
+  IsVariable m (meanings.Variable x mode) = (mode ≡ Some m) × TakesMode s (ToVariable x) m
+  IsVariable m _ = ⊥
+
+  -- an attribute of the class, of the mode
+  abbrev pub IsAttribute : NameBytes → Mode → Meaning → Type 0
+  IsAttribute class m (meanings.Attribute k field mode implied) = (mode ≡ Some m) × (field_mode s.program k field ≡ Some m) × IsImplied class implied
+  IsAttribute class m _ = ⊥
+
+  -- N. of a permanent class
+  abbrev pub IsCount : Meaning → Type 0
+  IsCount (meanings.Count n) = Contains s.program.counts n × (mode_at s (Global n.variable) ≡ Some Integer)
+  IsCount _ = ⊥
+
+  -- what is told of a set, or of a member
+  abbrev pub IsTold : Holder → Meaning → Type 0
+  IsTold TheProgram (meanings.OfSystemSet query set) = owner_of s.program set ≡ Some System
+  IsTold (EachOf class) (meanings.OfSet query set implied) = IsOwned s.program set × IsImplied class implied
+  IsTold (EachOf class) (meanings.OfMember query set implied) = IsSet s.program set × IsImplied class implied
+  IsTold _ _ = ⊥
+
+  -- a statistic that is a value
+  abbrev pub IsFigure : Holder → Meaning → Type 0
+  IsFigure TheProgram (meanings.Figure fold statistic) = HasSubject s.program IsAlone statistic
+  IsFigure (EachOf class) (meanings.FigureOf fold statistic implied) = HasSubject s.program IsOfEntities statistic × IsImplied class implied
+  IsFigure _ _ = ⊥
+
+  -- a MEAN
+  abbrev pub IsMean : Holder → Meaning → Type 0
+  IsMean TheProgram (meanings.Mean statistic) = HasSubject s.program IsAlone statistic
+  IsMean (EachOf class) (meanings.MeanOf statistic implied) = HasSubject s.program IsOfEntities statistic × IsImplied class implied
+  IsMean _ _ = ⊥
+
+  -- what the rules know of a name, and what it stands for; a set and a routine have no meaning as values, targets or items
+  abbrev pub Fits : Known → Meaning → Type 0
+  Fits (knowns.Local m) stands = IsVariable m stands
+  Fits (knowns.Variable m) stands = IsVariable m stands
+  Fits (knowns.Class kind) stands = IsVariable Integer stands
+  Fits (knowns.Attribute class m) stands = IsAttribute class m stands
+  Fits (knowns.Set holder) stands = ⊥
+  Fits (knowns.MemberCount holder) stands = IsTold holder stands
+  Fits (knowns.Membership holder) stands = IsTold holder stands
+  Fits knowns.EntityCount stands = IsCount stands
+  Fits (knowns.Statistic holder) stands = IsFigure holder stands
+  Fits (knowns.Mean holder) stands = IsMean holder stands
+  Fits knowns.Routine stands = ⊥
+
+  -- what the rules know of the subject of a TALLY or an ACCUMULATE, what it stands for, and the number of its statistic
+  abbrev pub IsSubject : Known → Meaning → ℕ → Type 0
+  IsSubject (knowns.Variable m) (meanings.Variable (Global n) mode) statistic = HasSubject s.program IsAlone statistic
+  IsSubject (knowns.Attribute class m) (meanings.Attribute k field mode implied) statistic = HasSubject s.program IsOfEntities statistic × IsImplied class implied
+  IsSubject (knowns.MemberCount TheProgram) (meanings.OfSystemSet query set) statistic = HasSubject s.program IsAlone statistic
+  IsSubject (knowns.MemberCount (EachOf class)) (meanings.OfSet query set implied) statistic = HasSubject s.program IsOfEntities statistic × IsImplied class implied
+  IsSubject _ _ _ = ⊥
+
+  -- ---- sets
+
+  abbrev pub IsSetOf : Holder → SetMeant → Type 0
+  IsSetOf TheProgram (OfSystem set) = owner_of s.program set ≡ Some System
+  IsSetOf (EachOf class) (OfEntity set implied) = IsOwned s.program set × IsImplied class implied
+  IsSetOf _ _ = ⊥
+
+-- ---- classes
+
+abbrev pub kind_said : ClassWord → ClassKind
+kind_said class_words.Permanent = class_kinds.Permanent
+kind_said class_words.Temporary = class_kinds.Temporary
+kind_said class_words.EventNotice = class_kinds.Notice
+
+-- N. of a class, by its variable
+abbrev pub count_of : ClassMeant → (variable : ℕ) → Counted
+count_of stands variable = record { class = stands.class; variable = variable }
+
+-- a permanent class has its N.
+abbrev pub HasCount : Scope → ClassWord → ClassMeant → Type 0
+HasCount s class_words.Permanent stands = (variable : ℕ) × (stands.count ≡ Some variable) × Contains s.program.counts (count_of stands variable)
+HasCount s class_words.Temporary stands = Unit {0}
+HasCount s class_words.EventNotice stands = Unit {0}
+
+-- the class of a name and a kind: what its name means as a variable in the section, and its attributes
+pub record IsClass (w : Whole) (locals : Moded) (s : Scope) (name : NameBytes) (kind : ClassWord) (stands : ClassMeant) : Type 0 where
+  pub kind_meant : stands.kind ≡ kind_said kind
+  pub kind_there : kind_of s.program stands.class ≡ Some (kind_said kind)
+  pub variable_there : (m : Mode) × (mode_in w locals name ≡ Some m) × TakesMode s (ToVariable stands.variable) m
+  pub fields_there : (modes : List Mode) × (fields_of s.program stands.class ≡ Some modes) × (w.attributes name ≡ Some modes) × (stands.attributes ≡ length modes)
+  pub count_there : HasCount s kind stands
+
+-- the routine of a name: what it is given and yields
+pub record IsRoutine (w : Whole) (s : Scope) (name : NameBytes) (stands : RoutineMeant) : Type 0 where
+  pub resolved : Routine
+  pub there : slice_get s.program.routines stands.routine ≡ Some resolved
+  pub given_known : w.given name ≡ Some resolved.given
+  pub given_counted : stands.given ≡ length resolved.given
+  pub yielding_known : w.yielding name ≡ Some resolved.yielding
+  pub yielding_counted : stands.yielding ≡ length resolved.yielding
+
+-- what a context says of names is what the rules on uses know of them
+pub record Linked (w : Whole) (locals : Moded) (c : Context) (s : Scope) : Type 0 where
+  pub value : (name : NameBytes) (known : Known) → meaning_in w.meanings locals name ≡ Some known → has_value known ≡ true → (stands : Meaning) × (c.meaning (Name name) ≡ Some stands) × Fits w locals s known stands
+  pub clock : c.meaning TimeV ≡ Some meanings.Clock
+  pub notice_time : c.meaning TimeA ≡ Some meanings.NoticeTime
+  -- a set isn't hidden
+  pub set : (name : NameBytes) (holder : Holder) → w.meanings name ≡ Some (knowns.Set holder) → (stands : SetMeant) × (meaning_in w.meanings locals name ≡ Some (knowns.Set holder)) × (c.set (Name name) ≡ Some stands) × IsSetOf w locals s holder stands
+  pub class : (name : NameBytes) (kind : ClassWord) → w.meanings name ≡ Some (knowns.Class kind) → (stands : ClassMeant) × (c.class name ≡ Some stands) × IsClass w locals s name kind stands
+  pub routine : (name : NameBytes) → w.meanings name ≡ Some knowns.Routine → (stands : RoutineMeant) × (c.routine name ≡ Some stands) × IsRoutine w s name stands
+  -- what a statistic is kept of, unless a local variable hides it
+  pub told : (name : NameBytes) → is_told_here w locals name ≡ true → (known : Known) × (stands : Meaning) × (statistic : ℕ) × (meaning_in w.meanings locals name ≡ Some known) × (c.meaning (Name name) ≡ Some stands) × (c.statistic (Name name) ≡ Some statistic) × IsSubject w locals s known stands statistic

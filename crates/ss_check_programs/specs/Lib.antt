@@ -1,0 +1,4 @@
+pub use Rattle.ss_names_meaning.specs.Resolved
+pub mod View
+pub mod Examples
+pub mod Programs

@@ -1,8 +1,0 @@
-use Rattle.std.proofs.Common.{◌∙◌}
-use Rattle.ss_declared.specs.RealMode.{lacks_mode, mentioned_at}
-use Rattle.ss_declared.proofs.Finding.{next_where}
-use Rattle.ss_declared.proofs.real_mode.unmoded_among.Goals as goal
-
-pub loop-mention-preserved : goal.loop-mention-preserved
-loop-mention-preserved c =
-    λ says tells said. c.sooner_if-found.ensures ∙ next_where mentioned_at (lacks_mode says c.args.number) c.args.mentions.now c.loop-mention.mention-index c.mention-item.result c.args.found c.loop-mention.found _ c.loop-mention-test.true c.mention-item.is (c.loop-mention.invariant says tells said) (c.lacks_mode.ensures says tells said)

@@ -1,8 +1,0 @@
-use Rattle.std.proofs.Common.{ap, sym, ◌∙◌}
-use Rattle.ss_declared.specs.Things.{with_thing}
-use Rattle.ss_declared.proofs.Keeping.{noted}
-use Rattle.ss_declared.proofs.things.Things.note.Goals as goal
-
-pub returns-in_ok-add : goal.returns-in_ok-add
-returns-in_ok-add c =
-    noted c.args.topic c.args.saying.now c.args.self.now c.add.new.self (sym c.is_about.ensures ∙ c.if-is_about.true) (c.in_ok-add.ensures ∙ ap (with_thing c.args.self.now) c.thing_of.ensures)

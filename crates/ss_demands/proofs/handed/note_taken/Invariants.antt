@@ -1,7 +1,0 @@
-use Rattle.std.proofs.Common.{◌≡◌, ◌++◌, map, take}
-use Rattle.ss_tree.specs.View.{view_named}
-use Rattle.ss_demands.specs.Demands.{taken, in_places}
-use Rattle.ss_demands.proofs.handed.note_taken.Given as goal
-
-abbrev pub invariant-loop-place : goal.invariant-loop-place
-invariant-loop-place l = l.into ≡ l.initial.into ++ in_places (taken l.line l.by) 0 (map view_named (take l.place l.targets))

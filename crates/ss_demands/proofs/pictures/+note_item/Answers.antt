@@ -1,5 +1,0 @@
-use Rattle.ss_demands.proofs.Noting.{item_named}
-use Rattle.ss_demands.proofs.pictures.+note_item.Goals as goal
-
-pub returns-in-Named : goal.returns-in-Named
-returns-in-Named t c = rw (c.in-Named.is, item_named c.args.line c.in-Named.named) c.note_named.ensures

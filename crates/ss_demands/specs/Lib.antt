@@ -1,3 +1,0 @@
-pub mod Demands
-pub mod Noted
-pub mod Examples

@@ -1,0 +1,73 @@
+-- One call of a source after another.
+use Rattle.std.proofs.Common.{◌≡◌, ℕ, Bool, true, false, List, [], ◌++◌, refl, sym, ap, subst, ◌∙◌, append_assoc}
+use Rattle.std.proofs.KnownBytes.{Consumes-trans}
+use Rattle.ss_input.specs.Blocks.{KnowsEnd}
+use Rattle.ss_input.specs.declared.source.Source.{Source}
+use Rattle.std.specs.declared.option.Option.{Option}
+use Rattle.std.specs.Io.KnownBytes.{Consumes, IsAtEnd}
+use Rattle.ss_input.specs.Inputs.{source_block, source_reader, Stands, Reads, Finds, IsFresh}
+use Rattle.ss_engine.specs.Headline.{Gave}
+
+none_more : (xs more : List ℕ) → xs ≡ [] → more ≡ [] → xs ++ more ≡ []
+none_more xs more e f = ap (λ l. l ++ more) e ∙ f
+
+module _ {R : Type 0} (remaining : R → Option (List ℕ)) (a b c : Source R) where
+  -- a call that read, and one after which no more is read
+  pub reads_then_finds : (S : (input rest : List ℕ) → Type 0) (T : List ℕ → Type 0) (U : List ℕ → Type 0) → ((input rest : List ℕ) → S input rest → T rest → U input) → Reads remaining a b S → Finds remaining b c T → Finds remaining a c U
+  reads_then_finds S T U join h g = record {
+    got = h.got ++ g.got;
+    consumed = Consumes-trans (remaining (source_reader a)) (remaining (source_reader b)) (remaining (source_reader c)) h.got g.got h.consumed g.consumed;
+    after_end = λ e. let u = h.after_end e in let v = g.after_end u.1 in (none_more h.got g.got u.0 v.0, v.1);
+    says = λ more input e st.
+        let first = h.says (g.got ++ more) input (λ q. let v = g.after_end q in none_more g.got more v.0 (e v.1)) (subst (λ l. Stands a l input) (append_assoc h.got g.got more) st) in
+        join input first.rest first.says (g.says more first.rest e first.stands);
+  }
+
+  -- a call that read, and another
+  pub reads_then_reads : (S T U : (input rest : List ℕ) → Type 0) → ((input rest last : List ℕ) → S input rest → T rest last → U input last) → Reads remaining a b S → Reads remaining b c T → Reads remaining a c U
+  reads_then_reads S T U join h g = record {
+    got = h.got ++ g.got;
+    consumed = Consumes-trans (remaining (source_reader a)) (remaining (source_reader b)) (remaining (source_reader c)) h.got g.got h.consumed g.consumed;
+    after_end = λ e. let u = h.after_end e in let v = g.after_end u.1 in (none_more h.got g.got u.0 v.0, v.1);
+    says = λ more input e st.
+        let first = h.says (g.got ++ more) input (λ q. let v = g.after_end q in none_more g.got more v.0 (e v.1)) (subst (λ l. Stands a l input) (append_assoc h.got g.got more) st) in
+        let last = g.says more first.rest e first.stands in
+        record { rest = last.rest; stands = last.stands; says = join input first.rest last.rest first.says last.says };
+  }
+
+-- a fresh source stands for what its reader gives
+pub fresh_stands : {R : Type 0} (reader : R) (s : Source R) (input : List ℕ) → IsFresh reader s → Stands s input input
+fresh_stands reader s input f = record {
+  gap = [];
+  separators = refl;
+  long = sym f.gap;
+  input_is = sym (ap (λ l. l ++ input) f.left);
+}
+
+not_both : (b : Bool) → b ≡ false → b ≡ true → ⊥
+not_both true e f = absurd cc
+not_both false e f = absurd cc
+
+-- a fresh source has not met the end of its reader
+pub fresh_knows : {R : Type 0} (remaining : R → Option (List ℕ)) (reader : R) (s : Source R) → IsFresh reader s → KnowsEnd remaining (source_block s)
+fresh_knows remaining reader s f e = absurd (not_both (source_block s).ended f.not_ended e)
+
+module _ {R : Type 0} (remaining : R → Option (List ℕ)) (source last : Source R) where
+  -- what is said of the input before a run is said of what the reader of a fresh source gave
+  pub fresh_gave : (reader last_reader : R) → IsFresh reader source → source_reader last ≡ last_reader → KnowsEnd remaining (source_block last) → (Says Means : List ℕ → Type 0) → ((input : List ℕ) → Says input → Means input) → Finds remaining source last Says → Gave remaining reader last_reader Means
+  fresh_gave reader last_reader fresh at_last knows Says Means to f = record {
+    read = f.got;
+    ended = (source_block last).ended;
+    gave = subst (λ r. Consumes (remaining reader) (remaining r) f.got) at_last (subst (λ r. Consumes (remaining r) (remaining (source_reader last)) f.got) fresh.reader_is f.consumed);
+    at_end = λ e. subst (λ r. IsAtEnd (remaining r)) at_last (knows e);
+    says = λ more e. to (f.got ++ more) (f.says more (f.got ++ more) e (fresh_stands reader source (f.got ++ more) fresh));
+  }
+
+  -- what a call reads it finds
+  pub reads_find : (Says : (input rest : List ℕ) → Type 0) → Reads remaining source last Says → Finds remaining source last (λ input. (rest : List ℕ) × Says input rest)
+  reads_find Says h = record {
+    got = h.got;
+    consumed = h.consumed;
+    after_end = h.after_end;
+    says = λ more input e st. let l = h.says more input e st in (l.rest, l.says);
+  }

@@ -1,0 +1,10 @@
+mod Fronts
+mod Meanings
+mod Inputs
+mod Pieces
+mod Handing
+mod Headline
+mod Sessions
+mod Ticks
+mod Running
+mod Standing

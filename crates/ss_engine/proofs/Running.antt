@@ -1,0 +1,206 @@
+-- What a session did, one call after another.
+use Rattle.std.proofs.Common.{◌≡◌, ◌≢◌, ℕ, ◌+◌, ◌-◌, ◌^◌, ◌≤◌, min, List, [], ◌∷◌, ◌++◌, Option, Some, None, inl, refl, sym, ap, subst, ◌∙◌, append-nil, arith}
+use Rattle.std.proofs.KnownBytes.{Appends-nil, Consumes-nil}
+use Rattle.std.specs.Io.KnownBytes.{Appends}
+use Rattle.ss_base.specs.Failures.{HasRisen, HasRisenBy}
+use Rattle.ss_input.specs.Blocks.{KnowsEnd}
+use Rattle.ss_input.specs.declared.source.Source.{Source}
+use Rattle.ss_input.specs.Inputs.{source_block}
+use Rattle.ss_meaning.specs.Meaning.{Paused as PausedThere}
+use Rattle.ss_code_instructions.specs.Machine.{Code, Over, step}
+use Rattle.ss_code_instructions.specs.Running.{Underway, steps}
+use Rattle.ss_code_instructions.specs.Laws.{StepsGoOn}
+use Rattle.ss_machine_instructions.specs.declared.working.Working.{Working}
+use Rattle.ss_machine_instructions.specs.Holding.{state_of}
+use Rattle.ss_machine.specs.Stop.{Stop}
+use Rattle.ss_machine.specs.Stop.TheVariants.{Ended, Fault, Paused, Memory, Output, Input, Failed}
+use Rattle.ss_machine.specs.Held.{kept_after}
+use Rattle.ss_machine.specs.Start.{IsAtStart}
+use Rattle.ss_machine.specs.Runs.{Comes, Ran}
+use Rattle.ss_engine.specs.declared.session.Session.{Session}
+use Rattle.ss_engine.specs.Sessions.{Begins, CameTo, GoesOn, HasRun, session_machine, session_reader, session_source, session_writer, stands_so}
+use Rattle.ss_engine.proofs.Pieces.{ran_then}
+use Rattle.ss_engine.proofs.Handing.{used_more, still_used, used_all, used_since}
+use Rattle.ss_engine.proofs.Inputs.{fresh_knows}
+
+-- ## Answers
+
+pub kept_none : (stop : Stop) → kept_after stop ≡ None → stop ≡ Paused
+kept_none Ended e = absurd cc
+kept_none (Fault kind line) e = absurd cc
+kept_none Paused e = refl
+kept_none Memory e = absurd cc
+kept_none Output e = absurd cc
+kept_none Input e = absurd cc
+kept_none Failed e = absurd cc
+
+pub kept_some : (stop kept : Stop) → kept_after stop ≡ Some kept → stop ≡ kept
+kept_some Ended kept e = cc
+kept_some (Fault kind line) kept e = cc
+kept_some Paused kept e = absurd cc
+kept_some Memory kept e = cc
+kept_some Output kept e = cc
+kept_some Input kept e = cc
+kept_some Failed kept e = cc
+
+pub kept_stands : (stop : Stop) → stop ≡ stands_so (kept_after stop)
+kept_stands Ended = refl
+kept_stands (Fault kind line) = refl
+kept_stands Paused = refl
+kept_stands Memory = refl
+kept_stands Output = refl
+kept_stands Input = refl
+kept_stands Failed = refl
+
+pub stands_right : (o : Option Stop) → (o ≡ Some Failed → ⊥) → stands_so o ≡ Failed → ⊥
+stands_right None right e = absurd cc
+stands_right (Some stop) right e = right (ap Some e)
+
+pub stands_stopped : (o : Option Stop) (stop : Stop) → stop ≢ Paused → stands_so o ≡ stop → o ≡ Some stop
+stands_stopped None stop other e = absurd (other (sym e))
+stands_stopped (Some kept) stop other e = ap Some e
+
+pub last_some : (pieces : List ℕ) (ticks : ℕ) → pieces ++ ticks ∷ [] ≢ []
+last_some [] ticks e = cc
+last_some (p ∷ ps) ticks e = cc
+
+some_none : (stop : Stop) (o : Option Stop) → o ≡ Some stop → o ≡ None → ⊥
+some_none stop o e f = let q : Some stop ≡ None = sym e ∙ f in cc
+
+-- a session has stopped, or goes on
+pub either_stop : {T : Type 0} (o : Option Stop) → ((stop : Stop) → o ≡ Some stop → T) → (o ≡ None → T) → T
+either_stop (Some stop) stopped going = stopped stop refl
+either_stop None stopped going = going refl
+
+-- ## Where a machine stands
+
+module _ {R : Type 0} (remaining : R → Option (List ℕ)) (code : Code) (w new : Working) (source last : Source R) (a b : Option (List ℕ)) (taken made : ℕ) where
+  pub came_kept : (stop : Stop) → Ran remaining stop code w new source last a b taken made → CameTo remaining (kept_after stop) code w new source last a b taken made
+  came_kept Ended h = h
+  came_kept (Fault kind line) h = h
+  came_kept Paused h = h.0
+  came_kept Memory h = h
+  came_kept Output h = h
+  came_kept Input h = h
+  came_kept Failed h = h
+
+  pub came_ran : (o : Option Stop) → CameTo remaining o code w new source last a b taken made → (o ≡ None → (input report : List ℕ) → step code (state_of new input report 0) ≡ Over PausedThere 0) → Ran remaining (stands_so o) code w new source last a b taken made
+  came_ran None h due = (h, due refl)
+  came_ran (Some stop) h due = h
+
+-- ## Before the first call
+
+fallen_by_none : (count : ℕ) → HasRisenBy 0 count count
+fallen_by_none count = omega arith
+
+module _ {R W : Type 0} (remaining : R → Option (List ℕ)) (read_faults : R → ℕ) (contents : W → Option (List ℕ)) (write_faults : W → ℕ) (code : Code) (reader : R) (writer : W) (s : Session R W) (b : Begins code reader writer s) where
+  came_none : Comes remaining code (session_machine s).working (session_machine s).working (session_source s) (session_source s) (contents writer) (contents (session_writer s)) (session_machine s).used (session_machine s).steps
+  came_none = record {
+    bytes = [];
+    took = subst (λ w. Appends (contents writer) (contents w) []) (sym b.writer_is) (Appends-nil (contents writer));
+    says = record {
+      got = [];
+      consumed = Consumes-nil (remaining (session_reader s));
+      after_end = λ e. (refl, e);
+      says = λ more input e stands. record {
+        rest = input;
+        stands = stands;
+        says = λ report ticks.
+            let t : (session_machine s).used + ticks ≡ ticks = omega (arith, b.first.used) in
+            ap (λ m. steps code m (state_of (session_machine s).working input report ((session_machine s).used + ticks))) b.first.steps ∙ ap (λ n. Underway (state_of (session_machine s).working input report n)) t ∙
+            ap (λ r. Underway (state_of (session_machine s).working input r ticks)) (sym (append-nil report));
+      };
+    };
+  }
+
+  pub not_run : HasRun remaining read_faults contents write_faults code reader writer [] s
+  not_run = record {
+    first = (session_machine s).working;
+    source = session_source s;
+    starts = b.first.state;
+    fresh = b.fresh;
+    code_is = b.first.code_is;
+    came = subst (λ o. CameTo remaining o code (session_machine s).working (session_machine s).working (session_source s) (session_source s) (contents writer) (contents (session_writer s)) (session_machine s).used (session_machine s).steps) (sym b.first.stopped) came_none;
+    paused = λ none some. absurd (some refl);
+    goes_on = λ none. record { unstopped = none; unmissed = b.fresh.missed; continues = inl (subst (λ k. IsAtStart k (session_machine s).working) (sym b.first.code_is) b.first.state) };
+    right = λ e. let q : None ≡ Some Failed = sym b.first.stopped ∙ e in absurd cc;
+    used = omega (arith, b.first.used);
+    all_used = λ none. omega (arith, b.first.used);
+    end = fresh_knows remaining reader (session_source s) b.fresh;
+    output = λ e. let q : None ≡ Some Output = sym b.first.stopped ∙ e in absurd cc;
+    input = λ e. let q : None ≡ Some Input = sym b.first.stopped ∙ e in absurd cc;
+    never_falls = subst (λ w. HasRisenBy 0 (write_faults writer) (write_faults w)) (sym b.writer_is) (fallen_by_none (write_faults writer));
+    read_never_falls = subst (λ r. HasRisenBy 0 (read_faults reader) (read_faults r)) (sym b.fresh.reader_is) (fallen_by_none (read_faults reader));
+  }
+
+-- ## One call more
+
+module _ {R W : Type 0} (remaining : R → Option (List ℕ)) (read_faults : R → ℕ) (contents : W → Option (List ℕ)) (write_faults : W → ℕ) (code : Code) (reader : R) (writer : W) (pieces : List ℕ) (ticks : ℕ) (old new : Session R W) (h : HasRun remaining read_faults contents write_faults code reader writer pieces old) where
+  -- of a session that has stopped
+  pub runs_again : (stop : Stop) → (session_machine old).stopped ≡ Some stop → new ≡ old → HasRun remaining read_faults contents write_faults code reader writer (pieces ++ ticks ∷ []) new
+  runs_again stop stopped same = subst (HasRun remaining read_faults contents write_faults code reader writer (pieces ++ ticks ∷ [])) (sym same) (record {
+    first = h.first;
+    source = h.source;
+    starts = h.starts;
+    fresh = h.fresh;
+    code_is = h.code_is;
+    came = h.came;
+    paused = λ none. absurd (some_none stop (session_machine old).stopped stopped none);
+    goes_on = h.goes_on;
+    right = h.right;
+    used = still_used pieces ticks (session_machine old).used h.used;
+    all_used = λ none. absurd (some_none stop (session_machine old).stopped stopped none);
+    end = h.end;
+    output = h.output;
+    input = h.input;
+    never_falls = h.never_falls;
+    read_never_falls = h.read_never_falls;
+  })
+
+  -- of one that goes on
+  module _ (on : StepsGoOn) (stop : Stop) (going : (session_machine old).stopped ≡ None)
+      (ran : Ran remaining stop (session_machine old).code (session_machine old).working (session_machine new).working (session_source old) (session_source new) (contents (session_writer old)) (contents (session_writer new)) ((session_machine new).used - (session_machine old).used) ((session_machine new).steps - (session_machine old).steps))
+      (right : stop ≡ Failed → ⊥) (stopped : (session_machine new).stopped ≡ kept_after stop) (same : (session_machine new).code ≡ (session_machine old).code)
+      (least : (session_machine old).used ≤ (session_machine new).used) (most : (session_machine new).used ≤ (session_machine old).used + ticks) (small : (session_machine new).used ≤ 2 ^ 64 - 1) (steps : (session_machine old).steps ≤ (session_machine new).steps)
+      (paused : stop ≡ Paused → (session_machine new).used ≡ min ((session_machine old).used + ticks) (2 ^ 64 - 1)) where
+    before : Comes remaining code h.first (session_machine old).working h.source (session_source old) (contents writer) (contents (session_writer old)) (session_machine old).used (session_machine old).steps
+    before = subst (λ o. CameTo remaining o code h.first (session_machine old).working h.source (session_source old) (contents writer) (contents (session_writer old)) (session_machine old).used (session_machine old).steps) going h.came
+
+    here : Ran remaining stop code (session_machine old).working (session_machine new).working (session_source old) (session_source new) (contents (session_writer old)) (contents (session_writer new)) ((session_machine new).used - (session_machine old).used) ((session_machine new).steps - (session_machine old).steps)
+    here = subst (λ k. Ran remaining stop k (session_machine old).working (session_machine new).working (session_source old) (session_source new) (contents (session_writer old)) (contents (session_writer new)) ((session_machine new).used - (session_machine old).used) ((session_machine new).steps - (session_machine old).steps)) h.code_is ran
+
+    -- all runs as one
+    whole : Ran remaining stop code h.first (session_machine new).working h.source (session_source new) (contents writer) (contents (session_writer new)) (session_machine new).used (session_machine new).steps
+    whole =
+        let joined = ran_then on code remaining h.first (session_machine old).working (session_machine new).working h.source (session_source old) (session_source new) (contents writer) (contents (session_writer old)) (contents (session_writer new)) (session_machine old).used (session_machine old).steps ((session_machine new).used - (session_machine old).used) ((session_machine new).steps - (session_machine old).steps) stop right before here in
+        subst (λ n. Ran remaining stop code h.first (session_machine new).working h.source (session_source new) (contents writer) (contents (session_writer new)) (session_machine new).used n) (used_since (session_machine old).steps (session_machine new).steps steps)
+        (subst (λ n. Ran remaining stop code h.first (session_machine new).working h.source (session_source new) (contents writer) (contents (session_writer new)) n ((session_machine old).steps + ((session_machine new).steps - (session_machine old).steps))) (used_since (session_machine old).used (session_machine new).used least) joined)
+
+    due : (session_machine new).stopped ≡ None → (input report : List ℕ) → step code (state_of (session_machine new).working input report 0) ≡ Over PausedThere 0
+    due none =
+        let so = subst (λ s. Ran remaining s code (session_machine old).working (session_machine new).working (session_source old) (session_source new) (contents (session_writer old)) (contents (session_writer new)) ((session_machine new).used - (session_machine old).used) ((session_machine new).steps - (session_machine old).steps)) (kept_none stop (sym stopped ∙ none)) here in
+        so.1
+
+    pub runs_on : (stop ≡ Paused → GoesOn new) → (KnowsEnd remaining (source_block (session_source old)) → KnowsEnd remaining (source_block (session_source new)))
+        → (stop ≡ Output → HasRisen (write_faults (session_writer old)) (write_faults (session_writer new))) → (stop ≡ Input → HasRisen (read_faults (session_reader old)) (read_faults (session_reader new)))
+        → HasRisenBy 0 (write_faults (session_writer old)) (write_faults (session_writer new)) → HasRisenBy 0 (read_faults (session_reader old)) (read_faults (session_reader new))
+        → HasRun remaining read_faults contents write_faults code reader writer (pieces ++ ticks ∷ []) new
+    runs_on goes_on end output input falls read_falls = record {
+      first = h.first;
+      source = h.source;
+      starts = h.starts;
+      fresh = h.fresh;
+      code_is = same ∙ h.code_is;
+      came = subst (λ o. CameTo remaining o code h.first (session_machine new).working h.source (session_source new) (contents writer) (contents (session_writer new)) (session_machine new).used (session_machine new).steps) (sym stopped)
+          (came_kept remaining code h.first (session_machine new).working h.source (session_source new) (contents writer) (contents (session_writer new)) (session_machine new).used (session_machine new).steps stop whole);
+      paused = λ none some. due none;
+      goes_on = λ none. goes_on (kept_none stop (sym stopped ∙ none));
+      right = λ e. right (kept_some stop Failed (sym stopped ∙ e));
+      used = used_more pieces ticks (session_machine old).used (session_machine new).used h.used most small;
+      all_used = λ none. used_all pieces ticks (session_machine old).used (session_machine new).used (h.all_used going) (paused (kept_none stop (sym stopped ∙ none)));
+      end = end h.end;
+      output = λ e. let r = output (kept_some stop Output (sym stopped ∙ e)) in omega (arith, h.never_falls, r);
+      input = λ e. let r = input (kept_some stop Input (sym stopped ∙ e)) in omega (arith, h.read_never_falls, r);
+      never_falls = omega (arith, h.never_falls, falls);
+      read_never_falls = omega (arith, h.read_never_falls, read_falls);
+    }

@@ -1,0 +1,99 @@
+-- No step gives ticks: a run that has none left ends with none.
+use Rattle.std.proofs.Common.{◌≡◌, ◌≢◌, ℕ, zero, suc, ◌+◌, ◌-◌, ◌<◌, ◌≤◌, Bool, true, false, List, Option, Some, None, refl, sym, ap, subst, ◌∙◌, arith}
+use Rattle.std.specs.Prelude.{slice_get}
+use Rattle.ss_program.specs.Program.{Program}
+use Rattle.ss_meaning.specs.Meaning.{Ending, Ended, Fault, Paused, WentWrong, Run, meaning}
+use Rattle.ss_code_instructions.specs.declared.instruction.Instruction.{Instruction}
+use Rattle.ss_code_instructions.specs.States.{State, Moved, To, Sends, Rest, Stuck, Done, Breaks}
+use Rattle.ss_code_instructions.specs.Machine.{Code, Stepped, Goes, Over, NoStep, act, is_due, with_rest, when_due, step_at, step}
+use Rattle.ss_code_instructions.specs.Running.{Underway, Ends, Behaves, ended_at, go_on, result_at, start, steps}
+use Rattle.ss_code_instructions.specs.Laws.{EndingsStay}
+
+-- a step that leaves at most so many ticks
+abbrev Leaves : ℕ → Stepped → Type 0
+Leaves n (Goes t) = t.ticks ≤ n
+Leaves n (Over e k) = k ≤ n
+Leaves n NoStep = Unit {0}
+
+leaves_more : (n : ℕ) (o : Stepped) → Leaves n o → Leaves (suc n) o
+leaves_more n (Goes t) h = omega (arith, h)
+leaves_more n (Over e k) h = omega (arith, h)
+leaves_more n NoStep h = tt
+
+rest_leaves : (r : List ℕ) (t : ℕ) (m : Moved) → Leaves t (with_rest r t m)
+rest_leaves r t (To c) = omega arith
+rest_leaves r t (Sends bytes c) = omega arith
+rest_leaves r t (Rest Done) = omega arith
+rest_leaves r t (Rest (Breaks kind line)) = omega arith
+rest_leaves r t Stuck = tt
+
+due_leaves : (b : Bool) (r : List ℕ) (t : ℕ) (m : Moved) → Leaves t (when_due b r t m)
+due_leaves false r t m = rest_leaves r t m
+due_leaves true r zero m = omega arith
+due_leaves true r (suc t) m = leaves_more t (with_rest r t m) (rest_leaves r t m)
+
+at_leaves : (o : Option Instruction) (code : Code) (s : State) → Leaves s.ticks (step_at o code s)
+at_leaves None code s = tt
+at_leaves (Some i) code s = due_leaves (is_due i) s.report s.ticks (act code i s.core)
+
+same_state : (a b : State) → Underway a ≡ Underway b → a ≡ b
+same_state a b e = cc
+
+same_run : (a b : Run) → Ends a ≡ Ends b → a ≡ b
+same_run a b e = cc
+
+module _ (code : Code) where
+  after : (o : Stepped) (m : ℕ) (s : State) (r : Run) → Leaves s.ticks o → ((t : State) → steps code m t ≡ Ends r → r.ticks ≤ t.ticks) → go_on o s (steps code m) ≡ Ends r → r.ticks ≤ s.ticks
+  after (Goes t) m s r l so e = omega (arith, l, so t e)
+  after (Over k n) m s r l so e = let q : n ≡ r.ticks = ap (λ (x : Run). x.ticks) (same_run (ended_at s k n) r e) in omega (arith, l, q)
+  after NoStep m s r l so e = absurd cc
+
+  -- a run ends with no more ticks than it has
+  ends_within : (m : ℕ) (s : State) (r : Run) → steps code m s ≡ Ends r → r.ticks ≤ s.ticks
+  ends_within zero s r e = absurd cc
+  ends_within (suc m) s r e =
+      after (step code s) m s r (at_leaves (slice_get code.instructions s.core.place) code s) (λ t f. ends_within m t r f) e
+
+  both : (o : Stepped) (m k : ℕ) (s x : State) (r : Run) → ((t : State) → steps code m t ≡ Underway x → steps code k t ≡ Ends r → r.ticks ≤ x.ticks) → go_on o s (steps code m) ≡ Underway x → go_on o s (steps code k) ≡ Ends r → r.ticks ≤ x.ticks
+  both (Goes t) m k s x r so e f = so t e f
+  both (Over q n) m k s x r so e f = absurd cc
+  both NoStep m k s x r so e f = absurd cc
+
+  -- and with no more than are left at a state that it passes
+  ends_behind : (m k : ℕ) (s x : State) (r : Run) → steps code m s ≡ Underway x → steps code k s ≡ Ends r → r.ticks ≤ x.ticks
+  ends_behind zero k s x r e f =
+      let same : s.ticks ≡ x.ticks = ap (λ (y : State). y.ticks) (same_state s x e) in
+      omega (arith, same, ends_within k s r f)
+  ends_behind (suc m) zero s x r e f = absurd cc
+  ends_behind (suc m) (suc k) s x r e f = both (step code s) m k s x r (λ t g h. ends_behind m k t x r g h) e f
+
+ends_at : (e : Ending) (m : Run) → e ≢ WentWrong → result_at e m ≡ Ends m
+ends_at Ended m right = refl
+ends_at (Fault kind line) m right = refl
+ends_at Paused m right = refl
+ends_at WentWrong m right = absurd (right refl)
+
+rest_of : (fewer n : ℕ) → fewer < n → fewer + (n - fewer) ≡ n
+rest_of fewer n h = omega (arith, h)
+
+none_left : (t fewer n ticks left : ℕ) → fewer < n → ticks ≡ t + (n - fewer) → ticks ≤ left → left ≡ 0 → ⊥
+none_left t fewer n ticks left lt e h z = omega (arith, lt, e, h, z)
+
+module _ (stay : EndingsStay) (p : Program) (right : (input : List ℕ) (n : ℕ) → (meaning p input n).ending ≢ WentWrong) (code : Code) (behaves : Behaves p code) (input : List ℕ) (n m : ℕ) (x : State) (passed : steps code m (start code input n) ≡ Underway x) (left : x.ticks ≡ 0) (fewer : ℕ) (lt : fewer < n) where
+  not_over : (meaning p input fewer).ending ≢ Paused → ⊥
+  not_over going =
+      let more = stay p input fewer (n - fewer) going (right input fewer) in
+      let whole : meaning p input n ≡ record (meaning p input fewer) { ticks = (meaning p input fewer).ticks + (n - fewer) } = subst (λ k. meaning p input k ≡ record (meaning p input fewer) { ticks = (meaning p input fewer).ticks + (n - fewer) }) (rest_of fewer n lt) more in
+      let comes = behaves.comes input n in
+      let ends : steps code comes.0 (start code input n) ≡ Ends (meaning p input n) = comes.1 ∙ ends_at (meaning p input n).ending (meaning p input n) (right input n) in
+      none_left (meaning p input fewer).ticks fewer n (meaning p input n).ticks x.ticks lt (ap (λ (r : Run). r.ticks) whole) (ends_behind code m comes.0 (start code input n) x (meaning p input n) passed ends) left
+
+  by-ending : (e : Ending) → (meaning p input fewer).ending ≡ e → e ≡ Paused
+  by-ending Paused q = refl
+  by-ending WentWrong q = absurd (right input fewer q)
+  by-ending Ended q = absurd (not_over (λ h. let no : Ended ≡ Paused = sym q ∙ h in cc))
+  by-ending (Fault kind line) q = absurd (not_over (λ h. let no : Fault kind line ≡ Paused = sym q ∙ h in cc))
+
+  -- where a run has taken all its ticks, its program pauses with fewer
+  pub pauses_with_fewer : (meaning p input fewer).ending ≡ Paused
+  pauses_with_fewer = by-ending (meaning p input fewer).ending refl

@@ -1,0 +1,88 @@
+use Rattle.std.proofs.Common.{◌≡◌, sym, ap, subst, ◌∙◌, inl}
+use Rattle.ss_base.specs.Failures.{HasRisen}
+use Rattle.ss_machine.specs.Start.{IsAtStart}
+use Rattle.ss_machine.specs.Stop.TheVariants.{Memory, Output, Input}
+use Rattle.ss_engine.specs.Sessions.{session_machine, session_reader, session_writer}
+use Rattle.ss_engine.specs.Headline.{Simulated}
+use Rattle.ss_engine.specs.Standing.{Stood}
+use Rattle.ss_engine.proofs.Headline.{nothing_simulated}
+use Rattle.ss_engine.proofs.Standing.{nothing_stood}
+use Rattle.ss_engine.proofs.Running.{stands_stopped}
+use Rattle.ss_engine.proofs.run.run_model.Goals as goal
+
+pub returns-in-Err-clause-simulated : goal.returns-in-Err-clause-simulated
+returns-in-Err-clause-simulated g c p typed b =
+    let given = c.start.ensures.err (c.in-Err.reader, c.in-Err.writer) c.in-Err.is in
+    let same_reader : c.args.reader ≡ c.in-Err.reader = sym (ap (λ (x : g.row.R.Denot × g.row.W.Denot). x.0) given) in
+    let same_writer : c.args.writer ≡ c.in-Err.writer = sym (ap (λ (x : g.row.R.Denot × g.row.W.Denot). x.1) given) in
+    subst (λ r. Simulated g.R.FaultyRead.remaining g.W.FaultyWrite.contents p Memory 0 c.args.reader r c.args.writer c.in-Err.writer) same_reader
+    (subst (λ w. Simulated g.R.FaultyRead.remaining g.W.FaultyWrite.contents p Memory 0 c.args.reader c.args.reader c.args.writer w) same_writer
+    (nothing_simulated g.R.FaultyRead.remaining g.W.FaultyWrite.contents p c.args.reader c.args.writer))
+
+pub returns-clause-simulated : goal.returns-clause-simulated
+returns-clause-simulated g c p typed b =
+    let remaining = g.R.FaultyRead.remaining in
+    let contents = g.W.FaultyWrite.contents in
+    let now = c.run_pieces-stop.new.session in
+    let out = c.close-reader.result in
+    let closed = c.close-reader.ensures in
+    let last_reader : session_reader now ≡ out.0 = sym (ap (λ (x : g.row.R.Denot × g.row.W.Denot). x.0) closed) in
+    let last_writer : session_writer now ≡ out.1 = sym (ap (λ (x : g.row.R.Denot × g.row.W.Denot). x.1) closed) in
+    let was = c.run_pieces-stop.ensures.was_run c.args.model c.args.reader c.args.writer c.in-Ok.ensures.has_run in
+    let meant = c.sessions_are_meant.ensures now p c.args.model c.args.reader c.args.writer was.pieces typed b was.some was.run in
+    let stopped = subst (λ s. Simulated remaining contents p s (session_machine now).used c.args.reader (session_reader now) c.args.writer (session_writer now)) (sym c.run_pieces-stop.ensures.stopped) meant in
+    let read = subst (λ r. Simulated remaining contents p c.run_pieces-stop.result (session_machine now).used c.args.reader r c.args.writer (session_writer now)) last_reader stopped in
+    let written = subst (λ w. Simulated remaining contents p c.run_pieces-stop.result (session_machine now).used c.args.reader out.0 c.args.writer w) last_writer read in
+    subst (λ u. Simulated remaining contents p c.run_pieces-stop.result u c.args.reader out.0 c.args.writer out.1) (sym c.used-used.ensures) written
+
+pub returns-in-Err-clause-stood : goal.returns-in-Err-clause-stood
+returns-in-Err-clause-stood g c =
+    let given = c.start.ensures.err (c.in-Err.reader, c.in-Err.writer) c.in-Err.is in
+    let same_reader : c.args.reader ≡ c.in-Err.reader = sym (ap (λ (x : g.row.R.Denot × g.row.W.Denot). x.0) given) in
+    let same_writer : c.args.writer ≡ c.in-Err.writer = sym (ap (λ (x : g.row.R.Denot × g.row.W.Denot). x.1) given) in
+    subst (λ r. Stood g.R.FaultyRead.remaining g.W.FaultyWrite.contents c.args.model Memory 0 c.args.reader r c.args.writer c.in-Err.writer) same_reader
+    (subst (λ w. Stood g.R.FaultyRead.remaining g.W.FaultyWrite.contents c.args.model Memory 0 c.args.reader c.args.reader c.args.writer w) same_writer
+    (nothing_stood g.R.FaultyRead.remaining g.W.FaultyWrite.contents c.args.model c.args.reader c.args.writer))
+
+pub returns-clause-stood : goal.returns-clause-stood
+returns-clause-stood g c =
+    let remaining = g.R.FaultyRead.remaining in
+    let contents = g.W.FaultyWrite.contents in
+    let code = c.args.model in
+    let now = c.run_pieces-stop.new.session in
+    let out = c.close-reader.result in
+    let closed = c.close-reader.ensures in
+    let last_reader : session_reader now ≡ out.0 = sym (ap (λ (x : g.row.R.Denot × g.row.W.Denot). x.0) closed) in
+    let last_writer : session_writer now ≡ out.1 = sym (ap (λ (x : g.row.R.Denot × g.row.W.Denot). x.1) closed) in
+    let was = c.run_pieces-stop.ensures.was_run code c.args.reader c.args.writer c.in-Ok.ensures.has_run in
+    let stood = c.sessions_stand.ensures now code c.args.reader c.args.writer was.pieces was.run in
+    let stopped = subst (λ s. Stood remaining contents code s (session_machine now).used c.args.reader (session_reader now) c.args.writer (session_writer now)) (sym c.run_pieces-stop.ensures.stopped) stood in
+    let read = subst (λ r. Stood remaining contents code c.run_pieces-stop.result (session_machine now).used c.args.reader r c.args.writer (session_writer now)) last_reader stopped in
+    let written = subst (λ w. Stood remaining contents code c.run_pieces-stop.result (session_machine now).used c.args.reader out.0 c.args.writer w) last_writer read in
+    subst (λ u. Stood remaining contents code c.run_pieces-stop.result u c.args.reader out.0 c.args.writer out.1) (sym c.used-used.ensures) written
+
+pub returns-clause-output : goal.returns-clause-output
+returns-clause-output g c q =
+    let now = c.run_pieces-stop.new.session in
+    let was = c.run_pieces-stop.ensures.was_run c.args.model c.args.reader c.args.writer c.in-Ok.ensures.has_run in
+    let last_writer : session_writer now ≡ c.close-reader.result.1 = sym (ap (λ (x : g.row.R.Denot × g.row.W.Denot). x.1) c.close-reader.ensures) in
+    let stopped = stands_stopped (session_machine now).stopped Output (λ e. cc) (sym c.run_pieces-stop.ensures.stopped ∙ q) in
+    subst (λ w. HasRisen (g.W.Faulty.faults c.args.writer) (g.W.Faulty.faults w)) last_writer (was.run.output stopped)
+
+pub returns-clause-input : goal.returns-clause-input
+returns-clause-input g c q =
+    let now = c.run_pieces-stop.new.session in
+    let was = c.run_pieces-stop.ensures.was_run c.args.model c.args.reader c.args.writer c.in-Ok.ensures.has_run in
+    let last_reader : session_reader now ≡ c.close-reader.result.0 = sym (ap (λ (x : g.row.R.Denot × g.row.W.Denot). x.0) c.close-reader.ensures) in
+    let stopped = stands_stopped (session_machine now).stopped Input (λ e. cc) (sym c.run_pieces-stop.ensures.stopped ∙ q) in
+    subst (λ r. HasRisen (g.R.Faulty.faults c.args.reader) (g.R.Faulty.faults r)) last_reader (was.run.input stopped)
+
+pub run_pieces-stop-requires-clause-goes_on : goal.run_pieces-stop-requires-clause-goes_on
+run_pieces-stop-requires-clause-goes_on g c =
+    let begins = c.in-Ok.ensures.ok in
+    let m = session_machine c.in-Ok.session in
+    record {
+      unstopped = begins.first.stopped;
+      unmissed = begins.fresh.missed;
+      continues = inl (subst (λ k. IsAtStart k m.working) (sym begins.first.code_is) begins.first.state);
+    }

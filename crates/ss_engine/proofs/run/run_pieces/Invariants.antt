@@ -1,0 +1,20 @@
+use Rattle.std.proofs.Common.{◌≡◌, ◌+◌, ◌≤◌, [], take}
+use Rattle.std.specs.List.{sum}
+use Rattle.ss_code_instructions.specs.Machine.{Code}
+use Rattle.ss_machine.specs.Stop.TheVariants.{Paused, Failed}
+use Rattle.ss_engine.specs.Headline.{handed_out}
+use Rattle.ss_engine.specs.Sessions.{GoesOn, HasRun, WasRun, session_machine, stands_so}
+use Rattle.ss_engine.proofs.run.run_pieces.Given as goal
+
+abbrev pub invariant-loop-ticks : goal.invariant-loop-ticks
+invariant-loop-ticks g l =
+    let old = l.fn.session in
+    let now = l.session in
+    record {
+      goes_on : l.stop ≡ Paused → GoesOn now;
+      stopped : l.stop ≡ stands_so (session_machine now).stopped;
+      right : l.stop ≡ Failed → ⊥;
+      was_run : (code : Code) (reader : g.row.R.Denot) (writer : g.row.W.Denot) → HasRun g.R.FaultyRead.remaining g.R.Faulty.faults g.W.FaultyWrite.contents g.W.Faulty.faults code reader writer [] old → WasRun g.R.FaultyRead.remaining g.R.Faulty.faults g.W.FaultyWrite.contents g.W.Faulty.faults code reader writer now;
+      used : (session_machine now).used ≤ sum (take (l.ticks-index + 1) l.pieces);
+      paused : l.stop ≡ Paused → (session_machine now).used ≡ handed_out (take (l.ticks-index + 1) l.pieces);
+    }

@@ -1,0 +1,122 @@
+-- What a text is a program of, and why one is refused.
+use Rattle.std.specs.Prelude.{◌≡◌, ℕ, ◌<◌, List, length, Some, None}
+use Rattle.ss_base.specs.declared.line.Line.{Line}
+use Rattle.ss_lex.specs.declared.token.Token.{Token}
+use Rattle.ss_lex.specs.declared.error.LexError.TheVariants as lexical
+use Rattle.ss_lex.specs.Tokens.{AreTokens}
+use Rattle.ss_lex.specs.Refusals.{IsRefused}
+use Rattle.ss_tree.specs.Tree.{ProgramTree}
+use Rattle.ss_tree.specs.Nodes.{nodes}
+use Rattle.ss_parse.specs.declared.error.ParseError.{ParseError}
+use Rattle.ss_parse.specs.declared.error.ParseError.TheVariants as parsing
+use Rattle.ss_parse.specs.Promise.{Is_refused, Has_line}
+use Rattle.ss_parse.specs.SpelledPrograms.{Spell}
+use Rattle.ss_tables_rules.specs.declared.rule.Rule.{Rule as DeclarationRule}
+use Rattle.ss_tables_rules.specs.declared.rule.Rule.TheVariants as declaring
+use Rattle.ss_tables_rules.specs.Broken.{refusal as declaration_refusal}
+use Rattle.ss_check_rules.specs.declared.rule.Rule.{Rule as UseRule}
+use Rattle.ss_check_rules.specs.declared.rule.Rule.TheVariants as using
+use Rattle.ss_check.specs.Checking.{program_of, refusal_of as use_refusal}
+use Rattle.ss_program.specs.Program.{Program}
+use Rattle.ss_code_instructions.specs.Machine.{Code}
+use Rattle.ss_code_instructions.specs.Running.{Behaves}
+use Rattle.ss_code_instructions.specs.Translation.{code_of}
+use Rattle.ss_code.specs.Limits.{instruction_limit, small_program}
+use Rattle.ss_engine.specs.declared.refusal.Refusal.{Refusal}
+use Rattle.ss_engine.specs.declared.refusal.Refusal.TheVariants.{TooLong, NotAscii, BadNumber, OpenText, AlphaTooLong, PictureCut, NameTooLong, Syntax, TooDeep, Twice, RealMode, UnknownClass, UnknownSet, NoOwner, NoMember, RankKey, TallyTwice, TooMany, TieKey, NoMain, NoEventRoutine, Mode, Arguments, Subscript, NotAssignable, Fields, StartPlace, Unknown, CodeTooLong, Memory}
+
+-- how deep parentheses, IFs and loops may stand in one another
+abbrev pub nesting_limit : ℕ
+nesting_limit = 64
+
+-- the text has these tokens, and they spell this tree
+pub record IsTreeOf (text : List ℕ) (tree : ProgramTree) : Type 0 where
+  pub tokens : List Token
+  pub are : AreTokens text tokens
+  pub spelled : Spell tokens nesting_limit tree
+
+-- the text has this tree, which breaks no rule: neither by what it declares nor by what it does with its names
+pub record IsKeptBy (text : List ℕ) (tree : ProgramTree) : Type 0 where
+  pub read : IsTreeOf text tree
+  pub declared : declaration_refusal tree ≡ None
+  pub kept : use_refusal tree ≡ None
+
+-- the text is well formed, and this is its program: its tree with each name replaced by what it stands for
+pub record IsProgramOf (text : List ℕ) (p : Program) : Type 0 where
+  pub tree : ProgramTree
+  pub keeps : IsKeptBy text tree
+  pub resolved : program_of tree ≡ Some p
+
+-- the text is well formed
+abbrev pub IsWellFormed : List ℕ → Type 0
+IsWellFormed text = (tree : ProgramTree) × IsKeptBy text tree
+
+-- the code is that of the text's program, and does what the text means: for every input and every number of ticks what the
+-- program means, and nothing else
+pub record Compiles (text : List ℕ) (code : Code) : Type 0 where
+  pub program : Program
+  pub meant : IsProgramOf text program
+  pub code_is : code ≡ code_of program
+  pub behaves : Behaves program code
+
+-- the text has tokens, and they spell no program: for syntax none of any depth; where it is too deep, none within the
+-- limit on nesting, while more than 64 tokens open a level; the line is that of a token
+pub record IsNoProgram (text : List ℕ) (e : ParseError) : Type 0 where
+  pub tokens : List Token
+  pub are : AreTokens text tokens
+  pub refused : Is_refused tokens e
+  pub line : Has_line tokens e
+
+-- the text has a tree whose declarations break this rule first, in the line of the first place
+pub record IsMisdeclared (text : List ℕ) (rule : DeclarationRule) (line : Line) : Type 0 where
+  pub tree : ProgramTree
+  pub read : IsTreeOf text tree
+  pub broken : declaration_refusal tree ≡ Some (record { rule = rule; line = line })
+
+-- the text has a tree whose declarations break no rule, and whose statements break this rule first, in the line of the first place
+pub record IsIllFormed (text : List ℕ) (rule : UseRule) (line : Line) : Type 0 where
+  pub tree : ProgramTree
+  pub read : IsTreeOf text tree
+  pub declared : declaration_refusal tree ≡ None
+  pub broken : use_refusal tree ≡ Some (record { rule = rule; line = line })
+
+-- the text is well formed, but its tree has more than 16,384 nodes, and the code of its program more than 1,048,576
+-- instructions
+pub record IsLarge (text : List ℕ) : Type 0 where
+  pub program : Program
+  pub meant : IsProgramOf text program
+  pub large : small_program < nodes meant.tree
+  pub long : instruction_limit < length (code_of program).instructions
+
+-- when a text is refused so; want of memory says nothing of the text
+abbrev pub RefusedFor : List ℕ → Refusal → Type 0
+RefusedFor text (TooLong line) = IsRefused text (lexical.TooLong line)
+RefusedFor text (NotAscii line) = IsRefused text (lexical.NotAscii line)
+RefusedFor text (BadNumber line) = IsRefused text (lexical.BadNumber line)
+RefusedFor text (OpenText line) = IsRefused text (lexical.OpenText line)
+RefusedFor text (AlphaTooLong line) = IsRefused text (lexical.AlphaTooLong line)
+RefusedFor text (PictureCut line) = IsRefused text (lexical.PictureCut line)
+RefusedFor text (NameTooLong line) = IsRefused text (lexical.NameTooLong line)
+RefusedFor text (Syntax line) = IsNoProgram text (parsing.Syntax line)
+RefusedFor text (TooDeep line) = IsNoProgram text (parsing.TooDeep line)
+RefusedFor text (Twice line) = IsMisdeclared text declaring.Twice line
+RefusedFor text (RealMode line) = IsMisdeclared text declaring.RealMode line
+RefusedFor text (UnknownClass line) = IsMisdeclared text declaring.UnknownClass line
+RefusedFor text (UnknownSet line) = IsMisdeclared text declaring.UnknownSet line
+RefusedFor text (NoOwner line) = IsMisdeclared text declaring.NoOwner line
+RefusedFor text (NoMember line) = IsMisdeclared text declaring.NoMember line
+RefusedFor text (RankKey line) = IsMisdeclared text declaring.RankKey line
+RefusedFor text (TallyTwice line) = IsMisdeclared text declaring.TallyTwice line
+RefusedFor text (TooMany line) = IsMisdeclared text declaring.TooMany line
+RefusedFor text (TieKey line) = IsMisdeclared text declaring.TieKey line
+RefusedFor text (NoMain line) = IsIllFormed text using.NoMain line
+RefusedFor text (NoEventRoutine line) = IsIllFormed text using.NoEventRoutine line
+RefusedFor text (Mode line) = IsIllFormed text using.Mode line
+RefusedFor text (Arguments line) = IsIllFormed text using.Arguments line
+RefusedFor text (Subscript line) = IsIllFormed text using.Subscript line
+RefusedFor text (NotAssignable line) = IsIllFormed text using.NotAssignable line
+RefusedFor text (Fields line) = IsIllFormed text using.Fields line
+RefusedFor text (StartPlace line) = IsIllFormed text using.StartPlace line
+RefusedFor text (Unknown line) = IsIllFormed text using.Unknown line
+RefusedFor text CodeTooLong = IsLarge text
+RefusedFor text Memory = Unit {0}

@@ -1,0 +1,87 @@
+-- What a clause sees of a session.
+use Rattle.std.specs.Prelude.{◌≡◌, ◌≢◌, ℕ, ◌≤◌, List, [], Option, Some, None}
+use Rattle.ss_base.specs.Failures.{HasRisen, HasRisenBy}
+use Rattle.ss_input.specs.Blocks.{KnowsEnd}
+use Rattle.ss_meaning.specs.Meaning.{Paused as PausedThere}
+use Rattle.ss_code_instructions.specs.Machine.{Code, Over, step}
+use Rattle.ss_input.specs.declared.source.Source.{Source}
+use Rattle.ss_input.specs.Inputs.{IsFresh, source_block, source_missed, source_reader}
+use Rattle.ss_machine_instructions.specs.declared.working.Working.{Working}
+use Rattle.ss_machine_instructions.specs.Holding.{state_of}
+use Rattle.ss_machine.specs.Stop.{Stop}
+use Rattle.ss_machine.specs.Stop.TheVariants.{Paused, Output, Input, Failed}
+use Rattle.ss_machine.specs.Held.{Held, IsFirst}
+use Rattle.ss_machine.specs.Start.{IsAtStart, Continues}
+use Rattle.ss_machine.specs.Runs.{Comes, Ran}
+use Rattle.ss_engine.specs.Headline.{handed_out}
+use Rattle.ss_engine.specs.declared.session.Session.{Session}
+
+-- its machine
+abbrev pub session_machine : {R W : Type 0} → Session R W → Held
+session_machine s = s.machine
+
+-- the words of its input
+abbrev pub session_source : {R W : Type 0} → Session R W → Source R
+session_source s = s.source
+
+-- its reader, as it stands
+abbrev pub session_reader : {R W : Type 0} → Session R W → R
+session_reader s = source_reader s.source
+
+-- its writer, as it stands
+abbrev pub session_writer : {R W : Type 0} → Session R W → W
+session_writer s = s.sink.writer
+
+-- a session of this code, this reader and this writer before its first run
+pub record Begins {R W : Type 0} (code : Code) (reader : R) (writer : W) (s : Session R W) : Type 0 where
+  pub first : IsFirst code (session_machine s)
+  pub fresh : IsFresh reader (session_source s)
+  pub writer_is : session_writer s ≡ writer
+
+-- a session whose next run goes on: one before its first run, or after a pause
+pub record GoesOn {R W : Type 0} (s : Session R W) : Type 0 where
+  pub unstopped : (session_machine s).stopped ≡ None
+  pub unmissed : source_missed (session_source s) ≡ None
+  pub continues : Continues (session_machine s).code (session_machine s).working (session_source s)
+
+-- ## What a session has done since its start
+
+-- why a session stands still that was run: behind a pause the next run goes on
+abbrev pub stands_so : Option Stop → Stop
+stands_so None = Paused
+stands_so (Some stop) = stop
+
+-- what the runs of a machine came to in so many ticks and steps, where it goes on and where it has stopped
+abbrev pub CameTo : {R : Type 0} → (R → Option (List ℕ)) → Option Stop → Code → Working → Working → Source R → Source R → Option (List ℕ) → Option (List ℕ) → (taken made : ℕ) → Type 0
+CameTo remaining None code w new source new_source old_bytes new_bytes taken made =
+    Comes remaining code w new source new_source old_bytes new_bytes taken made
+CameTo remaining (Some stop) code w new source new_source old_bytes new_bytes taken made =
+    Ran remaining stop code w new source new_source old_bytes new_bytes taken made
+
+-- A session that started with this code, this reader and this writer stands so after calls of `run` with these ticks: its
+-- machine is where the definition's steps lead from the first state, on the input that the reader gave and with the bytes
+-- that the writer took. After a pause all ticks handed out are used; it failed at its reader or its writer only where the
+-- count of failures rose.
+pub record HasRun {R W : Type 0} (remaining : R → Option (List ℕ)) (read_faults : R → ℕ) (contents : W → Option (List ℕ)) (write_faults : W → ℕ) (code : Code) (reader : R) (writer : W) (pieces : List ℕ) (s : Session R W) : Type 0 where
+  pub first : Working
+  pub source : Source R
+  pub starts : IsAtStart code first
+  pub fresh : IsFresh reader source
+  pub code_is : (session_machine s).code ≡ code
+  pub came : CameTo remaining (session_machine s).stopped code first (session_machine s).working source (session_source s) (contents writer) (contents (session_writer s)) (session_machine s).used (session_machine s).steps
+  pub paused : (session_machine s).stopped ≡ None → pieces ≢ [] → (input report : List ℕ) → step code (state_of (session_machine s).working input report 0) ≡ Over PausedThere 0
+  pub goes_on : (session_machine s).stopped ≡ None → GoesOn s
+  pub right : (session_machine s).stopped ≡ Some Failed → ⊥
+  pub used : (session_machine s).used ≤ handed_out pieces
+  pub all_used : (session_machine s).stopped ≡ None → (session_machine s).used ≡ handed_out pieces
+  pub end : KnowsEnd remaining (source_block (session_source s))
+  pub output : (session_machine s).stopped ≡ Some Output → HasRisen (write_faults writer) (write_faults (session_writer s))
+  pub input : (session_machine s).stopped ≡ Some Input → HasRisen (read_faults reader) (read_faults (session_reader s))
+  pub never_falls : HasRisenBy 0 (write_faults writer) (write_faults (session_writer s))
+  pub read_never_falls : HasRisenBy 0 (read_faults reader) (read_faults (session_reader s))
+
+-- the same after at least one call
+pub record WasRun {R W : Type 0} (remaining : R → Option (List ℕ)) (read_faults : R → ℕ) (contents : W → Option (List ℕ)) (write_faults : W → ℕ) (code : Code) (reader : R) (writer : W) (s : Session R W) : Type 0 where
+  pub pieces : List ℕ
+  pub some : pieces ≢ []
+  pub run : HasRun remaining read_faults contents write_faults code reader writer pieces s

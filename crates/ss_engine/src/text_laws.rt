@@ -1,0 +1,32 @@
+//! Laws of what a text means.
+
+ghost use Rattle.ss_engine.specs.Laws.{EachHasOne, EndingsStay, NeverGoesWrong, OneMeaning, ProgramsAreTyped, ReportsGrow};
+
+use ss_check::kept_programs_resolve;
+use ss_code_instructions::laws::laws as laws_of_runs;
+use ss_lex::one_list;
+use ss_meaning::laws::laws as laws_of_types;
+use ss_parse::one_tree;
+
+/// A well-formed text has one program, which is well typed and never goes wrong: so it has one meaning.
+pub fn laws()
+    ensures one_meaning { OneMeaning }
+    ensures each_has_one { EachHasOne }
+    ensures typed { ProgramsAreTyped }
+    ensures never_wrong { NeverGoesWrong }
+{
+    one_list();
+    one_tree();
+    kept_programs_resolve();
+    laws_of_types();
+}
+
+/// More ticks extend the report of a text; and where it ends otherwise than for want of ticks, its
+/// ending and its report stay for every greater number of them.
+pub fn longer_bounds_extend_the_report()
+    ensures reports_grow { ReportsGrow }
+    ensures endings_stay { EndingsStay }
+{
+    laws();
+    laws_of_runs();
+}

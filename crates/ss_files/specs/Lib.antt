@@ -1,2 +1,0 @@
-pub mod Retrying
-pub mod Statuses

@@ -1,6 +1,0 @@
-use Rattle.std.proofs.Common.{◌≡◌, ◌++◌, map, take}
-use Rattle.ss_sayings.specs.Sayings.{said_of}
-use Rattle.ss_gathering.proofs.sayings.say_all.Given as goal
-
-abbrev pub invariant-loop-name : goal.invariant-loop-name
-invariant-loop-name l = l.out.items ≡ l.initial.out.items ++ map (said_of l.line l.said) (take l.name-index l.names)

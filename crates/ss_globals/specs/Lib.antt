@@ -1,2 +1,0 @@
-pub mod WholeOf
-pub mod Examples

@@ -1,5 +1,0 @@
-use Rattle.ss_kept.proofs.Parameters.{events_given, parameters_first, parts_all, signatures_first, stand_once}
-use Rattle.ss_kept.proofs.laws.laws_of_parameters.Goals as goal
-
-pub returns : goal.returns
-returns c = record { once = stand_once; first = parameters_first; modes = signatures_first; events = events_given; parts = parts_all }

@@ -1,4 +1,0 @@
-pub mod Rules
-pub mod Links
-pub mod Laws
-pub mod Parameters

@@ -1,3 +1,0 @@
-pub mod Tables
-pub mod Subjects
-pub mod Locals

@@ -1,3 +1,0 @@
-pub mod Declared
-pub mod Tables
-pub mod Laws

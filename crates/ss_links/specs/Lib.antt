@@ -1,4 +1,0 @@
-pub mod Signed
-pub mod Programs
-pub mod Laws
-pub mod Examples

@@ -1,0 +1,4 @@
+mod Ranking
+pub mod Counting
+pub mod Refiled
+pub mod Fitting

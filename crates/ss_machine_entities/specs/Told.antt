@@ -1,0 +1,20 @@
+-- What an operation comes to, as the meaning tells it.
+use Rattle.std.specs.Prelude.{ℤ, Result, Ok, Err}
+use Rattle.ss_meaning.specs.Values.{Trouble as Meant, Fails, Misfit as IsMisfit}
+use Rattle.ss_machine_entities.specs.declared.known.Known.{Known}
+use Rattle.ss_machine_entities.specs.declared.trouble.Trouble.{Trouble}
+use Rattle.ss_machine_entities.specs.declared.trouble.Trouble.TheVariants.{Fault, Misfit}
+
+-- a trouble, as the meaning tells it, and an answer
+abbrev pub meant : Trouble → Meant
+meant (Fault kind) = Fails kind
+meant Misfit = IsMisfit
+
+abbrev pub told : {A : Type 0} → Result A Trouble → Result A Meant
+told (Ok a) = Ok a
+told (Err t) = Err (meant t)
+
+-- the number of what was looked at
+abbrev pub numbered : Result Known Trouble → Result ℤ Trouble
+numbered (Ok k) = Ok k.number
+numbered (Err t) = Err t

@@ -1,0 +1,322 @@
+//! The entities of a run, and how many of each permanent class are made.
+
+ghost use Rattle.std.specs.Prelude.{◌≡◌, ℕ, ◌<◌, true, false, length, pos, IfOk, IfSome, MatchResult, None, Some, Ok, Err, replicate, slice_get, slice_set};
+ghost use Rattle.ss_base.specs.Layout.{mode_of};
+ghost use Rattle.ss_base.specs.declared.layout.Owner.TheVariants.{Class};
+ghost use Rattle.ss_records.specs.Added.{Added};
+ghost use Rattle.ss_records.specs.Classed.{HasClass};
+ghost use Rattle.ss_records.specs.Kept.{IsPermanent};
+ghost use Rattle.ss_records.specs.State.{first_state, is_made, records_in, known_in, value_in, time_in, assigned, timed, created, created_all, destroyed, kind_of, modes_of, no_value, RefusedFor};
+ghost use Rattle.ss_records.specs.Sets.{owner_kind, first_in, last_in, count_in, next_in, previous_in, owner_of_member};
+
+mod filing;
+
+use ss_base::{FaultKind, Layout, Mode, Refused, Value};
+use ss_records::Heap;
+use std::alloc::{AllocError, Global};
+use std::marker::Model;
+
+// How many entities a permanent class has at most.
+const MOST_ENTITIES: i64 = 1048576;
+
+/// The entities of a run. A contract sees them as a state of a heap.
+#[derive(Drop)]
+pub struct Population {
+    heap: Heap,
+    made: Vec<Option<i64>>,
+}
+
+impl Model for Population {
+    ghost use Rattle.std.specs.Prelude.{◌≡◌};
+    ghost use Rattle.ss_records.specs.State.{State};
+    ghost use Rattle.ss_machine_entities.specs.Counts.{counts_of};
+
+    ghost Value = { State };
+
+    ghost view = { λ p. p.heap.state };
+
+    ghost invariant = { λ p. p.made.items ≡ counts_of p.heap.state.permanents };
+}
+
+impl Population {
+    /// No entity. The error comes where memory was refused.
+    pub fn new(alloc: Global, layout: Layout) -> Result<Population, AllocError>
+        ensures { IfOk result (λ p. p ≡ first_state layout) }
+    {
+        let made = none_made(alloc, class_count(&layout))?;
+        let heap = Heap::new(alloc, layout)?;
+        Ok(Population { heap, made })
+    }
+
+    #[inline(always)]
+    pub fn layout(&self) -> &Layout
+        ensures { result.now ≡ self.now.layout }
+    {
+        self.heap.layout()
+    }
+
+    /// Remembers an entity by its creation number, so that it is found sooner. Nothing else changes.
+    #[inline(always)]
+    pub fn meet(&mut self, n: i64)
+        ensures { self.new ≡ self.old }
+    {
+        self.heap.meet(n);
+    }
+
+    /// Whether a number is an entity of a class. Faults: 1 to 5.
+    #[inline(always)]
+    pub fn known(&self, class: usize, n: i64) -> Result<(), FaultKind>
+        requires class { class < length self.now.layout.classes }
+        ensures { result ≡ known_in self.now class n }
+    {
+        self.heap.known(class, n)
+    }
+
+    /// The class of a temporary entity or a notice by its number: none where no entity of that number is living, and it may give
+    /// up elsewhere too.
+    #[inline(always)]
+    pub fn class_near(&self, n: i64) -> Option<usize>
+        ensures { IfSome result (λ c. HasClass self.now n c) }
+    {
+        self.heap.class_near(n)
+    }
+
+    /// The value of an attribute. Faults: 1 to 5.
+    #[inline(always)]
+    pub fn value(&self, class: usize, field: usize, n: i64) -> Result<Value, FaultKind>
+        requires class { class < length self.now.layout.classes }
+        requires field { field < length (modes_of self.now.layout class) }
+        ensures { result ≡ value_in self.now class field n }
+    {
+        self.heap.value(class, field, n)
+    }
+
+    /// Assigns a value to an attribute. Faults: 1 to 5.
+    #[inline(always)]
+    pub fn set_value(
+        &mut self,
+        class: usize,
+        field: usize,
+        n: i64,
+        value: Value,
+    ) -> Result<(), FaultKind>
+        requires class { class < length self.old.layout.classes }
+        requires mode { slice_get (modes_of self.old.layout class) field ≡ Some (mode_of value) }
+        ensures { MatchResult result (λ _. assigned self.old class field n value ≡ Ok self.new) (λ e. (assigned self.old class field n value ≡ Err e) × (self.new ≡ self.old)) }
+    {
+        self.heap.set_value(class, field, n, value)
+    }
+
+    /// The whole number that an attribute is, where there is no fault.
+    #[inline(always)]
+    pub fn whole(&self, class: usize, field: usize, n: i64) -> Option<i64>
+        requires class { class < length self.now.layout.classes }
+        requires mode { slice_get (modes_of self.now.layout class) field ≡ Some Mode.Integer }
+        ensures { IfSome result (λ whole. value_in self.now class field n ≡ Ok (Value.Whole whole)) }
+    {
+        self.heap.whole(class, field, n)
+    }
+
+    /// Assigns a whole number to an attribute, and says whether it did: not where there is a fault.
+    #[inline(always)]
+    pub fn set_whole(&mut self, class: usize, field: usize, n: i64, value: i64) -> bool
+        requires class { class < length self.old.layout.classes }
+        requires mode { slice_get (modes_of self.old.layout class) field ≡ Some Mode.Integer }
+        ensures done { result ≡ true → assigned self.old class field n (Value.Whole value) ≡ Ok self.new }
+        ensures same { result ≡ false → self.new ≡ self.old }
+    {
+        self.heap.set_whole(class, field, n, value)
+    }
+
+    /// Adds a number to an attribute of whole numbers, and says whether it did: not where there is a fault or the sum does not
+    /// fit 64 bits, and it may give up elsewhere too.
+    #[inline(always)]
+    pub fn add_whole(&mut self, class: usize, field: usize, n: i64, by: i64) -> bool
+        requires class { class < length self.old.layout.classes }
+        requires mode { slice_get (modes_of self.old.layout class) field ≡ Some Mode.Integer }
+        ensures done { result ≡ true → Added self.old class field n by self.new }
+        ensures same { result ≡ false → self.new ≡ self.old }
+    {
+        self.heap.add_whole(class, field, n, by)
+    }
+
+    /// TIME.A of a notice. Faults: 1 to 4.
+    #[inline(always)]
+    pub fn time_a(&self, n: i64) -> Result<i64, FaultKind>
+        ensures { result ≡ time_in self.now n }
+    {
+        self.heap.time_a(n)
+    }
+
+    /// Sets TIME.A of a notice. Faults: 1 to 4.
+    #[inline(always)]
+    pub fn set_time_a(&mut self, n: i64, t: i64) -> Result<(), FaultKind>
+        ensures { MatchResult result (λ _. timed self.old n t ≡ Ok self.new) (λ e. (timed self.old n t ≡ Err e) × (self.new ≡ self.old)) }
+    {
+        self.heap.set_time_a(n, t)
+    }
+
+    /// Whether a class owns a set.
+    #[inline(always)]
+    pub fn owns_set(&self, class: usize) -> bool
+        requires { class < length self.now.layout.classes }
+        ensures { result ≡ false → (set : ℕ) → owner_kind self.now.layout set ≡ Class class → ⊥ }
+    {
+        self.heap.owns_set(class)
+    }
+
+    /// A new entity of a class whose entities come and go. Faults: 14 after the last number.
+    #[inline(always)]
+    pub fn create(&mut self, class: usize) -> Result<i64, Refused>
+        requires class { class < length self.old.layout.classes }
+        requires kind { IsPermanent (kind_of self.old.layout class) → ⊥ }
+        ensures { MatchResult result (λ n. created self.old class ≡ Ok (n, self.new)) (λ e. (self.new ≡ self.old) × RefusedFor (created self.old class) e) }
+    {
+        self.heap.create(class)
+    }
+
+    /// Whether `create_all` makes so many entities of a permanent class where memory is not refused. Faults: 18 where they are
+    /// made, then 22 for a bad count.
+    pub fn may_create_all(&self, class: usize, count: i64) -> Result<(), FaultKind>
+        ensures { result ≡ no_value (created_all self.now class count) }
+    {
+        if self.is_made(class) {
+            return Err(FaultKind::CreatedTwice);
+        }
+        if count < 0 || count > MOST_ENTITIES {
+            return Err(FaultKind::BadCount);
+        }
+        Ok(())
+    }
+
+    /// All entities of a permanent class. Faults: 18 where they are made, then 22 for a bad count.
+    pub fn create_all(&mut self, class: usize, count: i64) -> Result<(), Refused>
+        requires class { class < length self.old.layout.classes }
+        requires kind { IsPermanent (kind_of self.old.layout class) }
+        ensures { MatchResult result (λ _. created_all self.old class count ≡ Ok self.new) (λ e. (self.new ≡ self.old) × RefusedFor (created_all self.old class count) e) }
+    {
+        match self.heap.create_all(class, count) {
+            Err(refused) => Err(refused),
+            Ok(()) => {
+                note(&mut self.made, class, count);
+                Ok(())
+            }
+        }
+    }
+
+    /// An entity goes. Faults: 1 to 4, then 9 and 10.
+    #[inline(always)]
+    pub fn destroy(&mut self, class: usize, n: i64) -> Result<(), FaultKind>
+        requires class { class < length self.old.layout.classes }
+        requires kind { IsPermanent (kind_of self.old.layout class) → ⊥ }
+        ensures { MatchResult result (λ _. destroyed self.old class n ≡ Ok self.new) (λ e. (destroyed self.old class n ≡ Err e) × (self.new ≡ self.old)) }
+    {
+        self.heap.destroy(class, n)
+    }
+
+    /// The first member of a set, 0 for none. Faults: 1 to 5.
+    #[inline(always)]
+    pub fn first(&mut self, set: usize, o: i64) -> Result<i64, FaultKind>
+        requires set { set < length self.old.layout.sets }
+        ensures value { result ≡ first_in self.old set o }
+        ensures same { self.new ≡ self.old }
+    {
+        self.heap.first(set, o)
+    }
+
+    /// The last member of a set, 0 for none. Faults: 1 to 5.
+    #[inline(always)]
+    pub fn last(&mut self, set: usize, o: i64) -> Result<i64, FaultKind>
+        requires set { set < length self.old.layout.sets }
+        ensures value { result ≡ last_in self.old set o }
+        ensures same { self.new ≡ self.old }
+    {
+        self.heap.last(set, o)
+    }
+
+    /// How many members a set has. Faults: 1 to 5.
+    #[inline(always)]
+    pub fn member_count(&mut self, set: usize, o: i64) -> Result<i64, FaultKind>
+        requires set { set < length self.old.layout.sets }
+        ensures value { result ≡ count_in self.old set o }
+        ensures same { self.new ≡ self.old }
+    {
+        self.heap.count(set, o)
+    }
+
+    /// The member behind another one, 0 for none. Faults: 1 to 5.
+    #[inline(always)]
+    pub fn next(&mut self, set: usize, n: i64) -> Result<i64, FaultKind>
+        requires set { set < length self.old.layout.sets }
+        ensures value { result ≡ next_in self.old set n }
+        ensures same { self.new ≡ self.old }
+    {
+        self.heap.next(set, n)
+    }
+
+    /// The member before another one, 0 for none. Faults: 1 to 5.
+    #[inline(always)]
+    pub fn previous(&mut self, set: usize, n: i64) -> Result<i64, FaultKind>
+        requires set { set < length self.old.layout.sets }
+        ensures value { result ≡ previous_in self.old set n }
+        ensures same { self.new ≡ self.old }
+    {
+        self.heap.previous(set, n)
+    }
+
+    /// The owner in whose set an entity is, if it is in any. Faults: 1 to 5.
+    #[inline(always)]
+    pub fn owner_in(&mut self, set: usize, n: i64) -> Result<Option<i64>, FaultKind>
+        requires set { set < length self.old.layout.sets }
+        ensures value { result ≡ owner_of_member self.old set n }
+        ensures same { self.new ≡ self.old }
+    {
+        self.heap.owner_in(set, n)
+    }
+
+    /// How many entities a permanent class has: 0 until they are made.
+    #[inline(always)]
+    pub fn count(&self, class: usize) -> i64
+        ensures { result ≡ pos (length (records_in (slice_get self.now.permanents class))) }
+    {
+        match self.made.get(class) {
+            Some(Some(count)) => *count,
+            _ => 0,
+        }
+    }
+
+    /// Whether the entities of a permanent class are made.
+    #[inline(always)]
+    pub fn is_made(&self, class: usize) -> bool
+        ensures { result ≡ is_made self.now class }
+    {
+        matches!(self.made.get(class), Some(Some(_)))
+    }
+}
+
+// How many classes a layout has.
+fn class_count(layout: &Layout) -> usize
+    ensures { result ≡ length layout.now.classes }
+{
+    layout.classes.len()
+}
+
+// Nothing is made of so many classes.
+fn none_made(alloc: Global, classes: usize) -> Result<Vec<Option<i64>>, AllocError>
+    ensures { IfOk result (λ made. made.items ≡ replicate classes None) }
+{
+    let mut made = Vec::new(alloc);
+    for _ in 0..classes {
+        made.push(None)?;
+    }
+    Ok(made)
+}
+
+// Notes how many entities of a class are made.
+fn note(made: &mut Vec<Option<i64>>, class: usize, count: i64)
+    ensures { made.new.items ≡ slice_set made.old.items class (Some count) }
+{
+    if class < made.len() {
+        made[class] = Some(count);
+    }
+}

@@ -1,0 +1,742 @@
+//! Scheduling: the time of an event, making notices, and filing them among those that are pending.
+
+ghost use Rattle.std.specs.Prelude.{◌≡◌, true, [], List, Some, Ok, Err, IfSome, IfOk, IfErr};
+ghost use Rattle.ss_base.specs.declared.value.Value.TheVariants.{Whole};
+ghost use Rattle.ss_machine_entities.specs.Ranks.{ranked_at};
+ghost use Rattle.ss_world.specs.declared.ties.Tie.{Tie as TieSeen};
+ghost use Rattle.ss_meaning.specs.Entities.{attribute, made_one};
+ghost use Rattle.ss_meaning.specs.Events.{time_at, not_past, endowed, prepared, made_notice, ties_of, filed_notice, rescheduled};
+ghost use Rattle.ss_meaning.specs.Places.{assigned_attribute};
+ghost use Rattle.ss_meaning.specs.Values.{turned};
+ghost use Rattle.ss_machine_world.specs.AtOnce.{Does};
+ghost use Rattle.ss_machine_world.specs.Seen.{Looks, Notes, Makes, Grows, as_value};
+ghost use Rattle.ss_machine_events.specs.Scheduled.{Leads, Forms, Goes, Finds, AddsTie, IsTied, put_there, lacking, moment_of, time_after, filing_of, key_ranked, key_meant, as_whole, settled, HasNoTies, IsUntied, scheduled_known, scheduled_anew};
+
+use ss_base::{FaultKind, RankKey, Refused, Value, plus};
+use ss_events::Key;
+use ss_machine_entities::known::Known;
+use ss_machine_entities::trouble::{Trouble, Unmade};
+use ss_machine_entities::{NoticeClass, rank_of};
+use ss_machine_world::at_once::Number;
+use ss_machine_world::entities::Made;
+use ss_machine_world::scene::Scene;
+use ss_world::Tie;
+use std::alloc::Global;
+
+// What filing a notice came to.
+#[derive(Clone, Copy)]
+pub(crate) enum Filed {
+    Done,
+    Fault(FaultKind),
+    Misfit,
+    // Memory was refused.
+    Wanting,
+}
+
+// What filing a notice came to, in one piece.
+#[inline(always)]
+fn in_one(answer: Result<(), Unmade>) -> Filed
+    ensures { filing_of result ≡ answer }
+{
+    match answer {
+        Ok(()) => Filed::Done,
+        Err(Unmade::Fault(kind)) => Filed::Fault(kind),
+        Err(Unmade::Misfit) => Filed::Misfit,
+        Err(Unmade::Memory) => Filed::Wanting,
+    }
+}
+
+// Whether it was done.
+#[inline(always)]
+fn is_done(filed: Filed) -> bool
+    ensures { result ≡ true → filed ≡ Filed.Done }
+{
+    match filed {
+        Filed::Done => true,
+        _ => false,
+    }
+}
+
+// What filing a notice came to, the other way round.
+#[inline(never)]
+fn told_apart(filed: Filed) -> Result<(), Unmade>
+    ensures { result ≡ filing_of filed }
+{
+    match filed {
+        Filed::Done => Ok(()),
+        Filed::Fault(kind) => Err(Unmade::Fault(kind)),
+        Filed::Misfit => Err(Unmade::Misfit),
+        Filed::Wanting => Err(Unmade::Memory),
+    }
+}
+
+// The same, told at once where it was done.
+#[inline(always)]
+fn as_told(filed: Filed) -> Result<(), Unmade>
+    ensures { result ≡ filing_of filed }
+{
+    if is_done(filed) {
+        return Ok(());
+    }
+    told_apart(filed)
+}
+
+// Whether a class of notices has no ties.
+#[inline(always)]
+fn has_no_ties(said: &NoticeClass) -> bool
+    ensures { result ≡ true → said.now.ties ≡ [] }
+{
+    said.ties().as_slice().is_empty()
+}
+
+// A time that is not before TIME.V.
+#[inline(always)]
+fn not_past(scene: &Scene, time: i64) -> Result<i64, Trouble>
+    ensures { Looks (not_past time) scene.now result }
+{
+    if time < scene.timeline.time() {
+        return Err(Trouble::Fault(FaultKind::PastTime));
+    }
+    Ok(time)
+}
+
+// The time so many units from now.
+#[inline(always)]
+fn time_after(scene: &Scene, units: i64) -> Result<i64, Trouble>
+    ensures { Looks (time_after units) scene.now result }
+{
+    match plus(scene.timeline.time(), units) {
+        Ok(time) => not_past(scene, time),
+        Err(kind) => Err(Trouble::Fault(kind)),
+    }
+}
+
+// The time so many units from now, where they are not below 0 and the time fits.
+#[inline(always)]
+fn time_onward(scene: &Scene, units: i64) -> Option<i64>
+    ensures { IfSome result (λ time. Looks (time_after units) scene.now (Ok time)) }
+{
+    if units < 0 {
+        return None;
+    }
+    match time_after(scene, units) {
+        Ok(time) => Some(time),
+        Err(_) => None,
+    }
+}
+
+// A time that is not before TIME.V, if it is that.
+#[inline(always)]
+fn time_to_come(scene: &Scene, time: i64) -> Option<i64>
+    ensures { IfSome result (λ t. Looks (not_past time) scene.now (Ok t)) }
+{
+    if time < scene.timeline.time() {
+        return None;
+    }
+    Some(time)
+}
+
+// The time for which a notice is scheduled by a number, where there is no fault.
+#[inline(always)]
+fn time_near(scene: &Scene, later: bool, number: Number) -> Option<i64>
+    ensures { IfSome result (λ time. Looks (time_at (moment_of later (Whole number.value))) scene.now (Ok time)) }
+{
+    if later {
+        time_onward(scene, number.value)
+    } else {
+        time_to_come(scene, number.value)
+    }
+}
+
+// The same with every care.
+#[inline(never)]
+fn time_apart(scene: &Scene, later: bool, number: Number) -> Result<i64, Trouble>
+    ensures { Looks (time_at (moment_of later (Whole number.value))) scene.now result }
+{
+    if later {
+        time_after(scene, number.value)
+    } else {
+        not_past(scene, number.value)
+    }
+}
+
+// The same, where no care is taken that need not be.
+#[inline(always)]
+fn time_by(scene: &Scene, later: bool, number: Number) -> Result<i64, Trouble>
+    ensures { Looks (time_at (moment_of later (Whole number.value))) scene.now result }
+{
+    match time_near(scene, later, number) {
+        Some(time) => Ok(time),
+        None => time_apart(scene, later, number),
+    }
+}
+
+/// The time for which a notice is scheduled, in units: a value, or so many units from now. Faults: 14 where the
+/// sum is too great, then 13 where the time is before TIME.V.
+#[inline(always)]
+pub fn time_at(scene: &Scene, later: bool, value: Value) -> Result<i64, Trouble>
+    ensures { Looks (time_at (moment_of later value)) scene.now result }
+{
+    match value {
+        Value::Whole(value) => time_by(scene, later, Number { value }),
+        Value::Text(_) => Err(Trouble::Misfit),
+    }
+}
+
+// Assigns a whole number to an attribute that no statistic is about, and says whether it did.
+#[inline(always)]
+fn give_whole(scene: &mut Scene, class: usize, field: usize, x: &Value, value: &Value) -> bool
+    ensures { Does (assigned_attribute class field x.now value.now) result scene.old scene.new }
+{
+    match (x, value) {
+        (Value::Whole(number), Value::Whole(value)) => {
+            let known = Known { number: *number };
+            scene.assign_field(class, field, known, Number { value: *value })
+        }
+        _ => false,
+    }
+}
+
+// Assigns a value to an attribute of a notice.
+#[inline(always)]
+fn give(
+    scene: &mut Scene,
+    class: usize,
+    field: usize,
+    x: &Value,
+    value: &Value,
+) -> Result<(), Trouble>
+    ensures { Notes (assigned_attribute class field x.now value.now) scene.old scene.new result }
+{
+    if give_whole(scene, class, field, x, value) {
+        return Ok(());
+    }
+    give_any(scene, class, field, x, value)
+}
+
+// The same with every care.
+#[inline(never)]
+fn give_any(
+    scene: &mut Scene,
+    class: usize,
+    field: usize,
+    x: &Value,
+    value: &Value,
+) -> Result<(), Trouble>
+    ensures { Notes (assigned_attribute class field x.now value.now) scene.old scene.new result }
+{
+    scene.set_value_of(class, field, *x, *value)
+}
+
+// Assigns values to the attributes of a notice, from the first on.
+#[inline(always)]
+fn endow(scene: &mut Scene, class: usize, x: &Value, given: &[Value]) -> Result<(), Trouble>
+    ensures { Leads (endowed class 0 x.now given.now) scene.old scene.new result }
+{
+    for field in 0..given.len() {
+        give(scene, class, field, x, &given[field])?;
+    }
+    Ok(())
+}
+
+// Assigns values to the first attributes of a notice, and sets its TIME.A.
+#[inline(always)]
+fn prepare(
+    scene: &mut Scene,
+    class: usize,
+    x: &Value,
+    given: &[Value],
+    time: i64,
+) -> Result<(), Trouble>
+    ensures { Leads (prepared class x.now given.now time) scene.old scene.new result }
+{
+    match endow(scene, class, x, given) {
+        Ok(()) => scene.set_time(*x, time),
+        Err(trouble) => Err(trouble),
+    }
+}
+
+// The number of what was made, if something was.
+#[inline(always)]
+fn number_in(made: Made) -> Option<i64>
+    ensures { IfSome result (λ n. made ≡ Made.Number n) }
+{
+    match made {
+        Made::Number(number) => Some(number),
+        _ => None,
+    }
+}
+
+// The number of what was made, or why there is none.
+#[inline(never)]
+fn made_apart(made: Made) -> Result<i64, Unmade>
+    ensures { as_whole result ≡ as_value made }
+{
+    match made {
+        Made::Number(number) => Ok(number),
+        Made::Last => Err(Unmade::Fault(FaultKind::Overflow)),
+        Made::Misfit => Err(Unmade::Misfit),
+        Made::Wanting => Err(Unmade::Memory),
+    }
+}
+
+// The same, told at once where something was made.
+#[inline(always)]
+fn as_made(made: Made) -> Result<i64, Unmade>
+    ensures { as_whole result ≡ as_value made }
+{
+    match number_in(made) {
+        Some(number) => Ok(number),
+        None => made_apart(made),
+    }
+}
+
+// The number of a new entity of a class, whose histories start.
+#[inline(always)]
+fn created(scene: &mut Scene, class: usize) -> Result<i64, Unmade>
+    ensures { Makes (made_one class) scene.old scene.new (as_whole result) }
+{
+    as_made(scene.create_apart(class))
+}
+
+/// The number of a new notice of a class, with values for its first attributes and its TIME.A. Faults: 14 after the last
+/// number, or where a history of an attribute is full. Want of memory changes nothing; where the values do not fit, the
+/// notice is made.
+#[inline(always)]
+pub fn notice_number(
+    scene: &mut Scene,
+    class: usize,
+    given: &[Value],
+    time: i64,
+) -> Result<i64, Unmade>
+    ensures { Forms (made_notice class given.now time) scene.old scene.new (as_whole result) }
+{
+    match created(scene, class) {
+        Ok(number) => {
+            match prepare(scene, class, &Value::Whole(number), given, time) {
+                Ok(()) => Ok(number),
+                Err(trouble) => Err(lacking(trouble)),
+            }
+        }
+        Err(unmade) => Err(unmade),
+    }
+}
+
+/// The same as a value.
+#[inline(always)]
+pub fn make_notice(
+    scene: &mut Scene,
+    class: usize,
+    given: &[Value],
+    time: i64,
+) -> Result<Value, Unmade>
+    ensures { Forms (made_notice class given.now time) scene.old scene.new result }
+{
+    match notice_number(scene, class, given, time) {
+        Ok(number) => Ok(Value::Whole(number)),
+        Err(unmade) => Err(unmade),
+    }
+}
+
+// The whole number that an attribute is, where there is no fault.
+#[inline(always)]
+fn whole_of(scene: &Scene, class: usize, field: usize, x: &Value) -> Option<i64>
+    ensures { IfSome result (λ n. Looks (attribute class field x.now) scene.now (Ok (Whole n))) }
+{
+    match x {
+        Value::Whole(number) => {
+            let known = Known { number: *number };
+            scene.whole_field(class, field, known)
+        }
+        Value::Text(_) => None,
+    }
+}
+
+// The value that an attribute has now, as one more tie.
+#[inline(always)]
+fn freeze_one(
+    scene: &Scene,
+    class: usize,
+    x: &Value,
+    key: RankKey,
+    ties: &mut Vec<Tie>,
+) -> Result<(), Unmade>
+    ensures { AddsTie (attribute class key.field x.now) key.high scene.now ties.old.items ties.new.items result }
+{
+    match whole_of(scene, class, key.field, x) {
+        Some(number) => put_tie(ties, Value::Whole(number), key.high),
+        None => freeze_any(scene, class, x, key, ties),
+    }
+}
+
+// The same where it is no whole number, or there is a fault.
+#[inline(never)]
+fn freeze_any(
+    scene: &Scene,
+    class: usize,
+    x: &Value,
+    key: RankKey,
+    ties: &mut Vec<Tie>,
+) -> Result<(), Unmade>
+    ensures { AddsTie (attribute class key.field x.now) key.high scene.now ties.old.items ties.new.items result }
+{
+    match scene.value_of(class, key.field, *x) {
+        Err(trouble) => Err(lacking(trouble)),
+        Ok(value) => put_tie(ties, value, key.high),
+    }
+}
+
+// The values that attributes have now, as ties.
+#[inline(always)]
+fn freeze(
+    scene: &Scene,
+    class: usize,
+    x: &Value,
+    keys: &[RankKey],
+    ties: &mut Vec<Tie>,
+) -> Result<(), Unmade>
+    ensures { Finds (λ s. ties_of class x.now s keys.now) scene.now (put_there ties.new.items result) }
+{
+    ties.clear();
+    for key in keys {
+        match freeze_one(scene, class, x, *key, ties) {
+            Err(unmade) => return Err(unmade),
+            Ok(()) => {}
+        }
+    }
+    Ok(())
+}
+
+// The values that attributes have now, as ties in a list of their own.
+#[inline(never)]
+fn frozen(
+    scene: &Scene,
+    alloc: Global,
+    class: usize,
+    x: &Value,
+    keys: &[RankKey],
+) -> Result<Vec<Tie>, Unmade>
+    ensures ties { IfOk result (λ ties. Finds (λ s. ties_of class x.now s keys.now) scene.now (Ok ties.items)) }
+    ensures not { IfErr result (λ unmade. Finds {A = List TieSeen} (λ s. ties_of class x.now s keys.now) scene.now (Err unmade)) }
+{
+    let mut ties = Vec::new(alloc);
+    match freeze(scene, class, x, keys, &mut ties) {
+        Err(unmade) => Err(unmade),
+        Ok(()) => Ok(ties),
+    }
+}
+
+// The key of a notice of this rank, whose ties these attributes are.
+#[inline(always)]
+fn key_by(
+    scene: &Scene,
+    alloc: Global,
+    keys: &[RankKey],
+    rank: usize,
+    class: usize,
+    x: &Value,
+    time: i64,
+) -> Result<Key, Unmade>
+    ensures { Finds (λ s. turned (λ ties. record { time = time; rank = rank; ties = ties }) (ties_of class x.now s keys.now)) scene.now result }
+{
+    let ties = match keys {
+        [] => Vec::new(alloc),
+        _ => match frozen(scene, alloc, class, x, keys) {
+            Err(unmade) => return Err(unmade),
+            Ok(ties) => ties,
+        },
+    };
+    Ok(Key::with_ties(time, rank, ties))
+}
+
+// The key of a notice whose class has this rank.
+#[inline(always)]
+fn key_at(
+    scene: &Scene,
+    alloc: Global,
+    rank: usize,
+    class: usize,
+    x: &Value,
+    time: i64,
+) -> Result<Key, Unmade>
+    ensures { Finds (key_ranked (ranked_at scene.now.notices (Some rank)) class x.now time) scene.now result }
+{
+    match scene.notices.get(rank) {
+        None => Err(Unmade::Misfit),
+        Some(said) => key_by(scene, alloc, said.ties().as_slice(), rank, class, x, time),
+    }
+}
+
+// The key of a notice.
+#[inline(always)]
+fn key(scene: &Scene, alloc: Global, class: usize, x: &Value, time: i64) -> Result<Key, Unmade>
+    ensures { Finds (key_meant class x.now time) scene.now result }
+{
+    match rank_of(&scene.notices, class) {
+        None => Err(Unmade::Misfit),
+        Some(rank) => key_at(scene, alloc, rank, class, x, time),
+    }
+}
+
+// Whether the class of notices of this rank has no ties.
+#[inline(always)]
+fn is_untied(scene: &Scene, rank: usize) -> bool
+    ensures { result ≡ true → HasNoTies scene.now.notices rank }
+{
+    match scene.notices.get(rank) {
+        None => false,
+        Some(said) => has_no_ties(said),
+    }
+}
+
+// The rank of a class of notices, where it has no ties.
+#[inline(always)]
+fn rank_untied(scene: &Scene, class: usize) -> Option<usize>
+    ensures { IfSome result (λ rank. IsUntied scene.now.notices class rank) }
+{
+    match rank_of(&scene.notices, class) {
+        None => None,
+        Some(rank) => {
+            if is_untied(scene, rank) {
+                Some(rank)
+            } else {
+                None
+            }
+        }
+    }
+}
+
+// The key of a notice, by its number, with every care.
+#[inline(never)]
+fn key_apart(
+    scene: &Scene,
+    alloc: Global,
+    class: usize,
+    notice: Known,
+    time: i64,
+) -> Result<Key, Unmade>
+    ensures { Finds (key_meant class (Whole notice.number) time) scene.now result }
+{
+    key(scene, alloc, class, &Value::Whole(notice.number), time)
+}
+
+// The key of a notice, by its number.
+#[inline(always)]
+fn key_known(
+    scene: &Scene,
+    alloc: Global,
+    class: usize,
+    notice: Known,
+    time: i64,
+) -> Result<Key, Unmade>
+    ensures { Finds (key_meant class (Whole notice.number) time) scene.now result }
+{
+    match rank_untied(scene, class) {
+        Some(rank) => Ok(Key::with_ties(time, rank, Vec::new(alloc))),
+        None => key_apart(scene, alloc, class, notice, time),
+    }
+}
+
+// A notice is filed under a key, by its number.
+#[inline(always)]
+fn schedule_known(scene: &mut Scene, key: Key, known: Known) -> Result<(), Unmade>
+    ensures { Grows (scheduled_known key known.number) scene.old scene.new result }
+{
+    settled(scene.timeline.schedule(key, known.number))
+}
+
+// A notice is filed among those that are pending, by its number.
+#[inline(always)]
+fn file_pending(
+    scene: &mut Scene,
+    alloc: Global,
+    class: usize,
+    notice: Known,
+    time: i64,
+) -> Result<(), Unmade>
+    ensures { Grows (filed_notice class (Whole notice.number) time) scene.old scene.new result }
+{
+    match scene.find_by_number(class, notice) {
+        Err(trouble) => Err(lacking(trouble)),
+        Ok(known) => match key_known(scene, alloc, class, notice, time) {
+            Err(unmade) => Err(unmade),
+            Ok(key) => schedule_known(scene, key, known),
+        },
+    }
+}
+
+// The same by a call, which tells in one piece what it came to.
+#[inline(never)]
+fn file_apart(scene: &mut Scene, alloc: Global, class: usize, notice: Known, time: i64) -> Filed
+    ensures { Grows (filed_notice class (Whole notice.number) time) scene.old scene.new (filing_of result) }
+{
+    in_one(file_pending(scene, alloc, class, notice, time))
+}
+
+// A notice without ties is pending for a time and by a rank, by its number, where it is found at once that nothing is in the way; and
+// says whether it is. If not, nothing has changed.
+#[inline(always)]
+fn schedule_untied(scene: &mut Scene, rank: usize, notice: Known, time: i64) -> bool
+    ensures { Does (scheduled_known (record { time = time; rank = rank; ties = [] }) notice.number) result scene.old scene.new }
+{
+    if scene.timeline.schedule_at_once(time, rank, notice.number) {
+        return true;
+    }
+    false
+}
+
+// A notice of a class without ties is filed among those that are pending, by its number, where it is found at once that nothing is in
+// the way; and says whether it was. If not, nothing has changed.
+#[inline(always)]
+fn file_at_once(scene: &mut Scene, class: usize, notice: Known, time: i64) -> bool
+    ensures { Does (filed_notice class (Whole notice.number) time) result scene.old scene.new }
+{
+    if !scene.is_near(class, notice) {
+        return false;
+    }
+    match rank_untied(scene, class) {
+        Some(rank) => schedule_untied(scene, rank, notice, time),
+        None => false,
+    }
+}
+
+/// A notice is filed among those that are pending, by its number: for this time, by the rank of its class and the values
+/// that the attributes which break ties have now. Faults: 1 to 4, then 13 where the time is before TIME.V, then 11, then
+/// 14 after the last scheduling. Want of memory changes nothing.
+#[inline(always)]
+pub fn file_known(
+    scene: &mut Scene,
+    alloc: Global,
+    class: usize,
+    notice: Known,
+    time: i64,
+) -> Result<(), Unmade>
+    ensures { Grows (filed_notice class (Whole notice.number) time) scene.old scene.new result }
+{
+    if file_at_once(scene, class, notice, time) {
+        return Ok(());
+    }
+    as_told(file_apart(scene, alloc, class, notice, time))
+}
+
+// The same of a value that refers to a notice.
+#[inline(always)]
+fn file_any(
+    scene: &mut Scene,
+    alloc: Global,
+    class: usize,
+    x: &Value,
+    time: i64,
+) -> Result<(), Unmade>
+    ensures { Grows (filed_notice class x.now time) scene.old scene.new result }
+{
+    match x {
+        Value::Whole(number) => {
+            let notice = Known { number: *number };
+            file_known(scene, alloc, class, notice, time)
+        }
+        Value::Text(_) => Err(Unmade::Misfit),
+    }
+}
+
+/// The same of a value that refers to a notice.
+#[inline(never)]
+pub fn file_notice(
+    scene: &mut Scene,
+    alloc: Global,
+    class: usize,
+    x: Value,
+    time: i64,
+) -> Result<(), Unmade>
+    ensures { Grows (filed_notice class x time) scene.old scene.new result }
+{
+    file_any(scene, alloc, class, &x, time)
+}
+
+// A notice that is not pending gets values and its TIME.A, and is filed.
+fn schedule_anew(
+    scene: &mut Scene,
+    alloc: Global,
+    class: usize,
+    x: &Value,
+    given: &[Value],
+    time: i64,
+) -> Result<(), Unmade>
+    ensures { Goes (scheduled_anew class x.now given.now time) (prepared class x.now given.now time) scene.old scene.new result }
+{
+    match prepare(scene, class, x, given, time) {
+        Err(trouble) => Err(lacking(trouble)),
+        Ok(()) => file_any(scene, alloc, class, x, time),
+    }
+}
+
+// The same of a notice unless it is pending.
+fn schedule_again(
+    scene: &mut Scene,
+    alloc: Global,
+    class: usize,
+    x: &Value,
+    given: &[Value],
+    time: i64,
+) -> Result<(), Unmade>
+    ensures { Goes (rescheduled class x.now given.now time) (prepared class x.now given.now time) scene.old scene.new result }
+{
+    match scene.find(class, *x) {
+        Err(trouble) => Err(lacking(trouble)),
+        Ok(known) => {
+            if scene.timeline.is_scheduled(known.number) {
+                return Err(Unmade::Fault(FaultKind::AlreadyScheduled));
+            }
+            schedule_anew(scene, alloc, class, x, given, time)
+        }
+    }
+}
+
+/// A notice that there is gets values for its first attributes and its TIME.A, and is filed, as SCHEDULE THE says.
+/// Faults: 1 to 4, then 11, then 14 where a history of an attribute is full, then 13 where the time is before TIME.V,
+/// then 14 after the last scheduling. Where memory is wanting, it has its values and its TIME.A, and is not filed.
+pub fn reschedule(
+    scene: &mut Scene,
+    alloc: Global,
+    class: usize,
+    x: Value,
+    given: &[Value],
+    time: i64,
+) -> Result<(), Unmade>
+    ensures { Goes (rescheduled class x given.now time) (prepared class x given.now time) scene.old scene.new result }
+{
+    schedule_again(scene, alloc, class, &x, given, time)
+}
+
+// A trouble where memory might have been wanting.
+#[inline(always)]
+pub(crate) fn lacking(trouble: Trouble) -> Unmade
+    ensures { result ≡ lacking trouble }
+{
+    match trouble {
+        Trouble::Fault(kind) => Unmade::Fault(kind),
+        Trouble::Misfit => Unmade::Misfit,
+    }
+}
+
+// A tie comes behind others.
+#[inline(always)]
+fn put_tie(ties: &mut Vec<Tie>, value: Value, high: bool) -> Result<(), Unmade>
+    ensures { IsTied value high ties.old.items ties.new.items result }
+{
+    match ties.push(Tie { value, high }) {
+        Ok(()) => Ok(()),
+        Err(_) => Err(Unmade::Memory),
+    }
+}
+
+// What a call that needs memory comes to.
+fn settled(answer: Result<(), Refused>) -> Result<(), Unmade>
+    ensures { result ≡ settled answer }
+{
+    match answer {
+        Ok(()) => Ok(()),
+        Err(Refused::Fault(kind)) => Err(Unmade::Fault(kind)),
+        Err(Refused::Memory) => Err(Unmade::Memory),
+    }
+}

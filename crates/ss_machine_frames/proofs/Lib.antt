@@ -1,0 +1,13 @@
+mod Above
+mod LastValues
+mod Puts
+mod Whole
+mod Banked
+mod Layered
+mod Stacked
+mod Below
+mod Wholes
+mod Yields
+mod Short
+mod Fits
+mod Lasts

@@ -1,0 +1,6 @@
+pub mod Told
+pub mod Banks
+pub mod Frames
+pub mod Spots
+pub mod Ranged
+pub mod InPlace

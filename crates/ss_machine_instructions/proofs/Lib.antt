@@ -1,0 +1,10 @@
+mod Outcomes
+mod Counts
+pub mod Layered
+mod Popped
+mod Off
+mod Faults
+mod Indices
+mod Dues
+mod Began
+mod AtOnce

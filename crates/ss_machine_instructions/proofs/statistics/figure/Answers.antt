@@ -1,0 +1,12 @@
+use Rattle.std.proofs.Common.{refl}
+use Rattle.std.proofs.lemmas.Result.{IfOk-weaker}
+use Rattle.ss_machine_instructions.specs.Holding.{store_of, core_of}
+use Rattle.ss_machine_instructions.proofs.Faults.{kept_below, kept_scene}
+use Rattle.ss_machine_instructions.proofs.statistics.figure.Goals as goal
+
+pub returns : goal.returns
+returns c =
+    let old = c.args.working.now in
+    IfOk-weaker c.answer.result _ _ (λ outcome t. λ code input.
+    t input (core_of old input) _ _ _ (refl, kept_below old c.in-Some.ensures.below) (kept_scene old input c.figure-answer.ensures.same) refl
+    (c.figure-answer.ensures.value (store_of old input)) (c.in-Some.ensures.here _)) c.answer.ensures

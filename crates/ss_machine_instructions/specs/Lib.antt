@@ -1,0 +1,13 @@
+pub use Rattle.ss_machine_events.specs.Scheduled
+pub use Rattle.ss_machine_frames.specs.Frames
+pub use Rattle.ss_machine_world.specs.Filed
+pub use Rattle.ss_machine_world.specs.Filter
+pub use Rattle.ss_machine_world.specs.Seen
+pub use Rattle.ss_machine_world.specs.Skimmed
+pub use Rattle.ss_machine_world.specs.Skimming
+pub use Rattle.ss_machine_world.specs.Skims
+pub mod Holding
+pub mod Effects
+pub mod Quick
+pub mod AtOnce
+pub mod Beginning

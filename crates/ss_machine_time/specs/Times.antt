@@ -1,0 +1,58 @@
+-- What passes in time.
+use Rattle.std.specs.Prelude.{◌≡◌, List, ℤ, pos, int_lt, ◌≤ℤ◌, Option, Some, None, Result, Ok, Err, if◌then◌else◌}
+use Rattle.std.specs.List.{All}
+use Rattle.ss_base.specs.declared.fault.FaultKind.{FaultKind}
+use Rattle.ss_base.specs.declared.fault.FaultKind.TheVariants.{PastTime}
+use Rattle.ss_base.specs.declared.fault.Refused.{Refused}
+use Rattle.ss_base.specs.declared.fault.Refused.TheVariants.{Fault, Memory}
+use Rattle.ss_base.specs.declared.value.Value.{Value}
+use Rattle.ss_program.specs.declared.sections.Subject.{Subject}
+use Rattle.ss_world.specs.SortKey.{SortKey}
+use Rattle.ss_world.specs.PendingNotice.{PendingNotice}
+use Rattle.ss_world.specs.PendingList.{PendingList, scheduled, after_next}
+use Rattle.ss_stats_histories.specs.Records.{Records, columns_of, why}
+use Rattle.ss_stats_histories.specs.Store.{Column}
+use Rattle.ss_stats_histories.specs.Histories.{all_noting}
+use Rattle.ss_stats_histories.specs.declared.unnoted.Unnoted.{Unnoted}
+
+-- the time, the notices that are pending, and the histories
+pub record Times : Type 0 where
+  pub time : ℤ
+  pub pending : PendingList
+  pub histories : Records
+
+-- an entry has a time from this one on
+abbrev pub IsAhead : (time : ℤ) → PendingNotice → Type 0
+IsAhead t e = t ≤ℤ e.key.time
+
+-- no notice is pending for a time that is past, and no history goes beyond the time
+abbrev pub IsTimely : (time latest : ℤ) → List PendingNotice → Type 0
+IsTimely t latest es = (pos 0 ≤ℤ t) × (latest ≤ℤ t) × All (IsAhead t) es
+
+-- the histories as the meaning has them
+abbrev pub columns : Times → List Column
+columns t = columns_of t.histories.rows
+
+-- the same but for histories, of the same statistics
+abbrev pub IsAt : (old new : Times) → Type 0
+IsAt old new = (new.time ≡ old.time) × (new.pending ≡ old.pending) × (new.histories.statistics ≡ old.histories.statistics)
+
+-- time and notices once that which comes next was taken out
+abbrev pub passed_by : Option (ℤ × ℤ) → Times → Times
+passed_by None t = record t { pending = after_next t.pending }
+passed_by (Some n) t = record t { time = n.0; pending = after_next t.pending }
+
+-- the list after a notice is scheduled under a key, whose time is not past, or the fault
+abbrev pub placed : SortKey → (notice : ℤ) → Times → Result PendingList FaultKind
+placed key n t = if int_lt key.time t.time then Err PastTime else scheduled key n t.pending
+
+-- a notice is scheduled, or there is a fault or no memory, and nothing changes
+abbrev pub Schedules : SortKey → (notice : ℤ) → (old new : Times) → Result (Unit {0}) Refused → Type 0
+Schedules key n old new (Ok u) = (placed key n old ≡ Ok new.pending) × (new ≡ record old { pending = new.pending })
+Schedules key n old new (Err (Fault kind)) = (placed key n old ≡ Err kind) × (new ≡ old)
+Schedules key n old new (Err Memory) = new ≡ old
+
+-- histories note a value, or they don't, and nothing changes
+abbrev pub Noted : Subject → (entity : ℤ) → Value → (old new : Times) → Result (Unit {0}) Unnoted → Type 0
+Noted subject x v old new (Ok u) = (all_noting subject x old.time v old.histories.statistics (columns old) ≡ Ok (columns new)) × IsAt old new
+Noted subject x v old new (Err t) = (all_noting subject x old.time v old.histories.statistics (columns old) ≡ Err (why t)) × (new ≡ old)

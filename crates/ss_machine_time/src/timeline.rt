@@ -1,0 +1,356 @@
+//! TIME.V, the notices that are pending, and the histories.
+
+ghost use Rattle.std.specs.Prelude.{◌≡◌, ℕ, ◌≤ℤ◌, [], map, ℤ, pos, true, false, Ok, Err, MatchResult, IfOk, IfSome, OnOk};
+ghost use Rattle.ss_base.specs.declared.value.Value.{Value as ValueSeen};
+ghost use Rattle.std.specs.List.{list_any};
+ghost use Rattle.std.specs.Ordering.{int_eq};
+ghost use Rattle.ss_base.specs.declared.layout.Layout.{Layout as TheLayout};
+ghost use Rattle.ss_base.specs.declared.layout.Owner.TheVariants.{System, Class};
+ghost use Rattle.ss_world.specs.PendingList.{none_pending, is_pending, cancelled, next};
+ghost use Rattle.ss_stats_histories.specs.Places.{is_about};
+ghost use Rattle.ss_stats_histories.specs.Records.{HasRooms, IsOnly, OwnsNone, Spares, Takes, is_up_to, renewed_where, figured, mean_in, columns_of};
+ghost use Rattle.ss_stats_histories.specs.Histories.{no_histories, starting, ending, all_noting, history_of, folded, renewed};
+ghost use Rattle.ss_stats_histories.specs.Values.{if_ok, sure};
+ghost use Rattle.ss_picture.specs.Suited.{IsMean};
+ghost use Rattle.ss_program.specs.declared.sections.Subject.TheVariants.{OfVariable, OfAttribute, OfCount};
+ghost use Rattle.ss_base.specs.declared.value.Value.TheVariants.{Whole};
+ghost use Rattle.ss_machine_time.specs.Figures.{subject_in};
+ghost use Rattle.ss_machine_time.specs.Times.{IsAt, Schedules, Noted, columns, passed_by};
+
+use ss_base::{FaultKind, Layout, Owner, Refused, Value};
+use ss_events::{Key, Pending};
+use ss_program::expression::Fold;
+use ss_program::sections::{Statistic, Subject};
+use ss_stats_histories::{Histories, Unnoted};
+use ss_world::TieShape;
+use std::alloc::{AllocError, Global};
+use std::marker::Model;
+
+/// TIME.V, the notices that are pending, and the histories. No notice is pending for a time that is past.
+#[derive(Drop)]
+pub struct Timeline {
+    time: i64,
+    pending: Pending,
+    histories: Histories,
+}
+
+impl Model for Timeline {
+    ghost use Rattle.ss_machine_time.specs.Times.{Times, IsTimely};
+
+    ghost Value = { Times };
+
+    ghost view = { λ t. record { time = t.time; pending = t.pending.list; histories = t.histories } };
+
+    ghost invariant = { λ t. IsTimely t.time t.histories.latest t.pending.list.entries };
+}
+
+impl Timeline {
+    /// At the time 0, with nothing pending, ties of these shapes, and the histories of what the system has. The error
+    /// comes where memory was refused.
+    pub fn new(
+        alloc: Global,
+        layout: &Layout,
+        shapes: &[Vec<TieShape>],
+        statistics: &[Statistic],
+    ) -> Result<Timeline, AllocError>
+        ensures time { IfOk result (λ t. t.time ≡ pos 0) }
+        ensures pending { IfOk result (λ t. t.pending ≡ none_pending (map (λ ties. ties.items) shapes.now)) }
+        ensures statistics { IfOk result (λ t. t.histories.statistics ≡ statistics.now) }
+        ensures histories { IfOk result (λ t. columns t ≡ starting layout.now System (int_eq (pos 0)) (pos 0) statistics.now (no_histories statistics.now)) }
+    {
+        let pending = Pending::new(alloc, shapes)?;
+        let histories = system_started(alloc, layout, statistics)?;
+        Ok(Timeline {
+            time: 0,
+            pending,
+            histories,
+        })
+    }
+
+    /// TIME.V.
+    #[inline(always)]
+    pub fn time(&self) -> i64
+        ensures { result ≡ self.now.time }
+    {
+        self.time
+    }
+
+    /// The time and the number of the notice that comes next, if one is pending.
+    pub fn least(&mut self) -> Option<(i64, i64)>
+        ensures next { result ≡ next self.old.pending }
+        ensures same { self.new ≡ self.old }
+    {
+        self.pending.least()
+    }
+
+    /// Takes out the notice that comes next, and TIME.V is its time.
+    pub fn pass(&mut self)
+        ensures { self.new ≡ passed_by (next self.old.pending) self.old }
+    {
+        match self.pending.take() {
+            Some((time, _)) => {
+                self.time = time;
+            }
+            None => {}
+        }
+    }
+
+    /// Whether a notice is pending.
+    #[inline(always)]
+    pub fn is_scheduled(&self, notice: i64) -> bool
+        ensures { result ≡ is_pending notice self.now.pending.entries }
+    {
+        self.pending.is_scheduled(notice)
+    }
+
+    /// A notice is pending under a key. Faults: 13 where its time is before TIME.V, then 11, then 14 after the last
+    /// scheduling.
+    pub fn schedule(&mut self, key: Key, notice: i64) -> Result<(), Refused>
+        ensures { Schedules key notice self.old self.new result }
+    {
+        if key.is_before(self.time) {
+            return Err(Refused::Fault(FaultKind::PastTime));
+        }
+        self.pending.schedule(key, notice)
+    }
+
+    /// A notice without ties is pending for a time and by the rank of its class, where it is found at once that nothing is in the way;
+    /// and says whether it is. If not, nothing has changed.
+    #[inline(always)]
+    pub fn schedule_at_once(&mut self, time: i64, rank: usize, notice: i64) -> bool
+        ensures done { result ≡ true → Schedules (record { time = time; rank = rank; ties = [] }) notice self.old self.new (Ok tt) }
+        ensures kept { result ≡ false → self.new ≡ self.old }
+    {
+        time >= self.time && self.pending.schedule_at_once(time, rank, notice)
+    }
+
+    /// A notice is pending no longer. Faults: 12.
+    pub fn cancel(&mut self, notice: i64) -> Result<(), FaultKind>
+        ensures { MatchResult result (λ _. (cancelled notice self.old.pending ≡ Ok self.new.pending) × (self.new ≡ record self.old { pending = self.new.pending })) (λ e. (cancelled notice self.old.pending ≡ Err e) × (self.new ≡ self.old)) }
+    {
+        self.pending.cancel(notice)
+    }
+
+    /// Whether there are statistics.
+    #[inline(always)]
+    pub fn has_statistics(&self) -> bool
+        ensures { result ≡ false → self.now.histories.statistics ≡ [] }
+    {
+        self.histories.has_statistics()
+    }
+
+    /// Whether a statistic is about a subject.
+    pub fn watches(&self, subject: Subject) -> bool
+        ensures { result ≡ list_any (is_about subject) self.now.histories.statistics }
+    {
+        self.histories.watches(subject)
+    }
+
+    /// Whether no statistic is about a global variable: then noting a value of it changes nothing.
+    #[inline(always)]
+    pub fn ignores_variable(&self, number: usize) -> bool
+        ensures { result ≡ true → (x now : ℤ) (v : ValueSeen) → all_noting (OfVariable number) x now v self.now.histories.statistics (columns self.now) ≡ Ok (columns self.now) }
+    {
+        self.histories.ignores_variable(number)
+    }
+
+    /// What a statistic is about.
+    pub fn subject(&self, statistic: usize) -> Option<Subject>
+        ensures { result ≡ subject_in self.now.histories.statistics statistic }
+    {
+        self.histories.subject(statistic)
+    }
+
+    /// Notes a value of a subject in each history of it that an entity has. Faults: 14 where one of them is full.
+    #[inline(always)]
+    pub fn note(&mut self, subject: Subject, entity: i64, value: Value) -> Result<(), Unnoted>
+        ensures { Noted subject entity value self.old self.new result }
+    {
+        if !self.has_statistics() {
+            return Ok(());
+        }
+        self.histories.note(subject, entity, self.time, value)
+    }
+
+    /// The same of an attribute.
+    #[inline(always)]
+    pub fn note_attribute(
+        &mut self,
+        class: usize,
+        field: usize,
+        entity: i64,
+        value: Value,
+    ) -> Result<(), Unnoted>
+        ensures { Noted (OfAttribute class field) entity value self.old self.new result }
+    {
+        if !self.has_statistics() {
+            return Ok(());
+        }
+        self.histories
+            .note_attribute(class, field, entity, self.time, value)
+    }
+
+    /// Where the only statistic of N. of a set stands, if the history of its owner in it takes a number: then noting one
+    /// does not fail.
+    #[inline(always)]
+    pub fn taking(&self, set: usize, owner: i64) -> Option<usize>
+        ensures { IfSome result (λ place. IsOnly set place self.now.histories.statistics × Takes (OfCount set) owner self.now.time self.now.histories.statistics (columns self.now)) }
+    {
+        self.histories.taking(set, owner, self.time)
+    }
+
+    /// Notes N. of the set of an owner in the only statistic of it, whose history takes a number.
+    #[inline(always)]
+    pub fn note_count(&mut self, set: usize, place: usize, owner: i64, number: i64)
+        requires only { IsOnly set place self.old.histories.statistics }
+        requires takes { Takes (OfCount set) owner self.old.time self.old.histories.statistics (columns self.old) }
+        ensures { Noted (OfCount set) owner (Whole number) self.old self.new (Ok tt) }
+    {
+        self.histories
+            .note_count(set, place, owner, self.time, number);
+    }
+
+    /// Makes room for so many more histories of each statistic of what the entities of a class have. The error comes
+    /// where memory was refused.
+    #[inline(always)]
+    pub fn reserve(&mut self, layout: &Layout, class: usize, count: i64) -> Result<(), AllocError>
+        ensures same { self.new ≡ record self.old { histories = record self.old.histories { room = self.new.histories.room } } }
+        ensures room { OnOk result (HasRooms layout.now (Class class) count self.new.histories.statistics self.new.histories.room) }
+    {
+        if !self.has_statistics() {
+            return Ok(());
+        }
+        self.histories.reserve(layout, Owner::Class(class), count)
+    }
+
+    /// Starts the histories of an entity of a class, as it comes into being.
+    #[inline(always)]
+    pub fn start(&mut self, layout: &Layout, class: usize, entity: i64)
+        requires room { HasRooms layout.now (Class class) (pos 1) self.old.histories.statistics self.old.histories.room }
+        ensures started { columns self.new ≡ starting layout.now (Class class) (int_eq entity) self.old.time self.old.histories.statistics (columns self.old) }
+        ensures same { IsAt self.old self.new }
+    {
+        if self.has_statistics() {
+            self.histories
+                .start(layout, Owner::Class(class), entity, self.time);
+        }
+    }
+
+    /// Whether the entities of a class have a history, as it is told without a look at each statistic, where it is known whether
+    /// the class owns a set.
+    #[inline(always)]
+    pub fn bears(&self, owns: bool) -> bool
+        ensures { result ≡ false → (l : TheLayout) (class : ℕ) → (owns ≡ false → OwnsNone l class) → Spares l class self.now.histories }
+    {
+        owns || !self.histories.spares_setless()
+    }
+
+    /// Makes room for one more history of each statistic of what an entity of a class has, where it is known whether the class owns
+    /// a set. The error comes where memory was refused.
+    #[inline(always)]
+    pub fn reserve_one(
+        &mut self,
+        layout: &Layout,
+        class: usize,
+        owns: bool,
+    ) -> Result<(), AllocError>
+        requires owns { owns ≡ false → OwnsNone layout.now class }
+        ensures same { self.new ≡ record self.old { histories = record self.old.histories { room = self.new.histories.room } } }
+        ensures room { OnOk result (HasRooms layout.now (Class class) (pos 1) self.new.histories.statistics self.new.histories.room) }
+    {
+        if !self.bears(owns) {
+            return Ok(());
+        }
+        self.reserve(layout, class, 1)
+    }
+
+    /// Starts the histories of an entity of a class, as it comes into being, where it is known whether the class owns a set.
+    #[inline(always)]
+    pub fn start_one(&mut self, layout: &Layout, class: usize, owns: bool, entity: i64)
+        requires owns { owns ≡ false → OwnsNone layout.now class }
+        requires room { HasRooms layout.now (Class class) (pos 1) self.old.histories.statistics self.old.histories.room }
+        ensures started { columns self.new ≡ starting layout.now (Class class) (int_eq entity) self.old.time self.old.histories.statistics (columns self.old) }
+        ensures same { IsAt self.old self.new }
+    {
+        if self.bears(owns) {
+            self.start(layout, class, entity);
+        }
+    }
+
+    /// Starts the histories of the entities 1 to a number of a class.
+    pub fn start_all(&mut self, layout: &Layout, class: usize, count: i64)
+        requires room { HasRooms layout.now (Class class) count self.old.histories.statistics self.old.histories.room }
+        ensures started { columns self.new ≡ starting layout.now (Class class) (is_up_to count) self.old.time self.old.histories.statistics (columns self.old) }
+        ensures same { IsAt self.old self.new }
+    {
+        self.histories.start_all(layout, class, count, self.time);
+    }
+
+    /// Ends the histories of an entity of a class, as it goes.
+    #[inline(always)]
+    pub fn end(&mut self, layout: &Layout, class: usize, entity: i64)
+        ensures ended { columns self.new ≡ ending layout.now class entity self.old.histories.statistics (columns self.old) }
+        ensures same { IsAt self.old self.new }
+    {
+        if self.has_statistics() {
+            self.histories.end(layout, class, entity);
+        }
+    }
+
+    /// Ends the histories of an entity of a class, as it goes, where it is known whether the class owns a set.
+    #[inline(always)]
+    pub fn end_one(&mut self, layout: &Layout, class: usize, owns: bool, entity: i64)
+        requires owns { owns ≡ false → OwnsNone layout.now class }
+        ensures ended { columns self.new ≡ ending layout.now class entity self.old.histories.statistics (columns self.old) }
+        ensures same { IsAt self.old self.new }
+    {
+        if self.bears(owns) {
+            self.end(layout, class, entity);
+        }
+    }
+
+    /// What is asked of the history of an entity in a statistic, if it has one. Faults: 14.
+    pub fn figure(
+        &self,
+        fold: Fold,
+        statistic: usize,
+        entity: i64,
+    ) -> Option<Result<i64, FaultKind>>
+        ensures { if_ok (history_of statistic entity (columns self.now)) (folded fold self.now.time) ≡ figured result }
+    {
+        self.histories.figure(fold, statistic, entity, self.time)
+    }
+
+    /// The mean of the history of an entity in a statistic, if it has one: its exact sum and its number.
+    pub fn mean(&self, statistic: usize, entity: i64) -> Option<(i128, i64)>
+        ensures value { mean_in statistic entity self.now.time (columns self.now) ≡ sure result }
+        ensures is_mean { IfSome result (λ mean. IsMean mean.0 mean.1) }
+    {
+        self.histories.mean(statistic, entity, self.time)
+    }
+
+    /// Starts the history of an entity in a statistic afresh, with the present value, if it has one: whether it has.
+    pub fn renew(&mut self, statistic: usize, entity: i64, present: i64) -> bool
+        ensures renewed { renewed statistic entity self.old.time present (columns self.old) ≡ renewed_where result (columns self.new) }
+        ensures unchanged { (result ≡ false) → self.new ≡ self.old }
+        ensures same { IsAt self.old self.new }
+    {
+        self.histories.renew(statistic, entity, self.time, present)
+    }
+}
+
+// The histories of what the system has, at the time 0. The error comes where memory was refused.
+fn system_started(
+    alloc: Global,
+    layout: &Layout,
+    statistics: &[Statistic],
+) -> Result<Histories, AllocError>
+    ensures statistics { IfOk result (λ h. h.statistics ≡ statistics.now) }
+    ensures columns { IfOk result (λ h. columns_of h.rows ≡ starting layout.now System (int_eq (pos 0)) (pos 0) statistics.now (no_histories statistics.now)) }
+    ensures latest { IfOk result (λ h. h.latest ≤ℤ pos 0) }
+{
+    let mut histories = Histories::new(alloc, statistics)?;
+    histories.reserve(layout, Owner::System, 1)?;
+    histories.start(layout, Owner::System, 0, 0);
+    Ok(histories)
+}

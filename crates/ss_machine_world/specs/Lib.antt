@@ -1,0 +1,9 @@
+pub use Rattle.ss_machine_time.specs.Figures
+pub use Rattle.ss_machine_time.specs.Records
+pub use Rattle.ss_records.specs.Filter
+pub use Rattle.ss_records.specs.Skimmed
+pub use Rattle.ss_records.specs.Skimming
+pub mod Seen
+pub mod AtOnce
+pub mod Filed
+pub mod Skims

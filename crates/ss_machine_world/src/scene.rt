@@ -1,0 +1,68 @@
+//! What a run works on beside its variables.
+
+ghost use Rattle.std.specs.Prelude.{◌≡◌, IfOk, map, pos};
+ghost use Rattle.ss_world.specs.State.{first_state};
+ghost use Rattle.std.specs.Ordering.{int_eq};
+ghost use Rattle.ss_base.specs.declared.layout.Owner.TheVariants.{System};
+ghost use Rattle.ss_world.specs.PendingList.{none_pending};
+ghost use Rattle.ss_machine_time.specs.Records.{columns_of};
+ghost use Rattle.ss_meaning.specs.Histories.{no_histories, starting};
+
+use ss_base::{Discipline, Layout};
+use ss_machine_entities::NoticeClass;
+use ss_machine_entities::population::Population;
+use ss_machine_time::Timeline;
+use ss_program::sections::Statistic;
+use ss_world::TieShape;
+use std::alloc::{AllocError, Global};
+use std::marker::Model;
+
+/// What a run works on beside its variables: the entities, their sets, the time, the notices
+/// that are pending, and the histories that statistics are taken of.
+#[derive(Drop)]
+pub struct Scene {
+    /// The entities and their sets.
+    pub population: Population,
+    pub(crate) disciplines: Vec<Discipline>,
+    /// The classes of notices, by their ranks.
+    pub notices: Vec<NoticeClass>,
+    /// TIME.V, the notices that are pending, and the histories.
+    pub timeline: Timeline,
+    // Memory was refused to an entity that was to be made at once.
+    pub(crate) is_wanting: bool,
+}
+
+impl Model for Scene {
+    ghost use Rattle.ss_machine_world.specs.Seen.{Seen};
+
+    ghost Value = { Seen };
+
+    ghost view = { λ s. record { disciplines = s.disciplines.items; notices = s.notices.items; statistics = s.timeline.histories.statistics; heap = s.population; time = s.timeline.time; pending = s.timeline.pending; histories = s.timeline.histories.rows } };
+}
+
+impl Scene {
+    /// A scene without entities, at the time 0, with nothing pending: the sets of the layout are ordered by the
+    /// disciplines, and its classes of notices come in this order, with ties of these shapes. The histories of the
+    /// statistics of what the system has are started. The error comes where memory was refused.
+    pub fn new(
+        alloc: Global,
+        layout: Layout,
+        disciplines: Vec<Discipline>,
+        notices: Vec<NoticeClass>,
+        shapes: &[Vec<TieShape>],
+        statistics: &[Statistic],
+    ) -> Result<Scene, AllocError>
+        ensures scene { IfOk result (λ scene. scene ≡ record { disciplines = disciplines.items; notices = notices.items; statistics = statistics.now; heap = first_state layout; time = pos 0; pending = none_pending (map (λ ties. ties.items) shapes.now); histories = scene.histories }) }
+        ensures histories { IfOk result (λ scene. columns_of scene.histories ≡ starting layout System (int_eq (pos 0)) (pos 0) statistics.now (no_histories statistics.now)) }
+    {
+        let population = Population::new(alloc, layout)?;
+        let timeline = Timeline::new(alloc, population.layout(), shapes, statistics)?;
+        Ok(Scene {
+            population,
+            disciplines,
+            notices,
+            timeline,
+            is_wanting: false,
+        })
+    }
+}

@@ -1,0 +1,109 @@
+-- When a store fits a program: variables and attributes hold values of their modes, what is pending lives, and statistics have their histories.
+use Rattle.std.specs.Prelude.{◌≡◌, ℕ, ◌<◌, suc, List, map, length, ℤ, pos, negsuc, zero, Option, Some, None, Ok, slice_get}
+use Rattle.std.specs.List.{AllByRecursion as Every}
+use Rattle.ss_base.specs.declared.layout.ClassKind.{ClassKind}
+use Rattle.ss_base.specs.declared.layout.ClassKind.TheVariants.{Permanent, Temporary, Notice}
+use Rattle.ss_base.specs.declared.layout.Mode.{Mode}
+use Rattle.ss_base.specs.declared.layout.Owner.{Owner}
+use Rattle.ss_base.specs.declared.layout.Owner.TheVariants.{System, Class}
+use Rattle.ss_base.specs.declared.layout.Layout.{Layout}
+use Rattle.ss_base.specs.declared.value.Value.{Value}
+use Rattle.ss_base.specs.Layout.{mode_of}
+use Rattle.ss_world.specs.State.{Record, State, kind_of, modes_of, records_in}
+use Rattle.ss_stats.specs.History.{History}
+use Rattle.ss_program.specs.declared.sections.Subject.{Subject}
+use Rattle.ss_program.specs.declared.sections.Statistic.{Statistic}
+use Rattle.ss_program.specs.Program.{Program}
+use Rattle.ss_meaning.specs.Store.{Column, Scene, Store}
+use Rattle.ss_meaning.specs.Histories.{home}
+use Rattle.ss_meaning.specs.Meaning.{setting_of}
+
+-- the values hold these modes, and are as many
+abbrev pub Hold : List Value → List Mode → Type 0
+Hold vs modes = map mode_of vs ≡ modes
+
+-- ## Entities
+
+-- the record of an entity that lives has values of the modes of its class
+abbrev pub RecordFits : Layout → Option Record → Type 0
+RecordFits l None = Unit {0}
+RecordFits l (Some r) = Hold r.values (modes_of l r.class)
+
+abbrev pub HeapFits : State → Type 0
+HeapFits h =
+    Every (RecordFits h.layout) h.records
+    × ((k : ℕ) (rs : List Record) → slice_get h.permanents k ≡ Some (Some rs) → Every (λ (r : Record). Hold r.values (modes_of h.layout k)) rs)
+
+-- the class of the living entity of a creation number
+abbrev pub class_in : Option (Option Record) → Option ℕ
+class_in None = None
+class_in (Some None) = None
+class_in (Some (Some r)) = Some r.class
+
+abbrev pub living : State → ℤ → Option ℕ
+living h (pos zero) = None
+living h (pos (suc i)) = class_in (slice_get h.records i)
+living h (negsuc k) = None
+
+-- how many entities of a permanent class there are
+abbrev pub made : State → ℕ → ℕ
+made h class = length (records_in (slice_get h.permanents class))
+
+abbrev pub IsIndex : ℕ → ℤ → Type 0
+IsIndex n (pos zero) = ⊥
+IsIndex n (pos (suc i)) = i < n
+IsIndex n (negsuc k) = ⊥
+
+-- an entity of a class lives
+abbrev pub LivesAs : ClassKind → State → (class : ℕ) → ℤ → Type 0
+LivesAs Permanent h class x = IsIndex (made h class) x
+LivesAs Temporary h class x = living h x ≡ Some class
+LivesAs Notice h class x = living h x ≡ Some class
+
+abbrev pub Lives : State → (class : ℕ) → ℤ → Type 0
+Lives h class x = LivesAs (kind_of h.layout class) h class x
+
+-- it is a living notice
+abbrev pub IsNotice : State → ℤ → Type 0
+IsNotice h x = (class : ℕ) × (living h x ≡ Some class) × (kind_of h.layout class ≡ Notice)
+
+-- ## Histories
+
+-- an entity has a subject: the system as 0, or one that lives
+abbrev pub BearsBy : Owner → State → ℤ → Type 0
+BearsBy System h x = x ≡ pos 0
+BearsBy (Class class) h x = Lives h class x
+
+abbrev pub Bears : State → Subject → ℤ → Type 0
+Bears h subject x = BearsBy (home h.layout subject) h x
+
+-- a statistic has a history of an entity
+abbrev pub Has : Column → ℤ → Type 0
+Has c x = (history : History) × (c x ≡ Some history)
+
+-- the histories of a statistic are there, with one for each of these entities
+abbrev pub IsKept : (statistic : ℕ) → List Column → (ℤ → Type 0) → Type 0
+IsKept j cs these = (c : Column) × (slice_get cs j ≡ Some c) × ((x : ℤ) → these x → Has c x)
+
+abbrev pub HistoriesFit : List Statistic → State → List Column → Type 0
+HistoriesFit ss h cs = (j : ℕ) (t : Statistic) → slice_get ss j ≡ Some t → IsKept j cs (Bears h t.subject)
+
+-- ## Stores
+
+pub record SceneFits (p : Program) (c : Scene) : Type 0 where
+  pub setting : c.setting ≡ setting_of p
+  pub layout : c.heap.layout ≡ p.layout
+  pub heap : HeapFits c.heap
+  -- each notice that is pending lives
+  pub pending : Every (λ e. IsNotice c.heap e.notice) c.pending.entries
+  pub histories : HistoriesFit p.statistics c.heap c.histories
+
+-- a store apart from its local variables
+pub record Sound (p : Program) (s : Store) : Type 0 where
+  pub globals : Hold s.globals p.globals
+  pub scene : SceneFits p s.scene
+
+-- with local variables of these modes
+pub record Fits (p : Program) (modes : List Mode) (s : Store) : Type 0 where
+  pub sound : Sound p s
+  pub locals : Hold s.locals modes

@@ -1,2 +1,0 @@
-mod Each
-pub mod Numbers

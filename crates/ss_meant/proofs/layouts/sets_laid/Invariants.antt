@@ -1,7 +1,0 @@
-use Rattle.std.proofs.Common.{◌≡◌, Some}
-use Rattle.ss_contexts.specs.Answers.{each, upto}
-use Rattle.ss_meant.specs.Layouts.{set_laid}
-use Rattle.ss_meant.proofs.layouts.sets_laid.Given as goal
-
-abbrev pub invariant-loop-number : goal.invariant-loop-number
-invariant-loop-number l = each (set_laid l.names) (upto l.number) ≡ Some l.resolved.items

@@ -1,0 +1,8 @@
+-- Rows of names.
+use Rattle.std.specs.Prelude.{List}
+use Rattle.std.specs.Global.{Vec}
+use Rattle.ss_names_declarations.specs.Sayings.{NameBytes}
+
+-- the names of a row
+abbrev pub row_of : Vec NameBytes → List NameBytes
+row_of row = row.items

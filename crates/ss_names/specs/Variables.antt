@@ -1,0 +1,108 @@
+-- Global variables, routines, EVENT sections, and the classes of notices in the order of rank.
+use Rattle.std.specs.Prelude.{ℕ, Bool, true, false, is_some, List, [], ◌∷◌, ◌++◌, Option, Some, None, if◌then◌else◌}
+use Rattle.std.specs.List.{flat_map}
+use Rattle.ss_tree.specs.declared.preamble.ClassKind.{ClassKind}
+use Rattle.ss_tree.specs.declared.preamble.ClassKind.TheVariants as class_kinds
+use Rattle.ss_tree.specs.declared.preamble.Mode.TheVariants as modes
+use Rattle.ss_names_declarations.specs.declared.saying.Said.{Said}
+use Rattle.ss_names_declarations.specs.declared.saying.Said.TheVariants as said
+use Rattle.ss_names_declarations.specs.declared.saying.Saying.{Saying}
+use Rattle.ss_names_declarations.specs.Sayings.{NameBytes}
+use Rattle.ss_names.specs.declared.entry.Attribute.{Attribute}
+use Rattle.ss_names.specs.declared.entry.Class.{Class}
+use Rattle.ss_names.specs.declared.entry.Event.{Event}
+use Rattle.ss_names.specs.declared.entry.Routine.{Routine}
+use Rattle.ss_names.specs.declared.entry.Variable.{Variable}
+use Rattle.ss_names.specs.declared.entry.VariableKind.TheVariants.{Defined, OfClass, CountOf}
+use Rattle.ss_names.specs.Entities.{attributes, classes}
+use Rattle.ss_names_declarations.specs.Firsts.{entry_if, firsts, place_in, told_of}
+
+-- ---- global variables
+
+-- N. of a class
+abbrev pub count_name : NameBytes → NameBytes
+count_name class = 78 ∷ 46 ∷ class
+
+-- the variables of a class: that of its name, and N. of it where it is permanent
+abbrev pub class_variables : ClassKind → NameBytes → Option ℕ → List (NameBytes × Variable)
+class_variables kind name None = []
+class_variables class_kinds.Permanent name (Some class) =
+    (name, record { kind = OfClass class; mode = modes.Integer })
+    ∷ (count_name name, record { kind = CountOf class; mode = modes.Integer }) ∷ []
+class_variables class_kinds.Temporary name (Some class) = (name, record { kind = OfClass class; mode = modes.Integer }) ∷ []
+class_variables class_kinds.EventNotice name (Some class) = (name, record { kind = OfClass class; mode = modes.Integer }) ∷ []
+
+-- a DEFINE of an attribute as a variable declares no variable
+abbrev pub variable_told : List (NameBytes × Class) → List (NameBytes × Attribute) → Said → Option NameBytes → List (NameBytes × Variable)
+variable_told cs owned (said.Variable mode) (Some name) =
+    if is_some (told_of owned name) then [] else (name, record { kind = Defined; mode = mode }) ∷ []
+variable_told cs owned (said.Class kind) (Some name) = class_variables kind name (place_in cs name)
+variable_told cs owned _ _ = []
+
+abbrev pub variable_by : List (NameBytes × Class) → List (NameBytes × Attribute) → Saying → List (NameBytes × Variable)
+variable_by cs owned s = variable_told cs owned s.said s.name
+
+-- the global variables: those of DEFINE, the variable of each class, and N. of each permanent class
+abbrev pub variables : List Saying → List (NameBytes × Variable)
+variables says = firsts (flat_map (variable_by (classes says) (attributes says)) says)
+
+-- ---- sections
+
+abbrev pub routine_told : Said → Option NameBytes → List (NameBytes × Routine)
+routine_told (said.Routine section given yielding) (Some name) =
+    (name, record { section = section; given = given; yielding = yielding }) ∷ []
+routine_told _ _ = []
+
+abbrev pub routine_by : Saying → List (NameBytes × Routine)
+routine_by s = routine_told s.said s.name
+
+abbrev pub routines : List Saying → List (NameBytes × Routine)
+routines says = firsts (flat_map routine_by says)
+
+abbrev pub event_told : Said → Option NameBytes → List (NameBytes × Event)
+event_told (said.Event section given saving) (Some name) =
+    (name, record { section = section; given = given; saving = saving }) ∷ []
+event_told _ _ = []
+
+abbrev pub event_by : Saying → List (NameBytes × Event)
+event_by s = event_told s.said s.name
+
+-- the EVENT sections, by the names that they have
+abbrev pub events : List Saying → List (NameBytes × Event)
+events says = firsts (flat_map event_by says)
+
+-- ---- the order of rank
+
+abbrev pub is_notice_kind : ClassKind → Bool
+is_notice_kind class_kinds.Permanent = false
+is_notice_kind class_kinds.Temporary = false
+is_notice_kind class_kinds.EventNotice = true
+
+abbrev pub is_notice_class : Option Class → Bool
+is_notice_class None = false
+is_notice_class (Some class) = is_notice_kind class.kind
+
+-- a class of notices, with its number
+abbrev pub notice : List (NameBytes × Class) → NameBytes → List (NameBytes × ℕ)
+notice cs name = if is_notice_class (told_of cs name) then entry_if name (place_in cs name) else []
+
+abbrev pub priority_told : List (NameBytes × Class) → Said → Option NameBytes → List (NameBytes × ℕ)
+priority_told cs said.Priority (Some name) = notice cs name
+priority_told cs _ _ = []
+
+abbrev pub priority_by : List (NameBytes × Class) → Saying → List (NameBytes × ℕ)
+priority_by cs s = priority_told cs s.said s.name
+
+abbrev pub declared_told : List (NameBytes × Class) → Said → Option NameBytes → List (NameBytes × ℕ)
+declared_told cs (said.Class kind) (Some name) = notice cs name
+declared_told cs _ _ = []
+
+abbrev pub declared_by : List (NameBytes × Class) → Saying → List (NameBytes × ℕ)
+declared_by cs s = declared_told cs s.said s.name
+
+-- the classes of notices with their numbers: those of PRIORITY ORDER in that order, then the others as declared
+abbrev pub ranks_among : List (NameBytes × Class) → List Saying → List (NameBytes × ℕ)
+ranks_among cs says = firsts (flat_map (priority_by cs) says ++ flat_map (declared_by cs) says)
+
+abbrev pub ranks : List Saying → List (NameBytes × ℕ)
+ranks says = ranks_among (classes says) says

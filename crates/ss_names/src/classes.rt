@@ -1,0 +1,114 @@
+//! The classes, and the modes that DEFINE and NORMALLY say.
+
+ghost use Rattle.std.specs.Prelude.{◌≡◌, IfOk};
+ghost use Rattle.std.specs.List.{flat_map};
+ghost use Rattle.ss_names.specs.Entities.{class_by, defined_by, normal_told, usual_mode};
+ghost use Rattle.ss_names_declarations.specs.Firsts.{firsts};
+
+use crate::entry::Class;
+use crate::telling::{Telling, firsts_told};
+use ss_base::Name;
+use ss_names_declarations::{Said, Saying, Seed, Table, insert_first};
+use ss_tree::preamble::Mode;
+use std::alloc::{AllocError, Global};
+
+// The mode that NORMALLY says.
+fn normal(said: &Said) -> Option<Mode>
+    ensures { result ≡ normal_told said.now }
+{
+    match said {
+        Said::Normally { mode } => Some(*mode),
+        _ => None,
+    }
+}
+
+/// The mode that NORMALLY gives to every name that has none.
+pub fn usual_mode(sayings: &[Saying]) -> Option<Mode>
+    ensures { result ≡ usual_mode sayings.now }
+{
+    let mut found: Option<Mode> = None;
+    for saying in sayings {
+        found = found.or(normal(&saying.said));
+    }
+    found
+}
+
+// The modes of DEFINE.
+struct DefinedModes;
+
+impl Telling for DefinedModes {
+    type Told = Mode;
+
+    type Known = ();
+
+    ghost tells = { λ known. defined_by };
+
+    // Keeps the mode that a DEFINE gives a name.
+    fn note(
+        entries: &mut Table<Name, Mode>,
+        known: &(),
+        saying: &Saying,
+    ) -> Result<(), AllocError> {
+        match &saying.said {
+            Said::Variable { mode } => match &saying.name {
+                Some(name) => insert_first(entries, *name, *mode),
+                None => Ok(()),
+            },
+            _ => Ok(()),
+        }
+    }
+}
+
+/// Each name that a DEFINE gives a mode, with the first.
+pub fn defined_modes(
+    alloc: Global,
+    seed: Seed,
+    sayings: &[Saying],
+) -> Result<Table<Name, Mode>, AllocError>
+    ensures { IfOk result (λ entries. entries ≡ firsts (flat_map (defined_by) sayings.now)) }
+{
+    firsts_told::<DefinedModes>(alloc, seed, &(), sayings)
+}
+
+// The classes that are declared.
+struct Classes;
+
+impl Telling for Classes {
+    type Told = Class;
+
+    type Known = ();
+
+    ghost tells = { λ known. class_by };
+
+    // Keeps a class.
+    fn note(
+        entries: &mut Table<Name, Class>,
+        known: &(),
+        saying: &Saying,
+    ) -> Result<(), AllocError> {
+        match &saying.said {
+            Said::Class { kind } => match &saying.name {
+                Some(name) => {
+                    let class = Class {
+                        kind: *kind,
+                        line: saying.line,
+                    };
+                    insert_first(entries, *name, class)
+                },
+                None => Ok(()),
+            },
+            _ => Ok(()),
+        }
+    }
+}
+
+/// The classes, in the order of the text.
+pub fn classes_of(
+    alloc: Global,
+    seed: Seed,
+    sayings: &[Saying],
+) -> Result<Table<Name, Class>, AllocError>
+    ensures { IfOk result (λ entries. entries ≡ firsts (flat_map (class_by) sayings.now)) }
+{
+    firsts_told::<Classes>(alloc, seed, &(), sayings)
+}

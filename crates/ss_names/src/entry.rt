@@ -1,0 +1,79 @@
+//! What is told of the things that a preamble declares.
+
+use ss_base::{Line, Owner};
+use ss_names_declarations::SetRule;
+use ss_tree::preamble::{ClassKind, Mode, StatisticKind};
+
+/// A class.
+#[derive(Clone, Copy)]
+pub struct Class {
+    pub kind: ClassKind,
+    /// The line of its declaration.
+    pub line: Line,
+}
+
+/// An attribute: the number of its class, its number among the attributes of that class, and its mode, if
+/// a DEFINE or NORMALLY gives it one.
+#[derive(Clone, Copy)]
+pub struct Attribute {
+    pub class: usize,
+    pub field: usize,
+    pub mode: Option<Mode>,
+}
+
+/// How a DEFINE, the statement of this number in the preamble, orders a set.
+#[derive(Clone, Copy)]
+pub struct Ordering {
+    pub statement: usize,
+    pub rule: SetRule,
+}
+
+/// A set: who owns it, the number of the class of its members, and how a DEFINE orders it, each where it is
+/// said.
+#[derive(Clone, Copy)]
+pub struct Set {
+    pub owner: Option<Owner>,
+    pub member: Option<usize>,
+    pub ordering: Option<Ordering>,
+}
+
+/// What a global variable is.
+#[derive(Clone, Copy)]
+pub enum VariableKind {
+    /// That of a DEFINE.
+    Defined,
+    /// That of the class of this number, which has its name.
+    OfClass(usize),
+    /// N. of the class of this number.
+    CountOf(usize),
+}
+
+/// A global variable.
+#[derive(Clone, Copy)]
+pub struct Variable {
+    pub kind: VariableKind,
+    pub mode: Mode,
+}
+
+/// A routine: the number of its section, and how many values it is given and yields.
+#[derive(Clone, Copy)]
+pub struct Routine {
+    pub section: usize,
+    pub given: usize,
+    pub yielding: usize,
+}
+
+/// The EVENT section of a class: its number, how many values it is given, and whether it saves its notice.
+#[derive(Clone, Copy)]
+pub struct Event {
+    pub section: usize,
+    pub given: usize,
+    pub saving: bool,
+}
+
+/// A statistic: the number of the history that it tells of, and what it tells.
+#[derive(Clone, Copy)]
+pub struct Statistic {
+    pub history: usize,
+    pub kind: StatisticKind,
+}

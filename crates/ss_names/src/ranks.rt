@@ -1,0 +1,114 @@
+//! The classes of notices in the order of rank.
+
+ghost use Rattle.std.specs.Prelude.{◌≡◌, OnOk, IfOk};
+ghost use Rattle.std.specs.List.{fold};
+ghost use Rattle.ss_names_declarations.specs.Firsts.{told_of, with_first};
+ghost use Rattle.ss_names.specs.Variables.{declared_by, is_notice_kind, is_notice_class, notice, priority_by, ranks_among};
+
+use crate::entry::Class;
+use crate::telling::{Telling, firsts_told, more_told};
+use ss_base::Name;
+use ss_names_declarations::{Said, Saying, Table, insert_if};
+use ss_tree::preamble::ClassKind;
+use std::alloc::{AllocError, Global};
+
+// Whether the entities of a kind are notices.
+fn is_notice_kind(kind: ClassKind) -> bool
+    ensures { result ≡ is_notice_kind kind }
+{
+    match kind {
+        ClassKind::Permanent => false,
+        ClassKind::Temporary => false,
+        ClassKind::EventNotice => true,
+    }
+}
+
+// Whether a name is that of a class of notices.
+fn is_notice(classes: &Table<Name, Class>, name: &Name) -> bool
+    ensures { result ≡ is_notice_class (told_of classes.now name.now) }
+{
+    match classes.get(name).copied() {
+        None => false,
+        Some(class) => is_notice_kind(class.kind),
+    }
+}
+
+// Keeps a class of notices with its number.
+fn insert_notice(
+    entries: &mut Table<Name, usize>,
+    classes: &Table<Name, Class>,
+    name: &Name,
+) -> Result<(), AllocError>
+    ensures { OnOk result (entries.new ≡ fold with_first entries.old (notice classes.now name.now)) }
+{
+    if is_notice(classes, name) {
+        insert_if(entries, *name, classes.place(name))
+    } else {
+        Ok(())
+    }
+}
+
+// The classes of PRIORITY ORDER.
+struct Priorities;
+
+impl Telling for Priorities {
+    type Told = usize;
+
+    type Known = Table<Name, Class>;
+
+    ghost tells = { λ classes. priority_by classes };
+
+    // Keeps a class of notices that PRIORITY ORDER names.
+    fn note(
+        entries: &mut Table<Name, usize>,
+        classes: &Table<Name, Class>,
+        saying: &Saying,
+    ) -> Result<(), AllocError> {
+        match &saying.said {
+            Said::Priority => match &saying.name {
+                Some(name) => insert_notice(entries, classes, name),
+                None => Ok(()),
+            },
+            _ => Ok(()),
+        }
+    }
+}
+
+// The classes that are declared.
+struct Declared;
+
+impl Telling for Declared {
+    type Told = usize;
+
+    type Known = Table<Name, Class>;
+
+    ghost tells = { λ classes. declared_by classes };
+
+    // Keeps a class of notices that is declared.
+    fn note(
+        entries: &mut Table<Name, usize>,
+        classes: &Table<Name, Class>,
+        saying: &Saying,
+    ) -> Result<(), AllocError> {
+        match &saying.said {
+            Said::Class { .. } => match &saying.name {
+                Some(name) => insert_notice(entries, classes, name),
+                None => Ok(()),
+            },
+            _ => Ok(()),
+        }
+    }
+}
+
+/// The classes of notices with their numbers: those of PRIORITY ORDER in that order, then the others as
+/// declared.
+pub fn ranks_of(
+    alloc: Global,
+    classes: &Table<Name, Class>,
+    sayings: &[Saying],
+) -> Result<Table<Name, usize>, AllocError>
+    ensures { IfOk result (λ entries. entries ≡ ranks_among classes.now sayings.now) }
+{
+    let first = firsts_told::<Priorities>(alloc, classes.seed(), classes, sayings)?;
+    more_told::<Declared>(first, classes, sayings)
+}

@@ -1,0 +1,108 @@
+//! Routines and EVENT sections.
+
+ghost use Rattle.std.specs.Prelude.{◌≡◌, IfOk};
+ghost use Rattle.std.specs.List.{flat_map};
+ghost use Rattle.ss_names_declarations.specs.Firsts.{firsts};
+ghost use Rattle.ss_names.specs.Variables.{event_by, routine_by};
+
+use crate::entry::{Event, Routine};
+use crate::telling::{Telling, firsts_told};
+use ss_base::Name;
+use ss_names_declarations::{Said, Saying, Seed, Table, insert_first};
+use std::alloc::{AllocError, Global};
+
+// The routines.
+struct Routines;
+
+impl Telling for Routines {
+    type Told = Routine;
+
+    type Known = ();
+
+    ghost tells = { λ known. routine_by };
+
+    // Keeps a routine.
+    fn note(
+        entries: &mut Table<Name, Routine>,
+        known: &(),
+        saying: &Saying,
+    ) -> Result<(), AllocError> {
+        match &saying.said {
+            Said::Routine {
+                section,
+                given,
+                yielding,
+            } => match &saying.name {
+                Some(name) => {
+                    let routine = Routine {
+                        section: *section,
+                        given: *given,
+                        yielding: *yielding,
+                    };
+                    insert_first(entries, *name, routine)
+                },
+                None => Ok(()),
+            },
+            _ => Ok(()),
+        }
+    }
+}
+
+/// The routines, in the order of the text.
+pub fn routines_of(
+    alloc: Global,
+    seed: Seed,
+    sayings: &[Saying],
+) -> Result<Table<Name, Routine>, AllocError>
+    ensures { IfOk result (λ entries. entries ≡ firsts (flat_map (routine_by) sayings.now)) }
+{
+    firsts_told::<Routines>(alloc, seed, &(), sayings)
+}
+
+// The EVENT sections.
+struct Events;
+
+impl Telling for Events {
+    type Told = Event;
+
+    type Known = ();
+
+    ghost tells = { λ known. event_by };
+
+    // Keeps an EVENT section.
+    fn note(
+        entries: &mut Table<Name, Event>,
+        known: &(),
+        saying: &Saying,
+    ) -> Result<(), AllocError> {
+        match &saying.said {
+            Said::Event {
+                section,
+                given,
+                saving,
+            } => match &saying.name {
+                Some(name) => {
+                    let event = Event {
+                        section: *section,
+                        given: *given,
+                        saving: *saving,
+                    };
+                    insert_first(entries, *name, event)
+                },
+                None => Ok(()),
+            },
+            _ => Ok(()),
+        }
+    }
+}
+
+/// The EVENT sections, by the names that they have.
+pub fn events_of(
+    alloc: Global,
+    seed: Seed,
+    sayings: &[Saying],
+) -> Result<Table<Name, Event>, AllocError>
+    ensures { IfOk result (λ entries. entries ≡ firsts (flat_map (event_by) sayings.now)) }
+{
+    firsts_told::<Events>(alloc, seed, &(), sayings)
+}

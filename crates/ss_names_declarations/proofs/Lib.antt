@@ -1,0 +1,3 @@
+mod Rows
+pub mod Rooms
+pub mod Entries

@@ -1,0 +1,4 @@
+pub mod Sayings
+pub mod Examples
+pub mod Firsts
+pub mod Spellings

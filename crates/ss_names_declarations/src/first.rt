@@ -1,0 +1,63 @@
+//! The first of what is told of each name.
+
+ghost use Rattle.std.specs.Prelude.{◌≡◌, is_some, slice_get, OnOk};
+ghost use Rattle.std.specs.List.{fold};
+ghost use Rattle.std.specs.Map.{keys_of, values_of};
+ghost use Rattle.ss_names_declarations.specs.Firsts.{entry_if, told_of, with_first};
+
+use crate::table::Table;
+use ss_base::Name;
+use std::alloc::AllocError;
+
+/// Keeps what is told of a name behind the others, unless something is told of it, and then all stays as it
+/// was.
+///
+/// # Errors
+/// `AllocError` where memory is refused.
+pub fn insert_first<V: Copy>(
+    entries: &mut Table<Name, V>,
+    name: Name,
+    value: V,
+) -> Result<(), AllocError>
+    ensures { OnOk result (entries.new ≡ with_first entries.old (name, value)) }
+{
+    entries.insert_new(name, value)
+}
+
+/// The same, where there is something to tell.
+///
+/// # Errors
+/// `AllocError` where memory is refused.
+pub fn insert_if<V: Copy>(
+    entries: &mut Table<Name, V>,
+    name: Name,
+    value: Option<V>,
+) -> Result<(), AllocError>
+    ensures { OnOk result (entries.new ≡ fold with_first entries.old (entry_if name value)) }
+{
+    match value {
+        Some(value) => insert_first(entries, name, value),
+        None => Ok(()),
+    }
+}
+
+/// Whether something is told of a name.
+pub fn is_told<V: Copy>(entries: &Table<Name, V>, name: &Name) -> bool
+    ensures { result ≡ is_some (told_of entries.now name.now) }
+{
+    entries.get(name).is_some()
+}
+
+/// The name of this number. None where there are not so many.
+pub fn key_at<V: Copy>(entries: &Table<Name, V>, number: usize) -> Option<Name>
+    ensures { result ≡ slice_get (keys_of entries.now) number }
+{
+    entries.keys().get(number).copied()
+}
+
+/// What is told of the name of this number. None where there are not so many.
+pub fn value_at<V: Copy>(entries: &Table<Name, V>, number: usize) -> Option<V>
+    ensures { result ≡ slice_get (values_of entries.now) number }
+{
+    entries.values().get(number).copied()
+}

@@ -1,0 +1,20 @@
+//! What a program declares, as a list, and tables by names in which the first of two entries counts.
+#![tactic(auto)]
+
+mod first;
+mod keys;
+mod saying;
+mod sayings;
+mod seed;
+mod spelled;
+mod spelling;
+mod table;
+
+pub use first::{insert_first, insert_if, is_told, key_at, value_at};
+pub use keys::Keys;
+pub use saying::{Said, Saying, SetRule};
+pub use sayings::sayings_of;
+pub use seed::Seed;
+pub use spelled::{insert_spelled, spelled_at};
+pub use spelling::{SPELLING_LIMIT, Spelling};
+pub use table::Table;

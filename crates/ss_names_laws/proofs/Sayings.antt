@@ -1,0 +1,181 @@
+-- What is said, and of what.
+use Rattle.std.proofs.Common.{◌≡◌, ℕ, true, List, ◌⊎◌, ⊎_elim, inl, inr, Option, Some, None, refl, sym, ap, ◌∙◌, subst, nat_eq}
+use Rattle.std.specs.Option.{option_eq}
+use Rattle.std.specs.List.{find}
+use Rattle.std.specs.Cmp.Lexicographic.{pointwise}
+use Rattle.std.proofs.lemmas.Bool.{and_parts, and_from, eqb-true, eq-eqb}
+use Rattle.ss_tree.specs.declared.preamble.ClassKind.{ClassKind}
+use Rattle.ss_tree.specs.declared.preamble.ClassKind.TheVariants as class_kinds
+use Rattle.ss_tree.specs.declared.preamble.Mode.{Mode}
+use Rattle.ss_names_declarations.specs.declared.saying.Said.{Said}
+use Rattle.ss_names_declarations.specs.declared.saying.Said.TheVariants as said
+use Rattle.ss_names_declarations.specs.declared.saying.Saying.{Saying}
+use Rattle.ss_names_declarations.specs.Sayings.{NameBytes}
+use Rattle.ss_tables_rules.specs.declared.topic.Topic.{Topic}
+use Rattle.ss_tables_rules.specs.declared.topic.Topic.TheVariants as topics
+use Rattle.ss_tables_rules.specs.Topics.{Thing, global, thing_of, section_of, same_thing, is_about, is_said_by, is_said, class_in, class_told, class_of}
+use Rattle.ss_names_laws.specs.Lists.{Somewhere}
+use Rattle.ss_names_laws.specs.Declarations.{Says, IsOwned, HasMembers}
+use Rattle.ss_names_laws.proofs.Lists.{Among, somewhere, found, found_first, is_found, holds_among, pick, some_equal, names_equal, same_as_itself}
+
+-- ---- one thing
+
+same_options : (a b : Option NameBytes) → option_eq (pointwise nat_eq) a b ≡ true → a ≡ b
+same_options None None h = refl
+same_options None (Some b) h = absurd cc
+same_options (Some a) None h = absurd cc
+same_options (Some a) (Some b) h = ap Some (names_equal a b h)
+
+option_itself : (a : Option NameBytes) → option_eq (pointwise nat_eq) a a ≡ true
+option_itself None = refl
+option_itself (Some a) = same_as_itself a
+
+pub things_equal : (a b : Thing) → same_thing a b ≡ true → a ≡ b
+things_equal a b h =
+    let parts = and_parts (nat_eq a.0 b.0) (option_eq (pointwise nat_eq) a.1 b.1) h in
+    let first = eqb-true a.0 b.0 parts.0 in
+    let second = same_options a.1 b.1 parts.1 in
+    λ i. (first i, second i)
+
+pub thing_itself : (a : Thing) → same_thing a a ≡ true
+thing_itself a = and_from (nat_eq a.0 a.0) (option_eq (pointwise nat_eq) a.1 a.1) (eq-eqb a.0 a.0 refl) (option_itself a.1)
+
+-- ---- what is said of a thing
+
+-- a saying about this, of that thing
+abbrev pub IsOf : Topic → Thing → Saying → Type 0
+IsOf topic thing s = (is_about topic s.said ≡ true) × (thing_of s ≡ thing)
+
+pub said_by : (topic : Topic) (thing : Thing) (s : Saying) → is_said_by topic thing s ≡ true → IsOf topic thing s
+said_by topic thing s h =
+    let parts = and_parts (is_about topic s.said) (same_thing thing (thing_of s)) h in
+    (parts.0, sym (things_equal thing (thing_of s) parts.1))
+
+pub by_said : (topic : Topic) (thing : Thing) (s : Saying) → IsOf topic thing s → is_said_by topic thing s ≡ true
+by_said topic thing s h =
+    and_from (is_about topic s.said) (same_thing thing (thing_of s)) h.0 (subst (λ t. same_thing thing t ≡ true) (sym h.1) (thing_itself thing))
+
+pub who_says : (topic : Topic) (says : List Saying) (thing : Thing) → is_said topic says thing ≡ true → Somewhere (IsOf topic thing) says
+who_says topic says thing h =
+    somewhere (λ s. is_said_by topic thing s ≡ true) (IsOf topic thing) (said_by topic thing) says (found (is_said_by topic thing) says h)
+
+-- ---- what a saying about this says
+
+pub of_notice : (w : Said) → is_about topics.Notice w ≡ true → w ≡ said.Class class_kinds.EventNotice
+of_notice (said.Class class_kinds.EventNotice) h = refl
+of_notice _ h = absurd cc
+
+pub of_class : (w : Said) → is_about topics.Class w ≡ true → (kind : ClassKind) × (w ≡ said.Class kind)
+of_class (said.Class kind) h = (kind, refl)
+of_class _ h = absurd cc
+
+pub of_attribute : (w : Said) → is_about topics.Attribute w ≡ true → (class : NameBytes) × (w ≡ said.Attribute class)
+of_attribute (said.Attribute class) h = (class, refl)
+of_attribute _ h = absurd cc
+
+pub of_member : (w : Said) → is_about topics.Member w ≡ true → (class : NameBytes) × (w ≡ said.MemberSet class)
+of_member (said.MemberSet class) h = (class, refl)
+of_member _ h = absurd cc
+
+pub of_owner : (w : Said) → is_about topics.Owner w ≡ true → (w ≡ said.SystemSet) ⊎ ((class : NameBytes) × (w ≡ said.OwnedSet class))
+of_owner said.SystemSet h = inl refl
+of_owner (said.OwnedSet class) h = inr (class, refl)
+of_owner _ h = absurd cc
+
+pub of_set : (w : Said) → is_about topics.Set w ≡ true → (is_about topics.Owner w ≡ true) ⊎ (is_about topics.Member w ≡ true)
+of_set said.SystemSet h = inl refl
+of_set (said.OwnedSet class) h = inl refl
+of_set (said.MemberSet class) h = inr refl
+of_set _ h = absurd cc
+
+pub of_variable : (w : Said) → is_about topics.Variable w ≡ true → (mode : Mode) × (w ≡ said.Variable mode)
+of_variable (said.Variable mode) h = (mode, refl)
+of_variable _ h = absurd cc
+
+pub of_local : (w : Said) → is_about topics.Local w ≡ true → (mode : Mode) × (w ≡ said.Local (section_of w) mode)
+of_local (said.Local section mode) h = (mode, refl)
+of_local _ h = absurd cc
+
+pub of_event : (w : Said) → is_about topics.Event w ≡ true → section_of w ≡ 0
+of_event (said.Event section given saving) h = refl
+of_event _ h = absurd cc
+
+-- ---- what is said of a name
+
+module _ (says : List Saying) where
+  -- a saying that is there
+  pub says_so : (s : Saying) (what : Said) (name : NameBytes) → Among says s → s.said ≡ what → s.name ≡ Some name → Says says what name
+  says_so s what name a e n = holds_among (λ (t : Saying). (t.said ≡ what) × (t.name ≡ Some name)) says s a (e, n)
+
+  -- what is said is said by a saying that is there
+  pub saying_of : (what : Said) (name : NameBytes) → Says says what name → (s : Saying) × ((s.said ≡ what) × (s.name ≡ Some name)) × Among says s
+  saying_of what name h = pick (λ (t : Saying). (t.said ≡ what) × (t.name ≡ Some name)) says h
+
+  pub notice_said : (name : NameBytes) → Somewhere (IsOf topics.Notice (global name)) says → Says says (said.Class class_kinds.EventNotice) name
+  notice_said name h =
+      let p = pick (IsOf topics.Notice (global name)) says h in
+      says_so p.0 (said.Class class_kinds.EventNotice) name p.2 (of_notice p.0.said p.1.0) (ap (λ t. t.1) p.1.1)
+
+  pub owner_said : (name : NameBytes) → Somewhere (IsOf topics.Owner (global name)) says → IsOwned says name
+  owner_said name h =
+      let p = pick (IsOf topics.Owner (global name)) says h in
+      ⊎_elim (λ e. inl (says_so p.0 said.SystemSet name p.2 e (ap (λ t. t.1) p.1.1)))
+      (λ e. inr (e.0, says_so p.0 (said.OwnedSet e.0) name p.2 e.1 (ap (λ t. t.1) p.1.1)))
+      (of_owner p.0.said p.1.0)
+
+  pub member_said : (name : NameBytes) → Somewhere (IsOf topics.Member (global name)) says → HasMembers says name
+  member_said name h =
+      let p = pick (IsOf topics.Member (global name)) says h in
+      let e = of_member p.0.said p.1.0 in
+      (e.0, says_so p.0 (said.MemberSet e.0) name p.2 e.1 (ap (λ t. t.1) p.1.1))
+
+  pub set_said : (name : NameBytes) → Somewhere (IsOf topics.Set (global name)) says → IsOwned says name ⊎ HasMembers says name
+  set_said name h =
+      let p = pick (IsOf topics.Set (global name)) says h in
+      ⊎_elim (λ e. inl (owner_said name (holds_among (IsOf topics.Owner (global name)) says p.0 p.2 (e, p.1.1))))
+      (λ e. inr (member_said name (holds_among (IsOf topics.Member (global name)) says p.0 p.2 (e, p.1.1))))
+      (of_set p.0.said p.1.0)
+
+  pub variable_said : (name : NameBytes) → Somewhere (IsOf topics.Variable (global name)) says → (mode : Mode) × Says says (said.Variable mode) name
+  variable_said name h =
+      let p = pick (IsOf topics.Variable (global name)) says h in
+      let e = of_variable p.0.said p.1.0 in
+      (e.0, says_so p.0 (said.Variable e.0) name p.2 e.1 (ap (λ t. t.1) p.1.1))
+
+  pub local_said : (section : ℕ) (name : NameBytes) → Somewhere (IsOf topics.Local (section, Some name)) says → (mode : Mode) × Says says (said.Local section mode) name
+  local_said section name h =
+      let p = pick (IsOf topics.Local (section, Some name)) says h in
+      let e = of_local p.0.said p.1.0 in
+      (e.0, says_so p.0 (said.Local section e.0) name p.2 (e.1 ∙ ap (λ k. said.Local k e.0) (ap (λ t. t.0) p.1.1)) (ap (λ t. t.1) p.1.1))
+
+  -- ---- the class of an attribute, or of a set's members
+
+  told : (o : Option Saying) (class : NameBytes) → class_told o ≡ Some class → (s : Saying) × (o ≡ Some s) × (class_in s.said ≡ Some class)
+  told None class h = absurd cc
+  told (Some s) class h = (s, refl, h)
+
+  class_there : (w : Said) (class other : NameBytes) → w ≡ said.Attribute other → class_in w ≡ Some class → w ≡ said.Attribute class
+  class_there w class other e h =
+      let one : Some other ≡ Some class = ap class_in (sym e) ∙ h in
+      e ∙ ap said.Attribute (some_equal other class one)
+
+  -- what the class of an attribute is is said of it
+  pub attribute_class_said : (key class : NameBytes) → class_of topics.Attribute says (global key) ≡ Some class → Says says (said.Attribute class) key
+  attribute_class_said key class h =
+      let t = told (find (is_said_by topics.Attribute (global key)) says) class h in
+      let f = found_first (is_said_by topics.Attribute (global key)) says t.0 t.1 in
+      let of = said_by topics.Attribute (global key) t.0 f.0 in
+      let e = of_attribute t.0.said of.0 in
+      says_so t.0 (said.Attribute class) key f.1 (class_there t.0.said class e.0 e.1 t.2) (ap (λ u. u.1) of.1)
+
+  -- a set with members has a class of members, which is said of it
+  pub member_class_said : (set : NameBytes) → HasMembers says set → (class : NameBytes) × (class_of topics.Member says (global set) ≡ Some class) × Says says (said.MemberSet class) set
+  member_class_said set h =
+      let p = saying_of (said.MemberSet h.0) set h.1 in
+      let of : IsOf topics.Member (global set) p.0 = (ap (is_about topics.Member) p.1.0, λ i. (section_of (p.1.0 i), p.1.1 i)) in
+      let there = is_found (is_said_by topics.Member (global set)) says
+      (holds_among (λ s. is_said_by topics.Member (global set) s ≡ true) says p.0 p.2 (by_said topics.Member (global set) p.0 of)) in
+      let f = found_first (is_said_by topics.Member (global set)) says there.0 there.1 in
+      let first = said_by topics.Member (global set) there.0 f.0 in
+      let e = of_member there.0.said first.0 in
+      (e.0, ap class_told there.1 ∙ ap class_in e.1, says_so there.0 (said.MemberSet e.0) set f.1 e.1 (ap (λ u. u.1) first.1))

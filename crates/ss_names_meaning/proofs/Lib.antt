@@ -1,0 +1,4 @@
+pub mod Each
+pub mod Steps
+mod EachThat
+pub mod Numbers

@@ -1,0 +1,45 @@
+-- Steps that may have no result, and what a call answers for them.
+use Rattle.std.specs.Prelude.{◌≡◌, ℕ, zero, suc, Bool, true, false, List, [], ◌∷◌, ◌++◌, Option, Some, None, Result, Ok, Err}
+use Rattle.ss_names_meaning.specs.declared.error.ResolveError.{ResolveError}
+use Rattle.ss_names_meaning.specs.declared.error.ResolveError.TheVariants.{Memory, Unresolved}
+
+-- one step after the other
+infixl 10 ◌>>=◌
+abbrev pub ◌>>=◌ : {A B : Type 0} → Option A → (A → Option B) → Option B
+(Some x) >>= next = next x
+None >>= next = None
+
+-- the results of a step for each item of a list
+unfoldable pub each : {A B : Type 0} → (A → Option B) → List A → Option (List B)
+each step [] = Some []
+each step (x ∷ xs) = do
+  y ← step x
+  ys ← each step xs
+  Some (y ∷ ys)
+
+-- the result of a step for what may be there
+abbrev pub if_there : {A B : Type 0} → (A → Option B) → Option A → Option (Option B)
+if_there step None = Some None
+if_there step (Some x) = do
+  y ← step x
+  Some (Some y)
+
+-- a value, where a test holds
+abbrev pub where_holds : {A : Type 0} → Bool → A → Option A
+where_holds true x = Some x
+where_holds false x = None
+
+-- numbers below one
+unfoldable pub upto : ℕ → List ℕ
+upto zero = []
+upto (suc n) = upto n ++ n ∷ []
+
+-- what a call failed with, where this was to be found: there is nothing to find, or memory was refused
+abbrev pub Fails : {Y : Type 0} → ResolveError → Option Y → Type 0
+Fails Memory found = Unit {0}
+Fails Unresolved found = found ≡ None
+
+-- a call answers what is to be found, which its value stands for by view, unless memory is refused
+abbrev pub Gives : {X Y : Type 0} → (X → Y) → Result X ResolveError → Option Y → Type 0
+Gives view (Ok x) found = found ≡ Some (view x)
+Gives view (Err e) found = Fails e found

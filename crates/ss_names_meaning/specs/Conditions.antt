@@ -1,0 +1,41 @@
+-- Conditions in which each name is replaced by what it stands for.
+use Rattle.std.specs.Prelude.{List, Option, Some, None}
+use Rattle.ss_tree.specs.declared.condition.Relation.{Relation as RelationWord}
+use Rattle.ss_tree.specs.declared.condition.Relation.TheVariants as words
+use Rattle.ss_tree.specs.Tree.{TestTree, compare, empty, member, data_ended, ConditionTree}
+use Rattle.ss_program.specs.declared.condition.Relation.{Relation}
+use Rattle.ss_program.specs.declared.condition.Relation.TheVariants.{Equal, NotEqual, Less, Greater, LessOrEqual, GreaterOrEqual}
+use Rattle.ss_program.specs.Program.{Test, Compare, DataEnded, Empty, Member, Condition}
+use Rattle.ss_names_meaning.specs.Answers.{◌>>=◌, each}
+use Rattle.ss_names_meaning.specs.Contexts.{Context}
+use Rattle.ss_names_meaning.specs.Expressions.{expression, set_named}
+
+abbrev pub relation_of : RelationWord → Relation
+relation_of words.Equal = Equal
+relation_of words.NotEqual = NotEqual
+relation_of words.Less = Less
+relation_of words.Greater = Greater
+relation_of words.LessOrEqual = LessOrEqual
+relation_of words.GreaterOrEqual = GreaterOrEqual
+
+unfoldable pub one_test : Context → TestTree → Option Test
+one_test c (compare left relation right) = do
+  x ← expression c left
+  y ← expression c right
+  Some (Compare (relation_of relation) x y)
+one_test c (empty set negated) = do
+  s ← set_named c set
+  Some (Empty negated s.0 s.1)
+one_test c (member e set negated) = do
+  x ← expression c e
+  s ← set_named c set
+  Some (Member negated s.0 x s.1)
+one_test c (data_ended negated) = Some (DataEnded negated)
+
+-- tests joined by AND
+abbrev pub conjunction : Context → List TestTree → Option (List Test)
+conjunction c tests = each (one_test c) tests
+
+-- conjunctions joined by OR
+abbrev pub condition : Context → ConditionTree → Option Condition
+condition c alternatives = each (conjunction c) alternatives

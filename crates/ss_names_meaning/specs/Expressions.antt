@@ -1,0 +1,178 @@
+-- Expressions, targets and sets in which each name is replaced by what it stands for.
+use Rattle.std.specs.Prelude.{ℕ, List, [], ◌∷◌, option_map, Option, Some, None}
+use Rattle.ss_base.specs.declared.value.Value.TheVariants.{Whole, Text}
+use Rattle.ss_tree.specs.declared.expression.Sign.{Sign as SignWord}
+use Rattle.ss_tree.specs.declared.expression.Sign.TheVariants as signs
+use Rattle.ss_tree.specs.declared.expression.Function.TheVariants.{Div, Mod, Abs, Min, Max}
+use Rattle.ss_tree.specs.Tree.{ExpressionTree, number, text, named, call, parenthesised, product, signed, sum, ExpressionRow, no_expression, and_expression, TermRow, no_term, and_term, NamedTree}
+use Rattle.ss_program.specs.declared.expression.Variable.{Variable}
+use Rattle.ss_program.specs.declared.expression.Variable.TheVariants.{Global}
+use Rattle.ss_program.specs.declared.expression.Sign.{Sign}
+use Rattle.ss_program.specs.declared.expression.Sign.TheVariants.{Plus, Minus}
+use Rattle.ss_program.specs.declared.expression.Operator.{Operator}
+use Rattle.ss_program.specs.declared.expression.Operator.TheVariants.{Add, Subtract, Multiply, Quotient, Remainder, Least, Greatest}
+use Rattle.ss_program.specs.Program.{Expression, Constant, Fetch, Attribute, OfSystemSet, OfSet, OfMember, Clock, TimeOf, Figure, FigureOf, Signed, Absolute, Calculate, Item, AValue, AMean, AMeanOf, SetOwner, TheSystem, Entity, Place, ToVariable, ToAttribute, ToCount, Target, Restart}
+use Rattle.ss_names_meaning.specs.declared.meaning.Meaning.{Meaning}
+use Rattle.ss_names_meaning.specs.declared.meaning.Meaning.TheVariants as meanings
+use Rattle.ss_names_meaning.specs.declared.meaning.SetMeant.{SetMeant}
+use Rattle.ss_names_meaning.specs.declared.meaning.SetMeant.TheVariants.{OfSystem, OfEntity}
+use Rattle.ss_names_meaning.specs.Answers.{◌>>=◌}
+use Rattle.ss_names_meaning.specs.Contexts.{Context}
+
+-- ---- words
+
+abbrev pub sign_of : SignWord → Sign
+sign_of signs.Plus = Plus
+sign_of signs.Minus = Minus
+
+-- what joins a further term to a sum
+abbrev pub operator_of : SignWord → Operator
+operator_of signs.Plus = Add
+operator_of signs.Minus = Subtract
+
+-- ---- what is named
+
+-- the entity that is meant: the one in the subscript, or else the one in the variable that is implied
+abbrev pub entity_of : Variable → Option Expression → Expression
+entity_of implied None = Fetch implied
+entity_of implied (Some e) = e
+
+-- what takes no subscript
+abbrev pub plain : {A : Type 0} → Option Expression → A → Option A
+plain None x = Some x
+plain (Some e) x = None
+
+-- TIME.A, which takes a subscript
+abbrev pub time_of : Option Expression → Option Expression
+time_of None = None
+time_of (Some e) = Some (TimeOf e)
+
+-- the value of what is named, with the subscript if there is one
+abbrev pub value_of : Meaning → Option Expression → Option Expression
+value_of (meanings.Variable x mode) e = plain e (Fetch x)
+value_of (meanings.Count n) e = plain e (Fetch (Global n.variable))
+value_of (meanings.Attribute class field mode implied) e = Some (Attribute class field (entity_of implied e))
+value_of (meanings.OfSystemSet query set) e = plain e (OfSystemSet query set)
+value_of (meanings.OfSet query set implied) e = Some (OfSet query set (entity_of implied e))
+value_of (meanings.OfMember query set implied) e = Some (OfMember query set (entity_of implied e))
+value_of (meanings.Figure fold statistic) e = plain e (Figure fold statistic)
+value_of (meanings.FigureOf fold statistic implied) e = Some (FigureOf fold statistic (entity_of implied e))
+value_of meanings.Clock e = plain e Clock
+value_of meanings.NoticeTime e = time_of e
+-- a mean is no value
+value_of (meanings.Mean statistic) e = None
+value_of (meanings.MeanOf statistic implied) e = None
+
+-- what PRINT shows of what is named, with the subscript if there is one
+abbrev pub item_of : Meaning → Option Expression → Option Item
+item_of (meanings.Mean statistic) e = plain e (AMean statistic)
+item_of (meanings.MeanOf statistic implied) e = Some (AMeanOf statistic (entity_of implied e))
+item_of meaning e = option_map AValue (value_of meaning e)
+
+-- a target: a variable, an attribute or N. of a class
+abbrev pub place_of : Meaning → Option Expression → Option Place
+place_of (meanings.Variable x mode) e = plain e (ToVariable x)
+place_of (meanings.Count n) e = plain e (ToCount n)
+place_of (meanings.Attribute class field mode implied) e = Some (ToAttribute class field (entity_of implied e))
+place_of _ e = None
+
+-- a set, and whose it is
+abbrev pub owned_by : SetMeant → Option Expression → Option (ℕ × SetOwner)
+owned_by (OfSystem set) e = plain e (set, TheSystem)
+owned_by (OfEntity set implied) e = Some (set, Entity (entity_of implied e))
+
+-- ---- expressions
+
+module _ (c : Context) where
+  unfoldable mutual
+    -- parentheses are left out; sums and products are worked off from left to right
+    pub expression : ExpressionTree → Option Expression
+    expression (number n) = Some (Constant (Whole n))
+    expression (text t) = Some (Constant (Text t))
+    expression (named designator subscripts) = do
+      e ← subscript subscripts
+      meaning ← c.meaning designator
+      value_of meaning e
+    expression (call Abs arguments) = do
+      e ← one arguments
+      Some (Absolute e)
+    expression (call Div arguments) = do
+      p ← two arguments
+      Some (Calculate Quotient p.0 p.1)
+    expression (call Mod arguments) = do
+      p ← two arguments
+      Some (Calculate Remainder p.0 p.1)
+    expression (call Min arguments) = do
+      p ← two arguments
+      Some (Calculate Least p.0 p.1)
+    expression (call Max arguments) = do
+      p ← two arguments
+      Some (Calculate Greatest p.0 p.1)
+    expression (parenthesised e) = expression e
+    expression (product first further) = do
+      left ← expression first
+      factors left further
+    expression (signed sign term) = do
+      e ← expression term
+      Some (Signed (sign_of sign) e)
+    expression (sum first further) = do
+      left ← expression first
+      terms left further
+
+    -- the subscript, if there is one; None where there are more
+    pub subscript : ExpressionRow → Option (Option Expression)
+    subscript no_expression = Some None
+    subscript (and_expression e no_expression) = do
+      x ← expression e
+      Some (Some x)
+    subscript _ = None
+
+    -- one argument
+    pub one : ExpressionRow → Option Expression
+    one (and_expression e no_expression) = expression e
+    one _ = None
+
+    -- two arguments
+    pub two : ExpressionRow → Option (Expression × Expression)
+    two (and_expression e (and_expression f no_expression)) = do
+      x ← expression e
+      y ← expression f
+      Some (x, y)
+    two _ = None
+
+    -- what stands on the left times further factors
+    pub factors : Expression → ExpressionRow → Option Expression
+    factors left no_expression = Some left
+    factors left (and_expression e es) = do
+      x ← expression e
+      factors (Calculate Multiply left x) es
+
+    -- what stands on the left and further terms
+    pub terms : Expression → TermRow → Option Expression
+    terms left no_term = Some left
+    terms left (and_term sign e es) = do
+      x ← expression e
+      terms (Calculate (operator_of sign) left x) es
+
+  -- an item of PRINT: a mean where that is named alone, through any parentheses, and else a value
+  abbrev pub item : ExpressionTree → Option Item
+  item (parenthesised e) = item e
+  item (named designator subscripts) = do
+    e ← subscript subscripts
+    meaning ← c.meaning designator
+    item_of meaning e
+  item e = option_map AValue (expression e)
+
+  -- a target
+  abbrev pub target : NamedTree → Option Place
+  target n = do
+    e ← subscript n.subscripts
+    meaning ← c.meaning n.designator
+    place_of meaning e
+
+  -- a set, and whose it is
+  abbrev pub set_named : NamedTree → Option (ℕ × SetOwner)
+  set_named n = do
+    e ← subscript n.subscripts
+    set ← c.set n.designator
+    owned_by set e

@@ -1,0 +1,11 @@
+pub mod Answers
+pub mod Contexts
+pub mod Expressions
+pub mod Conditions
+pub mod Heads
+pub mod Statements
+pub mod Words
+pub mod Meanings
+pub mod Layouts
+pub mod Resolved
+pub mod View

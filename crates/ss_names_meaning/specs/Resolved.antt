@@ -1,0 +1,205 @@
+-- A program in which each name is replaced by what it stands for.
+use Rattle.std.specs.Prelude.{ℕ, nat_le, Bool, true, false, is_some, List, [], length, take, drop, slice_get, get_or, Option, Some, None}
+use Rattle.std.specs.List.{find, list_all, position}
+use Rattle.std.specs.Map.{keys_of, lookup, values_of}
+use Rattle.ss_base.specs.declared.layout.Mode.{Mode}
+use Rattle.ss_base.specs.declared.layout.RankKey.{RankKey}
+use Rattle.ss_base.specs.declared.line.Line.{Line}
+use Rattle.ss_tree.specs.Tree.{SectionKindTree, main, routine, event, SectionTree, statement_row}
+use Rattle.ss_names_declarations.specs.Sayings.{NameBytes}
+use Rattle.ss_names.specs.declared.entry.Event.{Event as EventSection}
+use Rattle.ss_names.specs.declared.meaning.Meaning.{Meaning as Global}
+use Rattle.ss_names.specs.declared.meaning.Meaning.TheVariants as globals
+use Rattle.ss_names_declarations.specs.Firsts.{place_in, told_of, same_name}
+use Rattle.ss_names.specs.Table.{Table}
+use Rattle.ss_check_scopes.specs.Locals.{Moded}
+use Rattle.ss_check_scopes.specs.Whole.{Whole, locals_of}
+use Rattle.ss_program.specs.Program.{Block, Routine, Event, Program}
+use Rattle.ss_names_meaning.specs.Answers.{◌>>=◌, each, upto, where_holds}
+use Rattle.ss_names_meaning.specs.Layouts.{Laid, laid_out, tie_keys}
+use Rattle.ss_names_meaning.specs.Meanings.{context_in}
+use Rattle.ss_names_meaning.specs.Words.{mode_given}
+use Rattle.ss_names_meaning.specs.Statements.{statements}
+
+-- ---- sections
+
+-- the mode of the local variable of a number
+abbrev pub local_mode : Moded → ℕ → Option Mode
+local_mode locals n = do
+  name ← slice_get (keys_of locals) n
+  mode ← lookup (same_name name) locals
+  mode_given mode
+
+-- the modes of the local variables, in the order of their numbers
+abbrev pub local_modes : Moded → Option (List Mode)
+local_modes locals = each (local_mode locals) (upto (length locals))
+
+-- the statements of a section with these local variables
+abbrev pub body : Table → Moded → SectionTree → Option Block
+body t locals s = statements (context_in t locals) (statement_row s.body)
+
+-- what a section comes to: the line of its head, the modes of its local variables, and its statements
+pub record Parts : Type 0 where
+  pub line : Line
+  pub modes : List Mode
+  pub body : Block
+
+-- a section with these local variables
+abbrev pub parts_with : Table → Moded → SectionTree → Option Parts
+parts_with t locals s = do
+  modes ← local_modes locals
+  done ← body t locals s
+  Some (record { line = s.line; modes = modes; body = done })
+
+abbrev pub parts_of : Table → Whole → SectionTree → Option Parts
+parts_of t w s = parts_with t (locals_of w s) s
+
+-- the section of a number
+abbrev pub parts_at : Table → Whole → List SectionTree → ℕ → Option Parts
+parts_at t w sections n = do
+  s ← slice_get sections n
+  parts_of t w s
+
+-- the same, where the local variables of each section are at hand
+abbrev pub parts_with_locals : Table → List Moded → List SectionTree → ℕ → Option Parts
+parts_with_locals t locals sections n = do
+  s ← slice_get sections n
+  its ← slice_get locals n
+  parts_with t its s
+
+-- ---- routines
+
+-- a routine that is given and yields so many values: of its local variables given ones stand first, then yielded ones
+abbrev pub routine_of : ℕ → ℕ → Parts → Routine
+routine_of given yielding parts = record {
+  given = take given parts.modes;
+  yielding = take yielding (drop given parts.modes);
+  others = drop yielding (drop given parts.modes);
+  body = parts.body;
+}
+
+-- the routine of a number, from what the section of a number comes to
+abbrev pub routine_from : Table → (ℕ → Option Parts) → ℕ → Option Routine
+routine_from t section n = do
+  known ← slice_get (values_of t.routines) n
+  parts ← section known.section
+  Some (routine_of known.given known.yielding parts)
+
+abbrev pub resolved_routine : Table → Whole → List SectionTree → ℕ → Option Routine
+resolved_routine t w sections n = routine_from t (parts_at t w sections) n
+
+-- ---- event routines
+
+abbrev pub class_variable : Global → Option (Option ℕ)
+class_variable (globals.Class class variable) = Some (Some variable)
+class_variable _ = None
+
+-- the global variable that gets the number of the notice, also where the routine has a local one of its name
+abbrev pub saved : Table → NameBytes → Bool → Option (Option ℕ)
+saved t name false = Some None
+saved t name true = do
+  global ← told_of t.names name
+  class_variable global
+
+-- the event routine of a class that is given so many values
+abbrev pub event_of : ℕ → List RankKey → ℕ → Option ℕ → Parts → Event
+event_of class keys given variable parts = record {
+  class = class;
+  ties = keys;
+  line = parts.line;
+  given = take given parts.modes;
+  others = drop given parts.modes;
+  saved = variable;
+  body = parts.body;
+}
+
+-- a notice class with its EVENT section, which is given as many values as the class has attributes at most, from what
+-- the section of a number comes to
+abbrev pub class_event_from : Table → (ℕ → Option Parts) → ℕ → NameBytes → EventSection → Option Event
+class_event_from t section class name known = do
+  given ← where_holds (nat_le known.given (length (get_or t.fields class []))) known.given
+  keys ← tie_keys t class name
+  variable ← saved t name known.saving
+  parts ← section known.section
+  Some (event_of class keys given variable parts)
+
+abbrev pub class_event : Table → Whole → List SectionTree → ℕ → NameBytes → EventSection → Option Event
+class_event t w sections class name known = class_event_from t (parts_at t w sections) class name known
+
+-- the notice class of this place in the order of rank, from what the section of a number comes to
+abbrev pub event_from : Table → (ℕ → Option Parts) → ℕ → Option Event
+event_from t section rank = do
+  class ← slice_get (values_of t.ranks) rank
+  name ← slice_get (keys_of t.classes) class
+  known ← told_of t.events name
+  class_event_from t section class name known
+
+abbrev pub resolved_event : Table → Whole → List SectionTree → ℕ → Option Event
+resolved_event t w sections rank = event_from t (parts_at t w sections) rank
+
+-- an EVENT section is one of a notice class
+abbrev pub is_known_kind : Table → SectionKindTree → Bool
+is_known_kind t main = true
+is_known_kind t (routine name given yielding) = true
+is_known_kind t (event name given saving) = is_some (place_in t.ranks name)
+
+abbrev pub is_known : Table → SectionTree → Bool
+is_known t s = is_known_kind t s.kind
+
+-- ---- the program
+
+abbrev pub is_main_kind : SectionKindTree → Bool
+is_main_kind main = true
+is_main_kind (routine name given yielding) = false
+is_main_kind (event name given saving) = false
+
+abbrev pub is_main : SectionTree → Bool
+is_main s = is_main_kind s.kind
+
+-- MAIN, the first where there are several
+abbrev pub main_parts : Table → Whole → List SectionTree → Option Parts
+main_parts t w sections = do
+  s ← find is_main sections
+  parts_of t w s
+
+-- MAIN, from what the section of a number comes to
+abbrev pub main_from : (ℕ → Option Parts) → List SectionTree → Option Parts
+main_from section sections = do
+  n ← position is_main sections
+  section n
+
+-- the program that is laid out so, from what the section of a number comes to, and MAIN
+abbrev pub put_together : Table → Laid → (ℕ → Option Parts) → Option Parts → Option Program
+put_together t laid section of_main = do
+  routines ← each (routine_from t section) (upto (length t.routines))
+  events ← each (event_from t section) (upto (length t.ranks))
+  parts ← of_main
+  Some (record {
+    layout = laid.layout;
+    disciplines = laid.disciplines;
+    globals = laid.globals;
+    counts = laid.counts;
+    statistics = laid.statistics;
+    routines = routines;
+    events = events;
+    locals = parts.modes;
+    main = parts.body;
+  })
+
+-- the program that has these sections
+abbrev pub program_from : Table → (List SectionTree → ℕ → Option Parts) → (List SectionTree → Option Parts) → List SectionTree → Option Program
+program_from t section of_main sections = do
+  laid ← laid_out t
+  known ← where_holds (list_all (is_known t) sections) sections
+  put_together t laid (section known) (of_main known)
+
+-- The program that has these sections, by its table and by what it says of names, with each name replaced by what it
+-- stands for. None where a name isn't of the kind that its place needs, a subscript is missing or too many, or a count of
+-- arguments doesn't fit.
+unfoldable pub resolved : Table → Whole → List SectionTree → Option Program
+resolved t w sections = program_from t (parts_at t w) (main_parts t w) sections
+
+-- the same, where the local variables of each section are at hand
+unfoldable pub resolved_with_locals : Table → List Moded → List SectionTree → Option Program
+resolved_with_locals t locals sections =
+    program_from t (parts_with_locals t locals) (λ known. main_from (parts_with_locals t locals known) known) sections

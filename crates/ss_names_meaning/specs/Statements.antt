@@ -1,0 +1,260 @@
+-- Statements in which each name is replaced by what it stands for.
+use Rattle.std.specs.Prelude.{nat_le, ◌&&◌, ◌==◌, List, [], ◌∷◌, length, Option, Some, None}
+use Rattle.ss_base.specs.declared.line.Line.{Line}
+use Rattle.ss_base.specs.declared.layout.Mode.{Mode}
+use Rattle.ss_base.specs.declared.layout.Mode.TheVariants.{Integer}
+use Rattle.ss_tree.specs.declared.statement.SetEnd.{SetEnd}
+use Rattle.ss_tree.specs.declared.statement.SetEnd.TheVariants as end_words
+use Rattle.ss_tree.specs.declared.statement.FindOutcome.{FindOutcome}
+use Rattle.ss_tree.specs.declared.statement.FindOutcome.TheVariants as outcomes
+use Rattle.ss_tree.specs.Tree.{ConditionTree, ExpressionTree, NamedTree, HeadTree, LoopHeadTree, for_head, guarded, PositionTree, by_discipline, at_first, at_last, before, after, WhenTree, at_time, in_units, now, StatementTree, let_statement, add_statement, subtract_statement, call_statement, return_statement, stop_statement, read_statement, start_simulation, if_statement, loop_statement, find_statement, find_if_statement, create_statement, create_every, destroy_statement, file_statement, remove_end, remove_statement, schedule_new, schedule_statement, cancel_statement, reset_statement, print_statement, skip_statement, StatementRow, no_statement, and_statement}
+use Rattle.ss_names_declarations.specs.Sayings.{NameBytes}
+use Rattle.ss_program.specs.declared.expression.Variable.{Variable}
+use Rattle.ss_program.specs.declared.expression.Variable.TheVariants.{Global, Local}
+use Rattle.ss_program.specs.declared.expression.Sign.TheVariants.{Plus, Minus}
+use Rattle.ss_program.specs.declared.statement.End.{End}
+use Rattle.ss_program.specs.declared.statement.End.TheVariants as ends
+use Rattle.ss_program.specs.Program.{Expression, Fetch, Place, ToVariable, Target, Position, ByDiscipline, AsFirst, AsLast, BeforeMember, AfterMember, When, At, In, Now, Restart, Statement, Let, Change, Call, Return, Stop, Read, Simulate, If, Loop, For, Find, Create, CreateEvery, Destroy, File, RemoveEnd, Remove, ScheduleNew, Schedule, Cancel, Reset, Print, Skip, Block, Done, Then}
+use Rattle.ss_names_meaning.specs.declared.meaning.ClassMeant.{ClassMeant}
+use Rattle.ss_names_meaning.specs.declared.meaning.Meaning.{Meaning}
+use Rattle.ss_names_meaning.specs.declared.meaning.Meaning.TheVariants as meanings
+use Rattle.ss_names_meaning.specs.declared.meaning.RoutineMeant.{RoutineMeant}
+use Rattle.ss_names_meaning.specs.Answers.{◌>>=◌, each, where_holds}
+use Rattle.ss_names_meaning.specs.Contexts.{Context, single_class, notice_class, counted}
+use Rattle.ss_names_meaning.specs.Expressions.{entity_of, plain, expression, item, subscript, target, set_named}
+use Rattle.ss_names_meaning.specs.Conditions.{condition}
+use Rattle.ss_names_meaning.specs.Heads.{phrase, guard, phrases_of, head}
+
+-- ---- words
+
+abbrev pub end_of : SetEnd → End
+end_of end_words.First = ends.First
+end_of end_words.Last = ends.Last
+
+-- ---- targets
+
+-- the mode of what a target is
+abbrev pub mode_of : Meaning → Option Mode
+mode_of (meanings.Variable x mode) = mode
+mode_of (meanings.Attribute class field mode implied) = mode
+mode_of (meanings.Count n) = Some Integer
+mode_of _ = None
+
+-- what takes a word of input
+abbrev pub reader : Context → NamedTree → Option Target
+reader c n = do
+  place ← target c n
+  meaning ← c.meaning n.designator
+  mode ← mode_of meaning
+  Some (record { place = place; mode = mode })
+
+-- what takes the number of a new entity: the target behind CALLED, or else the variable of the class
+abbrev pub new_place : Context → Variable → Option NamedTree → Option Place
+new_place c variable None = Some (ToVariable variable)
+new_place c variable (Some n) = target c n
+
+-- the entity behind CALLED, or else the one in the variable of the class
+abbrev pub entity_called : Context → Variable → Option ExpressionTree → Option Expression
+entity_called c variable None = Some (Fetch variable)
+entity_called c variable (Some e) = expression c e
+
+-- ---- statistics
+
+-- whose statistic of what is named starts afresh: None for that of a global variable or of N. of THE SYSTEM's set
+abbrev pub told_of : Meaning → Option Expression → Option (Option Expression)
+told_of (meanings.Variable (Global n) mode) e = plain e None
+told_of (meanings.Attribute class field mode implied) e = Some (Some (entity_of implied e))
+told_of (meanings.OfSystemSet query set) e = plain e None
+told_of (meanings.OfSet query set implied) e = Some (Some (entity_of implied e))
+told_of _ e = None
+
+abbrev pub restart : Context → NamedTree → Option Restart
+restart c n = do
+  e ← subscript c n.subscripts
+  meaning ← c.meaning n.designator
+  of ← told_of meaning e
+  statistic ← c.statistic n.designator
+  Some (record { statistic = statistic; of = of })
+
+-- ---- parts of statements
+
+abbrev pub position : Context → PositionTree → Option Position
+position c by_discipline = Some ByDiscipline
+position c at_first = Some AsFirst
+position c at_last = Some AsLast
+position c (before e) = do
+  x ← expression c e
+  Some (BeforeMember x)
+position c (after e) = do
+  x ← expression c e
+  Some (AfterMember x)
+
+abbrev pub when : Context → WhenTree → Option When
+when c (at_time e) = do
+  x ← expression c e
+  Some (At x)
+when c (in_units e) = do
+  x ← expression c e
+  Some (In x)
+when c now = Some Now
+
+-- ---- statements
+
+-- a FIND, with what follows where a case was found and where none was
+abbrev pub find : Line → Context → HeadTree → Block → Block → Option Statement
+find line c over found none = do
+  h ← head c over
+  phrases ← each (phrase c) (phrases_of over)
+  Some (Find line h phrases found none)
+
+-- the statements behind a FIND stand first for a case that was found, or for none
+abbrev pub find_by : FindOutcome → Line → Context → HeadTree → Block → Block → Option Statement
+find_by outcomes.Found line c over first second = find line c over first second
+find_by outcomes.None line c over first second = find line c over second first
+
+-- a FOR with its body
+abbrev pub for_over : Line → Context → HeadTree → Block → Option Statement
+for_over line c over body = do
+  h ← head c over
+  phrases ← each (phrase c) (phrases_of over)
+  Some (For line h phrases body)
+
+-- a loop with its body
+abbrev pub loop : Line → Context → LoopHeadTree → Block → Option Statement
+loop line c (for_head over) body = for_over line c over body
+loop line c (guarded guards) body = do
+  gs ← each (guard c) guards
+  Some (Loop line gs body)
+
+-- an IF with its sides
+abbrev pub if_over : Line → Context → ConditionTree → Block → Block → Option Statement
+if_over line c test first second = do
+  tests ← condition c test
+  Some (If line tests first second)
+
+-- a CALL, where the routine is given and yields as many values
+abbrev pub call_of : Line → RoutineMeant → List Expression → List Place → Option Statement
+call_of line routine given yielding =
+    where_holds ((length given == routine.given) && (length yielding == routine.yielding))
+    (Call line routine.routine given yielding)
+
+-- SCHEDULE A and SCHEDULE THE, where the class has as many attributes as are given at least
+abbrev pub new_notice : Line → ClassMeant → Place → List Expression → When → Option Statement
+new_notice line class place given due =
+    where_holds (nat_le (length given) class.attributes) (ScheduleNew line class.class place given due)
+
+abbrev pub old_notice : Line → ClassMeant → Expression → List Expression → When → Option Statement
+old_notice line class notice given due =
+    where_holds (nat_le (length given) class.attributes) (Schedule line class.class notice given due)
+
+module _ (c : Context) where
+  unfoldable mutual
+    pub statement : StatementTree → Option Statement
+    statement (let_statement line n e) = do
+      place ← target c n
+      value ← expression c e
+      Some (Let line place value)
+    statement (add_statement line e n) = do
+      value ← expression c e
+      place ← target c n
+      Some (Change line Plus place value)
+    statement (subtract_statement line e n) = do
+      value ← expression c e
+      place ← target c n
+      Some (Change line Minus place value)
+    statement (call_statement line name given yielding) = do
+      routine ← c.routine name
+      values ← each (expression c) given
+      places ← each (target c) yielding
+      call_of line routine values places
+    statement (return_statement line) = Some Return
+    statement (stop_statement line) = Some Stop
+    statement (read_statement line targets) = do
+      readers ← each (reader c) targets
+      Some (Read line readers)
+    statement (start_simulation line) = Some Simulate
+    statement (if_statement line test first second) = do
+      a ← statements first
+      b ← statements second
+      if_over line c test a b
+    statement (loop_statement line over row) = do
+      body ← statements row
+      loop line c over body
+    statement (find_statement line over) = find line c over Done Done
+    statement (find_if_statement line over outcome first second) = do
+      a ← statements first
+      b ← statements second
+      find_by outcome line c over a b
+    statement (create_statement line name called) = do
+      class ← single_class c name
+      place ← new_place c class.variable called
+      Some (Create line class.class place)
+    statement (create_every line names) = do
+      classes ← each (counted c) names
+      Some (CreateEvery line classes)
+    statement (destroy_statement line name called) = do
+      class ← single_class c name
+      entity ← entity_called c class.variable called
+      Some (Destroy line class.class entity)
+    statement (file_statement line e position_tree n) = do
+      x ← expression c e
+      at ← position c position_tree
+      set ← set_named c n
+      Some (File line set.0 x at set.1)
+    statement (remove_end line end n m) = do
+      place ← target c n
+      set ← set_named c m
+      Some (RemoveEnd line (end_of end) set.0 place set.1)
+    statement (remove_statement line e n) = do
+      x ← expression c e
+      set ← set_named c n
+      Some (Remove line set.0 x set.1)
+    statement (schedule_new line name called given time) = do
+      class ← notice_class c name
+      place ← new_place c class.variable called
+      values ← each (expression c) given
+      due ← when c time
+      new_notice line class place values due
+    statement (schedule_statement line name called given time) = do
+      class ← notice_class c name
+      notice ← entity_called c class.variable called
+      values ← each (expression c) given
+      due ← when c time
+      old_notice line class notice values due
+    statement (cancel_statement line name called) = do
+      class ← notice_class c name
+      notice ← entity_called c class.variable called
+      Some (Cancel line class.class notice)
+    statement (reset_statement line targets) = do
+      restarts ← each (restart c) targets
+      Some (Reset line restarts)
+    statement (print_statement line items pictures) = do
+      shown ← each (item c) items
+      Some (Print line shown pictures)
+    statement (skip_statement line e) = do
+      count ← expression c e
+      Some (Skip line count)
+
+    pub statements : StatementRow → Option Block
+    statements no_statement = Some Done
+    statements (and_statement s ss) = do
+      first ← statement s
+      rest ← statements ss
+      Some (Then first rest)
+
+-- ---- the bodies in a statement
+
+-- what the bodies in a statement become: of a loop there is one, of an IF and of the IF behind a FIND two, of others none
+abbrev pub inner : Context → StatementTree → Option (Block × Block)
+inner c (if_statement line test first second) = do
+  a ← statements c first
+  b ← statements c second
+  Some (a, b)
+inner c (loop_statement line over row) = do
+  body ← statements c row
+  Some (body, Done)
+inner c (find_if_statement line over outcome first second) = do
+  a ← statements c first
+  b ← statements c second
+  Some (a, b)
+inner c _ = Some (Done, Done)

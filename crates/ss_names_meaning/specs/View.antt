@@ -1,0 +1,12 @@
+-- The plain data that what is laid out is, without where it lies in memory.
+use Rattle.ss_names_meaning.specs.declared.laid.Laid.{Laid as LaidValue}
+use Rattle.ss_names_meaning.specs.Layouts.{Laid}
+
+abbrev pub view_laid : LaidValue → Laid
+view_laid l = record {
+  layout = l.layout;
+  disciplines = l.disciplines.items;
+  globals = l.globals.items;
+  counts = l.counts.items;
+  statistics = l.statistics.items;
+}

@@ -1,0 +1,44 @@
+//! All that is laid out.
+
+ghost use Rattle.ss_names_meaning.specs.Answers.{Gives};
+ghost use Rattle.ss_names_meaning.specs.Layouts.{laid_out};
+ghost use Rattle.ss_names_meaning.specs.View.{view_laid};
+
+use crate::error::ResolveError;
+use crate::globals::{resolve_counts, resolve_globals};
+use crate::layouts::resolve_layout;
+use crate::ranking::resolve_disciplines;
+use crate::statistics::resolve_statistics;
+use ss_base::{Discipline, Layout, Mode};
+use ss_names::Names;
+use ss_program::sections::Statistic;
+use ss_program::statement::Counted;
+use std::alloc::Global;
+
+/// What is laid out: classes, sets and their disciplines, global variables and statistics.
+#[derive(Drop)]
+pub struct Laid {
+    pub layout: Layout,
+    pub disciplines: Vec<Discipline>,
+    pub globals: Vec<Mode>,
+    pub counts: Vec<Counted>,
+    pub statistics: Vec<Statistic>,
+}
+
+/// What is laid out by a table of names.
+pub fn lay_out(alloc: Global, names: &Names) -> Result<Laid, ResolveError>
+    ensures { Gives view_laid result (laid_out names.now) }
+{
+    let layout = resolve_layout(alloc, names)?;
+    let disciplines = resolve_disciplines(alloc, names)?;
+    let globals = resolve_globals(alloc, names)?;
+    let counts = resolve_counts(alloc, names)?;
+    let statistics = resolve_statistics(alloc, names)?;
+    Ok(Laid {
+        layout,
+        disciplines,
+        globals,
+        counts,
+        statistics,
+    })
+}

@@ -1,0 +1,2 @@
+mod MentionRows
+mod DemandRows

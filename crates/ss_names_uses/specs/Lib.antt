@@ -1,0 +1,5 @@
+pub mod Mentions
+pub mod MentionExamples
+pub mod Demands
+pub mod Noted
+pub mod DemandExamples

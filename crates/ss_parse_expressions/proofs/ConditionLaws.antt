@@ -1,0 +1,399 @@
+-- Conditions: what is read is spelled, and what is spelled is read.
+use Rattle.std.proofs.Common.{◌≡◌, ℕ, zero, suc, ◌<◌, ◌≤◌, Bool, true, false, cond, ◌||◌, List, [], ◌∷◌, length, Option, Some, None, refl, sym, ap, subst, ◌∙◌, arith, inl, inr, ◌⊎◌}
+use Rattle.ss_lex.specs.declared.word.Word.{Word}
+use Rattle.ss_lex.specs.declared.word.Word.TheVariants as words
+use Rattle.ss_lex.specs.declared.token.Symbol.TheVariants.{Equals}
+use Rattle.ss_lex.specs.declared.token.TokenKind.{TokenKind}
+use Rattle.ss_lex.specs.declared.token.TokenKind.TheVariants as kinds
+use Rattle.ss_lex.specs.declared.token.Token.{Token}
+use Rattle.ss_tree.specs.declared.condition.Relation.{Relation}
+use Rattle.ss_tree.specs.declared.condition.Relation.TheVariants as relations
+use Rattle.ss_tree.specs.declared.expression.Designator.{Designator}
+use Rattle.ss_tree.specs.declared.expression.Designator.TheVariants as designators
+use Rattle.ss_tree.specs.Tree.{ExpressionTree, named, ExpressionRow, no_expression, and_expression, NamedTree, TestTree, compare, empty, member, data_ended, ConditionTree}
+use Rattle.ss_parse_expressions.specs.declared.conditions.Verb.{Verb}
+use Rattle.ss_parse_expressions.specs.declared.conditions.Verb.TheVariants as verbs
+use Rattle.ss_parse_expressions.specs.declared.conditions.Told.{Told}
+use Rattle.ss_parse_expressions.specs.declared.conditions.Told.TheVariants as tolds
+use Rattle.ss_parse_expressions.specs.Shapes.{Shape, ◌▷◌, nothing, never, optional, provided, Token_is, Word_is, Name_is, Said, flagged, within}
+use Rattle.ss_parse_expressions.specs.Words.{the}
+use Rattle.ss_parse_expressions.specs.SpelledExpressions.{sum_place, Spelled, Sum_is, Plain_name, Subscript, Reference_is}
+use Rattle.ss_parse_expressions.specs.SpelledConditions.{In_words, Relation_is, Test_is, joined}
+use Rattle.ss_parse_expressions.specs.WordTables.{relation_of}
+use Rattle.ss_parse_expressions.specs.Reading.{word, is, begins, begins_by, skip, in_table, taken, seq, closed, choose}
+use Rattle.ss_parse_expressions.specs.ReadWords.{said}
+use Rattle.ss_parse_expressions.specs.ReadExpressions.{opening, star, begins_sign, begins_value, begins_sum, sum_in}
+use Rattle.ss_parse_expressions.specs.ReadPlaces.{reference_in}
+use Rattle.ss_parse_expressions.specs.ReadConditions.{relation_symbol, told_of, verb_end, worded_verb, verb, reference_of, empty_of, data_test, test_end, sum_test, test_in, conjunction_in, condition_in}
+use Rattle.ss_parse_expressions.proofs.Tools.{or_false}
+use Rattle.ss_parse_expressions.proofs.Marks.{token_less, In_table, begins_table}
+use Rattle.ss_parse_expressions.proofs.ReaderLaws.{Reads, Item, nowise, Made, item_of, item_marked, item_skipped, expect_reads, taken_reads, seq_reads, bind_reads, made_reads, marked_reads, closed_reads, said_reads, fewer_reads, optional_reads, choose_reads, too_deep_reads}
+use Rattle.ss_parse_expressions.proofs.Rows.{first_and_reads, first_less, Loop, loop_of}
+use Rattle.ss_parse_expressions.proofs.WordLaws.{word_in_reads, mark_said_reads, done_reads, fail_reads}
+use Rattle.ss_parse_expressions.proofs.ExpressionLaws.{in_less, in_begins, sum_in_reads, continues_sum}
+use Rattle.ss_parse_expressions.proofs.PlaceLaws.{reference_in_reads, continues_place}
+
+-- ---- words
+
+abbrev word_of : Told → Word
+word_of tolds.Empty = words.Empty
+word_of tolds.In = words.In
+word_of tolds.Equal = words.Equal
+word_of tolds.Less = words.Less
+word_of tolds.Greater = words.Greater
+
+told_word : (w : Word) (t : Told) → told_of w ≡ Some t → w ≡ word_of t
+told_word words.Empty t e = let same : tolds.Empty ≡ t = cc in subst (λ t. words.Empty ≡ word_of t) same refl
+told_word words.In t e = let same : tolds.In ≡ t = cc in subst (λ t. words.In ≡ word_of t) same refl
+told_word words.Equal t e = let same : tolds.Equal ≡ t = cc in subst (λ t. words.Equal ≡ word_of t) same refl
+told_word words.Less t e = let same : tolds.Less ≡ t = cc in subst (λ t. words.Less ≡ word_of t) same refl
+told_word words.Greater t e = let same : tolds.Greater ≡ t = cc in subst (λ t. words.Greater ≡ word_of t) same refl
+told_word _ t e = absurd cc
+
+-- none of them is IS, NOT or a relation
+told_other : (t : Told) → (is (word words.Is) (kinds.Word (word_of t)) ≡ false) × (is (word words.Not) (kinds.Word (word_of t)) ≡ false) × (relation_of (word_of t) ≡ None)
+told_other tolds.Empty = (refl, refl, refl)
+told_other tolds.In = (refl, refl, refl)
+told_other tolds.Equal = (refl, refl, refl)
+told_other tolds.Less = (refl, refl, refl)
+told_other tolds.Greater = (refl, refl, refl)
+
+-- the word that says what is tested
+abbrev Told_is : Told → Shape
+Told_is t = Word_is (word_of t)
+
+told_to : (t : Told) (ts rest : List Token) → Said told_of t ts rest → Told_is t ts rest
+told_to t ts rest (w, means, at) = subst (λ w. Word_is w ts rest) (told_word w t means) at
+
+told_from : (t : Told) (ts rest : List Token) → Told_is t ts rest → Said told_of t ts rest
+told_from tolds.Empty ts rest at = (words.Empty, refl, at)
+told_from tolds.In ts rest at = (words.In, refl, at)
+told_from tolds.Equal ts rest at = (words.Equal, refl, at)
+told_from tolds.Less ts rest at = (words.Less, refl, at)
+told_from tolds.Greater ts rest at = (words.Greater, refl, at)
+
+-- ---- what stands behind the first expression
+
+abbrev Verb_is : Verb → Shape
+Verb_is (verbs.Compares r) = Relation_is r
+Verb_is (verbs.IsEmpty negated) = Word_is words.Is ▷ flagged (Word_is words.Not) negated ▷ Word_is words.Empty
+Verb_is (verbs.IsIn negated) = Word_is words.Is ▷ flagged (Word_is words.Not) negated ▷ Word_is words.In
+
+abbrev Verb_words : Bool × (Bool × Told) → Shape
+Verb_words p = flagged (Word_is words.Is) p.0 ▷ flagged (Word_is words.Not) p.1.0 ▷ Told_is p.1.1
+
+verb_words_reads : (k : ℕ) → Reads k (seq (said (word words.Is)) (seq (said (word words.Not)) (taken (in_table told_of)))) (seq (said (word words.Is)) (seq (said (word words.Not)) (taken (in_table told_of)))) Verb_words nowise
+verb_words_reads k = seq_reads (mark_said_reads k (word words.Is)) (seq_reads (mark_said_reads k (word words.Not)) (said_reads (word_in_reads k told_of) Told_is told_to told_from) no_not) no_is
+  where
+    no_not : (t : Told) (ts rest : List Token) → Told_is t ts rest → nowise rest ≡ false → begins (word words.Not) ts ≡ false
+    no_not t ts rest (span, line, e) stop = ap (begins (word words.Not)) e ∙ (told_other t).1
+
+    no_is : (p : Bool × Told) (ts rest : List Token) → (flagged (Word_is words.Not) p.0 ▷ Told_is p.1) ts rest → nowise rest ≡ false → begins (word words.Is) ts ≡ false
+    no_is (true, t) ts rest (a, (span, line, e), s) stop = ap (begins (word words.Is)) e
+    no_is (false, t) ts rest (a, e, (span, line, f)) stop = ap (begins (word words.Is)) (e ∙ f) ∙ (told_other t).0
+
+abbrev Verb_end : Told → Bool → Bool → Verb → Shape
+Verb_end tolds.Empty true negated v = provided (verbs.IsEmpty negated ≡ v) nothing
+Verb_end tolds.Empty false negated v = never
+Verb_end tolds.In true negated v = provided (verbs.IsIn negated ≡ v) nothing
+Verb_end tolds.In false negated v = never
+Verb_end tolds.Equal i negated v = Made (λ (u : Unit {0}). verbs.Compares (cond negated relations.NotEqual relations.Equal)) (λ (u : Unit {0}). Word_is words.To) v
+Verb_end tolds.Less i negated v = Made (λ (u : Unit {0}). verbs.Compares (cond negated relations.GreaterOrEqual relations.Less)) (λ (u : Unit {0}). Word_is words.Than) v
+Verb_end tolds.Greater i negated v = Made (λ (u : Unit {0}). verbs.Compares (cond negated relations.LessOrEqual relations.Greater)) (λ (u : Unit {0}). Word_is words.Than) v
+
+verb_end_reads : (k : ℕ) (t : Told) (i negated : Bool) → Reads k (verb_end t i negated) (verb_end t i negated) (Verb_end t i negated) nowise
+verb_end_reads k tolds.Empty true negated = done_reads k (verbs.IsEmpty negated)
+verb_end_reads k tolds.Empty false negated = fail_reads k
+verb_end_reads k tolds.In true negated = done_reads k (verbs.IsIn negated)
+verb_end_reads k tolds.In false negated = fail_reads k
+verb_end_reads k tolds.Equal i negated = made_reads (expect_reads k (word words.To)) (λ (u : Unit {0}). verbs.Compares (cond negated relations.NotEqual relations.Equal))
+verb_end_reads k tolds.Less i negated = made_reads (expect_reads k (word words.Than)) (λ (u : Unit {0}). verbs.Compares (cond negated relations.GreaterOrEqual relations.Less))
+verb_end_reads k tolds.Greater i negated = made_reads (expect_reads k (word words.Than)) (λ (u : Unit {0}). verbs.Compares (cond negated relations.LessOrEqual relations.Greater))
+
+abbrev Worded : Verb → Shape
+Worded v ts rest = (p : Bool × (Bool × Told)) × (Verb_words p ▷ Verb_end p.1.1 p.0 p.1.0 v) ts rest
+
+worded_reads : (k : ℕ) → Reads k worded_verb worded_verb Worded nowise
+unfolding worded_verb
+worded_reads k = bind_reads (verb_words_reads k) (λ p. verb_end_reads k p.1.1 p.0 p.1.0) (λ p v ts rest s stop. refl)
+
+-- verbs in words begin with no sign of a sum, and no relation that is one token
+worded_first : (v : Verb) (ts rest : List Token) → Worded v ts rest → (begins_by relation_symbol ts ≡ false) × (continues_sum ts ≡ false)
+worded_first v ts rest ((true, (negated, t)), (m, (a, (span, line, e), s), end)) = (ap (begins_by relation_symbol) e, ap continues_sum e)
+worded_first v ts rest ((false, (true, t)), (m, (a, e, (b, (span, line, f), s)), end)) = (ap (begins_by relation_symbol) (e ∙ f), ap continues_sum (e ∙ f))
+worded_first v ts rest ((false, (false, t)), (m, (a, e, (b, f, (span, line, g))), end)) =
+    let no : relation_of (word_of t) ≡ None = (told_other t).2 in
+    (rw (e, f, g, no) refl, ap continues_sum (e ∙ f ∙ g))
+
+optionally : (i : Bool) (P : Shape) (ts rest : List Token) → flagged P i ts rest → optional P ts rest
+optionally true P ts rest s = inr s
+optionally false P ts rest s = inl s
+
+worded_to : (v : Verb) (ts rest : List Token) → Worded v ts rest → Verb_is v ts rest
+worded_to v ts rest ((i, (negated, t)), (m, (a, s, (b, neg, at)), end)) = go t i negated a b m s neg at end
+  where
+    go : (t : Told) (i negated : Bool) (a b m : List Token) → flagged (Word_is words.Is) i ts a → flagged (Word_is words.Not) negated a b → Told_is t b m → Verb_end t i negated v m rest → Verb_is v ts rest
+    go tolds.Empty true negated a b m s neg at end = subst (λ v. Verb_is v ts rest) end.0 (a, s, (b, neg, subst (λ r. Word_is words.Empty b r) end.1 at))
+    go tolds.Empty false negated a b m s neg at end = absurd end
+    go tolds.In true negated a b m s neg at end = subst (λ v. Verb_is v ts rest) end.0 (a, s, (b, neg, subst (λ r. Word_is words.In b r) end.1 at))
+    go tolds.In false negated a b m s neg at end = absurd end
+    go tolds.Equal i true a b m s neg at (u, makes, end) = subst (λ v. Verb_is v ts rest) makes (inr (inr (a, optionally i (Word_is words.Is) ts a s, (b, neg, (m, at, end)))))
+    go tolds.Equal i false a b m s neg at (u, makes, end) = subst (λ v. Verb_is v ts rest) makes (inr (inr (a, optionally i (Word_is words.Is) ts a s, (m, subst (λ r. Word_is words.Equal r m) (sym neg) at, end))))
+    go tolds.Less i true a b m s neg at (u, makes, end) = subst (λ v. Verb_is v ts rest) makes (inr (inr (a, optionally i (Word_is words.Is) ts a s, (b, neg, (m, at, end)))))
+    go tolds.Less i false a b m s neg at (u, makes, end) = subst (λ v. Verb_is v ts rest) makes (inr (inr (a, optionally i (Word_is words.Is) ts a s, (m, subst (λ r. Word_is words.Less r m) (sym neg) at, end))))
+    go tolds.Greater i true a b m s neg at (u, makes, end) = subst (λ v. Verb_is v ts rest) makes (inr (inr (a, optionally i (Word_is words.Is) ts a s, (b, neg, (m, at, end)))))
+    go tolds.Greater i false a b m s neg at (u, makes, end) = subst (λ v. Verb_is v ts rest) makes (inr (inr (a, optionally i (Word_is words.Is) ts a s, (m, subst (λ r. Word_is words.Greater r m) (sym neg) at, end))))
+
+words_from : (i : Bool) (r : Relation) (ts a rest : List Token) → flagged (Word_is words.Is) i ts a → In_words r a rest → Worded (verbs.Compares r) ts rest
+words_from i relations.Equal ts a rest s (m, at, end) = ((i, (false, tolds.Equal)), (m, (a, s, (a, refl, at)), (tt, refl, end)))
+words_from i relations.NotEqual ts a rest s (b, neg, (m, at, end)) = ((i, (true, tolds.Equal)), (m, (a, s, (b, neg, at)), (tt, refl, end)))
+words_from i relations.Less ts a rest s (m, at, end) = ((i, (false, tolds.Less)), (m, (a, s, (a, refl, at)), (tt, refl, end)))
+words_from i relations.Greater ts a rest s (m, at, end) = ((i, (false, tolds.Greater)), (m, (a, s, (a, refl, at)), (tt, refl, end)))
+words_from i relations.LessOrEqual ts a rest s (b, neg, (m, at, end)) = ((i, (true, tolds.Greater)), (m, (a, s, (b, neg, at)), (tt, refl, end)))
+words_from i relations.GreaterOrEqual ts a rest s (b, neg, (m, at, end)) = ((i, (true, tolds.Less)), (m, (a, s, (b, neg, at)), (tt, refl, end)))
+
+-- a relation that is one token
+abbrev Symbol_said : Verb → Shape
+Symbol_said = Made verbs.Compares (In_table relation_symbol)
+
+symbol_to : (v : Verb) (ts rest : List Token) → Symbol_said v ts rest → Verb_is v ts rest
+symbol_to v ts rest (r, makes, (k, takes, at)) = subst (λ v. Verb_is v ts rest) makes (go k takes at)
+  where
+    go : (k : TokenKind) → relation_symbol k ≡ Some r → Token_is k ts rest → Relation_is r ts rest
+    go (kinds.Symbol Equals) e at = let same : r ≡ relations.Equal = cc in inl (same, at)
+    go (kinds.Word w) e at = inr (inl (w, e, at))
+    go _ e at = absurd cc
+
+verb_from : (v : Verb) (ts rest : List Token) → Verb_is v ts rest → Symbol_said v ts rest ⊎ Worded v ts rest
+verb_from (verbs.Compares r) ts rest (inl (same, at)) = inl (r, refl, (kinds.Symbol Equals, ap Some (sym same), at))
+verb_from (verbs.Compares r) ts rest (inr (inl (w, e, at))) = inl (r, refl, (kinds.Word w, e, at))
+verb_from (verbs.Compares r) ts rest (inr (inr (a, inl e, s))) = inr (words_from false r ts a rest e s)
+verb_from (verbs.Compares r) ts rest (inr (inr (a, inr w, s))) = inr (words_from true r ts a rest w s)
+verb_from (verbs.IsEmpty negated) ts rest (a, s, (b, neg, at)) = inr ((true, (negated, tolds.Empty)), (rest, (a, s, (b, neg, at)), (refl, refl)))
+verb_from (verbs.IsIn negated) ts rest (a, s, (b, neg, at)) = inr ((true, (negated, tolds.In)), (rest, (a, s, (b, neg, at)), (refl, refl)))
+
+pub verb_reads : (k : ℕ) → Reads k verb verb Verb_is nowise
+unfolding verb
+verb_reads k =
+    choose_reads (item_of (begins_by relation_symbol) (made_reads (taken_reads k relation_symbol) verbs.Compares) (λ ts v rest s. begins_table relation_symbol ts rest s.0 s.2) (λ ts v rest s. omega (arith, token_less s.2.0 ts rest s.2.2)))
+    (worded_reads k) symbol_to worded_to
+    (λ v ts rest s. elim (verb_from v ts rest s) [ inl p ↦ inl p | inr p ↦ inr ((worded_first v ts rest p).0, p) ])
+
+symbol_stops : (k : TokenKind) (r : Relation) (ts rest : List Token) → relation_symbol k ≡ Some r → Token_is k ts rest → continues_sum ts ≡ false
+symbol_stops (kinds.Symbol Equals) r ts rest e at = ap continues_sum at.2
+symbol_stops (kinds.Word w) r ts rest e at = ap continues_sum at.2
+symbol_stops _ r ts rest e at = absurd cc
+
+verb_stops : (v : Verb) (ts rest : List Token) → Verb_is v ts rest → nowise rest ≡ false → continues_sum ts ≡ false
+verb_stops v ts rest s stop =
+    elim (verb_from v ts rest s) [
+      | inl p ↦ symbol_stops p.2.0 p.0 ts rest p.2.1 p.2.2
+      | inr p ↦ (worded_first v ts rest p).1
+    ]
+
+-- ---- sets as expressions
+
+reference_to : (n : ℕ) (e : ExpressionTree) (set : NamedTree) (ts rest : List Token) → reference_of e ≡ Some set → Sum_is n e ts rest → Reference_is n set ts rest
+reference_to n (named (designators.Name v) no_expression) set ts rest e s =
+    let same : record { designator = designators.Name v; subscripts = no_expression } ≡ set = cc in
+    subst (λ set. Reference_is n set ts rest) same (rest, s, refl)
+reference_to zero (named (designators.Name v) (and_expression x no_expression)) set ts rest e (a, at, (b, opened, (c, inner, closed))) = absurd inner
+reference_to (suc n) (named (designators.Name v) (and_expression x no_expression)) set ts rest e (a, at, (b, opened, (c, inner, closed))) =
+    let same : record { designator = designators.Name v; subscripts = and_expression x no_expression } ≡ set = cc in
+    subst (λ set. Reference_is (suc n) set ts rest) same (a, at, (b, opened, (c, subst (λ r. Spelled x sum_place n b r) inner.2 inner.1, closed)))
+reference_to n (named (designators.Name v) (and_expression x (and_expression y ys))) set ts rest e s = absurd cc
+reference_to n (named designators.TimeV row) set ts rest e s = absurd cc
+reference_to n (named designators.TimeA row) set ts rest e s = absurd cc
+reference_to n _ set ts rest e s = absurd cc
+
+-- the expression that names the set
+abbrev as_named : NamedTree → ExpressionTree
+as_named set = named set.designator set.subscripts
+
+reference_from : (n : ℕ) (d : Designator) (row : ExpressionRow) (ts a rest : List Token) → Plain_name d ts a → Subscript row n a rest → Sum_is n (named d row) ts rest × (reference_of (named d row) ≡ Some (record { designator = d; subscripts = row }))
+reference_from n (designators.Name v) no_expression ts a rest at e = (subst (λ r. Name_is v ts r) e at, refl)
+reference_from zero (designators.Name v) (and_expression x no_expression) ts a rest at (b, opened, (c, inner, closed)) = absurd inner
+reference_from (suc n) (designators.Name v) (and_expression x no_expression) ts a rest at (b, opened, (c, inner, closed)) = ((a, at, (b, opened, (c, (c, inner, refl), closed))), refl)
+reference_from n (designators.Name v) (and_expression x (and_expression y ys)) ts a rest at s = absurd s
+reference_from n designators.TimeV row ts a rest at s = absurd at
+reference_from n designators.TimeA row ts a rest at s = absurd at
+
+-- ---- tests
+
+no_the : (n : ℕ) (set : NamedTree) (ts rest : List Token) → Reference_is n set ts rest → begins (word words.The) ts ≡ false
+no_the n set ts rest (a, at, s) = go set.designator at
+  where
+    go : (d : Designator) → Plain_name d ts a → begins (word words.The) ts ≡ false
+    go (designators.Name v) (span, line, e) = ap (begins (word words.The)) e
+    go designators.TimeV at = absurd at
+    go designators.TimeA at = absurd at
+
+pub stops_place : (ts : List Token) → continues_sum ts ≡ false → continues_place ts ≡ false
+stops_place ts stop =
+    let a = or_false (begins_sign ts) (begins star ts || begins opening ts) stop in
+    let b = or_false (begins star ts) (begins opening ts) a.1 in
+    let none : begins opening ts ≡ false = b.1 in
+    rw none refl
+
+word_no_data : (w : Word) → begins_value (kinds.Word w) ≡ true → is (word words.Data) (kinds.Word w) ≡ false
+word_no_data words.Data e = absurd cc
+word_no_data _ e = refl
+
+value_no_data : (k : TokenKind) → begins_value k ≡ true → is (word words.Data) k ≡ false
+value_no_data (kinds.Word w) e = word_no_data w e
+value_no_data _ e = refl
+
+sum_no_data : (ts : List Token) → begins_sum ts ≡ true → begins (word words.Data) ts ≡ false
+sum_no_data [] e = refl
+sum_no_data (t ∷ ts) e = value_no_data t.kind e
+
+module _ (n m : ℕ) (le : n ≤ m) where
+  sum_reads : Reads (suc n) (sum_in (suc n)) (sum_in (suc m)) (λ e. Sum_is n e) continues_sum
+  sum_reads = sum_in_reads (suc n) (suc m) (omega arith)
+
+  pub the_set_reads : Reads (suc n) (λ ts. reference_in (suc n) (skip (word words.The) ts)) (λ ts. reference_in (suc m) (skip (word words.The) ts)) (λ set. the ▷ Reference_is n set) continues_place
+  the_set_reads = optional_reads (reference_in_reads (suc n) (suc m) (omega arith)) (word words.The) (λ set ts rest s. no_the n set ts rest s)
+
+  abbrev Empty_end : Option NamedTree → Bool → TestTree → Shape
+  Empty_end (Some set) negated x = provided (empty set negated ≡ x) nothing
+  Empty_end None negated x = never
+
+  empty_reads : (o : Option NamedTree) (negated : Bool) → Reads (suc n) (empty_of o negated) (empty_of o negated) (Empty_end o negated) continues_sum
+  empty_reads (Some set) negated = fewer_reads (done_reads (suc n) (empty set negated)) continues_sum (λ ts stop. refl)
+  empty_reads None negated = fewer_reads (fail_reads (suc n)) continues_sum (λ ts stop. refl)
+
+  abbrev Test_end : ExpressionTree → Verb → TestTree → Shape
+  Test_end left (verbs.Compares r) x = Made (compare left r) (λ e. Sum_is n e) x
+  Test_end left (verbs.IsIn negated) x = Made (λ set. member left set negated) (λ set. the ▷ Reference_is n set) x
+  Test_end left (verbs.IsEmpty negated) x = Empty_end (reference_of left) negated x
+
+  test_end_reads : (left : ExpressionTree) (v : Verb) → Reads (suc n) (test_end (suc n) left v) (test_end (suc m) left v) (Test_end left v) continues_sum
+  unfolding test_end
+  test_end_reads left (verbs.Compares r) = made_reads sum_reads (compare left r)
+  test_end_reads left (verbs.IsIn negated) = fewer_reads (made_reads the_set_reads (λ set. member left set negated)) continues_sum stops_place
+  test_end_reads left (verbs.IsEmpty negated) = empty_reads (reference_of left) negated
+
+  abbrev Sum_test : TestTree → Shape
+  Sum_test x ts rest = (p : ExpressionTree × Verb) × ((Sum_is n p.0 ▷ Verb_is p.1) ▷ Test_end p.0 p.1 x) ts rest
+
+  sum_test_reads : Reads (suc n) (sum_test (suc n)) (sum_test (suc m)) Sum_test continues_sum
+  unfolding sum_test
+  sum_test_reads = bind_reads (seq_reads sum_reads (verb_reads (suc n)) verb_stops) (λ p. test_end_reads p.0 p.1) (λ p x ts rest s stop. refl)
+
+  abbrev Data_test : TestTree → Shape
+  Data_test x = Word_is words.Data ▷ Word_is words.Is ▷ Made data_ended (λ negated. flagged (Word_is words.Not) negated ▷ Word_is words.Ended) x
+
+  data_item : Item (suc n) (begins (word words.Data)) data_test data_test Data_test nowise
+  unfolding data_test
+  data_item = item_marked (word words.Data) (marked_reads (word words.Is) (made_reads (closed_reads (mark_said_reads (suc n) (word words.Not)) (expect_reads (suc n) (word words.Ended)) (λ ts rest s stop. ap (begins (word words.Not)) s.2)) data_ended))
+
+  data_to : (x : TestTree) (ts rest : List Token) → Data_test x ts rest → Test_is n x ts rest
+  data_to x ts rest (a, d, (b, i, (negated, makes, s))) = subst (λ x. Test_is n x ts rest) makes (a, d, (b, i, s))
+
+  sum_test_to : (x : TestTree) (ts rest : List Token) → Sum_test x ts rest → Test_is n x ts rest
+  sum_test_to x ts rest ((e, verbs.Compares r), (b, (a, s, v), (right, makes, t))) = subst (λ x. Test_is n x ts rest) makes (a, s, (b, v, t))
+  sum_test_to x ts rest ((e, verbs.IsIn negated), (b, (a, s, (c, i, (d, neg, at))), (set, makes, t))) = subst (λ x. Test_is n x ts rest) makes (a, s, (c, i, (d, neg, (b, at, t))))
+  sum_test_to x ts rest ((e, verbs.IsEmpty negated), (b, (a, s, v), t)) = go (reference_of e) refl t
+    where
+      go : (o : Option NamedTree) → reference_of e ≡ o → Empty_end o negated x b rest → Test_is n x ts rest
+      go (Some set) names t = subst (λ x. Test_is n x ts rest) t.0 (a, reference_to n e set ts a names s, subst (λ r. Verb_is (verbs.IsEmpty negated) a r) t.1 v)
+      go None names t = absurd t
+
+  test_from : (x : TestTree) (ts rest : List Token) → Test_is n x ts rest → Data_test x ts rest ⊎ ((begins (word words.Data) ts ≡ false) × Sum_test x ts rest)
+  test_from (compare left r right) ts rest (a, s, (b, v, t)) = inr (sum_no_data ts (in_begins (suc n) ts left a s), ((left, verbs.Compares r), (b, (a, s, v), (right, refl, t))))
+  test_from (empty set negated) ts rest (a, s, v) =
+      let found = reference_from n set.designator set.subscripts ts s.0 a s.1 s.2 in
+      let names : reference_of (as_named set) ≡ Some set = found.1 in
+      inr (sum_no_data ts (in_begins (suc n) ts (as_named set) a found.0), ((as_named set, verbs.IsEmpty negated), (rest, (a, found.0, v), subst (λ o. Empty_end o negated (empty set negated) rest rest) (sym names) (refl, refl))))
+  test_from (member x set negated) ts rest (a, s, (b, i, (c, neg, (d, at, t)))) = inr (sum_no_data ts (in_begins (suc n) ts x a s), ((x, verbs.IsIn negated), (d, (a, s, (b, i, (c, neg, at))), (set, refl, t))))
+  test_from (data_ended negated) ts rest (a, d, (b, i, s)) = inl (a, d, (b, i, (negated, refl, s)))
+
+  test_reads : Reads (suc n) (choose (begins (word words.Data)) data_test (sum_test (suc n))) (choose (begins (word words.Data)) data_test (sum_test (suc m))) (λ x. Test_is n x) continues_sum
+  test_reads = choose_reads data_item sum_test_reads data_to sum_test_to test_from
+
+  pub test_less : (ts : List Token) (x : TestTree) (rest : List Token) → Test_is n x ts rest → length rest < length ts
+  test_less ts x rest s =
+      elim (test_from x ts rest s) [
+        | inl p ↦ data_item.less ts x rest p
+        | inr p ↦ go p.1
+      ]
+    where
+      go : Sum_test x ts rest → length rest < length ts
+      go ((e, v), (b, (a, s, t), end)) = omega (arith, in_less (suc n) ts e a s, (verb_reads 0).shorter a v b t, (test_end_reads e v).shorter b x rest end)
+
+-- ---- at each level
+
+abbrev pub In_test : ℕ → TestTree → Shape
+In_test room x = within (λ l. Test_is l x) room
+
+pub in_test_less : (n : ℕ) (ts : List Token) (x : TestTree) (rest : List Token) → In_test n x ts rest → length rest < length ts
+in_test_less zero ts x rest s = absurd s
+in_test_less (suc n) ts x rest s = test_less n n (omega arith) ts x rest s
+
+pub test_in_reads : (n m : ℕ) → n ≤ m → Reads n (test_in n) (test_in m) (In_test n) continues_sum
+unfolding test_in
+test_in_reads zero m le = too_deep_reads
+test_in_reads (suc n) zero le = absurd (omega arith)
+test_in_reads (suc n) (suc m) le = test_reads n m (omega arith)
+
+-- ---- conditions
+
+abbrev pub In_conjunction : ℕ → List TestTree → Shape
+In_conjunction room = joined words.And (In_test room)
+
+abbrev pub In_condition : ℕ → ConditionTree → Shape
+In_condition room = joined words.Or (In_conjunction room)
+
+abbrev continues_conjunction : List Token → Bool
+continues_conjunction ts = begins (word words.And) ts || (continues_sum ts || continues_sum ts)
+
+abbrev pub continues_condition : List Token → Bool
+continues_condition ts = begins (word words.Or) ts || (continues_conjunction ts || continues_conjunction ts)
+
+module _ (n m : ℕ) (le : n ≤ m) where
+  test_item : Item n (begins (word words.And)) (λ r. test_in n (skip (word words.And) r)) (λ r. test_in m (skip (word words.And) r)) (λ x. Word_is words.And ▷ In_test n x) continues_sum
+  test_item = item_skipped (word words.And) (test_in_reads n m le)
+
+  and_stops : (ts : List Token) (x : TestTree) (rest : List Token) → (Word_is words.And ▷ In_test n x) ts rest → (continues_sum ts ≡ false) × (continues_sum ts ≡ false)
+  and_stops ts x rest s = (ap continues_sum s.1.2, ap continues_sum s.1.2)
+
+  conjunction_reads : Reads n (conjunction_in n) (conjunction_in m) (In_conjunction n) continues_conjunction
+  conjunction_reads = first_and_reads (test_in_reads n m le) test_item and_stops (in_test_less n)
+
+  conjunction_less : (ts : List Token) (xs : List TestTree) (rest : List Token) → In_conjunction n xs ts rest → length rest < length ts
+  conjunction_less ts xs rest s = first_less (test_in_reads n m le) test_item and_stops (in_test_less n) ts xs rest s
+
+  conjunction_item : Item n (begins (word words.Or)) (λ r. conjunction_in n (skip (word words.Or) r)) (λ r. conjunction_in m (skip (word words.Or) r)) (λ xs. Word_is words.Or ▷ In_conjunction n xs) continues_conjunction
+  conjunction_item = item_skipped (word words.Or) conjunction_reads
+
+  or_stops : (ts : List Token) (xs : List TestTree) (rest : List Token) → (Word_is words.Or ▷ In_conjunction n xs) ts rest → (continues_conjunction ts ≡ false) × (continues_conjunction ts ≡ false)
+  or_stops ts xs rest s = (ap continues_conjunction s.1.2, ap continues_conjunction s.1.2)
+
+  pub condition_in_reads : Reads n (condition_in n) (condition_in m) (In_condition n) continues_condition
+  condition_in_reads = first_and_reads conjunction_reads conjunction_item or_stops conjunction_less
+
+  pub condition_less : (ts : List Token) (c : ConditionTree) (rest : List Token) → In_condition n c ts rest → length rest < length ts
+  condition_less ts c rest s = first_less conjunction_reads conjunction_item or_stops conjunction_less ts c rest s
+
+pub conjunction_loop : (n : ℕ) → Loop (begins (word words.And)) (λ r. test_in n (skip (word words.And) r))
+conjunction_loop n = loop_of (test_item n n (omega arith)) refl
+
+pub condition_loop : (n : ℕ) → Loop (begins (word words.Or)) (λ r. conjunction_in n (skip (word words.Or) r))
+condition_loop n = loop_of (conjunction_item n n (omega arith)) refl
+
+-- what a condition begins with
+abbrev pub begins_condition : List Token → Bool
+begins_condition ts = begins_sum ts || begins (word words.Data) ts
+
+test_begins : (n : ℕ) (x : TestTree) (ts rest : List Token) → In_test n x ts rest → begins_condition ts ≡ true
+test_begins zero x ts rest s = absurd s
+test_begins (suc n) x ts rest s =
+    elim (test_from n n (omega arith) x ts rest s) [
+      | inl p ↦ ap begins_condition p.1.2
+      | inr p ↦ let there : begins_sum ts ≡ true = in_begins (suc n) ts p.1.0.0 p.1.1.1.0 p.1.1.1.1 in rw there refl
+    ]
+
+pub condition_begins : (n : ℕ) (c : ConditionTree) (ts rest : List Token) → In_condition n c ts rest → begins_condition ts ≡ true
+condition_begins n [] ts rest s = absurd s
+condition_begins n ([] ∷ cs) ts rest (a, s, more) = absurd s
+condition_begins n ((x ∷ xs) ∷ cs) ts rest (a, (b, s, others), more) = test_begins n x ts b s

@@ -1,0 +1,356 @@
+-- The heads of loops: what is read is spelled, and what is spelled is read.
+use Rattle.std.proofs.Common.{◌≡◌, ℕ, suc, ◌≤◌, Bool, true, false, ◌||◌, List, [], ◌∷◌, Option, Some, None, refl, ap, subst, ◌∙◌, arith, inl, inr}
+use Rattle.ss_lex.specs.declared.word.Word.{Word}
+use Rattle.ss_lex.specs.declared.word.Word.TheVariants as words
+use Rattle.ss_lex.specs.declared.token.Symbol.TheVariants.{Equals}
+use Rattle.ss_lex.specs.declared.token.TokenKind.{TokenKind}
+use Rattle.ss_lex.specs.declared.token.TokenKind.TheVariants as kinds
+use Rattle.ss_lex.specs.declared.token.Token.{Token}
+use Rattle.ss_tree.specs.declared.head.PhraseKind.{PhraseKind}
+use Rattle.ss_tree.specs.declared.head.GuardKind.{GuardKind}
+use Rattle.ss_tree.specs.Tree.{ExpressionTree, NamedTree, ConditionTree, PhraseTree, GuardTree, StartTree, from_end, from_member, after_member, HeadTree, over_range, over_members, over_class, LoopHeadTree, guarded}
+use Rattle.ss_parse_expressions.specs.declared.classes.Class.TheVariants as classes
+use Rattle.ss_parse_expressions.specs.Shapes.{Shape, ◌▷◌, nothing, either, provided, noise, Word_is, Symbol_is, Name_is, Said, each, perhaps, flagged}
+use Rattle.ss_parse_expressions.specs.Words.{One_of, the}
+use Rattle.ss_parse_expressions.specs.SpelledExpressions.{Sum_is, Reference_is}
+use Rattle.ss_parse_expressions.specs.SpelledConditions.{Start_is, Head_behind}
+use Rattle.ss_parse_expressions.specs.WordTables.{phrase_of, guard_of}
+use Rattle.ss_parse_expressions.specs.Reading.{word, symbol, is, is_some, begins, expect, in_table, behind, apply, choose, comma, skip_comma}
+use Rattle.ss_parse_expressions.specs.ReadWords.{done, begins_class, begins_among}
+use Rattle.ss_parse_expressions.specs.ReadExpressions.{sum_in}
+use Rattle.ss_parse_expressions.specs.ReadHeads.{phrase_tree, guard_tree, begins_phrase, begins_guard, phrase_in, guard_in, phrases_in, guards_in, step_in, range_tree, range_in, start_in, reverse, members_tree, members_in, class_tree, class_in, each_named, each_in, for_in, guarded_in}
+use Rattle.ss_parse_expressions.proofs.Tools.{or_false}
+use Rattle.ss_parse_expressions.proofs.Marks.{token_less}
+use Rattle.ss_parse_expressions.proofs.ReaderLaws.{Reads, Item, nowise, Made, item_of, item_marked, noisy_item, expect_reads, seq_reads, behind_reads, bind_reads, apply_reads, made_reads, marked_reads, said_reads, fewer_reads, maybe_reads, flag_reads}
+use Rattle.ss_parse_expressions.proofs.Rows.{rows_reads, each_first, Loop, loop_of}
+use Rattle.ss_parse_expressions.proofs.WordLaws.{word_in_reads, expect_class_reads, done_reads, name_reads, either_reads, item_made, one_begins, one_less, no_word}
+use Rattle.ss_parse_expressions.proofs.ExpressionLaws.{sum_in_reads, continues_sum}
+use Rattle.ss_parse_expressions.proofs.PlaceLaws.{continues_place}
+use Rattle.ss_parse_expressions.proofs.ConditionLaws.{stops_place, the_set_reads, In_condition, continues_condition, condition_in_reads, condition_less}
+
+-- words that may follow a part of a head and go on with it
+abbrev pub head_more : Word → Bool
+head_more words.By = true
+head_more words.From = true
+head_more words.After = true
+head_more words.In = true
+head_more words.Called = true
+head_more _ = false
+
+-- what continues a part of a head, phrases apart
+abbrev pub continues_head : List Token → Bool
+continues_head ts = begins_among head_more ts || continues_condition ts
+
+no_more : (ts : List Token) → continues_head ts ≡ false → begins_among head_more ts ≡ false
+no_more ts stop = (or_false (begins_among head_more ts) (continues_condition ts) stop).0
+
+no_condition : (ts : List Token) → continues_head ts ≡ false → continues_condition ts ≡ false
+no_condition ts stop = (or_false (begins_among head_more ts) (continues_condition ts) stop).1
+
+pub condition_no_sum : (ts : List Token) → continues_condition ts ≡ false → continues_sum ts ≡ false
+condition_no_sum ts stop =
+    let a = or_false (begins (word words.Or) ts) _ stop in
+    let b = or_false (begins (word words.And) ts || (continues_sum ts || continues_sum ts)) _ a.1 in
+    let c = or_false (begins (word words.And) ts) _ b.0 in
+    (or_false (continues_sum ts) (continues_sum ts) c.1).0
+
+no_sum : (ts : List Token) → continues_head ts ≡ false → continues_sum ts ≡ false
+no_sum ts stop = condition_no_sum ts (no_condition ts stop)
+
+-- ---- phrases
+
+phrase_no_more : (w : Word) (kind : PhraseKind) → phrase_of w ≡ Some kind → (is (word words.Or) (kinds.Word w) ≡ false) × (is (word words.And) (kinds.Word w) ≡ false) × (head_more w ≡ false)
+phrase_no_more words.With kind e = (refl, refl, refl)
+phrase_no_more words.When kind e = (refl, refl, refl)
+phrase_no_more words.Unless kind e = (refl, refl, refl)
+phrase_no_more words.While kind e = (refl, refl, refl)
+phrase_no_more words.Until kind e = (refl, refl, refl)
+phrase_no_more _ kind e = absurd cc
+
+abbrev pub phrase_said : ℕ → PhraseTree → Shape
+phrase_said n x = Said phrase_of x.kind ▷ In_condition n x.condition
+
+phrase_starts : (n : ℕ) (ts : List Token) (x : PhraseTree) (rest : List Token) → phrase_said n x ts rest → begins_phrase ts ≡ true
+phrase_starts n ts x rest (a, (w, means, (span, line, e)), s) = let there : is_some (phrase_of w) ≡ true = rw means refl in ap begins_phrase e ∙ there
+
+phrase_no_comma : (ts : List Token) → begins_phrase ts ≡ true → begins comma ts ≡ false
+phrase_no_comma [] e = refl
+phrase_no_comma (t ∷ ts) e = go t.kind e
+  where
+    go : (k : TokenKind) → is_some (in_table phrase_of k) ≡ true → is comma k ≡ false
+    go (kinds.Word w) e = refl
+    go _ e = absurd cc
+
+phrase_stops : (n : ℕ) (ts : List Token) (x : PhraseTree) (rest : List Token) → (noise ▷ phrase_said n x) ts rest → continues_head ts ≡ false
+phrase_stops n ts x rest (a, inr (span, line, e), s) = ap continues_head e
+phrase_stops n ts x rest (a, inl e, (b, (w, means, (span, line, f)), s)) =
+    let no = phrase_no_more w x.kind means in
+    let no_or : is (word words.Or) (kinds.Word w) ≡ false = no.0 in
+    let no_and : is (word words.And) (kinds.Word w) ≡ false = no.1 in
+    let no_more : head_more w ≡ false = no.2 in
+    rw (e, f, no_or, no_and, no_more) refl
+
+module _ (n m : ℕ) (le : n ≤ m) where
+  phrase_reads : Reads n (phrase_in n) (phrase_in m) (phrase_said n) continues_condition
+  unfolding phrase_in
+  phrase_reads = apply_reads (seq_reads (word_in_reads n phrase_of) (condition_in_reads n m le) (λ c ts rest s stop. refl)) phrase_tree (phrase_said n) (λ p ts rest s. s) (λ x ts rest s. ((x.kind, x.condition), refl, s))
+
+  phrase_item : Item n (λ ts. begins_phrase (skip_comma ts)) (λ r. phrase_in n (skip_comma r)) (λ r. phrase_in m (skip_comma r)) (λ x. noise ▷ phrase_said n x) continues_condition
+  phrase_item = noisy_item phrase_reads begins_phrase (phrase_starts n) phrase_no_comma (λ ts x rest s. omega (arith, token_less (kinds.Word s.1.0) ts s.0 s.1.2, condition_less n m le s.0 x.condition rest s.2))
+
+  pub phrases_reads : Reads n (phrases_in n) (phrases_in m) (each (λ x. noise ▷ phrase_said n x)) (λ ts. begins_phrase (skip_comma ts) || continues_condition ts)
+  phrases_reads = rows_reads phrase_item (λ ts x rest s. no_condition ts (phrase_stops n ts x rest s))
+
+  -- what can't continue a head, and no phrase begins with, doesn't begin phrases
+  pub phrases_stop : (xs : List PhraseTree) (ts rest : List Token) → each (λ x. noise ▷ phrase_said n x) xs ts rest → continues_head rest ≡ false → continues_head ts ≡ false
+  phrases_stop xs ts rest s stop = each_first continues_head (phrase_stops n) xs ts rest s stop
+
+pub phrases_loop : (n : ℕ) → Loop (λ ts. begins_phrase (skip_comma ts)) (λ r. phrase_in n (skip_comma r))
+phrases_loop n = loop_of (phrase_item n n (omega arith)) refl
+
+-- ---- the conditions of a loop that begins with WHILE or UNTIL
+
+guard_no_more : (w : Word) (kind : GuardKind) → guard_of w ≡ Some kind → (is (word words.Or) (kinds.Word w) ≡ false) × (is (word words.And) (kinds.Word w) ≡ false) × (head_more w ≡ false)
+guard_no_more words.While kind e = (refl, refl, refl)
+guard_no_more words.Until kind e = (refl, refl, refl)
+guard_no_more _ kind e = absurd cc
+
+abbrev pub guard_said : ℕ → GuardTree → Shape
+guard_said n x = Said guard_of x.kind ▷ In_condition n x.condition
+
+guard_starts : (n : ℕ) (ts : List Token) (x : GuardTree) (rest : List Token) → guard_said n x ts rest → begins_guard ts ≡ true
+guard_starts n ts x rest (a, (w, means, (span, line, e)), s) = let there : is_some (guard_of w) ≡ true = rw means refl in ap begins_guard e ∙ there
+
+guard_no_comma : (ts : List Token) → begins_guard ts ≡ true → begins comma ts ≡ false
+guard_no_comma [] e = refl
+guard_no_comma (t ∷ ts) e = go t.kind e
+  where
+    go : (k : TokenKind) → is_some (in_table guard_of k) ≡ true → is comma k ≡ false
+    go (kinds.Word w) e = refl
+    go _ e = absurd cc
+
+guard_stops : (n : ℕ) (ts : List Token) (x : GuardTree) (rest : List Token) → (noise ▷ guard_said n x) ts rest → continues_head ts ≡ false
+guard_stops n ts x rest (a, inr (span, line, e), s) = ap continues_head e
+guard_stops n ts x rest (a, inl e, (b, (w, means, (span, line, f)), s)) =
+    let no = guard_no_more w x.kind means in
+    let no_or : is (word words.Or) (kinds.Word w) ≡ false = no.0 in
+    let no_and : is (word words.And) (kinds.Word w) ≡ false = no.1 in
+    let no_more : head_more w ≡ false = no.2 in
+    rw (e, f, no_or, no_and, no_more) refl
+
+module _ (n m : ℕ) (le : n ≤ m) where
+  guard_reads : Reads n (guard_in n) (guard_in m) (guard_said n) continues_condition
+  unfolding guard_in
+  guard_reads = apply_reads (seq_reads (word_in_reads n guard_of) (condition_in_reads n m le) (λ c ts rest s stop. refl)) guard_tree (guard_said n) (λ p ts rest s. s) (λ x ts rest s. ((x.kind, x.condition), refl, s))
+
+  guard_item : Item n (λ ts. begins_guard (skip_comma ts)) (λ r. guard_in n (skip_comma r)) (λ r. guard_in m (skip_comma r)) (λ x. noise ▷ guard_said n x) continues_condition
+  guard_item = noisy_item guard_reads begins_guard (guard_starts n) guard_no_comma (λ ts x rest s. omega (arith, token_less (kinds.Word s.1.0) ts s.0 s.1.2, condition_less n m le s.0 x.condition rest s.2))
+
+  pub guards_reads : Reads n (guards_in n) (guards_in m) (each (λ x. noise ▷ guard_said n x)) (λ ts. begins_guard (skip_comma ts) || continues_condition ts)
+  guards_reads = rows_reads guard_item (λ ts x rest s. no_condition ts (guard_stops n ts x rest s))
+
+  -- what can't continue a head, and no guard begins with, doesn't begin guards
+  pub guards_stop : (xs : List GuardTree) (ts rest : List Token) → each (λ x. noise ▷ guard_said n x) xs ts rest → continues_head rest ≡ false → continues_head ts ≡ false
+  guards_stop xs ts rest s stop = each_first continues_head (guard_stops n) xs ts rest s stop
+
+pub guards_loop : (n : ℕ) → Loop (λ ts. begins_guard (skip_comma ts)) (λ r. guard_in n (skip_comma r))
+guards_loop n = loop_of (guard_item n n (omega arith)) refl
+
+-- ---- FOR
+
+-- what continues a loop's head that begins with FOR
+abbrev pub continues_for : List Token → Bool
+continues_for ts = begins_phrase (skip_comma ts) || continues_head ts
+
+abbrev pub Phrase_said : ℕ → PhraseTree → Shape
+Phrase_said n x = noise ▷ phrase_said n x
+
+module _ (n m : ℕ) (le : n ≤ m) where
+  room_sum : Reads (suc n) (sum_in (suc n)) (sum_in (suc m)) (λ e. Sum_is n e) continues_sum
+  room_sum = sum_in_reads (suc n) (suc m) (omega arith)
+
+  room_phrases : Reads (suc n) (phrases_in (suc n)) (phrases_in (suc m)) (each (Phrase_said (suc n))) continues_for
+  room_phrases = fewer_reads (phrases_reads (suc n) (suc m) (omega arith)) continues_for (λ ts stop.
+      let both = or_false (begins_phrase (skip_comma ts)) (continues_head ts) stop in
+      let a : begins_phrase (skip_comma ts) ≡ false = both.0 in
+      let b : continues_condition ts ≡ false = no_condition ts both.1 in
+      rw (a, b) refl)
+
+  -- what can't continue a part of a head is no phrase
+  by_phrases : (xs : List PhraseTree) (ts rest : List Token) → each (Phrase_said (suc n)) xs ts rest → continues_for rest ≡ false → continues_head ts ≡ false
+  by_phrases xs ts rest s stop = phrases_stop (suc n) (suc n) (omega arith) xs ts rest s (or_false (begins_phrase (skip_comma rest)) (continues_head rest) stop).1
+
+  step_reads : Reads (suc n) (step_in (suc n)) (step_in (suc m)) (perhaps (λ e. Word_is words.By ▷ Sum_is n e)) (λ ts. begins (word words.By) ts || continues_sum ts)
+  step_reads = maybe_reads (item_marked (word words.By) room_sum)
+
+  stops_step : (ts : List Token) → continues_head ts ≡ false → (begins (word words.By) ts || continues_sum ts) ≡ false
+  stops_step ts stop =
+      let a : begins (word words.By) ts ≡ false = no_word head_more words.By refl ts (no_more ts stop) in
+      let b : continues_sum ts ≡ false = no_sum ts stop in
+      rw (a, b) refl
+
+  step_stops : (p : Option ExpressionTree × List PhraseTree) (ts rest : List Token) → (perhaps (λ e. Word_is words.By ▷ Sum_is n e) p.0 ▷ each (Phrase_said (suc n)) p.1) ts rest → continues_for rest ≡ false → continues_sum ts ≡ false
+  step_stops (None, ps) ts rest (a, e, s) stop = ap continues_sum e ∙ no_sum a (by_phrases ps a rest s stop)
+  step_stops (Some e, ps) ts rest (a, (b, (span, line, f), s), t) stop = ap continues_sum f
+
+  abbrev Range_parts : List ℕ × (ExpressionTree × (ExpressionTree × (Option ExpressionTree × List PhraseTree))) → Shape
+  Range_parts p = Name_is p.0 ▷ Symbol_is Equals ▷ Sum_is n p.1.0 ▷ Word_is words.To ▷ Sum_is n p.1.1.0 ▷ perhaps (λ e. Word_is words.By ▷ Sum_is n e) p.1.1.1.0 ▷ each (Phrase_said (suc n)) p.1.1.1.1
+
+  range_reads : Reads (suc n) (range_in (suc n)) (range_in (suc m)) (Made range_tree Range_parts) continues_for
+  unfolding range_in
+  range_reads =
+      made_reads (seq_reads (name_reads (suc n)) (marked_reads (symbol Equals) (seq_reads room_sum (marked_reads (word words.To) (seq_reads room_sum (seq_reads step_reads room_phrases (λ ps ts rest s stop. stops_step ts (by_phrases ps ts rest s stop))) step_stops)) (λ p ts rest s stop. ap continues_sum s.1.2))) (λ p ts rest s stop. refl)) range_tree
+
+  -- ---- over a set
+
+  -- what continues where a loop over a set begins
+  abbrev continues_start : List Token → Bool
+  continues_start ts = begins (word words.From) ts || (begins (word words.After) ts || continues_sum ts)
+
+  stops_start : (ts : List Token) → continues_head ts ≡ false → continues_start ts ≡ false
+  stops_start ts stop =
+      let a : begins (word words.From) ts ≡ false = no_word head_more words.From refl ts (no_more ts stop) in
+      let b : begins (word words.After) ts ≡ false = no_word head_more words.After refl ts (no_more ts stop) in
+      let c : continues_sum ts ≡ false = no_sum ts stop in
+      rw (a, b, c) refl
+
+  after_reads : Reads (suc n) (choose (begins (word words.After)) (apply after_member (behind (expect (word words.After)) (sum_in (suc n)))) (done from_end)) (choose (begins (word words.After)) (apply after_member (behind (expect (word words.After)) (sum_in (suc m)))) (done from_end)) (λ x. either (Made after_member (λ e. Word_is words.After ▷ Sum_is n e) x) (provided (from_end ≡ x) nothing)) (λ ts. begins (word words.After) ts || continues_sum ts)
+  after_reads =
+      either_reads (item_made (word words.After) room_sum after_member) (done_reads (suc n) from_end) (λ ts. begins (word words.After) ts || continues_sum ts)
+      (λ ts stop. ((or_false (begins (word words.After) ts) (continues_sum ts) stop).1, refl))
+      (λ x ts rest s stop. ap (begins (word words.After)) s.1 ∙ (or_false (begins (word words.After) rest) (continues_sum rest) stop).0)
+
+  after_late : (x : StartTree) (ts rest : List Token) → either (Made after_member (λ e. Word_is words.After ▷ Sum_is n e) x) (provided (from_end ≡ x) nothing) ts rest → continues_start rest ≡ false → begins (word words.From) ts ≡ false
+  after_late x ts rest (inl (e, is, (a, (span, line, f), s))) stop = ap (begins (word words.From)) f
+  after_late x ts rest (inr (is, e)) stop = ap (begins (word words.From)) e ∙ (or_false (begins (word words.From) rest) _ stop).0
+
+  start_reads : Reads (suc n) (start_in (suc n)) (start_in (suc m)) (Start_is n) continues_start
+  unfolding start_in
+  start_reads =
+      said_reads (either_reads (item_made (word words.From) room_sum from_member) after_reads continues_start
+      (λ ts stop. let both = or_false (begins (word words.From) ts) (begins (word words.After) ts || continues_sum ts) stop in ((or_false (begins (word words.After) ts) (continues_sum ts) both.1).1, both.1))
+      after_late) (Start_is n) to from
+    where
+      to : (x : StartTree) (ts rest : List Token) → either (Made from_member (λ e. Word_is words.From ▷ Sum_is n e) x) (either (Made after_member (λ e. Word_is words.After ▷ Sum_is n e) x) (provided (from_end ≡ x) nothing)) ts rest → Start_is n x ts rest
+      to x ts rest (inl (e, is, s)) = subst (λ x. Start_is n x ts rest) is s
+      to x ts rest (inr (inl (e, is, s))) = subst (λ x. Start_is n x ts rest) is s
+      to x ts rest (inr (inr (is, s))) = subst (λ x. Start_is n x ts rest) is s
+
+      from : (x : StartTree) (ts rest : List Token) → Start_is n x ts rest → either (Made from_member (λ e. Word_is words.From ▷ Sum_is n e) x) (either (Made after_member (λ e. Word_is words.After ▷ Sum_is n e) x) (provided (from_end ≡ x) nothing)) ts rest
+      from from_end ts rest s = inr (inr (refl, s))
+      from (from_member e) ts rest s = inl (e, refl, s)
+      from (after_member e) ts rest s = inr (inl (e, refl, s))
+
+  abbrev Reverse_words : Shape
+  Reverse_words = Word_is words.In ▷ Word_is words.Reverse ▷ Word_is words.Order
+
+  reverse_reads : Reads (suc n) reverse reverse (flagged Reverse_words) (λ ts. begins (word words.In) ts || nowise ts)
+  unfolding reverse
+  reverse_reads = flag_reads (item_marked (word words.In) (marked_reads (word words.Reverse) (expect_reads (suc n) (word words.Order))))
+
+  stops_reverse : (ts : List Token) → continues_head ts ≡ false → (begins (word words.In) ts || nowise ts) ≡ false
+  stops_reverse ts stop =
+      let a : begins (word words.In) ts ≡ false = no_word head_more words.In refl ts (no_more ts stop) in
+      rw a refl
+
+  reverse_stops : (p : Bool × List PhraseTree) (ts rest : List Token) → (flagged Reverse_words p.0 ▷ each (Phrase_said (suc n)) p.1) ts rest → continues_for rest ≡ false → continues_start ts ≡ false
+  reverse_stops (true, ps) ts rest (a, (b, (span, line, e), s), t) stop = ap continues_start e
+  reverse_stops (false, ps) ts rest (a, e, t) stop = ap continues_start e ∙ stops_start a (by_phrases ps a rest t stop)
+
+  start_stops : (p : StartTree × (Bool × List PhraseTree)) (ts rest : List Token) → (Start_is n p.0 ▷ flagged Reverse_words p.1.0 ▷ each (Phrase_said (suc n)) p.1.1) ts rest → continues_for rest ≡ false → continues_place ts ≡ false
+  start_stops (from_end, q) ts rest (a, e, s) stop =
+      let no = reverse_stops q a rest s stop in
+      ap continues_place e ∙ stops_place a (or_false (begins (word words.After) a) (continues_sum a) (or_false (begins (word words.From) a) (begins (word words.After) a || continues_sum a) no).1).1
+  start_stops (from_member x, q) ts rest (a, (b, (span, line, e), s), t) stop = ap continues_place e
+  start_stops (after_member x, q) ts rest (a, (b, (span, line, e), s), t) stop = ap continues_place e
+
+  abbrev Members_parts : NamedTree × (StartTree × (Bool × List PhraseTree)) → Shape
+  Members_parts p = Word_is words.In ▷ (the ▷ Reference_is n p.0) ▷ Start_is n p.1.0 ▷ flagged Reverse_words p.1.1.0 ▷ each (Phrase_said (suc n)) p.1.1.1
+
+  members_item : (v : List ℕ) → Item (suc n) (begins (word words.In)) (members_in (suc n) v) (members_in (suc m) v) (Made (members_tree v) Members_parts) continues_for
+  unfolding members_in
+  members_item v = item_made (word words.In) (seq_reads (the_set_reads n m le) (seq_reads start_reads (seq_reads reverse_reads room_phrases (λ ps ts rest s stop. stops_reverse ts (by_phrases ps ts rest s stop))) reverse_stops) start_stops) (members_tree v)
+
+  -- ---- over a class
+
+  abbrev Called_name : Option (List ℕ) → Shape
+  Called_name = perhaps (λ v. Word_is words.Called ▷ Name_is v)
+
+  abbrev Class_parts : Option (List ℕ) × List PhraseTree → Shape
+  Class_parts p = Called_name p.0 ▷ each (Phrase_said (suc n)) p.1
+
+  stops_called : (ts : List Token) → continues_head ts ≡ false → (begins (word words.Called) ts || nowise ts) ≡ false
+  stops_called ts stop =
+      let a : begins (word words.Called) ts ≡ false = no_word head_more words.Called refl ts (no_more ts stop) in
+      rw a refl
+
+  class_reads : (v : List ℕ) → Reads (suc n) (class_in (suc n) v) (class_in (suc m) v) (Made (class_tree v) Class_parts) continues_for
+  unfolding class_in
+  class_reads v = made_reads (seq_reads (maybe_reads (item_marked (word words.Called) (name_reads (suc n)))) room_phrases (λ ps ts rest s stop. stops_called ts (by_phrases ps ts rest s stop))) (class_tree v)
+
+  class_late : (v : List ℕ) (x : HeadTree) (ts rest : List Token) → Made (class_tree v) Class_parts x ts rest → continues_for rest ≡ false → begins (word words.In) ts ≡ false
+  class_late v x ts rest ((None, ps), is, (a, e, s)) stop = ap (begins (word words.In)) e ∙ no_word head_more words.In refl a (no_more a (by_phrases ps a rest s stop))
+  class_late v x ts rest ((Some c, ps), is, (a, (b, (span, line, e), s), t)) stop = ap (begins (word words.In)) e
+
+  abbrev Named_parts : List ℕ → HeadTree → Shape
+  Named_parts v x = either (Made (members_tree v) Members_parts x) (Made (class_tree v) Class_parts x)
+
+  named_reads : (v : List ℕ) → Reads (suc n) (each_named (suc n) v) (each_named (suc m) v) (Named_parts v) continues_for
+  named_reads v = either_reads (members_item v) (class_reads v) continues_for (λ ts stop. (stop, stop)) (class_late v)
+
+  abbrev Each_parts : HeadTree → Shape
+  Each_parts x = One_of classes.Each ▷ (λ ts rest. (v : List ℕ) × (Name_is v ▷ Named_parts v x) ts rest)
+
+  each_reads : Reads (suc n) (each_in (suc n)) (each_in (suc m)) Each_parts continues_for
+  unfolding each_in
+  each_reads = behind_reads (expect_class_reads (suc n) classes.Each) (bind_reads (name_reads (suc n)) named_reads (λ v x ts rest s stop. refl)) (λ x ts rest s stop. refl)
+
+  each_item : Item (suc n) (begins_class classes.Each) (each_in (suc n)) (each_in (suc m)) Each_parts continues_for
+  each_item =
+      item_of (begins_class classes.Each) each_reads (λ ts x rest s. one_begins classes.Each ts s.0 s.1)
+      (λ ts x rest s. omega (arith, one_less classes.Each ts s.0 s.1, (bind_reads (name_reads (suc n)) named_reads (λ v x ts rest s stop. refl)).shorter s.0 x rest s.2))
+
+  -- ---- the whole
+
+  range_late : (x : HeadTree) (ts rest : List Token) → Made range_tree Range_parts x ts rest → continues_for rest ≡ false → begins_class classes.Each ts ≡ false
+  range_late x ts rest (p, is, (a, (span, line, e), s)) stop = ap (begins_class classes.Each) e
+
+  for_to : (x : HeadTree) (ts rest : List Token) → either (Each_parts x) (Made range_tree Range_parts x) ts rest → Head_behind n x ts rest
+  for_to x ts rest (inl (a, e, (v, (b, name, inl (p, is, (c, i, (d, s, t))))))) = subst (λ x. Head_behind n x ts rest) is (a, e, (b, name, (c, i, (s.0, s.1, (d, s.2, t)))))
+  for_to x ts rest (inl (a, e, (v, (b, name, inr (p, is, s))))) = subst (λ x. Head_behind n x ts rest) is (a, e, (b, name, s))
+  for_to x ts rest (inr (p, is, s)) = subst (λ x. Head_behind n x ts rest) is s
+
+  for_from : (x : HeadTree) (ts rest : List Token) → Head_behind n x ts rest → either (Each_parts x) (Made range_tree Range_parts x) ts rest
+  for_from (over_range v from to step ps) ts rest s = inr ((v, (from, (to, (step, ps)))), refl, s)
+  for_from (over_members v set start rev ps) ts rest (a, e, (b, name, (c, i, (f, t, (d, s, more))))) = inl (a, e, (v, (b, name, inl ((set, (start, (rev, ps))), refl, (c, i, (d, (f, t, s), more))))))
+  for_from (over_class c v ps) ts rest (a, e, (b, name, s)) = inl (a, e, (c, (b, name, inr ((v, ps), refl, s))))
+
+  -- the head of a FOR behind its first word
+  pub for_reads : Reads (suc n) (for_in (suc n)) (for_in (suc m)) (Head_behind n) continues_for
+  unfolding for_in
+  for_reads = said_reads (either_reads each_item range_reads continues_for (λ ts stop. (stop, stop)) range_late) (Head_behind n) for_to for_from
+
+  -- ---- WHILE and UNTIL
+
+  abbrev pub continues_guarded : List Token → Bool
+  continues_guarded ts = begins_guard (skip_comma ts) || continues_head ts
+
+  room_guards : Reads (suc n) (guards_in (suc n)) (guards_in (suc m)) (each (λ x. noise ▷ guard_said (suc n) x)) continues_guarded
+  room_guards = fewer_reads (guards_reads (suc n) (suc m) (omega arith)) continues_guarded (λ ts stop.
+      let both = or_false (begins_guard (skip_comma ts)) (continues_head ts) stop in
+      let a : begins_guard (skip_comma ts) ≡ false = both.0 in
+      let b : continues_condition ts ≡ false = no_condition ts both.1 in
+      rw (a, b) refl)
+
+  abbrev pub Guards_made : GuardKind → ConditionTree → LoopHeadTree → Shape
+  Guards_made kind c = Made guarded (Made (λ gs. guard_tree (kind, c) ∷ gs) (each (λ x. noise ▷ guard_said (suc n) x)))
+
+  guards_no_condition : (kind : GuardKind) (c : ConditionTree) (x : LoopHeadTree) (ts rest : List Token) → Guards_made kind c x ts rest → continues_guarded rest ≡ false → continues_condition ts ≡ false
+  guards_no_condition kind c x ts rest (all, is, (gs, makes, s)) stop = no_condition ts (guards_stop (suc n) (suc n) (omega arith) gs ts rest s (or_false (begins_guard (skip_comma rest)) (continues_head rest) stop).1)
+
+  abbrev pub Guarded_parts : GuardKind → LoopHeadTree → Shape
+  Guarded_parts kind x ts rest = (c : ConditionTree) × (In_condition (suc n) c ▷ Guards_made kind c x) ts rest
+
+  pub guarded_reads : (kind : GuardKind) → Reads (suc n) (guarded_in (suc n) kind) (guarded_in (suc m) kind) (Guarded_parts kind) continues_guarded
+  unfolding guarded_in
+  guarded_reads kind = bind_reads (condition_in_reads (suc n) (suc m) (omega arith)) (λ c. made_reads (made_reads room_guards (λ gs. guard_tree (kind, c) ∷ gs)) guarded) (guards_no_condition kind)

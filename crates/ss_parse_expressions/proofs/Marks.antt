@@ -1,0 +1,116 @@
+-- Single tokens.
+use Rattle.std.proofs.Common.{◌≡◌, suc, ◌≤◌, true, false, List, [], ◌∷◌, length, Option, Some, None, Ok, refl, ap, subst, arith, inl, inr}
+use Rattle.std.proofs.lemmas.Bool.Decides.{nat_tests}
+use denote.Enum.Bare.{same_true, true_same}
+use Rattle.ss_lex.specs.contracts.word.Word.{the_type}
+use Rattle.ss_base.specs.declared.line.Line.{Line}
+use Rattle.ss_lex.specs.declared.token.Span.{Span}
+use Rattle.ss_lex.specs.declared.token.Symbol.{Symbol}
+use Rattle.ss_lex.specs.declared.token.Symbol.TheVariants.{OpenParenthesis, CloseParenthesis, Comma, Plus, Minus, Star, Equals, Other}
+use Rattle.ss_lex.specs.declared.token.TokenKind.{TokenKind}
+use Rattle.ss_lex.specs.declared.token.TokenKind.TheVariants as kinds
+use Rattle.ss_lex.specs.declared.token.Token.{Token}
+use Rattle.ss_parse_expressions.specs.Openers.{openers}
+use Rattle.ss_parse_expressions.specs.Reading.{Mark, word, symbol, kind_of, same_symbol, is, begins, skip, expect, begins_by, taken, found_then}
+use Rattle.ss_parse_expressions.specs.Shapes.{Shape, Token_is}
+use Rattle.ss_parse_expressions.proofs.Tools.{which, chosen, carry}
+
+abbrev pub token : TokenKind → Span → Line → Token
+token kind span line = record { kind = kind; span = span; line = line }
+
+-- a token of the mark's kind
+abbrev pub Mark_is : Mark → Shape
+Mark_is m = Token_is (kind_of m)
+
+symbols_same : (a b : Symbol) → same_symbol a b ≡ true → a ≡ b
+symbols_same OpenParenthesis OpenParenthesis e = refl
+symbols_same CloseParenthesis CloseParenthesis e = refl
+symbols_same Comma Comma e = refl
+symbols_same Plus Plus e = refl
+symbols_same Minus Minus e = refl
+symbols_same Star Star e = refl
+symbols_same Equals Equals e = refl
+symbols_same (Other a) (Other b) e = let same : a ≡ b = grind (arith, nat_tests) in ap Other same
+symbols_same _ _ e = absurd cc
+
+same_symbols : (a : Symbol) → same_symbol a a ≡ true
+same_symbols OpenParenthesis = refl
+same_symbols CloseParenthesis = refl
+same_symbols Comma = refl
+same_symbols Plus = refl
+same_symbols Minus = refl
+same_symbols Star = refl
+same_symbols Equals = refl
+same_symbols (Other a) = grind (arith, nat_tests)
+
+pub is_true : (m : Mark) (k : TokenKind) → is m k ≡ true → k ≡ kind_of m
+is_true (word w) (kinds.Word v) e = ap kinds.Word (same_true the_type tt v w e)
+is_true (symbol s) (kinds.Symbol r) e = ap kinds.Symbol (symbols_same r s e)
+is_true _ _ e = absurd cc
+
+pub is_itself : (m : Mark) → is m (kind_of m) ≡ true
+is_itself (word w) = true_same the_type w w refl
+is_itself (symbol s) = same_symbols s
+
+-- a token and its kind
+pub token_of : (t : Token) (ts : List Token) (k : TokenKind) → t.kind ≡ k → Token_is k (t ∷ ts) ts
+token_of t ts k e = (t.span, t.line, ap (λ (k : TokenKind). token k t.span t.line ∷ ts) e)
+
+-- the mark is first
+pub begins_mark : (m : Mark) (ts : List Token) → begins m ts ≡ true → Mark_is m ts (skip m ts)
+begins_mark m [] e = absurd cc
+begins_mark m (t ∷ ts) e = rw e (token_of t ts (kind_of m) (is_true m t.kind e))
+
+pub mark_begins : (m : Mark) (ts rest : List Token) → Mark_is m ts rest → begins m ts ≡ true
+mark_begins m ts rest (span, line, e) = rw e (is_itself m)
+
+pub mark_skips : (m : Mark) (ts rest : List Token) → Mark_is m ts rest → skip m ts ≡ rest
+mark_skips m ts rest (span, line, e) = rw (e, is_itself m) refl
+
+pub no_skip : (m : Mark) (ts : List Token) → begins m ts ≡ false → skip m ts ≡ ts
+no_skip m [] e = refl
+no_skip m (t ∷ ts) e = rw e refl
+
+pub expect_sound : (m : Mark) (ts rest : List Token) (u : Unit {0}) → expect m ts ≡ Ok (u, rest) → Mark_is m ts rest
+expect_sound m [] rest u e = absurd cc
+expect_sound m (t ∷ ts) rest u e =
+    elim (chosen (is m t.kind) _ _ _ e) [
+      | inl p ↦ carry (λ (u : Unit {0}) (r : List Token). Mark_is m (t ∷ ts) r) tt u ts rest p.1 (token_of t ts (kind_of m) (is_true m t.kind p.0))
+      | inr p ↦ let no = p.1 in absurd cc
+    ]
+
+pub expect_complete : (m : Mark) (ts rest : List Token) (u : Unit {0}) → Mark_is m ts rest → expect m ts ≡ Ok (u, rest)
+expect_complete m ts rest u (span, line, e) = rw (e, is_itself m) refl
+
+pub token_less : (k : TokenKind) (ts rest : List Token) → Token_is k ts rest → suc (length rest) ≡ length ts
+token_less k ts rest (span, line, e) = rw e refl
+
+pub skip_less : (m : Mark) (ts : List Token) → length (skip m ts) ≤ length ts
+skip_less m [] = omega arith
+skip_less m (t ∷ ts) = elim (which (is m t.kind)) [ inl p ↦ rw p (omega arith) | inr p ↦ rw p (omega arith) ]
+
+pub skip_openers : (m : Mark) (ts : List Token) → openers (skip m ts) ≤ openers ts
+skip_openers m [] = omega arith
+skip_openers m (t ∷ ts) = elim (which (is m t.kind)) [ inl p ↦ rw p (omega arith) | inr p ↦ rw p (omega arith) ]
+
+-- ---- tables
+
+-- a token that the table takes for x
+abbrev pub In_table : {A : Type 0} → (TokenKind → Option A) → A → Shape
+In_table table x ts rest = (k : TokenKind) × (table k ≡ Some x) × Token_is k ts rest
+
+some_is : {A : Type 0} (o : Option A) (ts rest : List Token) (x : A) → found_then o ts ≡ Ok (x, rest) → (o ≡ Some x) × (ts ≡ rest)
+some_is None ts rest x e = absurd cc
+some_is {A = A} (Some y) ts rest x e = carry (λ (x : A) (r : List Token). (Some y ≡ Some x) × (ts ≡ r)) y x ts rest e (refl, refl)
+
+pub taken_sound : {A : Type 0} (table : TokenKind → Option A) (ts rest : List Token) (x : A) → taken table ts ≡ Ok (x, rest) → In_table table x ts rest
+taken_sound table [] rest x e = absurd cc
+taken_sound table (t ∷ ts) rest x e =
+    let is = some_is (table t.kind) ts rest x e in
+    (t.kind, is.0, subst (λ (r : List Token). Token_is t.kind (t ∷ ts) r) is.1 (t.span, t.line, refl))
+
+pub taken_complete : {A : Type 0} (table : TokenKind → Option A) (ts rest : List Token) (x : A) → In_table table x ts rest → taken table ts ≡ Ok (x, rest)
+taken_complete table ts rest x (k, takes, (span, line, e)) = rw (e, takes) refl
+
+pub begins_table : {A : Type 0} (table : TokenKind → Option A) (ts rest : List Token) (x : A) → In_table table x ts rest → begins_by table ts ≡ true
+begins_table table ts rest x (k, takes, (span, line, e)) = rw (e, takes) refl

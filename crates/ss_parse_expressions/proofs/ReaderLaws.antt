@@ -1,0 +1,406 @@
+-- What a reader keeps: it reads what is spelled, and where the tokens after it can't continue it, all of it.
+use Rattle.std.proofs.Common.{◌≡◌, ℕ, suc, ◌+◌, ◌<◌, ◌≤◌, Bool, true, false, ◌||◌, List, [], ◌∷◌, length, Option, Some, None, Ok, refl, sym, ap, ◌∙◌, arith, inl, inr, ◌⊎◌}
+use Rattle.ss_lex.specs.declared.token.TokenKind.{TokenKind}
+use Rattle.ss_lex.specs.declared.token.Token.{Token}
+use Rattle.ss_lex.specs.declared.token.Span.{Span}
+use Rattle.ss_base.specs.declared.line.Line.{Line}
+use Rattle.ss_parse_expressions.specs.Openers.{opens, openers}
+use Rattle.ss_parse_expressions.specs.Reading.{Reader, ◌>>=◌, Mark, kind_of, is, begins, skip, expect, taken, found_then, seq, behind, closed, apply, lined, maybe, maybe_list, flag, choose, too_deep, comma, skip_comma}
+use Rattle.ss_parse_expressions.specs.Shapes.{Shape, ◌▷◌, never, optional, noise, perhaps, flagged, first_line}
+use Rattle.ss_parse_expressions.proofs.Tools.{bind_ok, which, chosen, carry, or_false}
+use Rattle.ss_parse_expressions.proofs.Marks.{token, Mark_is, is_true, mark_begins, expect_sound, expect_complete, token_less, begins_mark, no_skip, mark_skips, skip_openers, In_table, taken_sound, taken_complete}
+use Rattle.ss_parse_expressions.proofs.Depth.{Upto, upto_same, upto_bind, upto_if, Bounded, bounded_more, bounded_bind, bounded_if, bounded_opened}
+
+-- The second reader has more levels. Where the first finds it too deep, k tokens at least open a level.
+pub record Reads {A : Type 0} (k : ℕ) (read read' : Reader A) (S : A → Shape) (continues : List Token → Bool) : Type 0 where
+  pub sound : (ts : List Token) (x : A) (rest : List Token) → read ts ≡ Ok (x, rest) → S x ts rest
+  pub complete : (ts : List Token) (x : A) (rest : List Token) → S x ts rest → continues rest ≡ false → read ts ≡ Ok (x, rest)
+  pub shorter : (ts : List Token) (x : A) (rest : List Token) → S x ts rest → length rest ≤ length ts
+  pub under : (ts : List Token) → Upto (read ts) (read' ts)
+  pub opening : (ts : List Token) → Bounded k (openers ts) (read ts)
+
+-- what is continued by nothing
+abbrev pub nowise : List Token → Bool
+nowise ts = false
+
+-- ---- single tokens
+
+pub expect_reads : (k : ℕ) (m : Mark) → Reads k (expect m) (expect m) (λ u. Mark_is m) nowise
+expect_reads k m = record {
+  sound = λ ts u rest e. expect_sound m ts rest u e;
+  complete = λ ts u rest s stop. expect_complete m ts rest u s;
+  shorter = λ ts u rest s. omega (arith, token_less (kind_of m) ts rest s);
+  under = λ ts. upto_same _;
+  opening = opening;
+}
+  where
+    opening : (ts : List Token) → Bounded k (openers ts) (expect m ts)
+    opening [] = tt
+    opening (t ∷ ts) = elim (which (is m t.kind)) [ inl p ↦ rw p (omega arith) | inr p ↦ rw p tt ]
+
+pub taken_reads : {A : Type 0} (k : ℕ) (table : TokenKind → Option A) → Reads k (taken table) (taken table) (In_table table) nowise
+taken_reads {A = A} k table = record {
+  sound = λ ts x rest e. taken_sound table ts rest x e;
+  complete = λ ts x rest s stop. taken_complete table ts rest x s;
+  shorter = λ ts x rest s. omega (arith, token_less s.0 ts rest s.2);
+  under = λ ts. upto_same _;
+  opening = opening;
+}
+  where
+    go : (o : Option A) (n : ℕ) (ts : List Token) → Bounded k (n + openers ts) (found_then o ts)
+    go None n ts = tt
+    go (Some x) n ts = omega arith
+
+    opening : (ts : List Token) → Bounded k (openers ts) (taken table ts)
+    opening [] = tt
+    opening (t ∷ ts) = go (table t.kind) (opens t.kind) ts
+
+-- ---- one after another
+
+module _ {A B : Type 0} {k : ℕ} {r r' : Reader A} {q q' : Reader B} {S : A → Shape} {T : B → Shape} {c d : List Token → Bool} (first : Reads k r r' S c) (second : Reads k q q' T d) (stops : (y : B) (ts rest : List Token) → T y ts rest → d rest ≡ false → c ts ≡ false) where
+  pub seq_reads : Reads k (seq r q) (seq r' q') (λ p. S p.0 ▷ T p.1) d
+  seq_reads = record {
+    sound = λ ts p rest e.
+        let x = bind_ok (r ts) _ _ e in
+        let y = bind_ok (q x.0.1) _ _ x.2 in
+        carry (λ (p : A × B) (z : List Token). (S p.0 ▷ T p.1) ts z) (x.0.0, y.0.0) p y.0.1 rest y.2 (x.0.1, first.sound ts x.0.0 x.0.1 x.1, second.sound x.0.1 y.0.0 y.0.1 y.1);
+    complete = λ ts p rest s stop.
+        let a : r ts ≡ Ok (p.0, s.0) = first.complete ts p.0 s.0 s.1 (stops p.1 s.0 rest s.2 stop) in
+        let b : q s.0 ≡ Ok (p.1, rest) = second.complete s.0 p.1 rest s.2 stop in
+        rw (a, b) refl;
+    shorter = λ ts p rest s. omega (arith, first.shorter ts p.0 s.0 s.1, second.shorter s.0 p.1 rest s.2);
+    under = λ ts. upto_bind _ _ _ _ (first.under ts) (λ x. upto_bind _ _ _ _ (second.under x.1) (λ y. upto_same _));
+    opening = λ ts. bounded_bind k (openers ts) (r ts) _ (first.opening ts) (λ x. bounded_bind k (openers x.1) (q x.1) _ (second.opening x.1) (λ y. omega arith));
+  }
+
+module _ {A : Type 0} {k : ℕ} {r r' : Reader (Unit {0})} {q q' : Reader A} {P : Shape} {S : A → Shape} {c d : List Token → Bool} (first : Reads k r r' (λ u. P) c) (second : Reads k q q' S d) (stops : (x : A) (ts rest : List Token) → S x ts rest → d rest ≡ false → c ts ≡ false) where
+  pub behind_reads : Reads k (behind r q) (behind r' q') (λ x. P ▷ S x) d
+  behind_reads = record {
+    sound = λ ts y rest e.
+        let x = bind_ok (r ts) _ _ e in
+        (x.0.1, first.sound ts x.0.0 x.0.1 x.1, second.sound x.0.1 y rest x.2);
+    complete = λ ts y rest s stop.
+        let a : r ts ≡ Ok (tt, s.0) = first.complete ts tt s.0 s.1 (stops y s.0 rest s.2 stop) in
+        rw a (second.complete s.0 y rest s.2 stop);
+    shorter = λ ts y rest s. omega (arith, first.shorter ts tt s.0 s.1, second.shorter s.0 y rest s.2);
+    under = λ ts. upto_bind _ _ _ _ (first.under ts) (λ x. second.under x.1);
+    opening = λ ts. bounded_bind k (openers ts) (r ts) _ (first.opening ts) (λ x. second.opening x.1);
+  }
+
+module _ {A : Type 0} {k : ℕ} {r r' : Reader A} {q q' : Reader (Unit {0})} {S : A → Shape} {P : Shape} {c d : List Token → Bool} (first : Reads k r r' S c) (second : Reads k q q' (λ u. P) d) (stops : (ts rest : List Token) → P ts rest → d rest ≡ false → c ts ≡ false) where
+  pub closed_reads : Reads k (closed r q) (closed r' q') (λ x. S x ▷ P) d
+  closed_reads = record {
+    sound = λ ts z rest e.
+        let x = bind_ok (r ts) _ _ e in
+        let y = bind_ok (q x.0.1) _ _ x.2 in
+        carry (λ (z : A) (u : List Token). (S z ▷ P) ts u) x.0.0 z y.0.1 rest y.2 (x.0.1, first.sound ts x.0.0 x.0.1 x.1, second.sound x.0.1 y.0.0 y.0.1 y.1);
+    complete = λ ts z rest s stop.
+        let a : r ts ≡ Ok (z, s.0) = first.complete ts z s.0 s.1 (stops s.0 rest s.2 stop) in
+        let b : q s.0 ≡ Ok (tt, rest) = second.complete s.0 tt rest s.2 stop in
+        rw (a, b) refl;
+    shorter = λ ts z rest s. omega (arith, first.shorter ts z s.0 s.1, second.shorter s.0 tt rest s.2);
+    under = λ ts. upto_bind _ _ _ _ (first.under ts) (λ x. upto_bind _ _ _ _ (second.under x.1) (λ y. upto_same _));
+    opening = λ ts. bounded_bind k (openers ts) (r ts) _ (first.opening ts) (λ x. bounded_bind k (openers x.1) (q x.1) _ (second.opening x.1) (λ y. omega arith));
+  }
+
+-- a mark, and then
+pub marked_reads : {A : Type 0} {k : ℕ} {q q' : Reader A} {S : A → Shape} {d : List Token → Bool} (m : Mark) → Reads k q q' S d → Reads k (behind (expect m) q) (behind (expect m) q') (λ x. Mark_is m ▷ S x) d
+marked_reads {k = k} m second = behind_reads (expect_reads k m) second (λ x ts rest s stop. refl)
+
+-- and then a mark
+pub before_mark_reads : {A : Type 0} {k : ℕ} {r r' : Reader A} {S : A → Shape} {c : List Token → Bool} (m : Mark) → Reads k r r' S c → ((span : Span) (line : Line) (ts : List Token) → c (token (kind_of m) span line ∷ ts) ≡ false) → Reads k (closed r (expect m)) (closed r' (expect m)) (λ x. S x ▷ Mark_is m) nowise
+before_mark_reads {k = k} {c = c} m first stops = closed_reads first (expect_reads k m) (λ ts rest s stop. ap c s.2 ∙ stops s.0 s.1 rest)
+
+-- a mark that opens a level, and what is read with one level less
+module _ {A : Type 0} {k : ℕ} {q q' : Reader A} {S : A → Shape} {d : List Token → Bool} (m : Mark) (opener : opens (kind_of m) ≡ 1) (inside : Reads k q q' S d) where
+  opened_bounded : (ts : List Token) → Bounded (suc k) (openers ts) (behind (expect m) q ts)
+  opened_bounded [] = tt
+  opened_bounded (t ∷ ts) =
+      elim (which (is m t.kind)) [
+        | inl p ↦
+            let kind : t.kind ≡ kind_of m = is_true m t.kind p in
+            rw p (bounded_opened k (openers ts) (openers (t ∷ ts)) (q ts) (omega (arith, ap opens kind)) (inside.opening ts))
+        | inr p ↦ rw p tt
+      ]
+
+  pub opened_reads : Reads (suc k) (behind (expect m) q) (behind (expect m) q') (λ x. Mark_is m ▷ S x) d
+  opened_reads =
+      let law = marked_reads m inside in
+      record { sound = law.sound; complete = law.complete; shorter = law.shorter; under = law.under; opening = opened_bounded }
+
+-- ---- what is read, as something else
+
+module _ {A B : Type 0} {k : ℕ} {r r' : Reader A} {S : A → Shape} {c : List Token → Bool} (law : Reads k r r' S c) (f : A → B) (T : B → Shape) where
+  pub apply_reads : ((x : A) (ts rest : List Token) → S x ts rest → T (f x) ts rest) → ((y : B) (ts rest : List Token) → T y ts rest → (x : A) × (f x ≡ y) × S x ts rest) → Reads k (apply f r) (apply f r') T c
+  apply_reads to from = record {
+    sound = λ ts y rest e.
+        let x = bind_ok (r ts) _ _ e in
+        carry (λ (y : B) (z : List Token). T y ts z) (f x.0.0) y x.0.1 rest x.2 (to x.0.0 ts x.0.1 (law.sound ts x.0.0 x.0.1 x.1));
+    complete = λ ts y rest s stop.
+        let x = from y ts rest s in
+        let a : r ts ≡ Ok (x.0, rest) = law.complete ts x.0 rest x.2 stop in
+        rw a (ap (λ (z : B). Ok (z, rest)) x.1);
+    shorter = λ ts y rest s. let x = from y ts rest s in law.shorter ts x.0 rest x.2;
+    under = λ ts. upto_bind _ _ _ _ (law.under ts) (λ x. upto_same _);
+    opening = λ ts. bounded_bind k (openers ts) (r ts) _ (law.opening ts) (λ x. omega arith);
+  }
+
+-- what is made of what is spelled so
+abbrev pub Made : {A B : Type 0} → (A → B) → (A → Shape) → B → Shape
+Made make P y ts rest = (x : _) × (make x ≡ y) × P x ts rest
+
+pub made_reads : {A B : Type 0} {k : ℕ} {r r' : Reader A} {S : A → Shape} {c : List Token → Bool} → Reads k r r' S c → (f : A → B) → Reads k (apply f r) (apply f r') (Made f S) c
+made_reads {S = S} law f = apply_reads law f (Made f S) (λ x ts rest s. (x, refl, s)) (λ y ts rest s. s)
+
+-- ---- what is read by what was read before
+
+module _ {A B : Type 0} {k : ℕ} {r r' : Reader A} {q q' : A → Reader B} {S : A → Shape} {T : A → B → Shape} {c d : List Token → Bool} (first : Reads k r r' S c) (second : (x : A) → Reads k (q x) (q' x) (T x) d) (stops : (x : A) (y : B) (ts rest : List Token) → T x y ts rest → d rest ≡ false → c ts ≡ false) where
+  pub bind_reads : Reads k (λ ts. r ts >>= λ x. q x.0 x.1) (λ ts. r' ts >>= λ x. q' x.0 x.1) (λ y ts rest. (x : A) × (S x ▷ T x y) ts rest) d
+  bind_reads = record {
+    sound = λ ts y rest e.
+        let x = bind_ok (r ts) _ _ e in
+        (x.0.0, (x.0.1, first.sound ts x.0.0 x.0.1 x.1, (second x.0.0).sound x.0.1 y rest x.2));
+    complete = λ ts y rest s stop.
+        let a : r ts ≡ Ok (s.0, s.1.0) = first.complete ts s.0 s.1.0 s.1.1 (stops s.0 y s.1.0 rest s.1.2 stop) in
+        rw a ((second s.0).complete s.1.0 y rest s.1.2 stop);
+    shorter = λ ts y rest s. omega (arith, first.shorter ts s.0 s.1.0 s.1.1, (second s.0).shorter s.1.0 y rest s.1.2);
+    under = λ ts. upto_bind _ _ _ _ (first.under ts) (λ x. (second x.0).under x.1);
+    opening = λ ts. bounded_bind k (openers ts) (r ts) _ (first.opening ts) (λ x. (second x.0).opening x.1);
+  }
+
+-- ---- the same, said otherwise
+
+pub said_reads : {A : Type 0} {k : ℕ} {r r' : Reader A} {S : A → Shape} {c : List Token → Bool} → Reads k r r' S c → (T : A → Shape) → ((x : A) (ts rest : List Token) → S x ts rest → T x ts rest) → ((x : A) (ts rest : List Token) → T x ts rest → S x ts rest) → Reads k r r' T c
+said_reads law T to from = record {
+  sound = λ ts x rest e. to x ts rest (law.sound ts x rest e);
+  complete = λ ts x rest s stop. law.complete ts x rest (from x ts rest s) stop;
+  shorter = λ ts x rest s. law.shorter ts x rest (from x ts rest s);
+  under = law.under;
+  opening = law.opening;
+}
+
+-- less may follow
+pub fewer_reads : {A : Type 0} {k : ℕ} {r r' : Reader A} {S : A → Shape} {c : List Token → Bool} → Reads k r r' S c → (d : List Token → Bool) → ((ts : List Token) → d ts ≡ false → c ts ≡ false) → Reads k r r' S d
+fewer_reads law d fewer = record { sound = law.sound; complete = λ ts x rest s stop. law.complete ts x rest s (fewer rest stop); shorter = law.shorter; under = law.under; opening = law.opening }
+
+-- ---- what may stand in front and says nothing
+
+module _ {A : Type 0} {k : ℕ} {q q' : Reader A} {S : A → Shape} {d : List Token → Bool} (law : Reads k q q' S d) (m : Mark) where
+  pub optional_reads : ((x : A) (ts rest : List Token) → S x ts rest → begins m ts ≡ false) → Reads k (λ ts. q (skip m ts)) (λ ts. q' (skip m ts)) (λ x. optional (Mark_is m) ▷ S x) d
+  optional_reads first = record {
+    sound = λ ts x rest e. (skip m ts, front ts, law.sound (skip m ts) x rest e);
+    complete = λ ts x rest s stop. ap q (skips x ts rest s) ∙ law.complete s.0 x rest s.2 stop;
+    shorter = λ ts x rest s. omega (arith, less ts s.0 s.1, law.shorter s.0 x rest s.2);
+    under = λ ts. law.under (skip m ts);
+    opening = λ ts. bounded_more k (openers (skip m ts)) (openers ts) (q (skip m ts)) (skip_openers m ts) (law.opening (skip m ts));
+  }
+    where
+      front : (ts : List Token) → optional (Mark_is m) ts (skip m ts)
+      front ts = elim (which (begins m ts)) [ inl p ↦ inr (begins_mark m ts p) | inr p ↦ inl (sym (no_skip m ts p)) ]
+
+      skips_to : (ts a : List Token) → optional (Mark_is m) ts a → begins m a ≡ false → skip m ts ≡ a
+      skips_to ts a (inl e) none_there = ap (skip m) e ∙ no_skip m a none_there
+      skips_to ts a (inr w) none_there = mark_skips m ts a w
+
+      skips : (x : A) (ts rest : List Token) (s : (optional (Mark_is m) ▷ S x) ts rest) → skip m ts ≡ s.0
+      skips x ts rest s = skips_to ts s.0 s.1 (first x s.0 rest s.2)
+
+      less : (ts a : List Token) → optional (Mark_is m) ts a → length a ≤ length ts
+      less ts a (inl e) = omega (arith, ap length e)
+      less ts a (inr w) = omega (arith, token_less (kind_of m) ts a w)
+
+-- ---- what may be there
+
+-- The same, where it is asked only of what starts so, which is not nothing, and doesn't continue what stands before.
+pub record Item {A : Type 0} (k : ℕ) (starts : List Token → Bool) (read read' : Reader A) (S : A → Shape) (continues : List Token → Bool) : Type 0 where
+  pub sound : (ts : List Token) (x : A) (rest : List Token) → starts ts ≡ true → read ts ≡ Ok (x, rest) → S x ts rest
+  pub complete : (ts : List Token) (x : A) (rest : List Token) → S x ts rest → continues rest ≡ false → read ts ≡ Ok (x, rest)
+  pub begins : (ts : List Token) (x : A) (rest : List Token) → S x ts rest → starts ts ≡ true
+  pub less : (ts : List Token) (x : A) (rest : List Token) → S x ts rest → length rest < length ts
+  pub under : (ts : List Token) → Upto (read ts) (read' ts)
+  pub opening : (ts : List Token) → Bounded k (openers ts) (read ts)
+
+pub item_of : {A : Type 0} {k : ℕ} {r r' : Reader A} {S : A → Shape} {c : List Token → Bool} (starts : List Token → Bool) → Reads k r r' S c → ((ts : List Token) (x : A) (rest : List Token) → S x ts rest → starts ts ≡ true) → ((ts : List Token) (x : A) (rest : List Token) → S x ts rest → length rest < length ts) → Item k starts r r' S c
+item_of starts law begins less = record { sound = λ ts x rest stands e. law.sound ts x rest e; complete = law.complete; begins = begins; less = less; under = law.under; opening = law.opening }
+
+-- what begins with a mark
+pub item_marked : {A : Type 0} {k : ℕ} {q q' : Reader A} {S : A → Shape} {d : List Token → Bool} (m : Mark) → Reads k q q' S d → Item k (begins m) (behind (expect m) q) (behind (expect m) q') (λ x. Mark_is m ▷ S x) d
+item_marked {S = S} m second =
+    item_of (begins m) (marked_reads m second) (λ ts x rest s. mark_begins m ts s.0 s.1)
+    (λ ts x rest s. omega (arith, token_less (kind_of m) ts s.0 s.1, second.shorter s.0 x rest s.2))
+
+-- what may have a comma before it
+module _ {A : Type 0} {k : ℕ} {q q' : Reader A} {S : A → Shape} {d : List Token → Bool} (law : Reads k q q' S d) (starts : List Token → Bool) (first : (ts : List Token) (x : A) (rest : List Token) → S x ts rest → starts ts ≡ true) (no_comma : (ts : List Token) → starts ts ≡ true → begins comma ts ≡ false) (less : (ts : List Token) (x : A) (rest : List Token) → S x ts rest → length rest < length ts) where
+  noisy_reads : Reads k (λ ts. q (skip_comma ts)) (λ ts. q' (skip_comma ts)) (λ x. noise ▷ S x) d
+  noisy_reads = optional_reads law comma (λ x ts rest s. no_comma ts (first ts x rest s))
+
+  noisy_skips : (ts a : List Token) → noise ts a → starts a ≡ true → skip_comma ts ≡ a
+  noisy_skips ts a (inl e) stands = ap skip_comma e ∙ no_skip comma a (no_comma a stands)
+  noisy_skips ts a (inr w) stands = mark_skips comma ts a w
+
+  noisy_less : (ts a : List Token) → noise ts a → length a ≤ length ts
+  noisy_less ts a (inl e) = omega (arith, ap length e)
+  noisy_less ts a (inr w) = omega (arith, token_less (kind_of comma) ts a w)
+
+  pub noisy_item : Item k (λ ts. starts (skip_comma ts)) (λ ts. q (skip_comma ts)) (λ ts. q' (skip_comma ts)) (λ x. noise ▷ S x) d
+  noisy_item = item_of (λ ts. starts (skip_comma ts)) noisy_reads
+      (λ ts x rest s. ap starts (noisy_skips ts s.0 s.1 (first s.0 x rest s.2)) ∙ first s.0 x rest s.2)
+      (λ ts x rest s. omega (arith, noisy_less ts s.0 s.1, less s.0 x rest s.2))
+
+-- what stands behind a mark that was looked for
+pub item_skipped : {A : Type 0} {k : ℕ} {q q' : Reader A} {S : A → Shape} {d : List Token → Bool} (m : Mark) → Reads k q q' S d → Item k (begins m) (λ r. q (skip m r)) (λ r. q' (skip m r)) (λ x. Mark_is m ▷ S x) d
+item_skipped {k = k} {q = q} m law = record {
+  sound = λ ts x rest stands e. (skip m ts, begins_mark m ts stands, law.sound (skip m ts) x rest e);
+  complete = λ ts x rest s stop. ap q (mark_skips m ts s.0 s.1) ∙ law.complete s.0 x rest s.2 stop;
+  begins = λ ts x rest s. mark_begins m ts s.0 s.1;
+  less = λ ts x rest s. omega (arith, token_less (kind_of m) ts s.0 s.1, law.shorter s.0 x rest s.2);
+  under = λ ts. law.under (skip m ts);
+  opening = λ ts. bounded_more k (openers (skip m ts)) (openers ts) (q (skip m ts)) (skip_openers m ts) (law.opening (skip m ts));
+}
+
+module _ {A : Type 0} {k : ℕ} {starts : List Token → Bool} {r r' : Reader A} {S : A → Shape} {c : List Token → Bool} (item : Item k starts r r' S c) where
+  pub maybe_reads : Reads k (maybe starts r) (maybe starts r') (perhaps S) (λ ts. starts ts || c ts)
+  maybe_reads = record { sound = sound; complete = complete; shorter = shorter; under = under; opening = opening }
+    where
+      sound : (ts : List Token) (x : Option A) (rest : List Token) → maybe starts r ts ≡ Ok (x, rest) → perhaps S x ts rest
+      sound ts x rest e =
+          elim (chosen (starts ts) _ _ _ e) [
+            | inl p ↦
+                let y = bind_ok (r ts) _ _ p.1 in
+                carry (λ (x : Option A) (z : List Token). perhaps S x ts z) (Some y.0.0) x y.0.1 rest y.2 (item.sound ts y.0.0 y.0.1 p.0 y.1)
+            | inr p ↦ carry (λ (x : Option A) (z : List Token). perhaps S x ts z) None x ts rest p.1 refl
+          ]
+
+      complete : (ts : List Token) (x : Option A) (rest : List Token) → perhaps S x ts rest → (starts rest || c rest) ≡ false → maybe starts r ts ≡ Ok (x, rest)
+      complete ts None rest s stop =
+          let none : starts ts ≡ false = ap starts s ∙ (or_false (starts rest) (c rest) stop).0 in
+          rw none (ap (λ (z : List Token). Ok (None, z)) s)
+      complete ts (Some y) rest s stop =
+          let there : starts ts ≡ true = item.begins ts y rest s in
+          let a : r ts ≡ Ok (y, rest) = item.complete ts y rest s (or_false (starts rest) (c rest) stop).1 in
+          rw (there, a) refl
+
+      shorter : (ts : List Token) (x : Option A) (rest : List Token) → perhaps S x ts rest → length rest ≤ length ts
+      shorter ts None rest s = omega (arith, ap length s)
+      shorter ts (Some y) rest s = omega (arith, item.less ts y rest s)
+
+      under : (ts : List Token) → Upto (maybe starts r ts) (maybe starts r' ts)
+      under ts = upto_if (starts ts) _ _ _ _ (upto_bind _ _ _ _ (item.under ts) (λ x. upto_same _)) (upto_same _)
+
+      opening : (ts : List Token) → Bounded k (openers ts) (maybe starts r ts)
+      opening ts = bounded_if k (openers ts) (starts ts) _ _ (bounded_bind k (openers ts) (r ts) _ (item.opening ts) (λ x. omega arith)) (omega arith)
+
+-- a list that may be there: no shape is that of the empty list where it is there
+module _ {A : Type 0} {k : ℕ} {starts : List Token → Bool} {r r' : Reader (List A)} {S T : List A → Shape} {c : List Token → Bool} (item : Item k starts r r' S c) (to : (xs : List A) (ts rest : List Token) → S xs ts rest → T xs ts rest) (from : (xs : List A) (ts rest : List Token) → T xs ts rest → ((xs ≡ []) × (ts ≡ rest)) ⊎ S xs ts rest) (empty : (ts : List Token) → T [] ts ts) where
+  pub maybe_list_reads : Reads k (maybe_list starts r) (maybe_list starts r') T (λ ts. starts ts || c ts)
+  maybe_list_reads = record { sound = sound; complete = complete; shorter = shorter; under = under; opening = opening }
+    where
+      sound : (ts : List Token) (xs : List A) (rest : List Token) → maybe_list starts r ts ≡ Ok (xs, rest) → T xs ts rest
+      sound ts xs rest e =
+          elim (chosen (starts ts) _ _ _ e) [
+            | inl p ↦ to xs ts rest (item.sound ts xs rest p.0 p.1)
+            | inr p ↦ carry (λ (x : List A) (z : List Token). T x ts z) [] xs ts rest p.1 (empty ts)
+          ]
+
+      complete : (ts : List Token) (xs : List A) (rest : List Token) → T xs ts rest → (starts rest || c rest) ≡ false → maybe_list starts r ts ≡ Ok (xs, rest)
+      complete ts xs rest t stop =
+          let over = or_false (starts rest) (c rest) stop in
+          elim (from xs ts rest t) [
+            | inl p ↦
+                let none : starts ts ≡ false = ap starts p.1 ∙ over.0 in
+                rw none (λ i. Ok (sym p.0 i, p.1 i))
+            | inr s ↦
+                let there : starts ts ≡ true = item.begins ts xs rest s in
+                rw there (item.complete ts xs rest s over.1)
+          ]
+
+      shorter : (ts : List Token) (xs : List A) (rest : List Token) → T xs ts rest → length rest ≤ length ts
+      shorter ts xs rest t =
+          elim (from xs ts rest t) [ inl p ↦ omega (arith, ap length p.1) | inr s ↦ omega (arith, item.less ts xs rest s) ]
+
+      under : (ts : List Token) → Upto (maybe_list starts r ts) (maybe_list starts r' ts)
+      under ts = upto_if (starts ts) _ _ _ _ (item.under ts) (upto_same _)
+
+      opening : (ts : List Token) → Bounded k (openers ts) (maybe_list starts r ts)
+      opening ts = bounded_if k (openers ts) (starts ts) _ _ (item.opening ts) (omega arith)
+
+-- words that may be there
+module _ {k : ℕ} {starts : List Token → Bool} {r r' : Reader (Unit {0})} {P : Shape} {c : List Token → Bool} (item : Item k starts r r' (λ u. P) c) where
+  pub flag_reads : Reads k (flag starts r) (flag starts r') (flagged P) (λ ts. starts ts || c ts)
+  flag_reads = record { sound = sound; complete = complete; shorter = shorter; under = under; opening = opening }
+    where
+      sound : (ts : List Token) (x : Bool) (rest : List Token) → flag starts r ts ≡ Ok (x, rest) → flagged P x ts rest
+      sound ts x rest e =
+          elim (chosen (starts ts) _ _ _ e) [
+            | inl p ↦
+                let y = bind_ok (r ts) _ _ p.1 in
+                carry (λ (x : Bool) (z : List Token). flagged P x ts z) true x y.0.1 rest y.2 (item.sound ts y.0.0 y.0.1 p.0 y.1)
+            | inr p ↦ carry (λ (x : Bool) (z : List Token). flagged P x ts z) false x ts rest p.1 refl
+          ]
+
+      complete : (ts : List Token) (x : Bool) (rest : List Token) → flagged P x ts rest → (starts rest || c rest) ≡ false → flag starts r ts ≡ Ok (x, rest)
+      complete ts false rest s stop =
+          let none : starts ts ≡ false = ap starts s ∙ (or_false (starts rest) (c rest) stop).0 in
+          rw none (ap (λ (z : List Token). Ok (false, z)) s)
+      complete ts true rest s stop =
+          let there : starts ts ≡ true = item.begins ts tt rest s in
+          let a : r ts ≡ Ok (tt, rest) = item.complete ts tt rest s (or_false (starts rest) (c rest) stop).1 in
+          rw (there, a) refl
+
+      shorter : (ts : List Token) (x : Bool) (rest : List Token) → flagged P x ts rest → length rest ≤ length ts
+      shorter ts false rest s = omega (arith, ap length s)
+      shorter ts true rest s = omega (arith, item.less ts tt rest s)
+
+      under : (ts : List Token) → Upto (flag starts r ts) (flag starts r' ts)
+      under ts = upto_if (starts ts) _ _ _ _ (upto_bind _ _ _ _ (item.under ts) (λ x. upto_same _)) (upto_same _)
+
+      opening : (ts : List Token) → Bounded k (openers ts) (flag starts r ts)
+      opening ts = bounded_if k (openers ts) (starts ts) _ _ (bounded_bind k (openers ts) (r ts) _ (item.opening ts) (λ x. omega arith)) (omega arith)
+
+-- ---- one of two
+
+-- the same, where the whole is asked of the first only where it starts so, and of the second only where not
+module _ {A : Type 0} {k : ℕ} {starts : List Token → Bool} {r r' q q' : Reader A} {S T U : A → Shape} {c d : List Token → Bool} (first : Item k starts r r' S c) (second : Reads k q q' T d) (to : (x : A) (ts rest : List Token) → S x ts rest → U x ts rest) (to' : (x : A) (ts rest : List Token) → T x ts rest → U x ts rest) (from : (x : A) (ts rest : List Token) → U x ts rest → S x ts rest ⊎ ((starts ts ≡ false) × T x ts rest)) where
+  pub choose_reads : Reads k (choose starts r q) (choose starts r' q') U (λ ts. c ts || d ts)
+  choose_reads = record {
+    sound = λ ts x rest e.
+        elim (chosen (starts ts) _ _ _ e) [
+          | inl p ↦ to x ts rest (first.sound ts x rest p.0 p.1)
+          | inr p ↦ to' x ts rest (second.sound ts x rest p.1)
+        ];
+    complete = λ ts x rest u stop.
+        let over = or_false (c rest) (d rest) stop in
+        elim (from x ts rest u) [
+          | inl s ↦
+              let there : starts ts ≡ true = first.begins ts x rest s in
+              rw there (first.complete ts x rest s over.0)
+          | inr t ↦
+              let none : starts ts ≡ false = t.0 in
+              rw none (second.complete ts x rest t.1 over.1)
+        ];
+    shorter = λ ts x rest u. elim (from x ts rest u) [ inl s ↦ omega (arith, first.less ts x rest s) | inr t ↦ second.shorter ts x rest t.1 ];
+    under = λ ts. upto_if (starts ts) _ _ _ _ (first.under ts) (second.under ts);
+    opening = λ ts. bounded_if k (openers ts) (starts ts) _ _ (first.opening ts) (second.opening ts);
+  }
+
+-- ---- by the line of the first token
+
+pub lined_reads : {A : Type 0} {k : ℕ} {r r' : Line → Reader A} {S : Line → A → Shape} {c : List Token → Bool} → ((line : Line) → Reads k (r line) (r' line) (S line) c) → (T : A → Shape) → ((x : A) (ts rest : List Token) → S (first_line ts) x ts rest → T x ts rest) → ((x : A) (ts rest : List Token) → T x ts rest → S (first_line ts) x ts rest) → Reads k (lined r) (lined r') T c
+lined_reads law T to from = record {
+  sound = λ ts x rest e. to x ts rest ((law (first_line ts)).sound ts x rest e);
+  complete = λ ts x rest s stop. (law (first_line ts)).complete ts x rest (from x ts rest s) stop;
+  shorter = λ ts x rest s. (law (first_line ts)).shorter ts x rest (from x ts rest s);
+  under = λ ts. (law (first_line ts)).under ts;
+  opening = λ ts. (law (first_line ts)).opening ts;
+}
+
+-- ---- readers that give up
+
+pub too_deep_reads : {A : Type 0} {q : Reader A} {c : List Token → Bool} → Reads 0 too_deep q (λ x. never) c
+too_deep_reads = record {
+  sound = λ ts x rest e. absurd cc;
+  complete = λ ts x rest s stop. absurd s;
+  shorter = λ ts x rest s. absurd s;
+  under = λ ts. inl refl;
+  opening = λ ts. omega arith;
+}

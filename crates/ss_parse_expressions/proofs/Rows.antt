@@ -1,0 +1,267 @@
+-- Rows of what a reader reads.
+use Rattle.std.proofs.Common.{◌≡◌, ℕ, zero, suc, ◌<◌, ◌≤◌, Bool, true, false, ◌||◌, List, [], ◌∷◌, ◌++◌, length, map, drop, Result, Ok, Err, refl, sym, ap, subst, ◌∙◌, append_assoc, arith, inl, inr}
+use Rattle.std.proofs.lemmas.List.{append-nil, map_push}
+use Rattle.ss_lex.specs.declared.token.Token.{Token}
+use Rattle.ss_parse_expressions.specs.declared.failure.Fault.{Fault}
+use Rattle.ss_parse_expressions.specs.declared.failure.Failure.{Failure}
+use Rattle.ss_parse_expressions.specs.declared.failure.Failure.TheVariants as failures
+use Rattle.ss_parse_expressions.specs.Openers.{openers}
+use Rattle.ss_parse_expressions.specs.Reading.{Reader, ◌>>=◌, Fails, row, rows, first_and, comma, word, begins, skip, skip_separator, begins_more, list_of, kind_of}
+use Rattle.ss_lex.specs.declared.word.Word.TheVariants as words
+use Rattle.ss_parse_expressions.specs.Shapes as shapes
+use Rattle.ss_parse_expressions.specs.Shapes.{Shape, ◌▷◌, nothing, never, either, each, listed, separator}
+use Rattle.ss_parse_expressions.proofs.Tools.{bind_ok, which, chosen, carry, or_false, and_true, ok_or_err}
+use Rattle.ss_lex.specs.declared.token.Span.{Span}
+use Rattle.ss_base.specs.declared.line.Line.{Line}
+use Rattle.ss_parse_expressions.proofs.Marks.{token, Mark_is, begins_mark, no_skip, skip_openers, token_less}
+use Rattle.ss_parse_expressions.proofs.Depth.{Upto, upto_same, upto_bind, upto_if, Bounded, bounded_more, bounded_bind, bounded_if}
+use Rattle.ss_parse_expressions.proofs.ReaderLaws.{Reads, Item}
+
+module _ {A : Type 0} {k : ℕ} {starts : List Token → Bool} {item item' : Reader A} {S : A → Shape} {continues : List Token → Bool} (law : Item k starts item item' S continues) (stops : (ts : List Token) (x : A) (rest : List Token) → S x ts rest → continues ts ≡ false) where
+  row_sound : (n : ℕ) (ts : List Token) (xs : List A) (rest : List Token) → row starts item n ts ≡ Ok (xs, rest) → each S xs ts rest
+  row_sound zero ts xs rest e = carry (λ (y : List A) (z : List Token). each S y ts z) [] xs ts rest e refl
+  row_sound (suc n) ts xs rest e =
+      elim (chosen (starts ts) _ _ _ e) [
+        | inl p ↦
+            let x = bind_ok (item ts) _ _ p.1 in
+            let more = bind_ok (row starts item n x.0.1) _ _ x.2 in
+            carry (λ (y : List A) (z : List Token). each S y ts z) (x.0.0 ∷ more.0.0) xs more.0.1 rest more.2
+            (x.0.1, law.sound ts x.0.0 x.0.1 p.0 x.1, row_sound n x.0.1 more.0.0 more.0.1 more.1)
+        | inr p ↦ carry (λ (y : List A) (z : List Token). each S y ts z) [] xs ts rest p.1 refl
+      ]
+
+  each_shorter : (xs : List A) (ts rest : List Token) → each S xs ts rest → length rest ≤ length ts
+  each_shorter [] ts rest e = omega (arith, ap length e)
+  each_shorter (x ∷ xs) ts rest (m, one, more) = omega (arith, law.less ts x m one, each_shorter xs m rest more)
+
+  -- no item is continued by the further ones
+  each_stops : (xs : List A) (ts rest : List Token) → each S xs ts rest → continues rest ≡ false → continues ts ≡ false
+  each_stops [] ts rest e stop = ap continues e ∙ stop
+  each_stops (x ∷ xs) ts rest (m, one, more) stop = stops ts x m one
+
+  row_complete : (n : ℕ) (xs : List A) (ts rest : List Token) → each S xs ts rest → length ts ≤ n → starts rest ≡ false → continues rest ≡ false → row starts item n ts ≡ Ok (xs, rest)
+  row_complete zero [] ts rest e long over stop = ap (λ (r : List Token). Ok ([], r)) e
+  row_complete zero (x ∷ xs) ts rest (m, one, more) long over stop = absurd (omega (arith, law.less ts x m one))
+  row_complete (suc n) [] ts rest e long over stop =
+      let none : starts ts ≡ false = ap starts e ∙ over in
+      rw none (ap (λ (r : List Token). Ok ([], r)) e)
+  row_complete (suc n) (x ∷ xs) ts rest (m, one, more) long over stop =
+      let stands : starts ts ≡ true = law.begins ts x m one in
+      let read : item ts ≡ Ok (x, m) = law.complete ts x m one (each_stops xs m rest more stop) in
+      let others = row_complete n xs m rest more (omega (arith, law.less ts x m one)) over stop in
+      rw (stands, read, others) refl
+
+  row_under : (n : ℕ) (ts : List Token) → Upto (row starts item n ts) (row starts item' n ts)
+  row_under zero ts = upto_same _
+  row_under (suc n) ts =
+      upto_if (starts ts) _ _ _ _ (upto_bind _ _ _ _ (law.under ts) (λ x. upto_bind _ _ _ _ (row_under n x.1) (λ xs. upto_same _))) (upto_same _)
+
+  row_opening : (n : ℕ) (ts : List Token) → Bounded k (openers ts) (row starts item n ts)
+  row_opening zero ts = omega arith
+  row_opening (suc n) ts =
+      bounded_if k (openers ts) (starts ts) _ _
+      (bounded_bind k (openers ts) (item ts) _ (law.opening ts) (λ x. bounded_bind k (openers x.1) (row starts item n x.1) _ (row_opening n x.1) (λ xs. omega arith)))
+      (omega arith)
+
+  pub rows_reads : Reads k (rows starts item) (rows starts item') (each S) (λ ts. starts ts || continues ts)
+  unfolding rows
+  rows_reads = record {
+    sound = λ ts xs rest e. row_sound (length ts) ts xs rest e;
+    complete = λ ts xs rest s stop. let both = or_false (starts rest) (continues rest) stop in row_complete (length ts) xs ts rest s (omega arith) both.0 both.1;
+    shorter = λ ts xs rest s. each_shorter xs ts rest s;
+    under = λ ts. row_under (length ts) ts;
+    opening = λ ts. row_opening (length ts) ts;
+  }
+
+-- ---- an item and further ones
+
+module _ {A : Type 0} {k : ℕ} {r r' : Reader A} {S : A → Shape} {starts : List Token → Bool} {item item' : Reader A} {T : A → Shape} {c d : List Token → Bool} (first : Reads k r r' S c) (further : Item k starts item item' T d) (stops : (ts : List Token) (x : A) (rest : List Token) → T x ts rest → (c ts ≡ false) × (d ts ≡ false)) (less : (ts : List Token) (x : A) (rest : List Token) → S x ts rest → length rest < length ts) where
+  others : Reads k (rows starts item) (rows starts item') (each T) (λ ts. starts ts || d ts)
+  others = rows_reads further (λ ts x rest s. (stops ts x rest s).1)
+
+  first_stops : (xs : List A) (ts rest : List Token) → each T xs ts rest → c rest ≡ false → c ts ≡ false
+  first_stops [] ts rest e stop = ap c e ∙ stop
+  first_stops (x ∷ xs) ts rest (m, one, more) stop = (stops ts x m one).0
+
+  first_sound : (ts : List Token) (xs : List A) (rest : List Token) → first_and r starts item ts ≡ Ok (xs, rest) → shapes.first_and S T xs ts rest
+  first_sound ts xs rest e =
+      let x = bind_ok (r ts) _ _ e in
+      let more = bind_ok (rows starts item x.0.1) _ _ x.2 in
+      carry (λ (y : List A) (z : List Token). shapes.first_and S T y ts z) (x.0.0 ∷ more.0.0) xs more.0.1 rest more.2
+      (x.0.1, first.sound ts x.0.0 x.0.1 x.1, others.sound x.0.1 more.0.0 more.0.1 more.1)
+
+  first_complete : (ts : List Token) (xs : List A) (rest : List Token) → shapes.first_and S T xs ts rest → (starts rest || (c rest || d rest)) ≡ false → first_and r starts item ts ≡ Ok (xs, rest)
+  first_complete ts [] rest s stop = absurd s
+  first_complete ts (x ∷ xs) rest (m, one, more) stop =
+      let both = or_false (starts rest) (c rest || d rest) stop in
+      let last = or_false (c rest) (d rest) both.1 in
+      let over : starts rest ≡ false = both.0 in
+      let over' : d rest ≡ false = last.1 in
+      let read : r ts ≡ Ok (x, m) = first.complete ts x m one (first_stops xs m rest more last.0) in
+      let read' : rows starts item m ≡ Ok (xs, rest) = others.complete m xs rest more (rw (over, over') refl) in
+      rw (read, read') refl
+
+  pub first_less : (ts : List Token) (xs : List A) (rest : List Token) → shapes.first_and S T xs ts rest → length rest < length ts
+  first_less ts [] rest s = absurd s
+  first_less ts (x ∷ xs) rest (m, one, more) = omega (arith, less ts x m one, others.shorter m xs rest more)
+
+  first_shorter : (ts : List Token) (xs : List A) (rest : List Token) → shapes.first_and S T xs ts rest → length rest ≤ length ts
+  first_shorter ts xs rest s = omega (arith, first_less ts xs rest s)
+
+  pub first_and_reads : Reads k (first_and r starts item) (first_and r' starts item') (shapes.first_and S T) (λ ts. starts ts || (c ts || d ts))
+  first_and_reads = record {
+    sound = first_sound;
+    complete = first_complete;
+    shorter = first_shorter;
+    under = λ ts. upto_bind _ _ _ _ (first.under ts) (λ x. upto_bind _ _ _ _ (others.under x.1) (λ xs. upto_same _));
+    opening = λ ts. bounded_bind k (openers ts) (r ts) _ (first.opening ts) (λ x. bounded_bind k (openers x.1) (rows starts item x.1) _ (others.opening x.1) (λ xs. omega arith));
+  }
+
+-- what can't continue the rest, and no item begins with, doesn't begin the row
+pub each_first : {A : Type 0} {S : A → Shape} (c : List Token → Bool) → ((ts : List Token) (x : A) (rest : List Token) → S x ts rest → c ts ≡ false) → (xs : List A) (ts rest : List Token) → each S xs ts rest → c rest ≡ false → c ts ≡ false
+each_first c stops [] ts rest e stop = ap c e ∙ stop
+each_first c stops (x ∷ xs) ts rest (m, one, more) stop = stops ts x m one
+
+-- ---- separators
+
+separator_sound : (ts : List Token) → (begins comma ts || begins (word words.And) ts) ≡ true → separator ts (skip_separator ts)
+separator_sound ts e =
+    elim (which (begins comma ts)) [
+      | inl p ↦
+          elim (which (begins (word words.And) (skip comma ts))) [
+            | inl q ↦ inr (inr (skip comma ts, begins_mark comma ts p, begins_mark (word words.And) (skip comma ts) q))
+            | inr q ↦ inl (subst (λ r. Mark_is comma ts r) (sym (no_skip (word words.And) (skip comma ts) q)) (begins_mark comma ts p))
+          ]
+      | inr p ↦
+          let q : begins (word words.And) ts ≡ true = rw p at e in
+          let same : skip comma ts ≡ ts = no_skip comma ts p in
+          inr (inl (subst (λ r. Mark_is (word words.And) ts (skip (word words.And) r)) (sym same) (begins_mark (word words.And) ts q)))
+    ]
+
+separator_less : (ts a : List Token) → separator ts a → length a < length ts
+separator_less ts a (inl w) = omega (arith, token_less (kind_of comma) ts a w)
+separator_less ts a (inr (inl w)) = omega (arith, token_less (kind_of (word words.And)) ts a w)
+separator_less ts a (inr (inr (m, w, v))) = omega (arith, token_less (kind_of comma) ts m w, token_less (kind_of (word words.And)) m a v)
+
+-- A list of items: none begins with a comma or AND, and neither continues one.
+module _ {A : Type 0} {k : ℕ} {item item' : Reader A} {S : A → Shape} {c : List Token → Bool} (law : Reads k item item' S c) (starts : List Token → Bool) (first : (ts : List Token) (x : A) (rest : List Token) → S x ts rest → starts ts ≡ true) (no_and : (ts : List Token) → starts ts ≡ true → begins (word words.And) ts ≡ false) where
+  separator_complete : (ts a : List Token) → separator ts a → starts a ≡ true → (begins_more starts ts ≡ true) × (skip_separator ts ≡ a)
+  separator_complete ts a (inl (span, line, e)) stands =
+      let no : begins (word words.And) a ≡ false = no_and a stands in
+      let same : skip (word words.And) a ≡ a = no_skip (word words.And) a no in
+      (rw (e, same, stands) refl, rw e same)
+  separator_complete ts a (inr (inl (span, line, e))) stands = (rw (e, stands) refl, rw e refl)
+  separator_complete ts a (inr (inr (m, (span, line, e), (span', line', e')))) stands = (rw (e, e', stands) refl, rw (e, e') refl)
+
+  pub separated_item : Item k (begins_more starts) (λ r. item (skip_separator r)) (λ r. item' (skip_separator r)) (λ x. separator ▷ S x) c
+  separated_item = record {
+    sound = λ ts x rest stands e. (skip_separator ts, separator_sound ts (and_true (begins comma ts || begins (word words.And) ts) (starts (skip_separator ts)) stands).0, law.sound (skip_separator ts) x rest e);
+    complete = λ ts x rest s stop. ap item (separator_complete ts s.0 s.1 (first s.0 x rest s.2)).1 ∙ law.complete s.0 x rest s.2 stop;
+    begins = λ ts x rest s. (separator_complete ts s.0 s.1 (first s.0 x rest s.2)).0;
+    less = λ ts x rest s. omega (arith, separator_less ts s.0 s.1, law.shorter s.0 x rest s.2);
+    under = λ ts. law.under (skip_separator ts);
+    opening = λ ts. bounded_more k (openers (skip_separator ts)) (openers ts) (item (skip_separator ts)) (omega (arith, skip_openers comma ts, skip_openers (word words.And) (skip comma ts))) (law.opening (skip_separator ts));
+  }
+
+  separator_stops : ((span : Span) (line : Line) (ts : List Token) → c (token (kind_of comma) span line ∷ ts) ≡ false) → ((span : Span) (line : Line) (ts : List Token) → c (token (kind_of (word words.And)) span line ∷ ts) ≡ false) → (ts a : List Token) → separator ts a → c ts ≡ false
+  separator_stops on_comma on_and ts a (inl (span, line, e)) = ap c e ∙ on_comma span line a
+  separator_stops on_comma on_and ts a (inr (inl (span, line, e))) = ap c e ∙ on_and span line a
+  separator_stops on_comma on_and ts a (inr (inr (m, (span, line, e), v))) = ap c e ∙ on_comma span line m
+
+  pub list_reads : ((ts : List Token) (x : A) (rest : List Token) → S x ts rest → length rest < length ts) → ((span : Span) (line : Line) (ts : List Token) → c (token (kind_of comma) span line ∷ ts) ≡ false) → ((span : Span) (line : Line) (ts : List Token) → c (token (kind_of (word words.And)) span line ∷ ts) ≡ false) → Reads k (list_of starts item) (list_of starts item') (listed S) (λ ts. begins_more starts ts || (c ts || c ts))
+  list_reads less on_comma on_and = first_and_reads law separated_item (λ ts x rest s. let stop = separator_stops on_comma on_and ts s.0 s.1 in (stop, stop)) less
+
+-- ---- a loop that reads a row
+
+-- what a loop has read, and what reading the rest gives
+abbrev pub with_front : {A : Type 0} → List A → Result (List A × List Token) Fault → Result (List A × List Token) Fault
+with_front front read = read >>= λ x. Ok (front ++ x.0, x.1)
+
+pub with_front_more : {A : Type 0} (front : List A) (x : A) (read : Result (List A × List Token) Fault) → with_front (front ++ x ∷ []) read ≡ with_front front (read >>= λ xs. Ok (x ∷ xs.0, xs.1))
+with_front_more front x (Ok xs) = ap (λ ys. Ok (ys, xs.1)) (append_assoc front (x ∷ []) xs.0)
+with_front_more front x (Err e) = refl
+
+-- each item takes a token at least
+abbrev pub Shrinks : {A : Type 0} → (List Token → Bool) → Reader A → Type 0
+Shrinks {A = A} starts read = (ts : List Token) (x : A) (rest : List Token) → starts ts ≡ true → read ts ≡ Ok (x, rest) → length rest < length ts
+
+-- A row whose items shrink what is left, and that ends where the tokens end.
+module _ {A : Type 0} (starts : List Token → Bool) (item : Reader A) (at_end : starts [] ≡ false) (shrinks : Shrinks starts item) where
+  row_enough : (n m : ℕ) (ts : List Token) → length ts ≤ n → length ts ≤ m → row starts item n ts ≡ row starts item m ts
+  row_enough zero zero ts le le' = refl
+  row_enough zero (suc m) [] le le' = rw at_end refl
+  row_enough zero (suc m) (t ∷ ts) le le' = absurd (omega arith)
+  row_enough (suc n) zero [] le le' = rw at_end refl
+  row_enough (suc n) zero (t ∷ ts) le le' = absurd (omega arith)
+  row_enough (suc n) (suc m) ts le le' =
+      elim (which (starts ts)) [
+        | inl p ↦
+            elim (ok_or_err (item ts)) [
+              | inl x ↦
+                  let small : length x.0.1 < length ts = shrinks ts x.0.0 x.0.1 p x.1 in
+                  let e : item ts ≡ Ok x.0 = x.1 in
+                  let same = row_enough n m x.0.1 (omega arith) (omega arith) in
+                  rw (p, e, same) refl
+              | inr f ↦ let e : item ts ≡ Err f.0 = f.1 in rw (p, e) refl
+            ]
+        | inr p ↦ rw p refl
+      ]
+
+  pub rows_more : (ts rest : List Token) (x : A) → starts ts ≡ true → item ts ≡ Ok (x, rest) → rows starts item ts ≡ (rows starts item rest >>= λ xs. Ok (x ∷ xs.0, xs.1))
+  unfolding rows
+  rows_more [] rest x stands e = absurd (let no_more = at_end in cc)
+  rows_more (t ∷ ts) rest x stands e =
+      let small : length rest < length (t ∷ ts) = shrinks (t ∷ ts) x rest stands e in
+      let same = row_enough (length ts) (length rest) rest (omega arith) (omega arith) in
+      rw (stands, e, same) refl
+
+  pub rows_fail : (ts : List Token) (f : Fault) → starts ts ≡ true → item ts ≡ Err f → rows starts item ts ≡ Err f
+  unfolding rows
+  rows_fail [] f stands e = absurd (let no_more = at_end in cc)
+  rows_fail (t ∷ ts) f stands e = rw (stands, e) refl
+
+  pub rows_done : (ts : List Token) → starts ts ≡ false → rows starts item ts ≡ Ok ([], ts)
+  unfolding rows
+  rows_done [] e = refl
+  rows_done (t ∷ ts) e = rw e refl
+
+-- a row that a loop reads: its test, and the reader of an item behind it
+pub record Loop {A : Type 0} (starts : List Token → Bool) (item : Reader A) : Type 0 where
+  pub at_end : starts [] ≡ false
+  pub shrinks : Shrinks starts item
+
+pub loop_of : {A : Type 0} {k : ℕ} {starts : List Token → Bool} {item item' : Reader A} {S : A → Shape} {c : List Token → Bool} → Item k starts item item' S c → starts [] ≡ false → Loop starts item
+loop_of law at_end = record { at_end = at_end; shrinks = λ ts x rest stands e. law.less ts x rest (law.sound ts x rest stands e) }
+
+module _ {A V : Type 0} (view : V → A) {starts : List Token → Bool} {item : Reader A} (loop : Loop starts item) where
+  -- an item goes to the end of what was read
+  pub grows : (old new : List V) (x : V) (ts rest : List Token) (total : Result (List A × List Token) Fault) → new ≡ old ++ x ∷ [] → starts ts ≡ true → item ts ≡ Ok (view x, rest) → with_front (map view old) (rows starts item ts) ≡ total → with_front (map view new) (rows starts item rest) ≡ total
+  grows old new x ts rest total pushed stands e so_far =
+      let all : map view new ≡ map view old ++ view x ∷ [] = rw pushed (map_push view old x) in
+      rw all (with_front_more (map view old) (view x) (rows starts item rest)) ∙ ap (with_front (map view old)) (sym (rows_more starts item loop.at_end loop.shrinks ts rest (view x) stands e)) ∙ so_far
+
+  -- no more follows
+  pub is_done : (read : List V) (ts : List Token) (total : Result (List A × List Token) Fault) → starts ts ≡ false → with_front (map view read) (rows starts item ts) ≡ total → total ≡ Ok (map view read, ts)
+  is_done read ts total over so_far = sym so_far ∙ ap (with_front (map view read)) (rows_done starts item loop.at_end loop.shrinks ts over) ∙ ap (λ ys. Ok (ys, ts)) (append-nil (map view read))
+
+  -- an item fails
+  pub breaks : (read : List V) (ts : List Token) (e : Failure) (total : Result (List A × List Token) Fault) → starts ts ≡ true → Fails e (item ts) → with_front (map view read) (rows starts item ts) ≡ total → Fails e total
+  breaks read ts failures.Memory total stands f so_far = tt
+  breaks read ts (failures.Refused f left) total stands e so_far = sym so_far ∙ ap (with_front (map view read)) (rows_fail starts item loop.at_end loop.shrinks ts f stands e)
+
+-- the same, where the items are plain data
+module _ {A : Type 0} {starts : List Token → Bool} {item : Reader A} (loop : Loop starts item) where
+  pub grows_plain : (old new : List A) (x : A) (ts rest : List Token) (total : Result (List A × List Token) Fault) → new ≡ old ++ x ∷ [] → starts ts ≡ true → item ts ≡ Ok (x, rest) → with_front old (rows starts item ts) ≡ total → with_front new (rows starts item rest) ≡ total
+  grows_plain old new x ts rest total pushed stands e so_far =
+      rw pushed (with_front_more old x (rows starts item rest)) ∙ ap (with_front old) (sym (rows_more starts item loop.at_end loop.shrinks ts rest x stands e)) ∙ so_far
+
+  pub is_done_plain : (read : List A) (ts : List Token) (total : Result (List A × List Token) Fault) → starts ts ≡ false → with_front read (rows starts item ts) ≡ total → total ≡ Ok (read, ts)
+  is_done_plain read ts total over so_far = sym so_far ∙ ap (with_front read) (rows_done starts item loop.at_end loop.shrinks ts over) ∙ ap (λ ys. Ok (ys, ts)) (append-nil read)
+
+  pub breaks_plain : (read : List A) (ts : List Token) (e : Failure) (total : Result (List A × List Token) Fault) → starts ts ≡ true → Fails e (item ts) → with_front read (rows starts item ts) ≡ total → Fails e total
+  breaks_plain read ts failures.Memory total stands f so_far = tt
+  breaks_plain read ts (failures.Refused f left) total stands e so_far = sym so_far ∙ ap (with_front read) (rows_fail starts item loop.at_end loop.shrinks ts f stands e)
+
+-- what stands behind the first token, under another name
+pub first_taken : {A : Type 0} (r : Result (A × List Token) Fault) (x : A) (ts rest : List Token) → r ≡ Ok (x, drop 1 ts) → rest ≡ drop 1 ts → r ≡ Ok (x, rest)
+first_taken r x ts rest e f = e ∙ ap (λ (a : List Token). Ok (x, a)) (sym f)

@@ -1,0 +1,308 @@
+-- Words of a class, names and lists of names: what is read is spelled, and what is spelled is read.
+use Rattle.std.proofs.Common.{◌≡◌, ℕ, suc, ◌<◌, ◌≤◌, Bool, true, false, ◌||◌, List, [], ◌∷◌, length, Option, Some, Ok, refl, sym, ap, subst, ◌∙◌, arith, inl, inr, ◌⊎◌}
+use Rattle.ss_base.specs.declared.line.Line.{Line}
+use Rattle.ss_lex.specs.declared.word.Word.{Word}
+use Rattle.ss_lex.specs.declared.word.Word.TheVariants as words
+use Rattle.ss_lex.specs.declared.token.Span.{Span}
+use Rattle.ss_lex.specs.declared.token.TokenKind.{TokenKind}
+use Rattle.ss_lex.specs.declared.token.TokenKind.TheVariants as kinds
+use Rattle.ss_lex.specs.declared.token.Token.{Token}
+use Rattle.ss_parse_expressions.specs.declared.classes.Class.{Class}
+use Rattle.ss_parse_expressions.specs.declared.classes.Class.TheVariants as classes
+use Rattle.ss_parse_expressions.specs.Openers.{openers}
+use Rattle.ss_parse_expressions.specs.Shapes.{Shape, ◌▷◌, nothing, never, either, optional, provided, noise, Token_is, Name_is, Said, listed, flagged}
+use Rattle.ss_parse_expressions.specs.Words.{has_word, One_of, Item_is, perhaps_listed}
+use Rattle.ss_parse_expressions.specs.Reading.{Reader, Mark, word, kind_of, is, begins, skip, expect, in_table, taken, name_of, comma, skip_separator, behind, apply, choose, maybe_list, begins_more}
+use Rattle.ss_parse_expressions.specs.ReadWords.{in_class, begins_class, skip_class, expect_class, said, done, fail, begins_noisy, expect_noisy, begins_name, names, begins_item, item, items, among, begins_among}
+use Rattle.ss_parse_expressions.proofs.Tools.{which, chosen, carry}
+use Rattle.ss_parse_expressions.proofs.Marks.{token, Mark_is, is_true, token_of, mark_begins, mark_skips, begins_mark, no_skip, token_less, skip_openers, In_table, begins_table}
+use Rattle.ss_parse_expressions.proofs.Depth.{upto_same, upto_if, Bounded, bounded_more, bounded_if}
+use Rattle.ss_parse_expressions.proofs.ReaderLaws.{Reads, Item, nowise, Made, item_of, made_reads, marked_reads, expect_reads, taken_reads, said_reads, optional_reads, maybe_list_reads}
+use Rattle.ss_parse_expressions.proofs.Rows.{list_reads, Loop, loop_of, separated_item}
+
+-- ---- words of a table
+
+said_to : {A : Type 0} (table : Word → Option A) (x : A) (ts rest : List Token) → In_table (in_table table) x ts rest → Said table x ts rest
+said_to table x ts rest (k, takes, at) = go k takes at
+  where
+    go : (k : TokenKind) → in_table table k ≡ Some x → Token_is k ts rest → Said table x ts rest
+    go (kinds.Word w) e at = (w, e, at)
+    go _ e at = absurd cc
+
+pub word_in_reads : {A : Type 0} (k : ℕ) (table : Word → Option A) → Reads k (taken (in_table table)) (taken (in_table table)) (Said table) nowise
+word_in_reads k table = said_reads (taken_reads k (in_table table)) (Said table) (said_to table) (λ x ts rest s. (kinds.Word s.0, s.1, s.2))
+
+-- ---- words of a class
+
+class_word : (c : Class) (k : TokenKind) → in_class c k ≡ true → (w : Word) × (has_word c w ≡ true) × (k ≡ kinds.Word w)
+class_word c (kinds.Word w) e = (w, e, refl)
+class_word c _ e = absurd cc
+
+pub one_of_token : (c : Class) (t : Token) (ts : List Token) → in_class c t.kind ≡ true → One_of c (t ∷ ts) ts
+one_of_token c t ts e = let w = class_word c t.kind e in (w.0, w.1, token_of t ts (kinds.Word w.0) w.2)
+
+pub one_begins : (c : Class) (ts rest : List Token) → One_of c ts rest → begins_class c ts ≡ true
+one_begins c ts rest (w, has, (span, line, e)) = ap (begins_class c) e ∙ has
+
+pub one_skips : (c : Class) (ts rest : List Token) → One_of c ts rest → skip_class c ts ≡ rest
+one_skips c ts rest (w, has, (span, line, e)) = rw (e, has) refl
+
+pub one_less : (c : Class) (ts rest : List Token) → One_of c ts rest → suc (length rest) ≡ length ts
+one_less c ts rest (w, has, at) = token_less (kinds.Word w) ts rest at
+
+no_skip_class : (c : Class) (ts : List Token) → begins_class c ts ≡ false → skip_class c ts ≡ ts
+no_skip_class c [] e = refl
+no_skip_class c (t ∷ ts) e = rw e refl
+
+begins_one : (c : Class) (ts : List Token) → begins_class c ts ≡ true → One_of c ts (skip_class c ts)
+begins_one c [] e = absurd cc
+begins_one c (t ∷ ts) e = rw e (one_of_token c t ts e)
+
+skip_class_openers : (c : Class) (ts : List Token) → openers (skip_class c ts) ≤ openers ts
+skip_class_openers c [] = omega arith
+skip_class_openers c (t ∷ ts) = elim (which (in_class c t.kind)) [ inl p ↦ rw p (omega arith) | inr p ↦ rw p (omega arith) ]
+
+pub expect_class_reads : (k : ℕ) (c : Class) → Reads k (expect_class c) (expect_class c) (λ u. One_of c) nowise
+expect_class_reads k c = record {
+  sound = sound;
+  complete = λ ts u rest s stop. complete ts rest u s;
+  shorter = λ ts u rest s. omega (arith, one_less c ts rest s);
+  under = λ ts. upto_same _;
+  opening = opening;
+}
+  where
+    sound : (ts : List Token) (u : Unit {0}) (rest : List Token) → expect_class c ts ≡ Ok (u, rest) → One_of c ts rest
+    sound [] u rest e = absurd cc
+    sound (t ∷ ts) u rest e =
+        elim (chosen (in_class c t.kind) _ _ _ e) [
+          | inl p ↦ carry (λ (u : Unit {0}) (r : List Token). One_of c (t ∷ ts) r) tt u ts rest p.1 (one_of_token c t ts p.0)
+          | inr p ↦ let no = p.1 in absurd cc
+        ]
+
+    complete : (ts rest : List Token) (u : Unit {0}) → One_of c ts rest → expect_class c ts ≡ Ok (u, rest)
+    complete ts rest u (w, has, (span, line, e)) = rw (e, has) refl
+
+    opening : (ts : List Token) → Bounded k (openers ts) (expect_class c ts)
+    opening [] = tt
+    opening (t ∷ ts) = elim (which (in_class c t.kind)) [ inl p ↦ rw p (omega arith) | inr p ↦ rw p tt ]
+
+-- a word of the class that may stand in front and says nothing
+module _ {A : Type 0} {k : ℕ} {q q' : Reader A} {S : A → Shape} {d : List Token → Bool} (law : Reads k q q' S d) (c : Class) where
+  pub optional_class_reads : ((x : A) (ts rest : List Token) → S x ts rest → begins_class c ts ≡ false) → Reads k (λ ts. q (skip_class c ts)) (λ ts. q' (skip_class c ts)) (λ x. optional (One_of c) ▷ S x) d
+  optional_class_reads first = record {
+    sound = λ ts x rest e. (skip_class c ts, front ts, law.sound (skip_class c ts) x rest e);
+    complete = λ ts x rest s stop. ap q (skips x ts rest s) ∙ law.complete s.0 x rest s.2 stop;
+    shorter = λ ts x rest s. omega (arith, less ts s.0 s.1, law.shorter s.0 x rest s.2);
+    under = λ ts. law.under (skip_class c ts);
+    opening = λ ts. bounded_more k (openers (skip_class c ts)) (openers ts) (q (skip_class c ts)) (skip_class_openers c ts) (law.opening (skip_class c ts));
+  }
+    where
+      front : (ts : List Token) → optional (One_of c) ts (skip_class c ts)
+      front ts = elim (which (begins_class c ts)) [ inl p ↦ inr (begins_one c ts p) | inr p ↦ inl (sym (no_skip_class c ts p)) ]
+
+      skips_to : (ts a : List Token) → optional (One_of c) ts a → begins_class c a ≡ false → skip_class c ts ≡ a
+      skips_to ts a (inl e) none_there = ap (skip_class c) e ∙ no_skip_class c a none_there
+      skips_to ts a (inr w) none_there = one_skips c ts a w
+
+      skips : (x : A) (ts rest : List Token) (s : (optional (One_of c) ▷ S x) ts rest) → skip_class c ts ≡ s.0
+      skips x ts rest s = skips_to ts s.0 s.1 (first x s.0 rest s.2)
+
+      less : (ts a : List Token) → optional (One_of c) ts a → length a ≤ length ts
+      less ts a (inl e) = omega (arith, ap length e)
+      less ts a (inr w) = omega (arith, one_less c ts a w)
+
+-- ---- nothing, no reading at all, and a mark that may be there
+
+pub done_reads : {A : Type 0} (k : ℕ) (x : A) → Reads k (done x) (done x) (λ y. provided (x ≡ y) nothing) nowise
+done_reads {A = A} k x = record {
+  sound = λ ts y rest e. carry (λ (y : A) (r : List Token). (x ≡ y) × (ts ≡ r)) x y ts rest e (refl, refl);
+  complete = λ ts y rest s stop. λ i. Ok (s.0 i, s.1 i);
+  shorter = λ ts y rest s. omega (arith, ap length s.1);
+  under = λ ts. upto_same _;
+  opening = λ ts. omega arith;
+}
+
+pub fail_reads : {A : Type 0} (k : ℕ) → Reads k (fail {A = A}) (fail {A = A}) (λ x. never) nowise
+fail_reads k = record {
+  sound = λ ts x rest e. absurd cc;
+  complete = λ ts x rest s stop. absurd s;
+  shorter = λ ts x rest s. absurd s;
+  under = λ ts. upto_same _;
+  opening = λ ts. tt;
+}
+
+pub mark_said_reads : (k : ℕ) (m : Mark) → Reads k (said m) (said m) (flagged (Mark_is m)) (begins m)
+mark_said_reads k m = record {
+  sound = λ ts x rest e. carry (λ (x : Bool) (r : List Token). flagged (Mark_is m) x ts r) (begins m ts) x (skip m ts) rest e (there ts);
+  complete = complete;
+  shorter = shorter;
+  under = λ ts. upto_same _;
+  opening = λ ts. skip_openers m ts;
+}
+  where
+    there : (ts : List Token) → flagged (Mark_is m) (begins m ts) ts (skip m ts)
+    there ts = elim (which (begins m ts)) [ inl p ↦ rw p (begins_mark m ts p) | inr p ↦ rw p (sym (no_skip m ts p)) ]
+
+    complete : (ts : List Token) (x : Bool) (rest : List Token) → flagged (Mark_is m) x ts rest → begins m rest ≡ false → said m ts ≡ Ok (x, rest)
+    complete ts true rest s stop =
+        let a : begins m ts ≡ true = mark_begins m ts rest s in
+        let b : skip m ts ≡ rest = mark_skips m ts rest s in
+        rw (a, b) refl
+    complete ts false rest s stop =
+        let a : begins m ts ≡ false = ap (begins m) s ∙ stop in
+        let b : skip m ts ≡ rest = no_skip m ts a ∙ s in
+        rw (a, b) refl
+
+    shorter : (ts : List Token) (x : Bool) (rest : List Token) → flagged (Mark_is m) x ts rest → length rest ≤ length ts
+    shorter ts true rest s = omega (arith, token_less (kind_of m) ts rest s)
+    shorter ts false rest s = omega (arith, ap length s)
+
+-- ---- a mark with a comma before it or not
+
+pub noisy_mark_reads : (k : ℕ) (m : Mark) → is comma (kind_of m) ≡ false → Reads k (expect_noisy m) (expect_noisy m) (λ u. noise ▷ Mark_is m) nowise
+noisy_mark_reads k m other = optional_reads (expect_reads k m) comma (λ u ts rest s. ap (begins comma) s.2 ∙ other)
+
+pub noisy_begins : (m : Mark) → is comma (kind_of m) ≡ false → (ts rest : List Token) → (noise ▷ Mark_is m) ts rest → begins_noisy m ts ≡ true
+noisy_begins m other ts rest (a, inl e, s) =
+    let none : begins comma a ≡ false = ap (begins comma) s.2 ∙ other in
+    ap (begins_noisy m) e ∙ ap (begins m) (no_skip comma a none) ∙ mark_begins m a rest s
+noisy_begins m other ts rest (a, inr w, s) = ap (begins m) (mark_skips comma ts a w) ∙ mark_begins m a rest s
+
+pub noisy_less : (m : Mark) (ts rest : List Token) → (noise ▷ Mark_is m) ts rest → length rest < length ts
+noisy_less m ts rest (a, inl e, s) = omega (arith, ap length e, token_less (kind_of m) a rest s)
+noisy_less m ts rest (a, inr w, s) = omega (arith, token_less (kind_of comma) ts a w, token_less (kind_of m) a rest s)
+
+-- what begins with neither the mark nor a comma before it
+pub noisy_stops : (c : List Token → Bool) (m : Mark) → ((span : Span) (line : Line) (ts : List Token) → c (token (kind_of m) span line ∷ ts) ≡ false) → ((span span' : Span) (line line' : Line) (ts : List Token) → c (token (kind_of comma) span line ∷ token (kind_of m) span' line' ∷ ts) ≡ false) → (ts rest : List Token) → (noise ▷ Mark_is m) ts rest → c ts ≡ false
+noisy_stops c m alone noisy ts rest (a, inl e, (span, line, f)) = ap c (e ∙ f) ∙ alone span line rest
+noisy_stops c m alone noisy ts rest (a, inr (span, line, e), (span', line', f)) = rw (e, f) (noisy span span' line line' rest)
+
+-- ---- names
+
+name_to : (n : List ℕ) (ts rest : List Token) → In_table name_of n ts rest → Name_is n ts rest
+name_to n ts rest (k, takes, at) = go k takes at
+  where
+    go : (k : TokenKind) → name_of k ≡ Some n → Token_is k ts rest → Name_is n ts rest
+    go (kinds.Name v) e at = let same : v ≡ n = cc in subst (λ n. Name_is n ts rest) same at
+    go _ e at = absurd cc
+
+pub name_reads : (k : ℕ) → Reads k (taken name_of) (taken name_of) Name_is nowise
+name_reads k = said_reads (taken_reads k name_of) Name_is name_to (λ n ts rest s. (kinds.Name n, refl, s))
+
+pub name_begins : (ts : List Token) (n : List ℕ) (rest : List Token) → Name_is n ts rest → begins_name ts ≡ true
+name_begins ts n rest s = begins_table name_of ts rest n (kinds.Name n, refl, s)
+
+pub name_less : (ts : List Token) (n : List ℕ) (rest : List Token) → Name_is n ts rest → length rest < length ts
+name_less ts n rest s = omega (arith, token_less (kinds.Name n) ts rest s)
+
+kind_no_and : (k : TokenKind) → begins_name (token k (record { start = 0; length = 0 }) (record { 0 = 0 }) ∷ []) ≡ true → is (word words.And) k ≡ false
+kind_no_and (kinds.Name n) e = refl
+kind_no_and _ e = absurd cc
+
+pub name_no_and : (ts : List Token) → begins_name ts ≡ true → begins (word words.And) ts ≡ false
+name_no_and [] e = absurd cc
+name_no_and (t ∷ ts) e = kind_no_and t.kind e
+
+abbrev pub continues_names : List Token → Bool
+continues_names ts = begins_more begins_name ts
+
+pub names_reads : (k : ℕ) → Reads k names names (listed Name_is) (λ ts. begins_more begins_name ts || (nowise ts || nowise ts))
+names_reads k = list_reads (name_reads k) begins_name name_begins name_no_and name_less (λ span line ts. refl) (λ span line ts. refl)
+
+pub names_loop : Loop (begins_more begins_name) (λ r. taken name_of (skip_separator r))
+names_loop = loop_of (separated_item (name_reads 0) begins_name name_begins name_no_and) refl
+
+-- ---- names with articles
+
+name_no_article : (n : List ℕ) (ts rest : List Token) → Name_is n ts rest → begins_class classes.Article ts ≡ false
+name_no_article n ts rest (span, line, e) = rw e refl
+
+pub item_reads : (k : ℕ) → Reads k item item Item_is nowise
+item_reads k = optional_class_reads (name_reads k) classes.Article name_no_article
+
+pub item_begins : (ts : List Token) (n : List ℕ) (rest : List Token) → Item_is n ts rest → begins_item ts ≡ true
+item_begins ts n rest (a, inl e, s) = ap begins_item e ∙ ap begins_name (no_skip_class classes.Article a (name_no_article n a rest s)) ∙ name_begins a n rest s
+item_begins ts n rest (a, inr w, s) = ap begins_name (one_skips classes.Article ts a w) ∙ name_begins a n rest s
+
+pub item_less : (ts : List Token) (n : List ℕ) (rest : List Token) → Item_is n ts rest → length rest < length ts
+item_less ts n rest (a, inl e, s) = omega (arith, ap length e, name_less a n rest s)
+item_less ts n rest (a, inr w, s) = omega (arith, one_less classes.Article ts a w, name_less a n rest s)
+
+and_no_item : (ts : List Token) → begins (word words.And) ts ≡ true → begins_item ts ≡ false
+and_no_item [] e = refl
+and_no_item (t ∷ ts) e = let kind : t.kind ≡ kinds.Word words.And = is_true (word words.And) t.kind e in rw kind refl
+
+pub item_no_and : (ts : List Token) → begins_item ts ≡ true → begins (word words.And) ts ≡ false
+item_no_and ts e = elim (which (begins (word words.And) ts)) [ inl p ↦ absurd (let no = and_no_item ts p in cc) | inr p ↦ p ]
+
+pub items_reads : (k : ℕ) → Reads k items items (listed Item_is) (λ ts. begins_more begins_item ts || (nowise ts || nowise ts))
+items_reads k = list_reads (item_reads k) begins_item item_begins item_no_and item_less (λ span line ts. refl) (λ span line ts. refl)
+
+pub items_loop : Loop (begins_more begins_item) (λ r. item (skip_separator r))
+items_loop = loop_of (separated_item (item_reads 0) begins_item item_begins item_no_and) refl
+
+-- ---- a list behind words, or neither
+
+pub perhaps_listed_reads : {X : Type 0} {k : ℕ} {starts : List Token → Bool} {r r' : Reader (List X)} {P : Shape} {S : X → Shape} {c : List Token → Bool} → Item k starts r r' (λ xs. P ▷ listed S xs) c → Reads k (maybe_list starts r) (maybe_list starts r') (perhaps_listed P S) (λ ts. starts ts || c ts)
+perhaps_listed_reads {X = X} {P = P} {S = S} item = maybe_list_reads item to from (λ ts. refl)
+  where
+    to : (xs : List X) (ts rest : List Token) → (P ▷ listed S xs) ts rest → perhaps_listed P S xs ts rest
+    to [] ts rest s = absurd s.2
+    to (x ∷ xs) ts rest s = s
+
+    from : (xs : List X) (ts rest : List Token) → perhaps_listed P S xs ts rest → ((xs ≡ []) × (ts ≡ rest)) ⊎ (P ▷ listed S xs) ts rest
+    from [] ts rest s = inl (refl, s)
+    from (x ∷ xs) ts rest s = inr s
+
+-- ---- what begins with none of some words
+
+pub no_word : (p : Word → Bool) (w : Word) → p w ≡ true → (ts : List Token) → begins_among p ts ≡ false → begins (word w) ts ≡ false
+no_word p w held [] e = refl
+no_word p w held (t ∷ ts) e =
+    elim (which (is (word w) t.kind)) [
+      | inl there ↦
+          let kind : t.kind ≡ kinds.Word w = is_true (word w) t.kind there in
+          absurd (let holds : among p t.kind ≡ true = ap (among p) kind ∙ held in cc)
+      | inr none ↦ none
+    ]
+
+pub no_class : (p : Word → Bool) (c : Class) → ((w : Word) → has_word c w ≡ true → p w ≡ true) → (ts : List Token) → begins_among p ts ≡ false → begins_class c ts ≡ false
+no_class p c held [] e = refl
+no_class p c held (t ∷ ts) e =
+    elim (which (in_class c t.kind)) [
+      | inl there ↦
+          let w = class_word c t.kind there in
+          absurd (let holds : among p t.kind ≡ true = ap (among p) w.2 ∙ held w.0 w.1 in cc)
+      | inr none ↦ none
+    ]
+
+-- ---- one of two, the second of which may be nothing
+
+-- the second doesn't start as the first does, where what follows can't continue it
+module _ {A : Type 0} {k : ℕ} {starts : List Token → Bool} {r r' q q' : Reader A} {S T : A → Shape} {c d : List Token → Bool} (first : Item k starts r r' S c) (second : Reads k q q' T d) (e : List Token → Bool) (fewer : (ts : List Token) → e ts ≡ false → (c ts ≡ false) × (d ts ≡ false)) (late : (x : A) (ts rest : List Token) → T x ts rest → e rest ≡ false → starts ts ≡ false) where
+  pub either_reads : Reads k (choose starts r q) (choose starts r' q') (λ x. either (S x) (T x)) e
+  either_reads = record {
+    sound = λ ts x rest is.
+        elim (chosen (starts ts) _ _ _ is) [
+          | inl p ↦ inl (first.sound ts x rest p.0 p.1)
+          | inr p ↦ inr (second.sound ts x rest p.1)
+        ];
+    complete = λ ts x rest u stop.
+        elim u [
+          | inl s ↦
+              let there : starts ts ≡ true = first.begins ts x rest s in
+              rw there (first.complete ts x rest s (fewer rest stop).0)
+          | inr t ↦
+              let none : starts ts ≡ false = late x ts rest t stop in
+              rw none (second.complete ts x rest t (fewer rest stop).1)
+        ];
+    shorter = λ ts x rest u. elim u [ inl s ↦ omega (arith, first.less ts x rest s) | inr t ↦ second.shorter ts x rest t ];
+    under = λ ts. upto_if (starts ts) _ _ _ _ (first.under ts) (second.under ts);
+    opening = λ ts. bounded_if k (openers ts) (starts ts) _ _ (first.opening ts) (second.opening ts);
+  }
+
+-- what is made of what begins with a mark
+pub item_made : {A B : Type 0} {k : ℕ} {q q' : Reader A} {S : A → Shape} {d : List Token → Bool} (m : Mark) (law : Reads k q q' S d) (f : A → B) → Item k (begins m) (apply f (behind (expect m) q)) (apply f (behind (expect m) q')) (Made f (λ x. Mark_is m ▷ S x)) d
+item_made m law f =
+    item_of (begins m) (made_reads (marked_reads m law) f) (λ ts y rest s. mark_begins m ts s.2.0 s.2.1)
+    (λ ts y rest s. omega (arith, token_less (kind_of m) ts s.2.0 s.2.1, law.shorter s.2.0 s.0 rest s.2.2))

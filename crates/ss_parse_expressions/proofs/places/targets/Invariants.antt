@@ -1,0 +1,12 @@
+use Rattle.std.proofs.Common.{◌≡◌, length, map}
+use Rattle.ss_tree.specs.View.{view_named}
+use Rattle.ss_parse_expressions.specs.Reading.{rows, begins_more, skip_separator}
+use Rattle.ss_parse_expressions.specs.ReadPlaces.{begins_target, target_in, targets_in}
+use Rattle.ss_parse_expressions.proofs.Rows.{with_front}
+use Rattle.ss_parse_expressions.proofs.places.targets.Given as goal
+
+abbrev pub invariant-more : goal.invariant-more
+invariant-more l = with_front (map view_named l.all.items) (rows (begins_more begins_target) (λ r. target_in l.room (skip_separator r)) l.rest) ≡ targets_in l.room l.tokens
+
+abbrev pub decreases-more : goal.decreases-more
+decreases-more l = length l.rest

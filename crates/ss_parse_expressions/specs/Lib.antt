@@ -1,0 +1,13 @@
+pub mod WordTables
+pub mod Shapes
+pub mod SpelledExpressions
+pub mod SpelledConditions
+pub mod Openers
+pub mod Reading
+pub mod ReadExpressions
+pub mod Words
+pub mod ReadWords
+pub mod ReadPlaces
+pub mod ReadConditions
+pub mod ReadHeads
+pub mod Steps

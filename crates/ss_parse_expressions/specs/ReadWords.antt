@@ -1,0 +1,78 @@
+-- Reading words of which any one may stand, names and lists of names.
+use Rattle.std.specs.Prelude.{ℕ, List, [], ◌∷◌, Bool, false, Ok, Err, if◌then◌else◌}
+use Rattle.ss_lex.specs.declared.word.Word.{Word}
+use Rattle.ss_lex.specs.declared.token.TokenKind.{TokenKind}
+use Rattle.ss_lex.specs.declared.token.TokenKind.TheVariants as kinds
+use Rattle.ss_lex.specs.declared.token.Token.{Token}
+use Rattle.ss_parse_expressions.specs.declared.failure.Fault.TheVariants.{Syntax}
+use Rattle.ss_parse_expressions.specs.declared.classes.Class.{Class}
+use Rattle.ss_parse_expressions.specs.declared.classes.Class.TheVariants as classes
+use Rattle.ss_parse_expressions.specs.Words.{has_word}
+use Rattle.ss_parse_expressions.specs.Reading.{Reader, Mark, begins, skip, expect, begins_by, taken, name_of, list_of, skip_comma}
+
+-- ---- single tokens
+
+abbrev pub in_class : Class → TokenKind → Bool
+in_class class (kinds.Word w) = has_word class w
+in_class class _ = false
+
+abbrev pub begins_class : Class → List Token → Bool
+begins_class class [] = false
+begins_class class (t ∷ ts) = in_class class t.kind
+
+-- the tokens behind a word of the class, where one is first
+abbrev pub skip_class : Class → List Token → List Token
+skip_class class [] = []
+skip_class class (t ∷ ts) = if in_class class t.kind then ts else t ∷ ts
+
+-- a word of the class
+abbrev pub expect_class : Class → Reader (Unit {0})
+expect_class class [] = Err Syntax
+expect_class class (t ∷ ts) = if in_class class t.kind then Ok (tt, ts) else Err Syntax
+
+-- whether the mark is first, and what stands behind it
+abbrev pub said : Mark → Reader Bool
+said m ts = Ok (begins m ts, skip m ts)
+
+-- nothing at all, as this
+abbrev pub done : {A : Type 0} → A → Reader A
+done x ts = Ok (x, ts)
+
+abbrev pub fail : {A : Type 0} → Reader A
+fail ts = Err Syntax
+
+-- the mark, with a comma before it or not
+abbrev pub begins_noisy : Mark → List Token → Bool
+begins_noisy m ts = begins m (skip_comma ts)
+
+abbrev pub expect_noisy : Mark → Reader (Unit {0})
+expect_noisy m ts = expect m (skip_comma ts)
+
+-- ---- names
+
+abbrev pub begins_name : List Token → Bool
+begins_name = begins_by name_of
+
+-- names with separators between
+abbrev pub names : Reader (List (List ℕ))
+names = list_of begins_name (taken name_of)
+
+abbrev pub begins_item : List Token → Bool
+begins_item ts = begins_name (skip_class classes.Article ts)
+
+-- a name, with an article before it or not
+abbrev pub item : Reader (List ℕ)
+item ts = taken name_of (skip_class classes.Article ts)
+
+-- such names with separators between
+abbrev pub items : Reader (List (List ℕ))
+items = list_of begins_item item
+
+abbrev pub among : (Word → Bool) → TokenKind → Bool
+among table (kinds.Word w) = table w
+among table _ = false
+
+-- whether a word that the table holds of is first
+abbrev pub begins_among : (Word → Bool) → List Token → Bool
+begins_among table [] = false
+begins_among table (t ∷ ts) = among table t.kind

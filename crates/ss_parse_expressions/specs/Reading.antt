@@ -1,0 +1,184 @@
+-- Reading tokens from left to right.
+use Rattle.std.specs.Prelude.{◌≡◌, ℕ, zero, suc, Bool, true, false, ◌||◌, ◌&&◌, ◌==◌, List, [], ◌∷◌, length, Option, Some, None, Result, Ok, Err, if◌then◌else◌}
+use denote.Enum.Bare.{sameb}
+use Rattle.ss_lex.specs.contracts.word.Word.{the_type}
+use Rattle.ss_lex.specs.declared.word.Word.{Word}
+use Rattle.ss_lex.specs.declared.word.Word.TheVariants as words
+use Rattle.ss_lex.specs.declared.token.Symbol.{Symbol}
+use Rattle.ss_lex.specs.declared.token.Symbol.TheVariants.{OpenParenthesis, CloseParenthesis, Comma, Plus, Minus, Star, Equals, Other}
+use Rattle.ss_lex.specs.declared.token.TokenKind.{TokenKind}
+use Rattle.ss_lex.specs.declared.token.TokenKind.TheVariants as kinds
+use Rattle.ss_lex.specs.declared.token.Token.{Token}
+use Rattle.ss_base.specs.declared.line.Line.{Line}
+use Rattle.ss_parse_expressions.specs.Shapes.{first_line}
+use Rattle.ss_parse_expressions.specs.declared.failure.Fault.{Fault}
+use Rattle.ss_parse_expressions.specs.declared.failure.Fault.TheVariants.{Syntax, TooDeep}
+use Rattle.ss_parse_expressions.specs.declared.failure.Failure.{Failure}
+use Rattle.ss_parse_expressions.specs.declared.failure.Failure.TheVariants as failures
+
+-- what a reader answers: what it read and the tokens after it, or a fault
+abbrev pub Reader : Type 0 → Type 0
+Reader T = List Token → Result (T × List Token) Fault
+
+infixl 10 ◌>>=◌
+abbrev pub ◌>>=◌ : {A B : Type 0} → Result A Fault → (A → Result B Fault) → Result B Fault
+(Ok x) >>= f = f x
+(Err e) >>= f = Err e
+
+-- What a function returned, seen by view, is what reading gives, unless memory ran out.
+abbrev pub Fails : {Y : Type 0} → Failure → Result Y Fault → Type 0
+Fails failures.Memory read = Unit {0}
+Fails (failures.Refused f left) read = read ≡ Err f
+
+abbrev pub Gives : {X Y : Type 0} → (X → Y) → Result X Failure → Result Y Fault → Type 0
+Gives view (Ok x) read = read ≡ Ok (view x)
+Gives view (Err e) read = Fails e read
+
+-- ---- single tokens
+
+-- a word or a symbol that is looked for
+pub data Mark : Type 0 where
+  word : Word → Mark
+  symbol : Symbol → Mark
+
+abbrev pub same_symbol : Symbol → Symbol → Bool
+same_symbol OpenParenthesis OpenParenthesis = true
+same_symbol CloseParenthesis CloseParenthesis = true
+same_symbol Comma Comma = true
+same_symbol Plus Plus = true
+same_symbol Minus Minus = true
+same_symbol Star Star = true
+same_symbol Equals Equals = true
+same_symbol (Other a) (Other b) = a == b
+same_symbol _ _ = false
+
+abbrev pub kind_of : Mark → TokenKind
+kind_of (word w) = kinds.Word w
+kind_of (symbol s) = kinds.Symbol s
+
+abbrev pub is : Mark → TokenKind → Bool
+is (word w) (kinds.Word v) = sameb the_type v w
+is (symbol s) (kinds.Symbol r) = same_symbol r s
+is _ _ = false
+
+abbrev pub begins : Mark → List Token → Bool
+begins m [] = false
+begins m (t ∷ ts) = is m t.kind
+
+-- the tokens behind the mark, where it is first
+abbrev pub skip : Mark → List Token → List Token
+skip m [] = []
+skip m (t ∷ ts) = if is m t.kind then ts else t ∷ ts
+
+-- the mark
+abbrev pub expect : Mark → Reader (Unit {0})
+expect m [] = Err Syntax
+expect m (t ∷ ts) = if is m t.kind then Ok (tt, ts) else Err Syntax
+
+-- a token that the word table takes for something
+abbrev pub in_table : {A : Type 0} → (Word → Option A) → TokenKind → Option A
+in_table table (kinds.Word w) = table w
+in_table table _ = None
+
+abbrev pub is_some : {A : Type 0} → Option A → Bool
+is_some None = false
+is_some (Some x) = true
+
+-- what the table makes of the first token
+abbrev pub first_by : {A : Type 0} → (TokenKind → Option A) → List Token → Option A
+first_by table [] = None
+first_by table (t ∷ ts) = table t.kind
+
+-- whether the table has the first token
+abbrev pub begins_by : {A : Type 0} → (TokenKind → Option A) → List Token → Bool
+begins_by table ts = is_some (first_by table ts)
+
+abbrev pub found_then : {A : Type 0} → Option A → List Token → Result (A × List Token) Fault
+found_then None ts = Err Syntax
+found_then (Some x) ts = Ok (x, ts)
+
+-- a token of the table
+abbrev pub taken : {A : Type 0} → (TokenKind → Option A) → Reader A
+taken table [] = Err Syntax
+taken table (t ∷ ts) = found_then (table t.kind) ts
+
+-- a name
+abbrev pub name_of : TokenKind → Option (List ℕ)
+name_of (kinds.Name n) = Some n
+name_of _ = None
+
+-- ---- readers of several things
+
+-- this, and then that
+abbrev pub seq : {A B : Type 0} → Reader A → Reader B → Reader (A × B)
+seq r q ts = r ts >>= λ x. q x.1 >>= λ y. Ok ((x.0, y.0), y.1)
+
+-- that, behind words that say nothing
+abbrev pub behind : {A : Type 0} → Reader (Unit {0}) → Reader A → Reader A
+behind r q ts = r ts >>= λ x. q x.1
+
+-- this, before words that say nothing
+abbrev pub closed : {A : Type 0} → Reader A → Reader (Unit {0}) → Reader A
+closed r q ts = r ts >>= λ x. q x.1 >>= λ y. Ok (x.0, y.1)
+
+abbrev pub apply : {A B : Type 0} → (A → B) → Reader A → Reader B
+apply f r ts = r ts >>= λ x. Ok (f x.0, x.1)
+
+-- by the line of the first token
+abbrev pub lined : {A : Type 0} → (Line → Reader A) → Reader A
+lined r ts = r (first_line ts) ts
+
+-- what may be there, by how it starts
+abbrev pub maybe : {A : Type 0} → (List Token → Bool) → Reader A → Reader (Option A)
+maybe starts item ts = if starts ts then (item ts >>= λ x. Ok (Some x.0, x.1)) else Ok (None, ts)
+
+-- a list that may be there, by how it starts
+abbrev pub maybe_list : {A : Type 0} → (List Token → Bool) → Reader (List A) → Reader (List A)
+maybe_list starts item ts = if starts ts then item ts else Ok ([], ts)
+
+-- whether words are there, by how they start
+abbrev pub flag : (List Token → Bool) → Reader (Unit {0}) → Reader Bool
+flag starts q ts = if starts ts then (q ts >>= λ x. Ok (true, x.1)) else Ok (false, ts)
+
+-- one of two, by how the first starts
+abbrev pub choose : {A : Type 0} → (List Token → Bool) → Reader A → Reader A → Reader A
+choose starts r q ts = if starts ts then r ts else q ts
+
+abbrev pub too_deep : {A : Type 0} → Reader A
+too_deep ts = Err TooDeep
+
+-- ---- rows
+
+-- items as long as there is one more, at most as many as the number
+abbrev pub row : {A : Type 0} → (List Token → Bool) → Reader A → ℕ → Reader (List A)
+row starts item zero ts = Ok ([], ts)
+row starts item (suc n) ts =
+    if starts ts then (item ts >>= λ x. row starts item n x.1 >>= λ xs. Ok (x.0 ∷ xs.0, xs.1)) else Ok ([], ts)
+
+-- items as long as there is one more
+unfoldable pub rows : {A : Type 0} → (List Token → Bool) → Reader A → Reader (List A)
+rows starts item ts = row starts item (length ts) ts
+
+-- an item, and further ones as long as there is one more
+abbrev pub first_and : {A : Type 0} → Reader A → (List Token → Bool) → Reader A → Reader (List A)
+first_and r starts item ts = r ts >>= λ x. rows starts item x.1 >>= λ xs. Ok (x.0 ∷ xs.0, xs.1)
+
+-- ---- commas and separators
+
+abbrev pub comma : Mark
+comma = symbol Comma
+
+abbrev pub skip_comma : List Token → List Token
+skip_comma = skip comma
+
+-- behind a comma, AND, or both
+abbrev pub skip_separator : List Token → List Token
+skip_separator ts = skip (word words.And) (skip comma ts)
+
+-- whether a separator and then such a token follow
+abbrev pub begins_more : (List Token → Bool) → List Token → Bool
+begins_more starts ts = (begins comma ts || begins (word words.And) ts) && starts (skip_separator ts)
+
+-- items with separators between
+abbrev pub list_of : {A : Type 0} → (List Token → Bool) → Reader A → Reader (List A)
+list_of starts item = first_and item (begins_more starts) (λ r. item (skip_separator r))

@@ -1,0 +1,99 @@
+-- What may stand at the front of a list of tokens.
+use Rattle.std.specs.Prelude.{◌≡◌, ℕ, zero, suc, ◌⊎◌, List, [], ◌∷◌, Option, Some, None, Bool, true, false}
+use Rattle.ss_base.specs.declared.line.Line.{Line}
+use Rattle.ss_lex.specs.declared.token.Token.{Token}
+use Rattle.ss_lex.specs.declared.token.Span.{Span}
+use Rattle.ss_lex.specs.declared.token.Symbol.{Symbol}
+use Rattle.ss_lex.specs.declared.token.Symbol.TheVariants as symbols
+use Rattle.ss_lex.specs.declared.token.TokenKind.{TokenKind}
+use Rattle.ss_lex.specs.declared.token.TokenKind.TheVariants as kinds
+use Rattle.ss_lex.specs.declared.word.Word.{Word}
+use Rattle.ss_lex.specs.declared.word.Word.TheVariants as words
+
+-- A shape says of tokens what stands first, and which tokens follow it.
+abbrev pub Shape : Type 1
+Shape = List Token → List Token → Type 0
+
+-- one shape, and then another
+infixr 4 ◌▷◌
+abbrev pub ◌▷◌ : Shape → Shape → Shape
+(P ▷ Q) ts rest = (m : List Token) × P ts m × Q m rest
+
+abbrev pub nothing : Shape
+nothing ts rest = ts ≡ rest
+
+abbrev pub never : Shape
+never ts rest = ⊥
+
+abbrev pub either : Shape → Shape → Shape
+either P Q ts rest = P ts rest ⊎ Q ts rest
+
+abbrev pub optional : Shape → Shape
+optional P = either nothing P
+
+-- only where the condition holds
+abbrev pub provided : Type 0 → Shape → Shape
+provided C P ts rest = C × P ts rest
+
+-- a token of this kind
+abbrev pub Token_is : TokenKind → Shape
+Token_is kind ts rest = (span : Span) × (line : Line) × (ts ≡ record { kind = kind; span = span; line = line } ∷ rest)
+
+abbrev pub Word_is : Word → Shape
+Word_is w = Token_is (kinds.Word w)
+
+abbrev pub Symbol_is : Symbol → Shape
+Symbol_is s = Token_is (kinds.Symbol s)
+
+abbrev pub Name_is : List ℕ → Shape
+Name_is n = Token_is (kinds.Name n)
+
+-- a word that the table takes for x
+abbrev pub Said : {X : Type 0} → (Word → Option X) → X → Shape
+Said table x ts rest = (w : Word) × (table w ≡ Some x) × Word_is w ts rest
+
+-- a comma that may stand here and means nothing
+abbrev pub noise : Shape
+noise = optional (Symbol_is symbols.Comma)
+
+-- a comma, AND, or both
+abbrev pub separator : Shape
+separator = either (Symbol_is symbols.Comma) (either (Word_is words.And) (Symbol_is symbols.Comma ▷ Word_is words.And))
+
+-- each of these in turn
+abbrev pub each : {X : Type 0} → (X → Shape) → List X → Shape
+each S [] = nothing
+each S (x ∷ xs) = S x ▷ each S xs
+
+-- the first, and then each of the others in another way
+abbrev pub first_and : {X : Type 0} → (X → Shape) → (X → Shape) → List X → Shape
+first_and S T [] = never
+first_and S T (x ∷ xs) = S x ▷ each T xs
+
+-- one at least, with separators between
+abbrev pub listed : {X : Type 0} → (X → Shape) → List X → Shape
+listed S = first_and S (λ y. separator ▷ S y)
+
+-- what may be there
+abbrev pub perhaps : {X : Type 0} → (X → Shape) → Option X → Shape
+perhaps S None = nothing
+perhaps S (Some x) = S x
+
+-- these words, where the flag is set
+abbrev pub flagged : Shape → Bool → Shape
+flagged P true = P
+flagged P false = nothing
+
+-- the line of the first token
+abbrev pub first_line : List Token → Line
+first_line [] = record { 0 = 0 }
+first_line (t ∷ ts) = t.line
+
+-- begins on this line
+abbrev pub at : Line → Shape → Shape
+at line P ts rest = (first_line ts ≡ line) × P ts rest
+
+-- with one level of nesting more
+abbrev pub within : (ℕ → Shape) → ℕ → Shape
+within P zero = never
+within P (suc levels) = P levels

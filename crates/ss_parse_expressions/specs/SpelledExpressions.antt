@@ -1,0 +1,104 @@
+-- Which tokens spell an expression.
+use Rattle.std.specs.Prelude.{ℕ}
+use Rattle.ss_lex.specs.declared.token.TokenKind.TheVariants as kinds
+use Rattle.ss_lex.specs.declared.token.Symbol.TheVariants.{OpenParenthesis, CloseParenthesis, Plus, Minus, Star}
+use Rattle.ss_lex.specs.declared.word.Word.TheVariants as words
+use Rattle.ss_tree.specs.declared.expression.Sign.{Sign}
+use Rattle.ss_tree.specs.declared.expression.Sign.TheVariants as signs
+use Rattle.ss_tree.specs.declared.expression.Designator.{Designator}
+use Rattle.ss_tree.specs.declared.expression.Designator.TheVariants as designators
+use Rattle.ss_tree.specs.Tree.{ExpressionTree, number, text, named, call, parenthesised, product, signed, sum, ExpressionRow, no_expression, and_expression, TermRow, no_term, and_term, NamedTree}
+use Rattle.ss_parse_expressions.specs.Shapes.{Shape, ◌▷◌, nothing, never, provided, Token_is, Word_is, Symbol_is, Name_is, Said, separator, within}
+use Rattle.ss_parse_expressions.specs.WordTables.{function_of}
+
+-- Where an expression stands, by what may stand there without parentheses.
+pub data Place : Type 0 where
+  -- any expression
+  sum_place : Place
+  -- the first term of a sum, which may have a sign
+  first_place : Place
+  -- a further term of a sum
+  term_place : Place
+  -- a factor
+  factor_place : Place
+
+-- where a product may stand
+abbrev pub Takes_product : Place → Type 0
+Takes_product factor_place = ⊥
+Takes_product _ = Unit {0}
+
+-- where a term with a sign may stand
+abbrev pub Takes_sign : Place → Type 0
+Takes_sign sum_place = Unit {0}
+Takes_sign first_place = Unit {0}
+Takes_sign _ = ⊥
+
+-- where a sum may stand
+abbrev pub Takes_sum : Place → Type 0
+Takes_sum sum_place = Unit {0}
+Takes_sum _ = ⊥
+
+abbrev pub Sign_is : Sign → Shape
+Sign_is signs.Plus = Symbol_is Plus
+Sign_is signs.Minus = Symbol_is Minus
+
+-- TIME.V and TIME.A count as names
+abbrev pub Designated : Designator → Shape
+Designated (designators.Name n) = Name_is n
+Designated designators.TimeV = Word_is words.TimeV
+Designated designators.TimeA = Word_is words.TimeA
+
+abbrev mutual
+  -- Where so many levels of nesting may still be opened, the tokens in front spell the expression.
+  pub Spelled : ExpressionTree → Place → ℕ → Shape
+  Spelled (number n) place levels = Token_is (kinds.Number n)
+  Spelled (text t) place levels = Token_is (kinds.Text t)
+  Spelled (named d no_expression) place levels = Designated d
+  Spelled (named d (and_expression e es)) place levels =
+      Designated d ▷ Symbol_is OpenParenthesis ▷ within (λ l. Spelled e sum_place l ▷ Further_arguments es l) levels ▷ Symbol_is CloseParenthesis
+  Spelled (call f no_expression) place levels = never
+  Spelled (call f (and_expression e es)) place levels =
+      Said function_of f ▷ Symbol_is OpenParenthesis ▷ within (λ l. Spelled e sum_place l ▷ Further_arguments es l) levels ▷ Symbol_is CloseParenthesis
+  Spelled (parenthesised e) place levels =
+      Symbol_is OpenParenthesis ▷ within (λ l. Spelled e sum_place l) levels ▷ Symbol_is CloseParenthesis
+  Spelled (product e no_expression) place levels = never
+  Spelled (product e (and_expression f fs)) place levels =
+      provided (Takes_product place) (Spelled e factor_place levels ▷ Symbol_is Star ▷ Spelled f factor_place levels ▷ Further_factors fs levels)
+  Spelled (signed sign e) place levels = provided (Takes_sign place) (Sign_is sign ▷ Spelled e term_place levels)
+  Spelled (sum e no_term) place levels = never
+  Spelled (sum e (and_term sign f fs)) place levels =
+      provided (Takes_sum place) (Spelled e first_place levels ▷ Sign_is sign ▷ Spelled f term_place levels ▷ Further_terms fs levels)
+
+  pub Further_arguments : ExpressionRow → ℕ → Shape
+  Further_arguments no_expression levels = nothing
+  Further_arguments (and_expression e es) levels = separator ▷ Spelled e sum_place levels ▷ Further_arguments es levels
+
+  pub Further_factors : ExpressionRow → ℕ → Shape
+  Further_factors no_expression levels = nothing
+  Further_factors (and_expression f fs) levels = Symbol_is Star ▷ Spelled f factor_place levels ▷ Further_factors fs levels
+
+  pub Further_terms : TermRow → ℕ → Shape
+  Further_terms no_term levels = nothing
+  Further_terms (and_term sign e es) levels = Sign_is sign ▷ Spelled e term_place levels ▷ Further_terms es levels
+
+-- any expression
+abbrev pub Sum_is : ℕ → ExpressionTree → Shape
+Sum_is levels e = Spelled e sum_place levels
+
+-- one subscript at most
+abbrev pub Subscript : ExpressionRow → ℕ → Shape
+Subscript no_expression levels = nothing
+Subscript (and_expression e no_expression) levels = Symbol_is OpenParenthesis ▷ within (λ l. Sum_is l e) levels ▷ Symbol_is CloseParenthesis
+Subscript (and_expression e (and_expression f fs)) levels = never
+
+-- what a value is put into
+abbrev pub Target_is : ℕ → NamedTree → Shape
+Target_is levels t = Designated t.designator ▷ Subscript t.subscripts levels
+
+abbrev pub Plain_name : Designator → Shape
+Plain_name (designators.Name n) = Name_is n
+Plain_name _ = never
+
+-- a set
+abbrev pub Reference_is : ℕ → NamedTree → Shape
+Reference_is levels r = Plain_name r.designator ▷ Subscript r.subscripts levels

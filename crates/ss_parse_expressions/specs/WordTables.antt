@@ -1,0 +1,75 @@
+-- What a word stands for, in the place where it is looked for.
+use Rattle.std.specs.Prelude.{Bool, true, false, Option, Some, None}
+use Rattle.ss_lex.specs.declared.word.Word.{Word}
+use Rattle.ss_lex.specs.declared.word.Word.TheVariants as words
+use Rattle.ss_tree.specs.declared.condition.Relation.{Relation}
+use Rattle.ss_tree.specs.declared.condition.Relation.TheVariants as relations
+use Rattle.ss_tree.specs.declared.expression.Function.{Function}
+use Rattle.ss_tree.specs.declared.expression.Function.TheVariants as functions
+use Rattle.ss_tree.specs.declared.head.PhraseKind.{PhraseKind}
+use Rattle.ss_tree.specs.declared.head.PhraseKind.TheVariants as phrases
+use Rattle.ss_tree.specs.declared.head.GuardKind.{GuardKind}
+use Rattle.ss_tree.specs.declared.head.GuardKind.TheVariants as guards
+use Rattle.ss_tree.specs.declared.statement.FindOutcome.{FindOutcome}
+use Rattle.ss_tree.specs.declared.statement.FindOutcome.TheVariants as outcomes
+use Rattle.ss_tree.specs.declared.preamble.Mode.{Mode}
+use Rattle.ss_tree.specs.declared.preamble.Mode.TheVariants as modes
+use Rattle.ss_tree.specs.declared.preamble.StatisticKind.{StatisticKind}
+use Rattle.ss_tree.specs.declared.preamble.StatisticKind.TheVariants as statistics_kinds
+
+-- a relation that is one word
+abbrev pub relation_of : Word → Option Relation
+relation_of words.Eq = Some relations.Equal
+relation_of words.Equals = Some relations.Equal
+relation_of words.Ne = Some relations.NotEqual
+relation_of words.Lt = Some relations.Less
+relation_of words.Gt = Some relations.Greater
+relation_of words.Le = Some relations.LessOrEqual
+relation_of words.Ge = Some relations.GreaterOrEqual
+relation_of _ = None
+
+abbrev pub function_of : Word → Option Function
+function_of words.DivF = Some functions.Div
+function_of words.ModF = Some functions.Mod
+function_of words.AbsF = Some functions.Abs
+function_of words.MinF = Some functions.Min
+function_of words.MaxF = Some functions.Max
+function_of _ = None
+
+abbrev pub phrase_of : Word → Option PhraseKind
+phrase_of words.With = Some phrases.With
+phrase_of words.When = Some phrases.With
+phrase_of words.Unless = Some phrases.Unless
+phrase_of words.While = Some phrases.While
+phrase_of words.Until = Some phrases.Until
+phrase_of _ = None
+
+abbrev pub guard_of : Word → Option GuardKind
+guard_of words.While = Some guards.While
+guard_of words.Until = Some guards.Until
+guard_of _ = None
+
+abbrev pub outcome_of : Word → Option FindOutcome
+outcome_of words.Found = Some outcomes.Found
+outcome_of words.None = Some outcomes.None
+outcome_of _ = None
+
+abbrev pub mode_of : Word → Option Mode
+mode_of words.Integer = Some modes.Integer
+mode_of words.Alpha = Some modes.Alpha
+mode_of words.Real = Some modes.Real
+mode_of _ = None
+
+-- whether the highest value comes first
+abbrev pub rank_of : Word → Option Bool
+rank_of words.High = Some true
+rank_of words.Low = Some false
+rank_of _ = None
+
+abbrev pub statistic_of : Word → Option StatisticKind
+statistic_of words.Number = Some statistics_kinds.Number
+statistic_of words.Sum = Some statistics_kinds.Sum
+statistic_of words.Maximum = Some statistics_kinds.Maximum
+statistic_of words.Minimum = Some statistics_kinds.Minimum
+statistic_of words.Mean = Some statistics_kinds.Mean
+statistic_of _ = None

@@ -1,0 +1,73 @@
+//! Words of which any one may stand in a place.
+
+ghost use Rattle.std.specs.Prelude.{◌≡◌};
+ghost use Rattle.ss_parse_expressions.specs.Words.{has_word};
+ghost use Rattle.ss_parse_expressions.specs.ReadWords.{begins_class, skip_class, expect_class};
+ghost use Rattle.ss_parse_expressions.specs.Reading.{Gives};
+
+use crate::failure::Failure;
+use crate::tokens::syntax;
+use ss_lex::{Token, TokenKind, Word};
+
+/// Words that mean the same in a place.
+#[derive(Clone, Copy)]
+pub enum Class {
+    /// A, AN or THE.
+    Article,
+    /// A or AN.
+    Indefinite,
+    /// EACH, EVERY or ALL.
+    Each,
+    /// GIVEN or GIVING.
+    Given,
+    /// TO or FOR.
+    Towards,
+}
+
+/// Whether the word is of the class.
+pub fn has_word(class: Class, word: Word) -> bool
+    ensures { result ≡ has_word class word }
+{
+    match class {
+        Class::Article => matches!(word, Word::A | Word::An | Word::The),
+        Class::Indefinite => matches!(word, Word::A | Word::An),
+        Class::Each => matches!(word, Word::Each | Word::Every | Word::All),
+        Class::Given => matches!(word, Word::Given | Word::Giving),
+        Class::Towards => matches!(word, Word::To | Word::For),
+    }
+}
+
+/// Whether a word of the class is first.
+pub fn begins_class(tokens: &[Token], class: Class) -> bool
+    ensures { result ≡ begins_class class tokens.now }
+{
+    match tokens {
+        [] => false,
+        [first, ..] => match &first.kind {
+            TokenKind::Word(found) => has_word(class, *found),
+            _ => false,
+        },
+    }
+}
+
+/// The tokens behind a word of the class, where one is first.
+pub fn skip_class(tokens: &[Token], class: Class) -> &[Token]
+    ensures { result.now ≡ skip_class class tokens.now }
+{
+    if begins_class(tokens, class) {
+        &tokens[1..]
+    } else {
+        tokens
+    }
+}
+
+/// What follows a word of the class, one of which has to be first.
+pub fn expect_class(tokens: &[Token], class: Class) -> Result<&[Token], Failure>
+    ensures { Gives (λ rest. (tt, rest.now)) result (expect_class class tokens.now) }
+{
+    if begins_class(tokens, class) {
+        Ok(&tokens[1..])
+    } else {
+        Err(syntax(tokens))
+    }
+}

@@ -1,0 +1,292 @@
+//! Conditions.
+
+ghost use Rattle.std.specs.Prelude.{◌≡◌, map};
+ghost use Rattle.ss_tree.specs.Tree.{expression_row};
+ghost use Rattle.ss_tree.specs.View.{view_expression, view_option, view_named, view_test, view_conjunction, view_condition};
+ghost use Rattle.ss_parse_expressions.specs.Reading.{Gives, begins_by, taken, in_table, word, expect, apply};
+ghost use Rattle.ss_parse_expressions.specs.declared.conditions.Verb.TheVariants.{Compares};
+ghost use Rattle.ss_parse_expressions.specs.ReadConditions.{relation_symbol, told_of, verb_end, worded_verb, verb, is_short, is_reference, reference_of, data_test, test_end, sum_test, test_in, conjunction_in, condition_in};
+
+use crate::expressions::sum;
+use crate::failure::Failure;
+use crate::places::reference;
+use crate::steps::{alone, beside};
+use crate::tokens::{begins_word, expect_word, skip_word, syntax, too_deep};
+use crate::words::relation_of;
+use ss_lex::{Symbol, Token, TokenKind, Word};
+use ss_tree::condition::{Condition, Conjunction, Relation, Test};
+use ss_tree::expression::{Designator, Expression, Named};
+use std::alloc::Global;
+
+/// What stands behind the first expression of a test.
+#[derive(Clone, Copy)]
+pub enum Verb {
+    Compares(Relation),
+    /// IS EMPTY, or IS NOT EMPTY where it is negated.
+    IsEmpty(bool),
+    /// IS IN, or IS NOT IN where it is negated.
+    IsIn(bool),
+}
+
+/// The word of a test in words that says what is tested.
+#[derive(Clone, Copy)]
+pub enum Told {
+    Empty,
+    In,
+    Equal,
+    Less,
+    Greater,
+}
+
+/// The relation that is one token.
+fn relation_symbol(kind: &TokenKind) -> Option<Relation>
+    ensures { result ≡ relation_symbol kind.now }
+{
+    match kind {
+        TokenKind::Symbol(Symbol::Equals) => Some(Relation::Equal),
+        TokenKind::Word(found) => relation_of(*found),
+        _ => None,
+    }
+}
+
+fn told_of(word: Word) -> Option<Told>
+    ensures { result ≡ told_of word }
+{
+    match word {
+        Word::Empty => Some(Told::Empty),
+        Word::In => Some(Told::In),
+        Word::Equal => Some(Told::Equal),
+        Word::Less => Some(Told::Less),
+        Word::Greater => Some(Told::Greater),
+        _ => None,
+    }
+}
+
+/// What is tested, by a word.
+fn told_word(tokens: &[Token]) -> Result<(Told, &[Token]), Failure>
+    ensures { Gives (λ x. (x.0, x.1.now)) result (taken (in_table told_of) tokens.now) }
+{
+    match tokens {
+        [] => Err(syntax(tokens)),
+        [first, rest @ ..] => match &first.kind {
+            TokenKind::Word(found) => match told_of(*found) {
+                Some(told) => Ok((told, rest)),
+                None => Err(syntax(tokens)),
+            },
+            _ => Err(syntax(tokens)),
+        },
+    }
+}
+
+/// A verb that compares, and ends with the word.
+fn compares(relation: Relation, tokens: &[Token], last: Word) -> Result<(Verb, &[Token]), Failure>
+    ensures { Gives (λ x. (x.0, x.1.now)) result (apply (λ u. Compares relation) (expect (word last)) tokens.now) }
+{
+    let rest = expect_word(tokens, last)?;
+    Ok((Verb::Compares(relation), rest))
+}
+
+/// What stands behind IS, NOT and the word that says what is tested.
+fn verb_end(
+    is: bool,
+    negated: bool,
+    told: Told,
+    tokens: &[Token],
+) -> Result<(Verb, &[Token]), Failure>
+    ensures { Gives (λ x. (x.0, x.1.now)) result (verb_end told is negated tokens.now) }
+{
+    match told {
+        Told::Empty if is => Ok((Verb::IsEmpty(negated), tokens)),
+        Told::In if is => Ok((Verb::IsIn(negated), tokens)),
+        Told::Empty | Told::In => Err(syntax(tokens)),
+        Told::Equal if negated => compares(Relation::NotEqual, tokens, Word::To),
+        Told::Equal => compares(Relation::Equal, tokens, Word::To),
+        Told::Less if negated => compares(Relation::GreaterOrEqual, tokens, Word::Than),
+        Told::Less => compares(Relation::Less, tokens, Word::Than),
+        Told::Greater if negated => compares(Relation::LessOrEqual, tokens, Word::Than),
+        Told::Greater => compares(Relation::Greater, tokens, Word::Than),
+    }
+}
+
+/// A test's verb in words.
+#[tactic(auto, unfolding(crate::specs::ReadConditions::worded_verb))]
+fn worded_verb(tokens: &[Token]) -> Result<(Verb, &[Token]), Failure>
+    ensures { Gives (λ x. (x.0, x.1.now)) result (worded_verb tokens.now) }
+{
+    let is = begins_word(tokens, Word::Is);
+    let rest = skip_word(tokens, Word::Is);
+    let negated = begins_word(rest, Word::Not);
+    let (told, rest) = told_word(skip_word(rest, Word::Not))?;
+    verb_end(is, negated, told, rest)
+}
+
+/// A test's verb.
+#[tactic(auto, unfolding(crate::specs::ReadConditions::verb))]
+fn any_verb(tokens: &[Token]) -> Result<(Verb, &[Token]), Failure>
+    ensures { Gives (λ x. (x.0, x.1.now)) result (verb tokens.now) }
+{
+    match tokens {
+        [] => worded_verb(tokens),
+        [first, rest @ ..] => match relation_symbol(&first.kind) {
+            Some(relation) => Ok((Verb::Compares(relation), rest)),
+            None => worded_verb(tokens),
+        },
+    }
+}
+
+/// Whether there is one at most.
+fn is_short(subscripts: &[Expression]) -> bool
+    ensures { result ≡ is_short (expression_row (map view_expression subscripts.now)) }
+{
+    match subscripts {
+        [] => true,
+        [_, rest @ ..] => match rest {
+            [] => true,
+            [_, ..] => false,
+        },
+    }
+}
+
+/// Whether the place can be a set: a name with one subscript at most.
+fn is_reference(named: &Named) -> bool
+    ensures { result ≡ is_reference (view_named named.now) }
+{
+    match &named.designator {
+        Designator::Name(_) => is_short(&named.subscripts),
+        _ => false,
+    }
+}
+
+/// The set that the expression names.
+#[tactic(auto, unfolding(ss_tree::specs::View::view_expression))]
+fn reference_of(expression: Expression) -> Option<Named>
+    ensures { view_option view_named result ≡ reference_of (view_expression expression) }
+{
+    match expression {
+        Expression::Named(named) => {
+            if is_reference(&named) {
+                Some(named)
+            } else {
+                None
+            }
+        }
+        Expression::Number(_)
+        | Expression::Text(_)
+        | Expression::Call { .. }
+        | Expression::Parenthesised(_)
+        | Expression::Product { .. }
+        | Expression::Signed { .. }
+        | Expression::Sum { .. } => None,
+    }
+}
+
+/// A test behind its first expression and its verb.
+#[tactic(auto, unfolding(crate::specs::ReadConditions::test_end))]
+fn test_end(
+    alloc: Global,
+    left: Expression,
+    verb: Verb,
+    tokens: &[Token],
+    room: u8,
+) -> Result<(Test, &[Token]), Failure>
+    ensures { Gives (λ x. (view_test x.0, x.1.now)) result (test_end room (view_expression left) verb tokens.now) }
+{
+    match verb {
+        Verb::Compares(relation) => {
+            let (left, (right, rest)) = beside(left, sum(alloc, tokens, room))?;
+            let test = Test::Compare {
+                left,
+                relation,
+                right,
+            };
+            Ok((test, rest))
+        }
+        Verb::IsIn(negated) => {
+            let set = reference(alloc, skip_word(tokens, Word::The), room);
+            let (member, (set, rest)) = beside(left, set)?;
+            let test = Test::Member {
+                member,
+                set,
+                negated,
+            };
+            Ok((test, rest))
+        }
+        Verb::IsEmpty(negated) => match reference_of(left) {
+            Some(set) => Ok((Test::Empty { set, negated }, tokens)),
+            None => Err(syntax(tokens)),
+        },
+    }
+}
+
+/// DATA IS ENDED.
+#[tactic(auto, unfolding(crate::specs::ReadConditions::data_test))]
+fn data_test(tokens: &[Token]) -> Result<(Test, &[Token]), Failure>
+    ensures { Gives (λ x. (view_test x.0, x.1.now)) result (data_test tokens.now) }
+{
+    let rest = expect_word(tokens, Word::Data)?;
+    let rest = expect_word(rest, Word::Is)?;
+    let negated = begins_word(rest, Word::Not);
+    let rest = expect_word(skip_word(rest, Word::Not), Word::Ended)?;
+    Ok((Test::DataEnded { negated }, rest))
+}
+
+/// A test that begins with an expression.
+#[tactic(auto, unfolding(crate::specs::ReadConditions::sum_test))]
+fn sum_test(alloc: Global, tokens: &[Token], room: u8) -> Result<(Test, &[Token]), Failure>
+    ensures { Gives (λ x. (view_test x.0, x.1.now)) result (sum_test room tokens.now) }
+{
+    let (left, rest) = sum(alloc, tokens, room)?;
+    let (verb, rest) = any_verb(rest)?;
+    test_end(alloc, left, verb, rest, room)
+}
+
+/// A test, where this many levels of nesting, one around it among them, may be opened.
+#[tactic(auto, unfolding(crate::specs::ReadConditions::test_in))]
+fn test(alloc: Global, tokens: &[Token], room: u8) -> Result<(Test, &[Token]), Failure>
+    ensures { Gives (λ x. (view_test x.0, x.1.now)) result (test_in room tokens.now) }
+{
+    if room == 0 {
+        return Err(too_deep(tokens));
+    }
+    if begins_word(tokens, Word::Data) {
+        data_test(tokens)
+    } else {
+        sum_test(alloc, tokens, room)
+    }
+}
+
+/// Tests joined by AND.
+fn conjunction(
+    alloc: Global,
+    tokens: &[Token],
+    room: u8,
+) -> Result<(Conjunction, &[Token]), Failure>
+    ensures { Gives (λ x. (view_conjunction x.0, x.1.now)) result (conjunction_in room tokens.now) }
+{
+    let (first, mut rest) = test(alloc, tokens, room)?;
+    let mut all = alone(alloc, first)?;
+    'more: while begins_word(rest, Word::And) {
+        let (next, after) = test(alloc, skip_word(rest, Word::And), room)?;
+        all.push(next)?;
+        rest = after;
+    }
+    Ok((Conjunction { tests: all }, rest))
+}
+
+/// A condition.
+pub fn condition(
+    alloc: Global,
+    tokens: &[Token],
+    room: u8,
+) -> Result<(Condition, &[Token]), Failure>
+    ensures { Gives (λ x. (view_condition x.0, x.1.now)) result (condition_in room tokens.now) }
+{
+    let (first, mut rest) = conjunction(alloc, tokens, room)?;
+    let mut all = alone(alloc, first)?;
+    'more: while begins_word(rest, Word::Or) {
+        let (next, after) = conjunction(alloc, skip_word(rest, Word::Or), room)?;
+        all.push(next)?;
+        rest = after;
+    }
+    Ok((Condition { alternatives: all }, rest))
+}

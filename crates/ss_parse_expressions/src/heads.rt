@@ -1,0 +1,324 @@
+//! The heads of loops.
+
+ghost use Rattle.std.specs.Prelude.{◌≡◌, map};
+ghost use Rattle.ss_tree.specs.View.{view_expression, view_option, view_phrase, view_guard, view_start, view_head, view_loop_head};
+ghost use Rattle.ss_parse_expressions.specs.WordTables.{phrase_of, guard_of};
+ghost use Rattle.ss_parse_expressions.specs.Reading.{Gives, taken, in_table, apply, skip_comma};
+ghost use Rattle.ss_parse_expressions.specs.ReadHeads.{begins_phrase, begins_guard, phrase_in, guard_in, phrases_in, guards_behind, step_in, range_in, start_in, reverse, members_in, class_in, class_tree, each_named, each_in, for_in, guarded_in};
+
+use crate::classes::{Class, begins_class, expect_class};
+use crate::conditions::condition;
+use crate::expressions::sum;
+use crate::failure::Failure;
+use crate::names::name;
+use crate::places::reference;
+use crate::steps::{alone, beside};
+use crate::tokens::{
+    begins_word, behind_first, expect_symbol, expect_word, skip_symbol, skip_word, syntax,
+};
+use crate::words::{guard_of, phrase_of};
+use ss_base::Name;
+use ss_lex::{Symbol, Token, TokenKind, Word};
+use ss_tree::expression::Expression;
+use ss_tree::head::{Guard, GuardKind, Head, LoopHead, MemberStart, Phrase, PhraseKind};
+use std::alloc::Global;
+
+/// The word that begins a phrase.
+fn phrase_kind(tokens: &[Token]) -> Result<(PhraseKind, &[Token]), Failure>
+    ensures { Gives (λ x. (x.0, x.1.now)) result (taken (in_table phrase_of) tokens.now) }
+{
+    match tokens {
+        [] => Err(syntax(tokens)),
+        [first, rest @ ..] => match &first.kind {
+            TokenKind::Word(found) => match phrase_of(*found) {
+                Some(kind) => Ok((kind, rest)),
+                None => Err(syntax(tokens)),
+            },
+            _ => Err(syntax(tokens)),
+        },
+    }
+}
+
+/// Whether a phrase, with a comma before it or not, is first.
+fn begins_phrase(tokens: &[Token]) -> bool
+    ensures { result ≡ begins_phrase (skip_comma tokens.now) }
+{
+    match skip_symbol(tokens, Symbol::Comma) {
+        [] => false,
+        [first, ..] => match &first.kind {
+            TokenKind::Word(found) => phrase_of(*found).is_some(),
+            _ => false,
+        },
+    }
+}
+
+/// A phrase.
+#[tactic(auto, unfolding(crate::specs::ReadHeads::phrase_in))]
+fn phrase(alloc: Global, tokens: &[Token], room: u8) -> Result<(Phrase, &[Token]), Failure>
+    ensures { Gives (λ x. (view_phrase x.0, x.1.now)) result (phrase_in room tokens.now) }
+{
+    let (kind, rest) = phrase_kind(tokens)?;
+    let (condition, rest) = condition(alloc, rest, room)?;
+    Ok((Phrase { kind, condition }, rest))
+}
+
+/// Phrases, each with a comma before it or not.
+fn phrases(alloc: Global, tokens: &[Token], room: u8) -> Result<(Vec<Phrase>, &[Token]), Failure>
+    ensures { Gives (λ x. (map view_phrase x.0.items, x.1.now)) result (phrases_in room tokens.now) }
+{
+    let mut all = Vec::new(alloc);
+    let mut rest = tokens;
+    'more: while begins_phrase(rest) {
+        let (next, after) = phrase(alloc, skip_symbol(rest, Symbol::Comma), room)?;
+        all.push(next)?;
+        rest = after;
+    }
+    Ok((all, rest))
+}
+
+/// WHILE or UNTIL.
+fn guard_kind(tokens: &[Token]) -> Result<(GuardKind, &[Token]), Failure>
+    ensures { Gives (λ x. (x.0, x.1.now)) result (taken (in_table guard_of) tokens.now) }
+{
+    match tokens {
+        [] => Err(syntax(tokens)),
+        [first, rest @ ..] => match &first.kind {
+            TokenKind::Word(found) => match guard_of(*found) {
+                Some(kind) => Ok((kind, rest)),
+                None => Err(syntax(tokens)),
+            },
+            _ => Err(syntax(tokens)),
+        },
+    }
+}
+
+/// Whether WHILE or UNTIL is first.
+pub fn begins_guard(tokens: &[Token]) -> bool
+    ensures { result ≡ begins_guard tokens.now }
+{
+    match tokens {
+        [] => false,
+        [first, ..] => match &first.kind {
+            TokenKind::Word(found) => guard_of(*found).is_some(),
+            _ => false,
+        },
+    }
+}
+
+/// Whether WHILE or UNTIL, with a comma before it or not, is first.
+fn begins_next_guard(tokens: &[Token]) -> bool
+    ensures { result ≡ begins_guard (skip_comma tokens.now) }
+{
+    begins_guard(skip_symbol(tokens, Symbol::Comma))
+}
+
+/// WHILE or UNTIL and its condition.
+#[tactic(auto, unfolding(crate::specs::ReadHeads::guard_in))]
+fn guard(alloc: Global, tokens: &[Token], room: u8) -> Result<(Guard, &[Token]), Failure>
+    ensures { Gives (λ x. (view_guard x.0, x.1.now)) result (guard_in room tokens.now) }
+{
+    let (kind, rest) = guard_kind(tokens)?;
+    let (condition, rest) = condition(alloc, rest, room)?;
+    Ok((Guard { kind, condition }, rest))
+}
+
+/// A first condition, and further ones behind it, each with a comma before it or not.
+fn guards(
+    alloc: Global,
+    first: Guard,
+    tokens: &[Token],
+    room: u8,
+) -> Result<(Vec<Guard>, &[Token]), Failure>
+    ensures { Gives (λ x. (map view_guard x.0.items, x.1.now)) result (guards_behind room (view_guard first) tokens.now) }
+{
+    let mut all = alone(alloc, first)?;
+    let mut rest = tokens;
+    'more: while begins_next_guard(rest) {
+        let (next, after) = guard(alloc, skip_symbol(rest, Symbol::Comma), room)?;
+        all.push(next)?;
+        rest = after;
+    }
+    Ok((all, rest))
+}
+
+/// The step of a FOR, if there is one.
+fn step(
+    alloc: Global,
+    tokens: &[Token],
+    room: u8,
+) -> Result<(Option<Expression>, &[Token]), Failure>
+    ensures { Gives (λ x. (view_option view_expression x.0, x.1.now)) result (step_in room tokens.now) }
+{
+    if !begins_word(tokens, Word::By) {
+        return Ok((None, tokens));
+    }
+    let (step, rest) = sum(alloc, skip_word(tokens, Word::By), room)?;
+    Ok((Some(step), rest))
+}
+
+/// The head of a FOR over numbers, behind FOR.
+#[tactic(auto, unfolding(crate::specs::ReadHeads::range_in))]
+fn range(alloc: Global, tokens: &[Token], room: u8) -> Result<(Head, &[Token]), Failure>
+    ensures { Gives (λ x. (view_head x.0, x.1.now)) result (range_in room tokens.now) }
+{
+    let variable = name(tokens)?;
+    let rest = expect_symbol(behind_first(tokens), Symbol::Equals)?;
+    let (from, rest) = sum(alloc, rest, room)?;
+    let (from, rest) = beside(from, expect_word(rest, Word::To))?;
+    let (from, (to, rest)) = beside(from, sum(alloc, rest, room))?;
+    let (bounds, (step, rest)) = beside((from, to), step(alloc, rest, room))?;
+    let ((bounds, step), (phrases, rest)) = beside((bounds, step), phrases(alloc, rest, room))?;
+    let (from, to) = bounds;
+    let head = Head::Range {
+        variable,
+        from,
+        to,
+        step,
+        phrases,
+    };
+    Ok((head, rest))
+}
+
+/// The member with which a loop over a set begins.
+#[tactic(auto, unfolding(crate::specs::ReadHeads::start_in))]
+fn start(alloc: Global, tokens: &[Token], room: u8) -> Result<(MemberStart, &[Token]), Failure>
+    ensures { Gives (λ x. (view_start x.0, x.1.now)) result (start_in room tokens.now) }
+{
+    if begins_word(tokens, Word::From) {
+        let (member, rest) = sum(alloc, skip_word(tokens, Word::From), room)?;
+        Ok((MemberStart::From(member), rest))
+    } else if begins_word(tokens, Word::After) {
+        let (member, rest) = sum(alloc, skip_word(tokens, Word::After), room)?;
+        Ok((MemberStart::After(member), rest))
+    } else {
+        Ok((MemberStart::End, tokens))
+    }
+}
+
+/// Whether a loop over a set goes in reverse order.
+#[tactic(auto, unfolding(crate::specs::ReadHeads::reverse))]
+fn reverse(tokens: &[Token]) -> Result<(bool, &[Token]), Failure>
+    ensures { Gives (λ x. (x.0, x.1.now)) result (reverse tokens.now) }
+{
+    if !begins_word(tokens, Word::In) {
+        return Ok((false, tokens));
+    }
+    let rest = expect_word(skip_word(tokens, Word::In), Word::Reverse)?;
+    let rest = expect_word(rest, Word::Order)?;
+    Ok((true, rest))
+}
+
+/// The head of a FOR over a set, behind its variable.
+#[tactic(auto, unfolding(crate::specs::ReadHeads::members_in))]
+fn members(
+    alloc: Global,
+    variable: Name,
+    tokens: &[Token],
+    room: u8,
+) -> Result<(Head, &[Token]), Failure>
+    ensures { Gives (λ x. (view_head x.0, x.1.now)) result (members_in room variable tokens.now) }
+{
+    let rest = expect_word(tokens, Word::In)?;
+    let (set, rest) = reference(alloc, skip_word(rest, Word::The), room)?;
+    let (set, (start, rest)) = beside(set, start(alloc, rest, room))?;
+    let (place, (reverse, rest)) = beside((set, start), reverse(rest))?;
+    let ((set, start), (phrases, rest)) = beside(place, phrases(alloc, rest, room))?;
+    let head = Head::Members {
+        variable,
+        set,
+        start,
+        reverse,
+        phrases,
+    };
+    Ok((head, rest))
+}
+
+/// The head of a FOR over a class, behind its variable.
+fn class_phrases(
+    alloc: Global,
+    class: Name,
+    called: Option<Name>,
+    tokens: &[Token],
+    room: u8,
+) -> Result<(Head, &[Token]), Failure>
+    ensures { Gives (λ x. (view_head x.0, x.1.now)) result (apply (λ ps. class_tree class (called, ps)) (phrases_in room) tokens.now) }
+{
+    let (phrases, rest) = phrases(alloc, tokens, room)?;
+    let head = Head::Class {
+        class,
+        called,
+        phrases,
+    };
+    Ok((head, rest))
+}
+
+/// The head of a FOR over a class, behind the class.
+#[tactic(auto, unfolding(crate::specs::ReadHeads::class_in))]
+fn class(
+    alloc: Global,
+    class: Name,
+    tokens: &[Token],
+    room: u8,
+) -> Result<(Head, &[Token]), Failure>
+    ensures { Gives (λ x. (view_head x.0, x.1.now)) result (class_in room class tokens.now) }
+{
+    if !begins_word(tokens, Word::Called) {
+        return class_phrases(alloc, class, None, tokens, room);
+    }
+    let rest = skip_word(tokens, Word::Called);
+    let called = name(rest)?;
+    class_phrases(alloc, class, Some(called), behind_first(rest), room)
+}
+
+/// The head of a FOR over a set or a class, behind its name.
+fn each_named(
+    alloc: Global,
+    name: Name,
+    tokens: &[Token],
+    room: u8,
+) -> Result<(Head, &[Token]), Failure>
+    ensures { Gives (λ x. (view_head x.0, x.1.now)) result (each_named room name tokens.now) }
+{
+    if begins_word(tokens, Word::In) {
+        members(alloc, name, tokens, room)
+    } else {
+        class(alloc, name, tokens, room)
+    }
+}
+
+/// The head of a FOR over a set or a class, behind FOR.
+#[tactic(auto, unfolding(crate::specs::ReadHeads::each_in))]
+fn each(alloc: Global, tokens: &[Token], room: u8) -> Result<(Head, &[Token]), Failure>
+    ensures { Gives (λ x. (view_head x.0, x.1.now)) result (each_in room tokens.now) }
+{
+    let rest = expect_class(tokens, Class::Each)?;
+    let variable = name(rest)?;
+    each_named(alloc, variable, behind_first(rest), room)
+}
+
+/// The head of a FOR, behind its first word.
+#[tactic(auto, unfolding(crate::specs::ReadHeads::for_in))]
+pub fn for_head(alloc: Global, tokens: &[Token], room: u8) -> Result<(Head, &[Token]), Failure>
+    ensures { Gives (λ x. (view_head x.0, x.1.now)) result (for_in room tokens.now) }
+{
+    if begins_class(tokens, Class::Each) {
+        each(alloc, tokens, room)
+    } else {
+        range(alloc, tokens, room)
+    }
+}
+
+/// The head of a loop that begins with WHILE or UNTIL, behind its first word.
+#[tactic(auto, unfolding(crate::specs::ReadHeads::guarded_in))]
+pub fn guarded_head(
+    alloc: Global,
+    kind: GuardKind,
+    tokens: &[Token],
+    room: u8,
+) -> Result<(LoopHead, &[Token]), Failure>
+    ensures { Gives (λ x. (view_loop_head x.0, x.1.now)) result (guarded_in room kind tokens.now) }
+{
+    let (condition, rest) = condition(alloc, tokens, room)?;
+    let (guards, rest) = guards(alloc, Guard { kind, condition }, rest, room)?;
+    Ok((LoopHead::Guards(guards), rest))
+}

@@ -1,0 +1,94 @@
+//! Names and lists of names.
+
+ghost use Rattle.std.specs.Prelude.{◌≡◌, drop};
+ghost use Rattle.ss_parse_expressions.specs.Reading.{Gives, taken, name_of, begins_more};
+ghost use Rattle.ss_parse_expressions.specs.ReadWords.{begins_name, names, begins_item, items};
+
+use crate::classes::{Class, skip_class};
+use crate::failure::Failure;
+use crate::steps::alone;
+use crate::tokens::{begins_symbol, begins_word, behind_first, skip_separator, syntax};
+use ss_base::Name;
+use ss_lex::{Symbol, Token, TokenKind, Word};
+use std::alloc::Global;
+
+/// Whether a name is first.
+pub fn begins_name(tokens: &[Token]) -> bool
+    ensures { result ≡ begins_name tokens.now }
+{
+    match tokens {
+        [] => false,
+        [first, ..] => match &first.kind {
+            TokenKind::Name(_) => true,
+            _ => false,
+        },
+    }
+}
+
+/// The name that stands first.
+pub fn name(tokens: &[Token]) -> Result<Name, Failure>
+    ensures { Gives (λ x. (x, drop 1 tokens.now)) result (taken name_of tokens.now) }
+{
+    match tokens {
+        [] => Err(syntax(tokens)),
+        [first, ..] => match &first.kind {
+            TokenKind::Name(found) => Ok(*found),
+            _ => Err(syntax(tokens)),
+        },
+    }
+}
+
+/// Whether a separator and then a name follow.
+fn begins_more_names(tokens: &[Token]) -> bool
+    ensures { result ≡ begins_more begins_name tokens.now }
+{
+    (begins_symbol(tokens, Symbol::Comma) || begins_word(tokens, Word::And))
+        && begins_name(skip_separator(tokens))
+}
+
+/// Names with separators between.
+pub fn names(alloc: Global, tokens: &[Token]) -> Result<(Vec<Name>, &[Token]), Failure>
+    ensures { Gives (λ x. (x.0.items, x.1.now)) result (names tokens.now) }
+{
+    let first = name(tokens)?;
+    let mut all = alone(alloc, first)?;
+    let mut rest = behind_first(tokens);
+    'more: while begins_more_names(rest) {
+        let from = skip_separator(rest);
+        let next = name(from)?;
+        all.push(next)?;
+        rest = behind_first(from);
+    }
+    Ok((all, rest))
+}
+
+fn begins_item(tokens: &[Token]) -> bool
+    ensures { result ≡ begins_item tokens.now }
+{
+    begins_name(skip_class(tokens, Class::Article))
+}
+
+/// Whether a separator and then a name, with an article before it or not, follow.
+fn begins_more_items(tokens: &[Token]) -> bool
+    ensures { result ≡ begins_more begins_item tokens.now }
+{
+    (begins_symbol(tokens, Symbol::Comma) || begins_word(tokens, Word::And))
+        && begins_item(skip_separator(tokens))
+}
+
+/// Names with separators between, each with an article before it or not.
+pub fn items(alloc: Global, tokens: &[Token]) -> Result<(Vec<Name>, &[Token]), Failure>
+    ensures { Gives (λ x. (x.0.items, x.1.now)) result (items tokens.now) }
+{
+    let from = skip_class(tokens, Class::Article);
+    let first = name(from)?;
+    let mut all = alone(alloc, first)?;
+    let mut rest = behind_first(from);
+    'more: while begins_more_items(rest) {
+        let from = skip_class(skip_separator(rest), Class::Article);
+        let next = name(from)?;
+        all.push(next)?;
+        rest = behind_first(from);
+    }
+    Ok((all, rest))
+}

@@ -1,0 +1,26 @@
+//! Steps of a reading, one after the other.
+
+ghost use Rattle.std.specs.Prelude.{◌≡◌, IfOk, [], ◌∷◌};
+ghost use Rattle.ss_parse_expressions.specs.Steps.{Beside};
+
+use crate::failure::Failure;
+use std::alloc::{AllocError, Global};
+
+/// What was read first, beside what was read next, unless that failed.
+pub fn beside<A: Drop, B>(first: A, next: Result<B, Failure>) -> Result<(A, B), Failure>
+    ensures { Beside first next result }
+{
+    match next {
+        Ok(next) => Ok((first, next)),
+        Err(e) => Err(e),
+    }
+}
+
+/// A list of this alone.
+pub fn alone<T: Drop>(alloc: Global, only: T) -> Result<Vec<T>, AllocError>
+    ensures { IfOk result (λ list. list.items ≡ only ∷ []) }
+{
+    let mut list = Vec::new(alloc);
+    list.push(only)?;
+    Ok(list)
+}

@@ -1,0 +1,89 @@
+-- What is read by its first word.
+use Rattle.std.proofs.Common.{◌≡◌, ℕ, suc, ◌+◌, ◌<◌, ◌≤◌, Bool, false, List, [], ◌∷◌, length, Ok, ap, subst, ◌∙◌, arith}
+use Rattle.ss_base.specs.declared.line.Line.{Line}
+use Rattle.ss_lex.specs.declared.word.Word.{Word}
+use Rattle.ss_lex.specs.declared.token.Span.{Span}
+use Rattle.ss_lex.specs.declared.token.TokenKind.{TokenKind}
+use Rattle.ss_lex.specs.declared.token.TokenKind.TheVariants as kinds
+use Rattle.ss_lex.specs.declared.token.Token.{Token}
+use Rattle.ss_parse_expressions.specs.Openers.{opens, openers}
+use Rattle.ss_parse_expressions.specs.Shapes.{Shape, Word_is, first_line}
+use Rattle.ss_parse_expressions.specs.Reading.{Reader}
+use Rattle.ss_parse_expressions.proofs.Marks.{token, token_less}
+use Rattle.ss_parse_expressions.proofs.Depth.{Upto, upto_same, Bounded, bounded_more, bounded_opened}
+use Rattle.ss_parse_expressions.proofs.ReaderLaws.{Reads}
+use Rattle.ss_parse_statements.specs.ReadStatements.{at_word, by_word}
+
+-- What a reader behind the word keeps. The word may open a level.
+pub record Form {A : Type 0} (k : ℕ) (w : Word) (read read' : Reader A) (S : A → Shape) (continues : List Token → Bool) : Type 0 where
+  pub sound : (ts : List Token) (x : A) (rest : List Token) → read ts ≡ Ok (x, rest) → S x ts rest
+  pub complete : (ts : List Token) (x : A) (rest : List Token) → S x ts rest → continues rest ≡ false → read ts ≡ Ok (x, rest)
+  pub shorter : (ts : List Token) (x : A) (rest : List Token) → S x ts rest → length rest ≤ length ts
+  pub under : (ts : List Token) → Upto (read ts) (read' ts)
+  pub opening : (ts : List Token) → Bounded k (opens (kinds.Word w) + openers ts) (read ts)
+
+pub plain_form : {A : Type 0} {k : ℕ} {r r' : Reader A} {S : A → Shape} {c : List Token → Bool} (w : Word) → Reads k r r' S c → Form k w r r' S c
+plain_form {k = k} {r = r} w law = record {
+  sound = law.sound;
+  complete = law.complete;
+  shorter = law.shorter;
+  under = law.under;
+  opening = λ ts. bounded_more k (openers ts) (opens (kinds.Word w) + openers ts) (r ts) (omega arith) (law.opening ts);
+}
+
+pub opening_form : {A : Type 0} {k : ℕ} {r r' : Reader A} {S : A → Shape} {c : List Token → Bool} (w : Word) → opens (kinds.Word w) ≡ 1 → Reads k r r' S c → Form (suc k) w r r' S c
+opening_form {k = k} {r = r} w opener law = record {
+  sound = law.sound;
+  complete = law.complete;
+  shorter = law.shorter;
+  under = law.under;
+  opening = λ ts. bounded_opened k (openers ts) (opens (kinds.Word w) + openers ts) (r ts) (omega (arith, opener)) (law.opening ts);
+}
+
+module _ {A : Type 0} {k : ℕ} {form form' : Line → Word → Reader A} {S : Line → Word → A → Shape} {c : List Token → Bool} (law : (line : Line) (w : Word) → Form k w (form line w) (form' line w) (S line w) c) (T : A → Shape) (to : (x : A) (w : Word) (span : Span) (line : Line) (ts rest : List Token) → S line w x ts rest → T x (token (kinds.Word w) span line ∷ ts) rest) (from : (x : A) (ts rest : List Token) → T x ts rest → (w : Word) × (m : List Token) × (Word_is w ts m) × S (first_line ts) w x m rest) where
+  kind_sound : (kind : TokenKind) (span : Span) (line : Line) (ts : List Token) (x : A) (rest : List Token) → at_word form line kind ts ≡ Ok (x, rest) → T x (token kind span line ∷ ts) rest
+  kind_sound (kinds.Word w) span line ts x rest e = to x w span line ts rest ((law line w).sound ts x rest e)
+  kind_sound _ span line ts x rest e = absurd cc
+
+  first_sound : (ts : List Token) (x : A) (rest : List Token) → by_word form ts ≡ Ok (x, rest) → T x ts rest
+  first_sound [] x rest e = absurd cc
+  first_sound (t ∷ ts) x rest e = kind_sound t.kind t.span t.line ts x rest e
+
+  first_complete : (ts : List Token) (x : A) (rest : List Token) → T x ts rest → c rest ≡ false → by_word form ts ≡ Ok (x, rest)
+  first_complete ts x rest s stop = go (from x ts rest s)
+    where
+      go : ((w : Word) × (m : List Token) × (Word_is w ts m) × S (first_line ts) w x m rest) → by_word form ts ≡ Ok (x, rest)
+      go (w, m, (span, line, e), s) =
+          let same : first_line ts ≡ line = ap first_line e in
+          let behind : S line w x m rest = subst (λ (l : Line). S l w x m rest) same s in
+          ap (by_word form) e ∙ (law line w).complete m x rest behind stop
+
+  pub first_less : (ts : List Token) (x : A) (rest : List Token) → T x ts rest → length rest < length ts
+  first_less ts x rest s =
+      let f = from x ts rest s in
+      omega (arith, token_less (kinds.Word f.0) ts f.1 f.2, (law (first_line ts) f.0).shorter f.1 x rest f.3)
+
+  kind_under : (line : Line) (kind : TokenKind) (ts : List Token) → Upto (at_word form line kind ts) (at_word form' line kind ts)
+  kind_under line (kinds.Word w) ts = (law line w).under ts
+  kind_under line _ ts = upto_same _
+
+  first_under : (ts : List Token) → Upto (by_word form ts) (by_word form' ts)
+  first_under [] = upto_same _
+  first_under (t ∷ ts) = kind_under t.line t.kind ts
+
+  kind_opening : (line : Line) (kind : TokenKind) (ts : List Token) → Bounded k (opens kind + openers ts) (at_word form line kind ts)
+  kind_opening line (kinds.Word w) ts = (law line w).opening ts
+  kind_opening line _ ts = tt
+
+  first_opening : (ts : List Token) → Bounded k (openers ts) (by_word form ts)
+  first_opening [] = tt
+  first_opening (t ∷ ts) = kind_opening t.line t.kind ts
+
+  pub by_word_reads : Reads k (by_word form) (by_word form') T c
+  by_word_reads = record {
+    sound = first_sound;
+    complete = first_complete;
+    shorter = λ ts x rest s. omega (arith, first_less ts x rest s);
+    under = first_under;
+    opening = first_opening;
+  }

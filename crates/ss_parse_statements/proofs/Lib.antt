@@ -1,0 +1,5 @@
+pub mod Pictures
+pub mod FirstWords
+pub mod StatementParts
+pub mod SimpleLaws
+pub mod StatementLaws

@@ -1,0 +1,659 @@
+-- Statements: what is read is spelled, and what is spelled is read.
+use Rattle.std.proofs.Common.{◌≡◌, ℕ, zero, suc, ◌<◌, ◌≤◌, Bool, true, false, ◌||◌, List, [], ◌∷◌, length, refl, sym, ap, subst, ◌∙◌, arith, inl, inr, ◌⊎◌}
+use Rattle.ss_base.specs.declared.line.Line.{Line}
+use Rattle.ss_lex.specs.declared.word.Word.{Word}
+use Rattle.ss_lex.specs.declared.word.Word.TheVariants as words
+use Rattle.ss_lex.specs.declared.token.Span.{Span}
+use Rattle.ss_lex.specs.declared.token.TokenKind.{TokenKind}
+use Rattle.ss_lex.specs.declared.token.TokenKind.TheVariants as kinds
+use Rattle.ss_lex.specs.declared.token.Token.{Token}
+use Rattle.ss_tree.specs.declared.head.GuardKind.{GuardKind}
+use Rattle.ss_tree.specs.declared.head.GuardKind.TheVariants as guards
+use Rattle.ss_tree.specs.declared.statement.FindOutcome.{FindOutcome}
+use Rattle.ss_tree.specs.Tree.{ConditionTree, HeadTree, LoopHeadTree, for_head, guarded, StatementTree, let_statement, add_statement, subtract_statement, call_statement, return_statement, stop_statement, read_statement, start_simulation, if_statement, loop_statement, find_statement, find_if_statement, create_statement, create_every, destroy_statement, file_statement, remove_end, remove_statement, schedule_new, schedule_statement, cancel_statement, reset_statement, print_statement, skip_statement, StatementRow, no_statement, and_statement, statement_row}
+use Rattle.ss_parse_expressions.specs.Openers.{opens, openers}
+use Rattle.ss_parse_expressions.specs.Shapes.{Shape, ◌▷◌, nothing, either, optional, provided, noise, Word_is, Said, at, first_line, each, within}
+use Rattle.ss_parse_expressions.specs.SpelledConditions.{guard_word, head_word, Head_behind, Loop_behind, Begins_with_for}
+use Rattle.ss_parse_expressions.specs.WordTables.{phrase_of, guard_of, function_of, outcome_of}
+use Rattle.ss_parse_expressions.specs.Reading.{word, kind_of, is, is_some, begins, in_table, behind, closed, choose, comma, skip_comma}
+use Rattle.ss_parse_expressions.specs.ReadWords.{fail, begins_noisy, expect_noisy}
+use Rattle.ss_parse_expressions.specs.ReadExpressions.{designator_of_word, begins_value, begins_sum}
+use Rattle.ss_parse_expressions.specs.ReadHeads.{begins_guard, guard_tree}
+use Rattle.ss_parse_expressions.proofs.Tools.{which, chosen, or_false}
+use Rattle.ss_parse_expressions.proofs.Marks.{token, is_true, mark_skips, no_skip}
+use Rattle.ss_parse_expressions.proofs.Depth.{upto_if, upto_same, bounded_if}
+use Rattle.ss_parse_expressions.proofs.ReaderLaws.{Reads, Item, nowise, Made, item_of, seq_reads, behind_reads, marked_reads, closed_reads, expect_reads, bind_reads, apply_reads, made_reads, said_reads, fewer_reads, optional_reads, maybe_list_reads, noisy_item, too_deep_reads}
+use Rattle.ss_parse_expressions.proofs.Rows.{rows_reads, Loop, loop_of}
+use Rattle.ss_parse_expressions.proofs.WordLaws.{word_in_reads, done_reads, noisy_mark_reads, noisy_begins, noisy_less, noisy_stops, either_reads}
+use Rattle.ss_parse_expressions.proofs.ConditionLaws.{In_condition, continues_condition, condition_in_reads, condition_begins}
+use Rattle.ss_parse_expressions.proofs.HeadLaws.{head_more, continues_head, continues_for, continues_guarded, for_reads, Guarded_parts, guarded_reads}
+use Rattle.ss_parse_statements.specs.SpelledStatements.{noisy, Find_words, first_word, May_be_governed, Behind, Statement_from, Statements_are, Else_part, Branches, Governed}
+use Rattle.ss_parse_statements.specs.ReadSimple.{simple_at}
+use Rattle.ss_parse_statements.specs.ReadStatements.{by_word, form_word, begins_form_kind, begins_form, begins_statement, begins_outcome, begins_find_if_form, begins_find_if, statements_with, else_with, branches_with, do_with, governed_with, body_with, find_words, if_with, loop_with, find_if_with, found_with, find_with, for_with, while_with, until_with, nested_word, nested_at, nested_in, form_in, statement_in, statements_in}
+use Rattle.ss_parse_statements.proofs.FirstWords.{Form, plain_form, opening_form, by_word_reads, first_less}
+use Rattle.ss_parse_statements.proofs.StatementParts.{statement_more, continues_simple}
+use Rattle.ss_parse_statements.proofs.SimpleLaws.{is_nested, nested_first, form_first, Form_is, no_form, let_reads, add_reads, subtract_reads, call_reads, return_reads, stop_reads, read_reads, start_reads, create_reads, destroy_reads, cancel_reads, file_reads, remove_reads, schedule_reads, reset_reads, print_reads, skip_reads}
+
+-- what continues a statement
+abbrev pub continues_statement : List Token → Bool
+continues_statement ts = begins_find_if ts || continues_simple ts
+
+no_simple : (ts : List Token) → continues_statement ts ≡ false → continues_simple ts ≡ false
+no_simple ts stop = (or_false (begins_find_if ts) (continues_simple ts) stop).1
+
+both_false : (a b : Bool) → a ≡ false → b ≡ false → (a || b) ≡ false
+both_false a b e f = rw (e, f) refl
+
+-- ---- what statements begin with
+
+-- nothing else begins so
+word_no_other : (w : Word) → form_word w ≡ true → (begins_value (kinds.Word w) ≡ false) × (is (word words.And) (kinds.Word w) ≡ false) × (is (word words.Or) (kinds.Word w) ≡ false) × (statement_more w ≡ false) × (head_more w ≡ false) × (is (word words.Do) (kinds.Word w) ≡ false) × (is (word words.Find) (kinds.Word w) ≡ false) × (is (word words.Else) (kinds.Word w) ≡ false)
+word_no_other words.Let e = (refl, refl, refl, refl, refl, refl, refl, refl)
+word_no_other words.Add e = (refl, refl, refl, refl, refl, refl, refl, refl)
+word_no_other words.Subtract e = (refl, refl, refl, refl, refl, refl, refl, refl)
+word_no_other words.Call e = (refl, refl, refl, refl, refl, refl, refl, refl)
+word_no_other words.Return e = (refl, refl, refl, refl, refl, refl, refl, refl)
+word_no_other words.Stop e = (refl, refl, refl, refl, refl, refl, refl, refl)
+word_no_other words.Read e = (refl, refl, refl, refl, refl, refl, refl, refl)
+word_no_other words.Start e = (refl, refl, refl, refl, refl, refl, refl, refl)
+word_no_other words.If e = (refl, refl, refl, refl, refl, refl, refl, refl)
+word_no_other words.For e = (refl, refl, refl, refl, refl, refl, refl, refl)
+word_no_other words.While e = (refl, refl, refl, refl, refl, refl, refl, refl)
+word_no_other words.Until e = (refl, refl, refl, refl, refl, refl, refl, refl)
+word_no_other words.Create e = (refl, refl, refl, refl, refl, refl, refl, refl)
+word_no_other words.Destroy e = (refl, refl, refl, refl, refl, refl, refl, refl)
+word_no_other words.File e = (refl, refl, refl, refl, refl, refl, refl, refl)
+word_no_other words.Remove e = (refl, refl, refl, refl, refl, refl, refl, refl)
+word_no_other words.Schedule e = (refl, refl, refl, refl, refl, refl, refl, refl)
+word_no_other words.Cancel e = (refl, refl, refl, refl, refl, refl, refl, refl)
+word_no_other words.Reset e = (refl, refl, refl, refl, refl, refl, refl, refl)
+word_no_other words.Print e = (refl, refl, refl, refl, refl, refl, refl, refl)
+word_no_other words.Skip e = (refl, refl, refl, refl, refl, refl, refl, refl)
+word_no_other _ e = absurd cc
+
+form_begins : (n : ℕ) (x : StatementTree) (ts rest : List Token) → Statement_from x n ts rest → begins_form ts ≡ true
+form_begins n x ts rest (begins_at, (m, (span, line, e), s)) = ap begins_form e ∙ form_first x
+
+kind_no_comma : (k : TokenKind) → begins_form_kind k ≡ true → is comma k ≡ false
+kind_no_comma (kinds.Word w) e = refl
+kind_no_comma _ e = absurd cc
+
+pub form_no_comma : (ts : List Token) → begins_form ts ≡ true → begins comma ts ≡ false
+form_no_comma [] e = absurd cc
+form_no_comma (t ∷ ts) e = kind_no_comma t.kind e
+
+-- what is false of a comma and of a word that begins a statement is false of a statement
+blank : (c : List Token → Bool) → ((span : Span) (line : Line) (ts : List Token) → c (token (kind_of comma) span line ∷ ts) ≡ false) → ((w : Word) (span : Span) (line : Line) (ts : List Token) → form_word w ≡ true → c (token (kinds.Word w) span line ∷ ts) ≡ false) → (n : ℕ) (x : StatementTree) (ts rest : List Token) → (noise ▷ Statement_from x n) ts rest → c ts ≡ false
+blank c on_comma on_word n x ts rest (a, inr (span, line, e), s) = ap c e ∙ on_comma span line a
+blank c on_comma on_word n x ts rest (a, inl e, (begins_at, (m, (span, line, f), s))) = ap c (e ∙ f) ∙ on_word (first_word x) span line m (form_first x)
+
+-- the same, of what looks behind a comma
+pub blank_behind : (c : List Token → Bool) → ((span span' : Span) (line line' : Line) (w : Word) (ts : List Token) → form_word w ≡ true → c (token (kind_of comma) span line ∷ token (kinds.Word w) span' line' ∷ ts) ≡ false) → ((w : Word) (span : Span) (line : Line) (ts : List Token) → form_word w ≡ true → c (token (kinds.Word w) span line ∷ ts) ≡ false) → (n : ℕ) (x : StatementTree) (ts rest : List Token) → (noise ▷ Statement_from x n) ts rest → c ts ≡ false
+blank_behind c on_comma on_word n x ts rest (a, inr (span, line, e), (begins_at, (m, (span', line', f), s))) = ap c e ∙ ap (λ (r : List Token). c (token (kind_of comma) span line ∷ r)) f ∙ on_comma span span' line line' (first_word x) m (form_first x)
+blank_behind c on_comma on_word n x ts rest (a, inl e, (begins_at, (m, (span, line, f), s))) = ap c (e ∙ f) ∙ on_word (first_word x) span line m (form_first x)
+
+word_no_condition : (w : Word) (span : Span) (line : Line) (ts : List Token) → form_word w ≡ true → continues_condition (token (kinds.Word w) span line ∷ ts) ≡ false
+word_no_condition w span line ts e =
+    let no = word_no_other w e in
+    let a : is (word words.And) (kinds.Word w) ≡ false = no.1 in
+    let b : is (word words.Or) (kinds.Word w) ≡ false = no.2 in
+    rw (a, b) refl
+
+word_no_simple : (w : Word) (span : Span) (line : Line) (ts : List Token) → form_word w ≡ true → continues_simple (token (kinds.Word w) span line ∷ ts) ≡ false
+word_no_simple w span line ts e =
+    let no = word_no_other w e in
+    let a : is (word words.And) (kinds.Word w) ≡ false = no.1 in
+    let b : statement_more w ≡ false = no.3 in
+    rw (a, b) refl
+
+comma_no_simple : (w : Word) (span span' : Span) (line line' : Line) (ts : List Token) → form_word w ≡ true → continues_simple (token (kind_of comma) span line ∷ token (kinds.Word w) span' line' ∷ ts) ≡ false
+comma_no_simple w span span' line line' ts e =
+    let no = word_no_other w e in
+    let a : is (word words.And) (kinds.Word w) ≡ false = no.1 in
+    let values = or_false (is_some (designator_of_word w)) (is_some (function_of w)) no.0 in
+    let b : is_some (designator_of_word w) ≡ false = values.0 in
+    let c : is_some (function_of w) ≡ false = values.1 in
+    rw (a, b, c) refl
+
+-- ---- an IF that isn't that of a FIND
+
+head_no_if : (h : LoopHeadTree) → head_word h ≡ words.If → ⊥
+head_no_if (guarded (g ∷ gs)) e = go g.kind e
+  where
+    go : (k : GuardKind) → guard_word k ≡ words.If → ⊥
+    go guards.While e = absurd cc
+    go guards.Until e = absurd cc
+head_no_if _ e = absurd cc
+
+word_same : (w v : Word) → kinds.Word w ≡ kinds.Word v → w ≡ v
+word_same w v e = cc
+
+condition_no_outcome : (ts : List Token) → (begins_sum ts || begins (word words.Data) ts) ≡ true → begins_outcome ts ≡ false
+condition_no_outcome [] e = refl
+condition_no_outcome (t ∷ ts) e = go t.kind e
+  where
+    go_word : (w : Word) → (begins_value (kinds.Word w) || is (word words.Data) (kinds.Word w)) ≡ true → is_some (outcome_of w) ≡ false
+    go_word words.Found e = absurd cc
+    go_word words.None e = absurd cc
+    go_word _ e = refl
+
+    go : (k : TokenKind) → (begins_value k || is (word words.Data) k) ≡ true → is_some (in_table outcome_of k) ≡ false
+    go (kinds.Word w) e = go_word w e
+    go _ e = refl
+
+within_condition : (n : ℕ) (x : StatementTree) (ts rest : List Token) → first_word x ≡ words.If → Behind x n ts rest → begins_outcome ts ≡ false
+within_condition zero (if_statement line c t e) ts rest is s = absurd s
+within_condition (suc n) (if_statement line c t e) ts rest is s = condition_no_outcome ts (condition_begins (suc n) c ts s.0 s.1)
+within_condition n (loop_statement line head body) ts rest is s = absurd (head_no_if head is)
+within_condition n _ ts rest is s = absurd cc
+
+statement_no_find_if : (n : ℕ) (x : StatementTree) (ts rest : List Token) → Statement_from x n ts rest → begins_find_if_form ts ≡ false
+statement_no_find_if n x ts rest (begins_at, (m, (span, line, e), s)) =
+    elim (which (is (word words.If) (kinds.Word (first_word x)))) [
+      | inl there ↦
+          let kind = is_true (word words.If) (kinds.Word (first_word x)) there in
+          let is : first_word x ≡ words.If = word_same (first_word x) words.If kind in
+          let no : begins_outcome m ≡ false = within_condition n x m rest is s in
+          rw (e, there, no) refl
+      | inr none ↦ rw (e, none) refl
+    ]
+
+pub statement_stops : (n : ℕ) (x : StatementTree) (ts rest : List Token) → (noise ▷ Statement_from x n) ts rest → continues_statement ts ≡ false
+statement_stops n x ts rest (a, c, s) =
+    let simple : continues_simple ts ≡ false = blank_behind continues_simple (λ span span' line line' w r e. comma_no_simple w span span' line line' r e) (λ w span line r e. word_no_simple w span line r e) n x ts rest (a, c, s) in
+    let form : begins_find_if_form a ≡ false = statement_no_find_if n x a rest s in
+    let same : skip_comma ts ≡ a = skipped c in
+    both_false (begins_find_if ts) (continues_simple ts) (ap begins_find_if_form same ∙ form) simple
+  where
+    skipped : noise ts a → skip_comma ts ≡ a
+    skipped (inl e) = ap skip_comma e ∙ no_skip comma a (form_no_comma a (form_begins n x a rest s))
+    skipped (inr w) = mark_skips comma ts a w
+
+-- ---- statements that a loop may govern
+
+guard_first : (k : GuardKind) → is_some (guard_of (guard_word k)) ≡ true
+guard_first guards.While = refl
+guard_first guards.Until = refl
+
+head_guards : (h : LoopHeadTree) → is_some (guard_of (head_word h)) ≡ false → (n : ℕ) (ts rest : List Token) → Loop_behind n h ts rest → Begins_with_for h
+head_guards (for_head head) e n ts rest s = tt
+head_guards (guarded []) e n ts rest s = absurd s
+head_guards (guarded (g ∷ gs)) e n ts rest s = absurd (let a = guard_first g.kind in cc)
+
+head_for : (h : LoopHeadTree) → Begins_with_for h → head_word h ≡ words.For
+head_for (for_head head) b = refl
+head_for (guarded gs) b = absurd b
+
+may_govern : (n : ℕ) (x : StatementTree) (ts rest : List Token) → is_some (guard_of (first_word x)) ≡ false → Behind x n ts rest → May_be_governed x
+may_govern zero (loop_statement line head body) ts rest e s = absurd s
+may_govern (suc n) (loop_statement line head body) ts rest e s = head_guards head e n ts s.0 s.1
+may_govern n _ ts rest e s = tt
+
+governed_first : (n : ℕ) (x : StatementTree) (ts rest : List Token) → May_be_governed x → Behind x n ts rest → is_some (guard_of (first_word x)) ≡ false
+governed_first n (loop_statement line head body) ts rest may s = let is = head_for head may in ap (λ w. is_some (guard_of w)) is
+governed_first n _ ts rest may s = refl
+
+guard_same : (a b : GuardKind) → guard_word a ≡ guard_word b → a ≡ b
+guard_same guards.While guards.While e = refl
+guard_same guards.Until guards.Until e = refl
+guard_same guards.While guards.Until e = absurd cc
+guard_same guards.Until guards.While e = absurd cc
+
+no_guard_word : (v w : Word) → is_some (guard_of v) ≡ false → v ≡ w → is_some (guard_of w) ≡ true → ⊥
+no_guard_word v w none e there = let same : is_some (guard_of v) ≡ is_some (guard_of w) = ap (λ w. is_some (guard_of w)) e in absurd cc
+
+-- a statement that a loop governs begins as no phrase
+no_phrase : (w : Word) → form_word w ≡ true → is_some (guard_of w) ≡ false → is_some (phrase_of w) ≡ false
+no_phrase words.While e u = absurd cc
+no_phrase words.Until e u = absurd cc
+no_phrase words.With e u = absurd cc
+no_phrase words.When e u = absurd cc
+no_phrase words.Unless e u = absurd cc
+no_phrase _ e u = refl
+
+-- ---- rows as lists
+
+statements_to : (n : ℕ) (xs : List StatementTree) (ts rest : List Token) → each (λ x. noise ▷ Statement_from x n) xs ts rest → Statements_are (statement_row xs) n ts rest
+statements_to n [] ts rest s = s
+statements_to n (x ∷ xs) ts rest (a, one, more) = (a, one, statements_to n xs a rest more)
+
+statements_from : (n : ℕ) (row : StatementRow) (ts rest : List Token) → Statements_are row n ts rest → (xs : List StatementTree) × (statement_row xs ≡ row) × each (λ x. noise ▷ Statement_from x n) xs ts rest
+statements_from n no_statement ts rest s = ([], refl, s)
+statements_from n (and_statement x row) ts rest (a, one, more) =
+    let found = statements_from n row a rest more in
+    (x ∷ found.0, ap (and_statement x) found.1, (a, one, found.2))
+
+-- ---- statements in statements, where their own law holds
+
+module _ (k j : ℕ) (le : k ≤ j) (inner : Reads (suc k) (statement_in (suc k)) (statement_in (suc j)) (λ x. Statement_from x k) continues_statement) (inner_less : (ts : List Token) (x : StatementTree) (rest : List Token) → Statement_from x k ts rest → length rest < length ts) where
+  abbrev Noisy_statement : StatementTree → Shape
+  Noisy_statement x = noise ▷ Statement_from x k
+
+  abbrev continues_statements : List Token → Bool
+  continues_statements ts = begins_statement ts || continues_statement ts
+
+  inner_item : Item (suc k) begins_statement (λ r. statement_in (suc k) (skip_comma r)) (λ r. statement_in (suc j) (skip_comma r)) Noisy_statement continues_statement
+  inner_item = noisy_item inner begins_form (λ ts x rest s. form_begins k x ts rest s) form_no_comma inner_less
+
+  pub statements_reads : Reads (suc k) (statements_with (statement_in (suc k))) (statements_with (statement_in (suc j))) (each Noisy_statement) continues_statements
+  statements_reads = rows_reads inner_item (λ ts x rest s. statement_stops k x ts rest s)
+
+  -- ---- ELSE and ALWAYS
+
+  abbrev Else_words : List StatementTree → Shape
+  Else_words xs = noisy words.Else ▷ each Noisy_statement xs
+
+  abbrev Else_list : List StatementTree → Shape
+  Else_list [] = optional (noisy words.Else)
+  Else_list (x ∷ xs) = Else_words (x ∷ xs)
+
+  else_reads : Reads (suc k) (else_with (statement_in (suc k))) (else_with (statement_in (suc j))) Else_list (λ ts. begins_noisy (word words.Else) ts || continues_statements ts)
+  else_reads = maybe_list_reads item to from (λ ts. inl refl)
+    where
+      item : Item (suc k) (begins_noisy (word words.Else)) (behind (expect_noisy (word words.Else)) (statements_with (statement_in (suc k)))) (behind (expect_noisy (word words.Else)) (statements_with (statement_in (suc j)))) Else_words continues_statements
+      item = item_of (begins_noisy (word words.Else)) (behind_reads (noisy_mark_reads (suc k) (word words.Else) refl) statements_reads (λ xs ts rest s stop. refl)) (λ ts xs rest s. noisy_begins (word words.Else) refl ts s.0 s.1) (λ ts xs rest s. omega (arith, noisy_less (word words.Else) ts s.0 s.1, statements_reads.shorter s.0 xs rest s.2))
+
+      to : (xs : List StatementTree) (ts rest : List Token) → Else_words xs ts rest → Else_list xs ts rest
+      to [] ts rest (a, w, e) = inr (subst (λ (r : List Token). noisy words.Else ts r) e w)
+      to (x ∷ xs) ts rest s = s
+
+      from : (xs : List StatementTree) (ts rest : List Token) → Else_list xs ts rest → ((xs ≡ []) × (ts ≡ rest)) ⊎ Else_words xs ts rest
+      from [] ts rest (inl e) = inl (refl, e)
+      from [] ts rest (inr w) = inr (rest, w, refl)
+      from (x ∷ xs) ts rest s = inr s
+
+  else_stops : (ys : List StatementTree) (ts rest : List Token) → Else_list ys ts rest → (begins_noisy (word words.Else) rest || continues_statements rest) ≡ false → continues_statements ts ≡ false
+  else_stops [] ts rest (inl e) stop = ap continues_statements e ∙ (or_false (begins_noisy (word words.Else) rest) (continues_statements rest) stop).1
+  else_stops [] ts rest (inr w) stop = noisy_stops continues_statements (word words.Else) (λ span line ts. refl) (λ span span' line line' ts. refl) ts rest w
+  else_stops (y ∷ ys) ts rest (a, w, s) stop = noisy_stops continues_statements (word words.Else) (λ span line ts. refl) (λ span span' line line' ts. refl) ts a w
+
+  abbrev Branch_lists : List StatementTree × List StatementTree → Shape
+  Branch_lists p = (each Noisy_statement p.0 ▷ Else_list p.1) ▷ noisy words.Always
+
+  else_to : (ys : List StatementTree) (ts rest : List Token) → Else_list ys ts rest → Else_part (statement_row ys) k ts rest
+  else_to [] ts rest s = s
+  else_to (y ∷ ys) ts rest (a, w, (b, one, more)) = (a, w, (b, one, statements_to k ys b rest more))
+
+  else_from : (row : StatementRow) (ts rest : List Token) → Else_part row k ts rest → (ys : List StatementTree) × (statement_row ys ≡ row) × Else_list ys ts rest
+  else_from no_statement ts rest s = ([], refl, s)
+  else_from (and_statement y row) ts rest (a, w, (b, one, more)) =
+      let found = statements_from k row b rest more in
+      (y ∷ found.0, ap (and_statement y) found.1, (a, w, (b, one, found.2)))
+
+  abbrev Branches_are : StatementRow × StatementRow → Shape
+  Branches_are p = Branches p.0 p.1 k
+
+  branches_to : (p : List StatementTree × List StatementTree) (ts rest : List Token) → Branch_lists p ts rest → Branches_are (statement_row p.0, statement_row p.1) ts rest
+  branches_to (xs, ys) ts rest (b, (a, s, t), w) = (b, (a, statements_to k xs ts a s, else_to ys a b t), w)
+
+  branches_from : (q : StatementRow × StatementRow) (ts rest : List Token) → Branches_are q ts rest → (p : List StatementTree × List StatementTree) × ((statement_row p.0, statement_row p.1) ≡ q) × Branch_lists p ts rest
+  branches_from (then, otherwise) ts rest (b, (a, s, t), w) =
+      let xs = statements_from k then ts a s in
+      let ys = else_from otherwise a b t in
+      ((xs.0, ys.0), (λ i. (xs.1 i, ys.1 i)), (b, (a, xs.2, ys.2), w))
+
+  branches_reads : Reads (suc k) (branches_with (statement_in (suc k))) (branches_with (statement_in (suc j))) Branches_are nowise
+  unfolding branches_with
+  branches_reads =
+      apply_reads (closed_reads (seq_reads statements_reads else_reads else_stops) (noisy_mark_reads (suc k) (word words.Always) refl) (λ ts rest s stop. noisy_stops (λ (r : List Token). begins_noisy (word words.Else) r || continues_statements r) (word words.Always) (λ span line ts. refl) (λ span span' line line' ts. refl) ts rest s))
+      (λ p. (statement_row p.0, statement_row p.1)) Branches_are branches_to branches_from
+
+  -- what is false of commas, words of statements, ELSE and ALWAYS is false of what stands behind a condition
+  branches_blank : (c : List Token → Bool) → ((span : Span) (line : Line) (ts : List Token) → c (token (kind_of comma) span line ∷ ts) ≡ false) → ((w : Word) (span : Span) (line : Line) (ts : List Token) → form_word w ≡ true → c (token (kinds.Word w) span line ∷ ts) ≡ false) → ((span : Span) (line : Line) (ts : List Token) → c (token (kinds.Word words.Else) span line ∷ ts) ≡ false) → ((span : Span) (line : Line) (ts : List Token) → c (token (kinds.Word words.Always) span line ∷ ts) ≡ false) → (p : StatementRow × StatementRow) (ts rest : List Token) → Branches_are p ts rest → c ts ≡ false
+  branches_blank c on_comma on_word on_else on_always (and_statement x row, e) ts rest (b, (a, (m, one, more), t), w) = blank c on_comma on_word k x ts m one
+  branches_blank c on_comma on_word on_else on_always (no_statement, and_statement y row) ts rest (b, (a, e, (m, w, more)), v) = ap c e ∙ noisy_stops c (word words.Else) on_else (λ span span' line line' ts. on_comma span line _) a m w
+  branches_blank c on_comma on_word on_else on_always (no_statement, no_statement) ts rest (b, (a, e, inr w), v) = ap c e ∙ noisy_stops c (word words.Else) on_else (λ span span' line line' ts. on_comma span line _) a b w
+  branches_blank c on_comma on_word on_else on_always (no_statement, no_statement) ts rest (b, (a, e, inl f), v) = ap c (e ∙ f) ∙ noisy_stops c (word words.Always) on_always (λ span span' line line' ts. on_comma span line _) b rest v
+
+  branches_no_condition : (p : StatementRow × StatementRow) (ts rest : List Token) → Branches_are p ts rest → continues_condition ts ≡ false
+  branches_no_condition p ts rest s = branches_blank continues_condition (λ span line ts. refl) word_no_condition (λ span line ts. refl) (λ span line ts. refl) p ts rest s
+
+  -- ---- IF
+
+  abbrev If_parts : ConditionTree × (StatementRow × StatementRow) → Shape
+  If_parts p = In_condition (suc k) p.0 ▷ Branches_are p.1
+
+  if_reads : (line : Line) → Reads (suc k) (if_with line (suc k) (statement_in (suc k))) (if_with line (suc j) (statement_in (suc j))) (Made (λ p. if_statement line p.0 p.1.0 p.1.1) If_parts) nowise
+  unfolding if_with
+  if_reads line = made_reads (seq_reads (condition_in_reads (suc k) (suc j) (omega arith)) branches_reads (λ p ts rest s stop. branches_no_condition p ts rest s)) (λ p. if_statement line p.0 p.1.0 p.1.1)
+
+  if_to : (line : Line) (x : StatementTree) (ts rest : List Token) → Made (λ p. if_statement line p.0 p.1.0 p.1.1) If_parts x ts rest → Form_is (suc k) line words.If x ts rest
+  if_to line x ts rest (p, is, s) = subst (λ x. Form_is (suc k) line words.If x ts rest) is (refl, refl, s)
+
+  if_from : (line : Line) (x : StatementTree) (ts rest : List Token) → Form_is (suc k) line words.If x ts rest → Made (λ p. if_statement line p.0 p.1.0 p.1.1) If_parts x ts rest
+  if_from line (if_statement l c t e) ts rest (at, w, s) = ((c, (t, e)), ap (λ (l : Line). if_statement l c t e) (sym at), s)
+  if_from line (loop_statement l head body) ts rest (at, w, s) = absurd (head_no_if head w)
+  if_from line _ ts rest (at, w, s) = absurd cc
+
+  -- ---- what a loop repeats
+
+  abbrev Do_list : List StatementTree → Shape
+  Do_list xs = noisy words.Do ▷ each Noisy_statement xs ▷ noisy words.Loop
+
+  do_item : Item (suc k) (begins_noisy (word words.Do)) (do_with (statement_in (suc k))) (do_with (statement_in (suc j))) Do_list nowise
+  unfolding do_with
+  do_item =
+      item_of (begins_noisy (word words.Do)) (behind_reads (noisy_mark_reads (suc k) (word words.Do) refl) between (λ xs ts rest s stop. refl)) (λ ts xs rest s. noisy_begins (word words.Do) refl ts s.0 s.1)
+      (λ ts xs rest s. omega (arith, noisy_less (word words.Do) ts s.0 s.1, between.shorter s.0 xs rest s.2))
+    where
+      between : Reads (suc k) (closed (statements_with (statement_in (suc k))) (expect_noisy (word words.Loop))) (closed (statements_with (statement_in (suc j))) (expect_noisy (word words.Loop))) (λ xs. each Noisy_statement xs ▷ noisy words.Loop) nowise
+      between = closed_reads statements_reads (noisy_mark_reads (suc k) (word words.Loop) refl) (λ ts rest s stop. noisy_stops continues_statements (word words.Loop) (λ span line ts. refl) (λ span span' line line' ts. refl) ts rest s)
+
+  abbrev Governed_one : StatementTree → Shape
+  Governed_one x = provided (May_be_governed x) (Statement_from x k)
+
+  governed_guard : (x : StatementTree) (ts rest : List Token) → Statement_from x k ts rest → begins_guard ts ≡ is_some (guard_of (first_word x))
+  governed_guard x ts rest (begins_at, (m, (span, line, e), s)) = ap begins_guard e
+
+  one_reads : Reads (suc k) (choose begins_guard fail (statement_in (suc k))) (choose begins_guard fail (statement_in (suc j))) Governed_one continues_statement
+  one_reads = record {
+    sound = λ ts x rest e.
+        elim (chosen (begins_guard ts) _ _ _ e) [
+          | inl p ↦ let no = p.1 in absurd cc
+          | inr p ↦ let s = inner.sound ts x rest p.1 in (may_govern k x s.1.0 rest (sym (governed_guard x ts rest s) ∙ p.0) s.1.2, s)
+        ];
+    complete = λ ts x rest s stop.
+        let none : begins_guard ts ≡ false = governed_guard x ts rest s.1 ∙ governed_first k x s.1.1.0 rest s.0 s.1.1.2 in
+        rw none (inner.complete ts x rest s.1 stop);
+    shorter = λ ts x rest s. inner.shorter ts x rest s.1;
+    under = λ ts. upto_if (begins_guard ts) _ _ _ _ (upto_same _) (inner.under ts);
+    opening = λ ts. bounded_if (suc k) (openers ts) (begins_guard ts) _ _ tt (inner.opening ts);
+  }
+
+  abbrev Governed_list : List StatementTree → Shape
+  Governed_list = Made (λ x. x ∷ []) (λ x. noise ▷ Governed_one x)
+
+  governed_reads : Reads (suc k) (governed_with (statement_in (suc k))) (governed_with (statement_in (suc j))) Governed_list continues_statement
+  unfolding governed_with
+  governed_reads = made_reads (optional_reads one_reads comma (λ x ts rest s. form_no_comma ts (form_begins k x ts rest s.1))) (λ x. x ∷ [])
+
+  abbrev Body_list : List StatementTree → Shape
+  Body_list xs = either (Do_list xs) (Governed_list xs)
+
+  governed_blank : (c : List Token → Bool) → ((span span' : Span) (line line' : Line) (w : Word) (ts : List Token) → form_word w ≡ true → is_some (guard_of w) ≡ false → c (token (kind_of comma) span line ∷ token (kinds.Word w) span' line' ∷ ts) ≡ false) → ((w : Word) (span : Span) (line : Line) (ts : List Token) → form_word w ≡ true → is_some (guard_of w) ≡ false → c (token (kinds.Word w) span line ∷ ts) ≡ false) → (x : StatementTree) (ts rest : List Token) → (noise ▷ Governed_one x) ts rest → c ts ≡ false
+  governed_blank c on_comma on_word x ts rest (a, inr (span, line, e), (may, (begins_at, (m, (span', line', f), s)))) = ap c e ∙ ap (λ (r : List Token). c (token (kind_of comma) span line ∷ r)) f ∙ on_comma span span' line line' (first_word x) m (form_first x) (governed_first k x m rest may s)
+  governed_blank c on_comma on_word x ts rest (a, inl e, (may, (begins_at, (m, (span, line, f), s)))) = ap c (e ∙ f) ∙ on_word (first_word x) span line m (form_first x) (governed_first k x m rest may s)
+
+  governed_no_do : (xs : List StatementTree) (ts rest : List Token) → Governed_list xs ts rest → begins_noisy (word words.Do) ts ≡ false
+  governed_no_do xs ts rest (x, is, s) = governed_blank (begins_noisy (word words.Do)) (λ span span' line line' w r e u. (word_no_other w e).5) (λ w span line r e u. (word_no_other w e).5) x ts rest s
+
+  abbrev Body_is : StatementRow → Shape
+  Body_is row = either (noisy words.Do ▷ Statements_are row k ▷ noisy words.Loop) (Governed row k)
+
+  body_to : (xs : List StatementTree) (ts rest : List Token) → Body_list xs ts rest → Body_is (statement_row xs) ts rest
+  body_to xs ts rest (inl (a, w, (b, s, v))) = inl (a, w, (b, statements_to k xs a b s, v))
+  body_to xs ts rest (inr (x, is, (a, n, (may, s)))) = inr (subst (λ xs. Governed (statement_row xs) k ts rest) is (may, (a, n, s)))
+
+  governed_from : (row : StatementRow) (ts rest : List Token) → Governed row k ts rest → (xs : List StatementTree) × (statement_row xs ≡ row) × Governed_list xs ts rest
+  governed_from no_statement ts rest s = absurd s
+  governed_from (and_statement x no_statement) ts rest (may, (a, n, s)) = (x ∷ [], refl, (x, refl, (a, n, (may, s))))
+  governed_from (and_statement x (and_statement y row)) ts rest s = absurd s
+
+  body_from : (row : StatementRow) (ts rest : List Token) → Body_is row ts rest → (xs : List StatementTree) × (statement_row xs ≡ row) × Body_list xs ts rest
+  body_from row ts rest (inl (a, w, (b, s, v))) = let found = statements_from k row a b s in (found.0, found.1, inl (a, w, (b, found.2, v)))
+  body_from row ts rest (inr s) = let found = governed_from row ts rest s in (found.0, found.1, inr found.2)
+
+  body_reads : Reads (suc k) (body_with (statement_in (suc k))) (body_with (statement_in (suc j))) Body_is continues_statement
+  unfolding body_with
+  body_reads = apply_reads (either_reads do_item governed_reads continues_statement (λ ts stop. (refl, stop)) (λ xs ts rest s stop. governed_no_do xs ts rest s)) statement_row Body_is body_to body_from
+
+  loop_reads : (line : Line) (h : LoopHeadTree) → Reads (suc k) (loop_with line (suc k) (statement_in (suc k)) h) (loop_with line (suc j) (statement_in (suc j)) h) (Made (loop_statement line h) Body_is) continues_statement
+  loop_reads line h = made_reads body_reads (loop_statement line h)
+
+  -- what is false of what a loop repeats
+  body_blank : (c : List Token → Bool) → ((span : Span) (line : Line) (ts : List Token) → c (token (kinds.Word words.Do) span line ∷ ts) ≡ false) → ((span span' : Span) (line line' : Line) (ts : List Token) → c (token (kind_of comma) span line ∷ token (kinds.Word words.Do) span' line' ∷ ts) ≡ false) → ((span span' : Span) (line line' : Line) (w : Word) (ts : List Token) → form_word w ≡ true → is_some (guard_of w) ≡ false → c (token (kind_of comma) span line ∷ token (kinds.Word w) span' line' ∷ ts) ≡ false) → ((w : Word) (span : Span) (line : Line) (ts : List Token) → form_word w ≡ true → is_some (guard_of w) ≡ false → c (token (kinds.Word w) span line ∷ ts) ≡ false) → (row : StatementRow) (ts rest : List Token) → Body_is row ts rest → c ts ≡ false
+  body_blank c on_do on_comma_do on_comma on_word row ts rest (inl (a, w, s)) = noisy_stops c (word words.Do) on_do on_comma_do ts a w
+  body_blank c on_do on_comma_do on_comma on_word no_statement ts rest (inr s) = absurd s
+  body_blank c on_do on_comma_do on_comma on_word (and_statement x no_statement) ts rest (inr (may, (a, n, s))) = governed_blank c on_comma on_word x ts rest (a, n, (may, s))
+  body_blank c on_do on_comma_do on_comma on_word (and_statement x (and_statement y row)) ts rest (inr s) = absurd s
+
+  -- ---- FIND
+
+  find_words_reads : Reads (suc k) find_words find_words (λ u. Find_words) nowise
+  unfolding find_words
+  find_words_reads = behind_reads (noisy_mark_reads (suc k) (word words.Find) refl) (optional_reads (marked_reads (word words.First) (expect_reads (suc k) (word words.Case))) (word words.The) (λ u ts rest s. ap (begins (word words.The)) s.1.2)) (λ u ts rest s stop. refl)
+
+  abbrev Find_if_parts : FindOutcome × (StatementRow × StatementRow) → Shape
+  Find_if_parts p = noisy words.If ▷ Said outcome_of p.0 ▷ Branches_are p.1
+
+  find_if_starts : (ts a : List Token) (outcome : FindOutcome) (m : List Token) → noisy words.If ts a → Said outcome_of outcome a m → begins_find_if ts ≡ true
+  find_if_starts ts a outcome m (b, c, (span, line, e)) (w, means, (span', line', f)) =
+      let same : skip_comma ts ≡ b = skipped c in
+      let some : is_some (outcome_of w) ≡ true = rw means refl in
+      rw (same, e, f) some
+    where
+      skipped : noise ts b → skip_comma ts ≡ b
+      skipped (inl g) = ap skip_comma (g ∙ e) ∙ sym e
+      skipped (inr v) = mark_skips comma ts b v
+
+  find_if_reads : (line : Line) (h : HeadTree) → Reads (suc k) (find_if_with line (suc k) (statement_in (suc k)) h) (find_if_with line (suc j) (statement_in (suc j)) h) (Made (λ p. find_if_statement line h p.0 p.1.0 p.1.1) Find_if_parts) nowise
+  unfolding find_if_with
+  find_if_reads line h = made_reads (behind_reads (noisy_mark_reads (suc k) (word words.If) refl) (seq_reads (word_in_reads (suc k) outcome_of) branches_reads (λ p ts rest s stop. refl)) (λ p ts rest s stop. refl)) (λ p. find_if_statement line h p.0 p.1.0 p.1.1)
+
+  find_if_item : (line : Line) (h : HeadTree) → Item (suc k) begins_find_if (find_if_with line (suc k) (statement_in (suc k)) h) (find_if_with line (suc j) (statement_in (suc j)) h) (Made (λ p. find_if_statement line h p.0 p.1.0 p.1.1) Find_if_parts) nowise
+  find_if_item line h =
+      item_of begins_find_if (find_if_reads line h) (λ ts x rest s. find_if_starts ts s.2.0 s.0.0 s.2.2.0 s.2.1 s.2.2.1)
+      (λ ts x rest s. omega (arith, noisy_less (word words.If) ts s.2.0 s.2.1, (seq_reads (word_in_reads (suc k) outcome_of) branches_reads (λ p ts rest s stop. refl)).shorter s.2.0 s.0 rest s.2.2))
+
+  abbrev Found_parts : Line → HeadTree → StatementTree → Shape
+  Found_parts line h x = either (Made (λ p. find_if_statement line h p.0 p.1.0 p.1.1) Find_if_parts x) (provided (find_statement line h ≡ x) nothing)
+
+  found_reads : (line : Line) (h : HeadTree) → Reads (suc k) (found_with line (suc k) (statement_in (suc k)) h) (found_with line (suc j) (statement_in (suc j)) h) (Found_parts line h) continues_statement
+  found_reads line h = either_reads (find_if_item line h) (done_reads (suc k) (find_statement line h)) continues_statement (λ ts stop. (refl, refl)) (λ x ts rest s stop. ap begins_find_if s.1 ∙ (or_false (begins_find_if rest) (continues_simple rest) stop).0)
+
+  find_item : (line : Line) (h : HeadTree) → Item (suc k) (begins_noisy (word words.Find)) (find_with line (suc k) (statement_in (suc k)) h) (find_with line (suc j) (statement_in (suc j)) h) (λ x. Find_words ▷ Found_parts line h x) continues_statement
+  unfolding find_with
+  find_item line h =
+      item_of (begins_noisy (word words.Find)) (behind_reads find_words_reads (found_reads line h) (λ x ts rest s stop. refl)) (λ ts x rest s. noisy_begins (word words.Find) refl ts s.1.0 s.1.1)
+      (λ ts x rest s. omega (arith, words_less ts s.0 s.1, (found_reads line h).shorter s.0 x rest s.2))
+    where
+      words_less : (ts a : List Token) → Find_words ts a → length a < length ts
+      words_less ts a (m, w, s) = omega (arith, noisy_less (word words.Find) ts m w, (optional_reads (marked_reads (word words.First) (expect_reads (suc k) (word words.Case))) (word words.The) (λ u ts rest s. ap (begins (word words.The)) s.1.2)).shorter m tt a s)
+
+  -- ---- loops that begin with FOR
+
+  abbrev For_tail : Line → HeadTree → StatementTree → Shape
+  For_tail line h x = either ((Find_words ▷ Found_parts line h x)) (Made (loop_statement line (for_head h)) Body_is x)
+
+  loop_no_find : (line : Line) (h : LoopHeadTree) (x : StatementTree) (ts rest : List Token) → Made (loop_statement line h) Body_is x ts rest → begins_noisy (word words.Find) ts ≡ false
+  loop_no_find line h x ts rest (row, is, s) = body_blank (begins_noisy (word words.Find)) (λ span line ts. refl) (λ span span' line line' ts. refl) (λ span span' line line' w r e u. (word_no_other w e).6) (λ w span line r e u. (word_no_other w e).6) row ts rest s
+
+  tail_reads : (line : Line) (h : HeadTree) → Reads (suc k) (choose (begins_noisy (word words.Find)) (find_with line (suc k) (statement_in (suc k)) h) (loop_with line (suc k) (statement_in (suc k)) (for_head h))) (choose (begins_noisy (word words.Find)) (find_with line (suc j) (statement_in (suc j)) h) (loop_with line (suc j) (statement_in (suc j)) (for_head h))) (For_tail line h) continues_statement
+  tail_reads line h = either_reads (find_item line h) (loop_reads line (for_head h)) continues_statement (λ ts stop. (stop, stop)) (λ x ts rest s stop. loop_no_find line (for_head h) x ts rest s)
+
+  word_no_head : (w : Word) (span : Span) (line : Line) (ts : List Token) → form_word w ≡ true → continues_head (token (kinds.Word w) span line ∷ ts) ≡ false
+  word_no_head w span line ts e =
+      let no = word_no_other w e in
+      let a : is (word words.And) (kinds.Word w) ≡ false = no.1 in
+      let b : is (word words.Or) (kinds.Word w) ≡ false = no.2 in
+      let c : head_more w ≡ false = no.4 in
+      rw (a, b, c) refl
+
+  tail_no_for : (line : Line) (h : HeadTree) (x : StatementTree) (ts rest : List Token) → For_tail line h x ts rest → continues_statement rest ≡ false → continues_for ts ≡ false
+  tail_no_for line h x ts rest (inl (a, (b, w, s), t)) stop = noisy_stops continues_for (word words.Find) (λ span line ts. refl) (λ span span' line line' ts. refl) ts b w
+  tail_no_for line h x ts rest (inr (row, is, s)) stop =
+      body_blank continues_for (λ span line ts. refl) (λ span span' line line' ts. refl)
+      (λ span span' line line' w r e u. let p = no_phrase w e u in rw p refl)
+      (λ w span line' r e u. both_false _ _ (no_phrase w e u) (word_no_head w span line' r e))
+      row ts rest s
+
+  for_law : (line : Line) → Reads (suc k) (for_with line (suc k) (statement_in (suc k))) (for_with line (suc j) (statement_in (suc j))) (λ x ts rest. (h : HeadTree) × (Head_behind k h ▷ For_tail line h x) ts rest) continues_statement
+  unfolding for_with
+  for_law line = bind_reads (for_reads k j le) (tail_reads line) (tail_no_for line)
+
+  for_to : (line : Line) (x : StatementTree) (ts rest : List Token) → ((h : HeadTree) × (Head_behind k h ▷ For_tail line h x) ts rest) → Form_is (suc k) line words.For x ts rest
+  for_to line x ts rest (h, (a, s, inl (c, f, inl (p, is, t)))) = subst (λ x. Form_is (suc k) line words.For x ts rest) is (refl, refl, (a, s, (c, f, t)))
+  for_to line x ts rest (h, (a, s, inl (c, f, inr (is, e)))) = subst (λ x. Form_is (suc k) line words.For x ts rest) is (refl, refl, (a, s, subst (λ (r : List Token). Find_words a r) e f))
+  for_to line x ts rest (h, (a, s, inr (row, is, t))) = subst (λ x. Form_is (suc k) line words.For x ts rest) is (refl, refl, (a, s, t))
+
+  for_from : (line : Line) (x : StatementTree) (ts rest : List Token) → Form_is (suc k) line words.For x ts rest → (h : HeadTree) × (Head_behind k h ▷ For_tail line h x) ts rest
+  for_from line (loop_statement l (for_head head) body) ts rest (at, w, (a, s, t)) = (head, (a, s, inr (body, ap (λ (l : Line). loop_statement l (for_head head) body) (sym at), t)))
+  for_from line (loop_statement l (guarded gs) body) ts rest (at, w, (a, s, t)) = absurd (head_guards (guarded gs) (ap (λ w. is_some (guard_of w)) w) k ts a s)
+  for_from line (find_statement l head) ts rest (at, w, (a, s, f)) = (head, (a, s, inl (rest, f, inr (ap (λ (l : Line). find_statement l head) (sym at), refl))))
+  for_from line (find_if_statement l head outcome t e) ts rest (at, w, (a, s, (c, f, q))) = (head, (a, s, inl (c, f, inl ((outcome, (t, e)), ap (λ (l : Line). find_if_statement l head outcome t e) (sym at), q))))
+  for_from line _ ts rest (at, w, s) = absurd cc
+
+  -- ---- loops that begin with WHILE or UNTIL
+
+  abbrev Guarded_loop : GuardKind → Line → StatementTree → Shape
+  Guarded_loop kind line x ts rest = (h : LoopHeadTree) × (Guarded_parts k j le kind h ▷ Made (loop_statement line h) Body_is x) ts rest
+
+  body_no_guarded : (line : Line) (h : LoopHeadTree) (x : StatementTree) (ts rest : List Token) → Made (loop_statement line h) Body_is x ts rest → continues_statement rest ≡ false → continues_guarded k j le ts ≡ false
+  body_no_guarded line h x ts rest (row, is, s) stop =
+      body_blank (continues_guarded k j le) (λ span line ts. refl) (λ span span' line line' ts. refl)
+      (λ span span' line line' w r e u. rw u refl)
+      (λ w span line' r e u. both_false _ _ u (word_no_head w span line' r e))
+      row ts rest s
+
+  guarded_to : (kind : GuardKind) (w : Word) → guard_word kind ≡ w → (line : Line) (x : StatementTree) (ts rest : List Token) → Guarded_loop kind line x ts rest → Form_is (suc k) line w x ts rest
+  guarded_to kind w is line x ts rest (h, (a, (c, (b, s, (all, made, (gs, makes, t)))), (row, made', body))) =
+      let head : guarded (guard_tree (kind, c) ∷ gs) ≡ h = ap guarded makes ∙ made in
+      subst (λ x. Form_is (suc k) line w x ts rest) made' (subst (λ (h : LoopHeadTree). Form_is (suc k) line w (loop_statement line h row) ts rest) head (refl, is, (a, (b, s, t), body)))
+
+  guarded_from : (kind : GuardKind) (w : Word) → guard_word kind ≡ w → is_some (guard_of w) ≡ true → (line : Line) (x : StatementTree) (ts rest : List Token) → Form_is (suc k) line w x ts rest → Guarded_loop kind line x ts rest
+  guarded_from kind w is guards_it line (loop_statement l (guarded (g ∷ gs)) body) ts rest (at, u, (a, (b, s, t), q)) =
+      let same : kind ≡ g.kind = guard_same kind g.kind (is ∙ sym u) in
+      (guarded (g ∷ gs), (a, (g.condition, (b, s, (g ∷ gs, refl, (gs, (λ i. record { kind = same i; condition = g.condition } ∷ gs), t)))), (body, ap (λ (l : Line). loop_statement l (guarded (g ∷ gs)) body) (sym at), q)))
+  guarded_from kind w is guards_it line (loop_statement l (guarded []) body) ts rest (at, u, (a, s, q)) = absurd s
+  guarded_from kind w is guards_it line (loop_statement l (for_head head) body) ts rest (at, u, s) = absurd (no_guard_word words.For w refl u guards_it)
+  guarded_from kind w is guards_it line (find_statement l head) ts rest (at, u, s) = absurd (no_guard_word words.For w refl u guards_it)
+  guarded_from kind w is guards_it line (find_if_statement l head o t e) ts rest (at, u, s) = absurd (no_guard_word words.For w refl u guards_it)
+  guarded_from kind w is guards_it line (let_statement a b c) ts rest (at, u, s) = absurd (no_guard_word words.Let w refl u guards_it)
+  guarded_from kind w is guards_it line (add_statement a b c) ts rest (at, u, s) = absurd (no_guard_word words.Add w refl u guards_it)
+  guarded_from kind w is guards_it line (subtract_statement a b c) ts rest (at, u, s) = absurd (no_guard_word words.Subtract w refl u guards_it)
+  guarded_from kind w is guards_it line (call_statement a b c d) ts rest (at, u, s) = absurd (no_guard_word words.Call w refl u guards_it)
+  guarded_from kind w is guards_it line (return_statement a) ts rest (at, u, s) = absurd (no_guard_word words.Return w refl u guards_it)
+  guarded_from kind w is guards_it line (stop_statement a) ts rest (at, u, s) = absurd (no_guard_word words.Stop w refl u guards_it)
+  guarded_from kind w is guards_it line (read_statement a b) ts rest (at, u, s) = absurd (no_guard_word words.Read w refl u guards_it)
+  guarded_from kind w is guards_it line (start_simulation a) ts rest (at, u, s) = absurd (no_guard_word words.Start w refl u guards_it)
+  guarded_from kind w is guards_it line (if_statement a b c d) ts rest (at, u, s) = absurd (no_guard_word words.If w refl u guards_it)
+  guarded_from kind w is guards_it line (create_statement a b c) ts rest (at, u, s) = absurd (no_guard_word words.Create w refl u guards_it)
+  guarded_from kind w is guards_it line (create_every a b) ts rest (at, u, s) = absurd (no_guard_word words.Create w refl u guards_it)
+  guarded_from kind w is guards_it line (destroy_statement a b c) ts rest (at, u, s) = absurd (no_guard_word words.Destroy w refl u guards_it)
+  guarded_from kind w is guards_it line (file_statement a b c d) ts rest (at, u, s) = absurd (no_guard_word words.File w refl u guards_it)
+  guarded_from kind w is guards_it line (remove_end a b c d) ts rest (at, u, s) = absurd (no_guard_word words.Remove w refl u guards_it)
+  guarded_from kind w is guards_it line (remove_statement a b c) ts rest (at, u, s) = absurd (no_guard_word words.Remove w refl u guards_it)
+  guarded_from kind w is guards_it line (schedule_new a b c d e) ts rest (at, u, s) = absurd (no_guard_word words.Schedule w refl u guards_it)
+  guarded_from kind w is guards_it line (schedule_statement a b c d e) ts rest (at, u, s) = absurd (no_guard_word words.Schedule w refl u guards_it)
+  guarded_from kind w is guards_it line (cancel_statement a b c) ts rest (at, u, s) = absurd (no_guard_word words.Cancel w refl u guards_it)
+  guarded_from kind w is guards_it line (reset_statement a b) ts rest (at, u, s) = absurd (no_guard_word words.Reset w refl u guards_it)
+  guarded_from kind w is guards_it line (print_statement a b c) ts rest (at, u, s) = absurd (no_guard_word words.Print w refl u guards_it)
+  guarded_from kind w is guards_it line (skip_statement a b) ts rest (at, u, s) = absurd (no_guard_word words.Skip w refl u guards_it)
+
+  while_law : (line : Line) → Reads (suc k) (while_with line (suc k) (statement_in (suc k))) (while_with line (suc j) (statement_in (suc j))) (Form_is (suc k) line words.While) continues_statement
+  unfolding while_with
+  while_law line = said_reads (bind_reads (guarded_reads k j le guards.While) (loop_reads line) (body_no_guarded line)) (Form_is (suc k) line words.While) (guarded_to guards.While words.While refl line) (guarded_from guards.While words.While refl refl line)
+
+  until_law : (line : Line) → Reads (suc k) (until_with line (suc k) (statement_in (suc k))) (until_with line (suc j) (statement_in (suc j))) (Form_is (suc k) line words.Until) continues_statement
+  unfolding until_with
+  until_law line = said_reads (bind_reads (guarded_reads k j le guards.Until) (loop_reads line) (body_no_guarded line)) (Form_is (suc k) line words.Until) (guarded_to guards.Until words.Until refl line) (guarded_from guards.Until words.Until refl refl line)
+
+  -- ---- by the first word
+
+  nested_law : (line : Line) (w : Word) → nested_word w ≡ true → Reads (suc k) (nested_at line (suc k) (statement_in (suc k)) w) (nested_at line (suc j) (statement_in (suc j)) w) (Form_is (suc k) line w) continues_statement
+  nested_law line words.If e = fewer_reads (said_reads (if_reads line) (Form_is (suc k) line words.If) (if_to line) (if_from line)) continues_statement (λ ts stop. refl)
+  nested_law line words.For e = said_reads (for_law line) (Form_is (suc k) line words.For) (for_to line) (for_from line)
+  nested_law line words.While e = while_law line
+  nested_law line words.Until e = until_law line
+  nested_law line _ e = absurd cc
+
+-- where no level may be opened, no statement with others in it is spelled
+nested_never : (x : StatementTree) (ts rest : List Token) → is_nested x ≡ true → Behind x 0 ts rest → ⊥
+nested_never (if_statement line c t e) ts rest n s = s
+nested_never (loop_statement line head body) ts rest n s = s
+nested_never (find_statement line head) ts rest n s = s
+nested_never (find_if_statement line head outcome t e) ts rest n s = s
+nested_never _ ts rest n s = absurd cc
+
+nested_opens : (w : Word) → nested_word w ≡ true → opens (kinds.Word w) ≡ 1
+nested_opens words.If e = refl
+nested_opens words.For e = refl
+nested_opens words.While e = refl
+nested_opens words.Until e = refl
+nested_opens _ e = absurd cc
+
+-- ---- statements at each level
+
+abbrev pub In_statement : ℕ → StatementTree → Shape
+In_statement room x = within (λ l. Statement_from x l) room
+
+simple_law : (n m : ℕ) → n ≤ m → (line : Line) (w : Word) → nested_word w ≡ false → Reads (suc n) (simple_at line (suc n) w) (simple_at line (suc m) w) (Form_is n line w) continues_simple
+unfolding simple_at
+simple_law n m le line words.Let e = let_reads n m le line
+simple_law n m le line words.Add e = add_reads n m le line
+simple_law n m le line words.Subtract e = subtract_reads n m le line
+simple_law n m le line words.Call e = call_reads n m le line
+simple_law n m le line words.Return e = return_reads n m le line
+simple_law n m le line words.Stop e = stop_reads n m le line
+simple_law n m le line words.Read e = read_reads n m le line
+simple_law n m le line words.Start e = start_reads n m le line
+simple_law n m le line words.Create e = create_reads n m le line
+simple_law n m le line words.Destroy e = destroy_reads n m le line
+simple_law n m le line words.File e = file_reads n m le line
+simple_law n m le line words.Remove e = remove_reads n m le line
+simple_law n m le line words.Schedule e = schedule_reads n m le line
+simple_law n m le line words.Cancel e = cancel_reads n m le line
+simple_law n m le line words.Reset e = reset_reads n m le line
+simple_law n m le line words.Print e = print_reads n m le line
+simple_law n m le line words.Skip e = skip_reads n m le line
+simple_law n m le line words.If e = absurd cc
+simple_law n m le line words.For e = absurd cc
+simple_law n m le line words.While e = absurd cc
+simple_law n m le line words.Until e = absurd cc
+simple_law n m le line _ e = no_form (suc n) n line _ refl
+
+module _ (n m : ℕ) (le : n ≤ m) (nested : (line : Line) (w : Word) → nested_word w ≡ true → Reads n (nested_in n (statement_in n) line w) (nested_in m (statement_in m) line w) (Form_is n line w) continues_statement) where
+  form_by : (b : Bool) (line : Line) (w : Word) → nested_word w ≡ b → Form (suc n) w (choose (λ ts. b) (nested_in n (statement_in n) line w) (simple_at line (suc n) w)) (choose (λ ts. b) (nested_in m (statement_in m) line w) (simple_at line (suc m) w)) (Form_is n line w) continues_statement
+  form_by true line w there = opening_form w (nested_opens w there) (nested line w there)
+  form_by false line w none = plain_form w (fewer_reads (simple_law n m le line w none) continues_statement no_simple)
+
+  form_law : (line : Line) (w : Word) → Form (suc n) w (form_in n (statement_in n) line w) (form_in m (statement_in m) line w) (Form_is n line w) continues_statement
+  form_law line w = form_by (nested_word w) line w refl
+
+  form_to : (x : StatementTree) (w : Word) (span : Span) (line : Line) (ts rest : List Token) → Form_is n line w x ts rest → Statement_from x n (token (kinds.Word w) span line ∷ ts) rest
+  form_to x w span line ts rest (at, is, s) = (sym at, (ts, subst (λ (v : Word). Word_is v (token (kinds.Word w) span line ∷ ts) ts) (sym is) (span, line, refl), s))
+
+  form_from : (x : StatementTree) (ts rest : List Token) → Statement_from x n ts rest → (w : Word) × (r : List Token) × (Word_is w ts r) × Form_is n (first_line ts) w x r rest
+  form_from x ts rest (at, (r, w, s)) = (first_word x, r, w, (sym at, refl, s))
+
+  from_reads : Reads (suc n) (by_word (form_in n (statement_in n))) (by_word (form_in m (statement_in m))) (λ x. Statement_from x n) continues_statement
+  from_reads = by_word_reads form_law (λ x. Statement_from x n) form_to form_from
+
+  from_less : (ts : List Token) (x : StatementTree) (rest : List Token) → Statement_from x n ts rest → length rest < length ts
+  from_less ts x rest s = first_less form_law (λ x. Statement_from x n) form_to form_from ts x rest s
+
+-- behind the first word, where the law of statements holds
+nested_from : (n m : ℕ) → n ≤ m → Reads n (statement_in n) (statement_in m) (In_statement n) continues_statement → ((ts : List Token) (x : StatementTree) (rest : List Token) → In_statement n x ts rest → length rest < length ts) → (line : Line) (w : Word) → nested_word w ≡ true → Reads n (nested_in n (statement_in n) line w) (nested_in m (statement_in m) line w) (Form_is n line w) continues_statement
+nested_from zero m le inner less line w e = said_reads too_deep_reads (Form_is 0 line w) (λ x ts rest s. absurd s) (λ x ts rest s. nested_never x ts rest (sym (nested_first x) ∙ ap nested_word s.1 ∙ e) s.2)
+nested_from (suc k) zero le inner less line w e = absurd (omega arith)
+nested_from (suc k) (suc j) le inner less line w e = nested_law k j (omega arith) inner less line w e
+
+mutual
+  unfolding statement_in
+
+  pub statement_in_reads : (n m : ℕ) → n ≤ m → Reads n (statement_in n) (statement_in m) (In_statement n) continues_statement
+  statement_in_reads zero m le = too_deep_reads
+  statement_in_reads (suc n) zero le = absurd (omega arith)
+  statement_in_reads (suc n) (suc m) le = from_reads n m (omega arith) (nested_from n m (omega arith) (statement_in_reads n m (omega arith)) (in_statement_less n))
+
+  in_statement_less : (n : ℕ) (ts : List Token) (x : StatementTree) (rest : List Token) → In_statement n x ts rest → length rest < length ts
+  in_statement_less zero ts x rest s = absurd s
+  in_statement_less (suc n) ts x rest s = from_less n n (omega arith) (nested_from n n (omega arith) (statement_in_reads n n (omega arith)) (in_statement_less n)) ts x rest s
+
+in_statement_begins : (n : ℕ) (ts : List Token) (x : StatementTree) (rest : List Token) → In_statement n x ts rest → begins_form ts ≡ true
+in_statement_begins zero ts x rest s = absurd s
+in_statement_begins (suc n) ts x rest s = form_begins n x ts rest s
+
+in_statement_stops : (n : ℕ) (ts : List Token) (x : StatementTree) (rest : List Token) → (noise ▷ In_statement n x) ts rest → continues_statement ts ≡ false
+in_statement_stops zero ts x rest (a, comma_there, s) = absurd s
+in_statement_stops (suc n) ts x rest s = statement_stops n x ts rest s
+
+statement_item : (n m : ℕ) → n ≤ m → Item n begins_statement (λ r. statement_in n (skip_comma r)) (λ r. statement_in m (skip_comma r)) (λ x. noise ▷ In_statement n x) continues_statement
+statement_item n m le = noisy_item (statement_in_reads n m le) begins_form (in_statement_begins n) form_no_comma (in_statement_less n)
+
+-- statements, each with a comma before it or not
+pub all_statements_reads : (n m : ℕ) → n ≤ m → Reads n (statements_in n) (statements_in m) (each (λ x. noise ▷ In_statement n x)) (λ ts. begins_statement ts || continues_statement ts)
+all_statements_reads n m le = rows_reads (statement_item n m le) (in_statement_stops n)
+
+pub statements_loop : (n : ℕ) → Loop begins_statement (λ r. statement_in n (skip_comma r))
+statements_loop n = loop_of (statement_item n n (omega arith)) refl

@@ -1,0 +1,356 @@
+-- Parts of statements: what is read is spelled, and what is spelled is read.
+use Rattle.std.proofs.Common.{◌≡◌, ℕ, zero, suc, ◌<◌, ◌≤◌, ℤ, pos, negsuc, Bool, true, false, ◌||◌, List, [], ◌∷◌, length, Some, Ok, refl, ap, subst, ◌∙◌, arith, inl, inr, ◌⊎◌}
+use Rattle.ss_base.specs.declared.line.Line.{Line}
+use Rattle.ss_lex.specs.declared.word.Word.{Word}
+use Rattle.ss_lex.specs.declared.word.Word.TheVariants as words
+use Rattle.ss_lex.specs.declared.token.Span.{Span}
+use Rattle.ss_lex.specs.declared.token.TokenKind.{TokenKind}
+use Rattle.ss_lex.specs.declared.token.TokenKind.TheVariants as kinds
+use Rattle.ss_lex.specs.declared.token.Token.{Token}
+use Rattle.ss_tree.specs.Tree.{ExpressionTree, NamedTree, PositionTree, by_discipline, at_first, at_last, before, after, WhenTree, at_time, in_units, now}
+use Rattle.ss_parse_expressions.specs.declared.classes.Class.TheVariants as classes
+use Rattle.ss_parse_expressions.specs.Shapes.{Shape, ◌▷◌, nothing, either, provided, Token_is, Word_is, each}
+use Rattle.ss_parse_expressions.specs.Words.{has_word, One_of, the, perhaps_listed}
+use Rattle.ss_parse_expressions.specs.SpelledExpressions.{Sum_is, Target_is, Reference_is}
+use Rattle.ss_parse_expressions.specs.Openers.{openers}
+use Rattle.ss_parse_expressions.specs.Reading.{word, is, begins, expect, taken, apply, begins_more}
+use Rattle.ss_parse_expressions.specs.ReadWords.{begins_class, begins_among, begins_name}
+use Rattle.ss_parse_expressions.specs.ReadExpressions.{begins_sum, sum_in}
+use Rattle.ss_parse_expressions.specs.ReadPlaces.{target_in, begins_target}
+use Rattle.ss_parse_expressions.proofs.Tools.{bind_ok, carry, or_false}
+use Rattle.ss_parse_expressions.proofs.Marks.{token, mark_begins, token_less, In_table}
+use Rattle.ss_parse_expressions.proofs.Depth.{upto_same, Bounded, bounded_bind}
+use Rattle.ss_parse_expressions.proofs.ReaderLaws.{Reads, Item, nowise, Made, item_of, item_marked, expect_reads, taken_reads, seq_reads, marked_reads, closed_reads, made_reads, behind_reads, said_reads, before_mark_reads, maybe_reads, choose_reads}
+use Rattle.ss_parse_expressions.proofs.WordLaws.{expect_class_reads, one_begins, one_less, done_reads, perhaps_listed_reads, either_reads, item_made, no_word, no_class}
+use Rattle.ss_parse_expressions.proofs.ExpressionLaws.{In, sum_in_reads, continues_sum}
+use Rattle.ss_parse_expressions.proofs.PlaceLaws.{target_in_reads, targets_in_reads, sums_in_reads, continues_place, continues_targets, continues_sums}
+use Rattle.ss_parse_expressions.proofs.ConditionLaws.{the_set_reads, stops_place}
+use Rattle.ss_parse_statements.specs.SpelledParts.{Trigger, Picture_is, Called, Position_is, When_is}
+use Rattle.ss_parse_statements.specs.ReadSimple.{called, positive, positive_of, items_in, trigger, picture_of, pictures_at, given_in, yielding_in, position_in, when_in, due_in, set_in, print_head}
+
+-- ---- PRINT
+
+pub items_in_reads : (n m : ℕ) → n ≤ m → Reads n (items_in n) (items_in m) (perhaps_listed (Word_is words.With) (In n)) (λ ts. begins (word words.With) ts || continues_sums ts)
+items_in_reads n m le = perhaps_listed_reads (item_marked (word words.With) (sums_in_reads n m le))
+
+pub trigger_reads : (k : ℕ) → Reads k trigger trigger (λ u. Trigger) nowise
+unfolding trigger
+trigger_reads k =
+    choose_reads (item_of (begins (word words.Thus)) (expect_reads k (word words.Thus)) (λ ts u rest s. mark_begins (word words.Thus) ts rest s) (λ ts u rest s. omega (arith, token_less (kinds.Word words.Thus) ts rest s)))
+    (choose_reads (item_marked (word words.As) (expect_reads k (word words.Follows))) (marked_reads (word words.Like) (expect_reads k (word words.This)))
+    (λ u ts rest s. inl s) (λ u ts rest s. inr s) from')
+    (λ u ts rest s. inl s) (λ u ts rest s. inr s) from
+  where
+    from' : (u : Unit {0}) (ts rest : List Token) → either (Word_is words.As ▷ Word_is words.Follows) (Word_is words.Like ▷ Word_is words.This) ts rest → (Word_is words.As ▷ Word_is words.Follows) ts rest ⊎ ((begins (word words.As) ts ≡ false) × (Word_is words.Like ▷ Word_is words.This) ts rest)
+    from' u ts rest (inl s) = inl s
+    from' u ts rest (inr (m, (span, line, e), s)) = inr (rw e refl, (m, (span, line, e), s))
+
+    from : (u : Unit {0}) (ts rest : List Token) → Trigger ts rest → Word_is words.Thus ts rest ⊎ ((begins (word words.Thus) ts ≡ false) × either (Word_is words.As ▷ Word_is words.Follows) (Word_is words.Like ▷ Word_is words.This) ts rest)
+    from u ts rest (inl s) = inl s
+    from u ts rest (inr (inl (m, (span, line, e), s))) = inr (rw e refl, inl (m, (span, line, e), s))
+    from u ts rest (inr (inr (m, (span, line, e), s))) = inr (rw e refl, inr (m, (span, line, e), s))
+
+-- a number of pictures
+abbrev pub Positive_is : ℕ → Shape
+Positive_is n = provided (0 < n) (Token_is (kinds.Number (pos n)))
+
+positive_to : (n : ℕ) (ts rest : List Token) → In_table positive_of n ts rest → Positive_is n ts rest
+positive_to n ts rest (k, takes, at) = go k takes at
+  where
+    number : (z : ℤ) → positive z ≡ Some n → Token_is (kinds.Number z) ts rest → Positive_is n ts rest
+    number (pos zero) e at = absurd cc
+    number (pos (suc v)) e at = let same : suc v ≡ n = cc in subst (λ n. Positive_is n ts rest) same (omega arith, at)
+    number (negsuc v) e at = absurd cc
+
+    go : (k : TokenKind) → positive_of k ≡ Some n → Token_is k ts rest → Positive_is n ts rest
+    go (kinds.Number z) e at = number z e at
+    go _ e at = absurd cc
+
+positive_from : (n : ℕ) (ts rest : List Token) → Positive_is n ts rest → In_table positive_of n ts rest
+positive_from zero ts rest (some, at) = absurd (omega arith)
+positive_from (suc n) ts rest (some, at) = (kinds.Number (pos (suc n)), refl, at)
+
+pub positive_reads : (k : ℕ) → Reads k (taken positive_of) (taken positive_of) Positive_is nowise
+positive_reads k = said_reads (taken_reads k positive_of) Positive_is positive_to positive_from
+
+-- the number of pictures and the items
+abbrev pub Print_head_is : ℕ → ℕ × List ExpressionTree → Shape
+Print_head_is n h = Positive_is h.0 ▷ Word_is words.Line ▷ perhaps_listed (Word_is words.With) (In n) h.1 ▷ Trigger
+
+pub print_head_reads : (n m : ℕ) → n ≤ m → Reads n (print_head n) (print_head m) (Print_head_is n) nowise
+unfolding print_head
+print_head_reads n m le =
+    seq_reads (positive_reads n)
+    (marked_reads (word words.Line) (closed_reads (items_in_reads n m le) (trigger_reads n) stops))
+    (λ xs ts rest s stop. refl)
+  where
+    stops : (ts rest : List Token) → Trigger ts rest → nowise rest ≡ false → (begins (word words.With) ts || continues_sums ts) ≡ false
+    stops ts rest (inl (span, line, e)) stop = rw e refl
+    stops ts rest (inr (inl (m, (span, line, e), s))) stop = rw e refl
+    stops ts rest (inr (inr (m, (span, line, e), s))) stop = rw e refl
+
+pictures_to : (bytes : List ℕ) (ts rest : List Token) → In_table picture_of bytes ts rest → Picture_is bytes ts rest
+pictures_to bytes ts rest (k, takes, at) = go k takes at
+  where
+    go : (k : TokenKind) → picture_of k ≡ Some bytes → Token_is k ts rest → Picture_is bytes ts rest
+    go (kinds.Picture b) e at = let same : b ≡ bytes = cc in subst (λ b. Picture_is b ts rest) same at
+    go _ e at = absurd cc
+
+picture_reads : (k : ℕ) → Reads k (taken picture_of) (taken picture_of) Picture_is nowise
+picture_reads k = said_reads (taken_reads k picture_of) Picture_is pictures_to (λ bytes ts rest s. (kinds.Picture bytes, refl, s))
+
+-- so many pictures
+abbrev pub Pictures_are : ℕ → List (List ℕ) → Shape
+Pictures_are n ps = provided (length ps ≡ n) (each Picture_is ps)
+
+pub pictures_reads : (k n : ℕ) → Reads k (pictures_at n) (pictures_at n) (Pictures_are n) nowise
+unfolding pictures_at
+pictures_reads k n = record { sound = sound n; complete = λ ts ps rest s stop. complete n ps ts rest s.0 s.1; shorter = λ ts ps rest s. shorter ps ts rest s.1; under = λ ts. upto_same _; opening = opening n }
+  where
+    sound : (n : ℕ) (ts : List Token) (ps : List (List ℕ)) (rest : List Token) → pictures_at n ts ≡ Ok (ps, rest) → Pictures_are n ps ts rest
+    sound zero ts ps rest e = carry (λ (ps : List (List ℕ)) (r : List Token). Pictures_are 0 ps ts r) [] ps ts rest e (refl, refl)
+    sound (suc n) ts ps rest e =
+        let p = bind_ok (taken picture_of ts) _ _ e in
+        let qs = bind_ok (pictures_at n p.0.1) _ _ p.2 in
+        let s = sound n p.0.1 qs.0.0 qs.0.1 qs.1 in
+        carry (λ (ps : List (List ℕ)) (r : List Token). Pictures_are (suc n) ps ts r) (p.0.0 ∷ qs.0.0) ps qs.0.1 rest qs.2
+        (ap suc s.0, (p.0.1, (picture_reads k).sound ts p.0.0 p.0.1 p.1, s.1))
+
+    complete : (n : ℕ) (ps : List (List ℕ)) (ts rest : List Token) → length ps ≡ n → each Picture_is ps ts rest → pictures_at n ts ≡ Ok (ps, rest)
+    complete zero [] ts rest counts s = ap (λ (r : List Token). Ok ([], r)) s
+    complete zero (p ∷ ps) ts rest counts s = absurd (omega arith)
+    complete (suc n) [] ts rest counts s = absurd (omega arith)
+    complete (suc n) (p ∷ ps) ts rest counts (m, one, more) =
+        let first : taken picture_of ts ≡ Ok (p, m) = (picture_reads k).complete ts p m one refl in
+        let others : pictures_at n m ≡ Ok (ps, rest) = complete n ps m rest (omega arith) more in
+        rw (first, others) refl
+
+    shorter : (ps : List (List ℕ)) (ts rest : List Token) → each Picture_is ps ts rest → length rest ≤ length ts
+    shorter [] ts rest s = omega (arith, ap length s)
+    shorter (p ∷ ps) ts rest (m, one, more) = omega (arith, token_less (kinds.Picture p) ts m one, shorter ps m rest more)
+
+    opening : (n : ℕ) (ts : List Token) → Bounded k (openers ts) (pictures_at n ts)
+    opening zero ts = omega arith
+    opening (suc n) ts = bounded_bind k (openers ts) (taken picture_of ts) _ ((picture_reads k).opening ts) (λ p. bounded_bind k (openers p.1) (pictures_at n p.1) _ (opening n p.1) (λ ps. omega arith))
+
+-- ---- words that may follow a statement and go on with it
+
+abbrev pub statement_more : Word → Bool
+statement_more words.Called = true
+statement_more words.Given = true
+statement_more words.Giving = true
+statement_more words.Yielding = true
+statement_more words.First = true
+statement_more words.Last = true
+statement_more words.Before = true
+statement_more words.After = true
+statement_more _ = false
+
+given_more : (w : Word) → has_word classes.Given w ≡ true → statement_more w ≡ true
+given_more words.Given e = refl
+given_more words.Giving e = refl
+given_more _ e = absurd cc
+
+-- what continues a simple statement
+abbrev pub continues_simple : List Token → Bool
+continues_simple ts = begins_among statement_more ts || (begins_more begins_sum ts || (begins_more begins_target ts || (begins_more begins_name ts || continues_sum ts)))
+
+-- what doesn't continue a simple statement continues none of its parts
+pub record Ended (ts : List Token) : Type 0 where
+  pub no_more : begins_among statement_more ts ≡ false
+  pub no_sums : begins_more begins_sum ts ≡ false
+  pub no_targets : begins_more begins_target ts ≡ false
+  pub no_names : begins_more begins_name ts ≡ false
+  pub no_sum : continues_sum ts ≡ false
+
+pub ended : (ts : List Token) → continues_simple ts ≡ false → Ended ts
+ended ts stop =
+    let a = or_false (begins_among statement_more ts) _ stop in
+    let b = or_false (begins_more begins_sum ts) _ a.1 in
+    let c = or_false (begins_more begins_target ts) _ b.1 in
+    let d = or_false (begins_more begins_name ts) _ c.1 in
+    record { no_more = a.0; no_sums = b.0; no_targets = c.0; no_names = d.0; no_sum = d.1 }
+
+module _ (ts : List Token) (over : Ended ts) where
+  pub over_word : (w : Word) → statement_more w ≡ true → begins (word w) ts ≡ false
+  over_word w held = no_word statement_more w held ts over.no_more
+
+  pub over_place : continues_place ts ≡ false
+  over_place = stops_place ts over.no_sum
+
+  pub over_sums : continues_sums ts ≡ false
+  over_sums = let a : begins_more begins_sum ts ≡ false = over.no_sums in let b : continues_sum ts ≡ false = over.no_sum in rw (a, b) refl
+
+  pub over_targets : continues_targets ts ≡ false
+  over_targets = let a : begins_more begins_target ts ≡ false = over.no_targets in let b : continues_place ts ≡ false = over_place in rw (a, b) refl
+
+  pub over_given : (begins_class classes.Given ts || continues_sums ts) ≡ false
+  over_given = let a : begins_class classes.Given ts ≡ false = no_class statement_more classes.Given given_more ts over.no_more in let b : continues_sums ts ≡ false = over_sums in rw (a, b) refl
+
+  pub over_yielding : (begins (word words.Yielding) ts || continues_targets ts) ≡ false
+  over_yielding = let a : begins (word words.Yielding) ts ≡ false = over_word words.Yielding refl in let b : continues_targets ts ≡ false = over_targets in rw (a, b) refl
+
+  pub over_called : (begins (word words.Called) ts || continues_sum ts) ≡ false
+  over_called = let a : begins (word words.Called) ts ≡ false = over_word words.Called refl in let b : continues_sum ts ≡ false = over.no_sum in rw (a, b) refl
+
+  pub over_called_place : (begins (word words.Called) ts || continues_place ts) ≡ false
+  over_called_place = let a : begins (word words.Called) ts ≡ false = over_word words.Called refl in let b : continues_place ts ≡ false = over_place in rw (a, b) refl
+
+-- ---- parts, where so many levels may be opened behind the first word
+
+module _ (n m : ℕ) (le : n ≤ m) where
+  pub sum_reads : Reads (suc n) (sum_in (suc n)) (sum_in (suc m)) (λ e. Sum_is n e) continues_sum
+  sum_reads = sum_in_reads (suc n) (suc m) (omega arith)
+
+  pub target_reads : Reads (suc n) (target_in (suc n)) (target_in (suc m)) (λ t. Target_is n t) continues_place
+  target_reads = target_in_reads (suc n) (suc m) (omega arith)
+
+  pub set_reads : Reads (suc n) (set_in (suc n)) (set_in (suc m)) (λ set. the ▷ Reference_is n set) continues_place
+  set_reads = the_set_reads n m le
+
+  pub given_reads : Reads (suc n) (given_in (suc n)) (given_in (suc m)) (perhaps_listed (One_of classes.Given) (Sum_is n)) (λ ts. begins_class classes.Given ts || continues_sums ts)
+  given_reads = perhaps_listed_reads (item_of (begins_class classes.Given) (behind_reads (expect_class_reads (suc n) classes.Given) (sums_in_reads (suc n) (suc m) (omega arith)) (λ xs ts rest s stop. refl)) (λ ts xs rest s. one_begins classes.Given ts s.0 s.1)
+      (λ ts xs rest s. omega (arith, one_less classes.Given ts s.0 s.1, (sums_in_reads (suc n) (suc m) (omega arith)).shorter s.0 xs rest s.2)))
+
+  pub yielding_reads : Reads (suc n) (yielding_in (suc n)) (yielding_in (suc m)) (perhaps_listed (Word_is words.Yielding) (Target_is n)) (λ ts. begins (word words.Yielding) ts || continues_targets ts)
+  yielding_reads = perhaps_listed_reads (item_marked (word words.Yielding) (targets_in_reads (suc n) (suc m) (omega arith)))
+
+  pub called_sum_reads : Reads (suc n) (called (sum_in (suc n))) (called (sum_in (suc m))) (Called (Sum_is n)) (λ ts. begins (word words.Called) ts || continues_sum ts)
+  called_sum_reads = maybe_reads (item_marked (word words.Called) sum_reads)
+
+  pub called_target_reads : Reads (suc n) (called (target_in (suc n))) (called (target_in (suc m))) (Called (Target_is n)) (λ ts. begins (word words.Called) ts || continues_place ts)
+  called_target_reads = maybe_reads (item_marked (word words.Called) target_reads)
+
+  -- ---- where a member is filed: always before IN
+
+  abbrev pub Position_then : PositionTree × NamedTree → Shape
+  Position_then p = Position_is n p.0 ▷ Word_is words.In ▷ (the ▷ Reference_is n p.1)
+
+  word_item : {A : Type 0} (w : Word) (f : Unit {0} → A) → Item (suc n) (begins (word w)) (apply f (expect (word w))) (apply f (expect (word w))) (Made f (λ u. Word_is w)) nowise
+  word_item w f = item_of (begins (word w)) (made_reads (expect_reads (suc n) (word w)) f) (λ ts x rest s. mark_begins (word w) ts rest s.2) (λ ts x rest s. omega (arith, token_less (kinds.Word w) ts rest s.2))
+
+  -- what continues the place where a member is filed
+  abbrev pub continues_position : List Token → Bool
+  continues_position ts = begins_among statement_more ts || continues_sum ts
+
+  abbrev After_is : PositionTree → Shape
+  After_is x = either (Made after (λ e. Word_is words.After ▷ Sum_is n e) x) (provided (by_discipline ≡ x) nothing)
+
+  abbrev Before_is : PositionTree → Shape
+  Before_is x = either (Made before (λ e. Word_is words.Before ▷ Sum_is n e) x) (After_is x)
+
+  abbrev Last_is : PositionTree → Shape
+  Last_is x = either (Made (λ (u : Unit {0}). at_last) (λ (u : Unit {0}). Word_is words.Last) x) (Before_is x)
+
+  abbrev First_is : PositionTree → Shape
+  First_is x = either (Made (λ (u : Unit {0}). at_first) (λ (u : Unit {0}). Word_is words.First) x) (Last_is x)
+
+  position_word : (ts : List Token) → continues_position ts ≡ false → (w : Word) → statement_more w ≡ true → begins (word w) ts ≡ false
+  position_word ts stop w held = no_word statement_more w held ts (or_false (begins_among statement_more ts) (continues_sum ts) stop).0
+
+  position_sum : (ts : List Token) → continues_position ts ≡ false → continues_sum ts ≡ false
+  position_sum ts stop = (or_false (begins_among statement_more ts) (continues_sum ts) stop).1
+
+  after_late : (w : Word) → statement_more w ≡ true → is (word w) (kinds.Word words.After) ≡ false → (x : PositionTree) (ts rest : List Token) → After_is x ts rest → continues_position rest ≡ false → begins (word w) ts ≡ false
+  after_late w held other x ts rest (inl (e, q, (a, (span, line, f), s))) stop = ap (begins (word w)) f ∙ other
+  after_late w held other x ts rest (inr (q, e)) stop = ap (begins (word w)) e ∙ position_word rest stop w held
+
+  before_late : (w : Word) → statement_more w ≡ true → is (word w) (kinds.Word words.After) ≡ false → is (word w) (kinds.Word words.Before) ≡ false → (x : PositionTree) (ts rest : List Token) → Before_is x ts rest → continues_position rest ≡ false → begins (word w) ts ≡ false
+  before_late w held other other' x ts rest (inl (e, q, (a, (span, line, f), s))) stop = ap (begins (word w)) f ∙ other'
+  before_late w held other other' x ts rest (inr s) stop = after_late w held other x ts rest s stop
+
+  last_late : (x : PositionTree) (ts rest : List Token) → Last_is x ts rest → continues_position rest ≡ false → begins (word words.First) ts ≡ false
+  last_late x ts rest (inl (e, q, (span, line, f))) stop = ap (begins (word words.First)) f
+  last_late x ts rest (inr s) stop = before_late words.First refl refl refl x ts rest s stop
+
+  position_any_reads : Reads (suc n) (position_in (suc n)) (position_in (suc m)) First_is continues_position
+  unfolding position_in
+  position_any_reads =
+      either_reads (word_item words.First (λ u. at_first))
+      (either_reads (word_item words.Last (λ u. at_last))
+      (either_reads (item_made (word words.Before) sum_reads before)
+      (either_reads (item_made (word words.After) sum_reads after) (done_reads (suc n) by_discipline) continues_position (λ ts stop. (position_sum ts stop, refl)) (λ x ts rest s stop. ap (begins (word words.After)) s.1 ∙ position_word rest stop words.After refl))
+      continues_position (λ ts stop. (position_sum ts stop, stop)) (after_late words.Before refl refl))
+      continues_position (λ ts stop. (refl, stop)) (before_late words.Last refl refl refl))
+      continues_position (λ ts stop. (refl, stop)) last_late
+
+  position_to : (x : PositionTree) (ts rest : List Token) → First_is x ts rest → Position_is n x ts rest
+  position_to x ts rest (inl (u, q, s)) = subst (λ x. Position_is n x ts rest) q s
+  position_to x ts rest (inr (inl (u, q, s))) = subst (λ x. Position_is n x ts rest) q s
+  position_to x ts rest (inr (inr (inl (e, q, s)))) = subst (λ x. Position_is n x ts rest) q s
+  position_to x ts rest (inr (inr (inr (inl (e, q, s))))) = subst (λ x. Position_is n x ts rest) q s
+  position_to x ts rest (inr (inr (inr (inr (q, s))))) = subst (λ x. Position_is n x ts rest) q s
+
+  position_from : (x : PositionTree) (ts rest : List Token) → Position_is n x ts rest → First_is x ts rest
+  position_from by_discipline ts rest s = inr (inr (inr (inr (refl, s))))
+  position_from at_first ts rest s = inl (tt, refl, s)
+  position_from at_last ts rest s = inr (inl (tt, refl, s))
+  position_from (before e) ts rest s = inr (inr (inl (e, refl, s)))
+  position_from (after e) ts rest s = inr (inr (inr (inl (e, refl, s))))
+
+  pub position_reads : Reads (suc n) (position_in (suc n)) (position_in (suc m)) (Position_is n) continues_position
+  position_reads = said_reads position_any_reads (Position_is n) position_to position_from
+
+  -- it doesn't continue the member
+  pub position_stops : (x : PositionTree) (ts a : List Token) → Position_is n x ts a → continues_sum a ≡ false → continues_sum ts ≡ false
+  position_stops by_discipline ts a s stop = ap continues_sum s ∙ stop
+  position_stops at_first ts a (span, line, e) stop = ap continues_sum e
+  position_stops at_last ts a (span, line, e) stop = ap continues_sum e
+  position_stops (before x) ts a (b, (span, line, e), s) stop = ap continues_sum e
+  position_stops (after x) ts a (b, (span, line, e), s) stop = ap continues_sum e
+
+  -- ---- when a notice is due
+
+  abbrev In_units_or_now : WhenTree → Shape
+  In_units_or_now x = either (Made in_units (λ e. Word_is words.In ▷ Sum_is n e ▷ Word_is words.Unit) x) (Made (λ (u : Unit {0}). now) (λ (u : Unit {0}). Word_is words.Now) x)
+
+  now_late : (x : WhenTree) (ts rest : List Token) → Made (λ (u : Unit {0}). now) (λ (u : Unit {0}). Word_is words.Now) x ts rest → begins (word words.In) ts ≡ false
+  now_late x ts rest (u, q, (span, line, e)) = ap (begins (word words.In)) e
+
+  in_late : (x : WhenTree) (ts rest : List Token) → In_units_or_now x ts rest → begins (word words.At) ts ≡ false
+  in_late x ts rest (inl (e, q, (a, (span, line, f), s))) = ap (begins (word words.At)) f
+  in_late x ts rest (inr (u, q, (span, line, f))) = ap (begins (word words.At)) f
+
+  pub when_reads : Reads (suc n) (when_in (suc n)) (when_in (suc m)) (When_is n) continues_sum
+  unfolding when_in
+  when_reads =
+      said_reads (either_reads (item_made (word words.At) sum_reads at_time)
+      (either_reads (item_made (word words.In) (before_mark_reads (word words.Unit) sum_reads (λ span line ts. refl)) in_units) (made_reads (expect_reads (suc n) (word words.Now)) (λ u. now)) continues_sum (λ ts stop. (refl, refl)) (λ x ts rest s stop. now_late x ts rest s))
+      continues_sum (λ ts stop. (stop, stop)) (λ x ts rest s stop. in_late x ts rest s))
+      (When_is n) to from
+    where
+      to : (x : WhenTree) (ts rest : List Token) → either (Made at_time (λ e. Word_is words.At ▷ Sum_is n e) x) (In_units_or_now x) ts rest → When_is n x ts rest
+      to x ts rest (inl (e, q, s)) = subst (λ x. When_is n x ts rest) q s
+      to x ts rest (inr (inl (e, q, s))) = subst (λ x. When_is n x ts rest) q s
+      to x ts rest (inr (inr (u, q, s))) = subst (λ x. When_is n x ts rest) q s
+
+      from : (x : WhenTree) (ts rest : List Token) → When_is n x ts rest → either (Made at_time (λ e. Word_is words.At ▷ Sum_is n e) x) (In_units_or_now x) ts rest
+      from (at_time e) ts rest s = inl (e, refl, s)
+      from (in_units e) ts rest s = inr (inl (e, refl, s))
+      from now ts rest s = inr (inr (tt, refl, s))
+
+  when_stops : (x : WhenTree) (ts rest : List Token) → When_is n x ts rest → (begins_class classes.Given ts || continues_sums ts) ≡ false
+  when_stops (at_time e) ts rest (a, (span, line, f), s) = rw f refl
+  when_stops (in_units e) ts rest (a, (span, line, f), s) = rw f refl
+  when_stops now ts rest (span, line, f) = rw f refl
+
+  abbrev pub Due_is : List ExpressionTree × WhenTree → Shape
+  Due_is p = perhaps_listed (One_of classes.Given) (Sum_is n) p.0 ▷ When_is n p.1
+
+  pub due_reads : Reads (suc n) (due_in (suc n)) (due_in (suc m)) Due_is continues_sum
+  due_reads = seq_reads given_reads when_reads (λ x ts rest s stop. when_stops x ts rest s)
+
+  given_word_stops : (c : List Token → Bool) → ((span : Span) (line : Line) (rest : List Token) → c (token (kinds.Word words.Given) span line ∷ rest) ≡ false) → ((span : Span) (line : Line) (rest : List Token) → c (token (kinds.Word words.Giving) span line ∷ rest) ≡ false) → (ts a : List Token) → One_of classes.Given ts a → c ts ≡ false
+  given_word_stops c on_given on_giving ts a (w, held, at) = go w held at
+    where
+      go : (w : Word) → has_word classes.Given w ≡ true → Word_is w ts a → c ts ≡ false
+      go words.Given e (span, line, f) = ap c f ∙ on_given span line a
+      go words.Giving e (span, line, f) = ap c f ∙ on_giving span line a
+      go _ e at = absurd cc
+
+  -- what is given, and when, continues nothing behind CALLED
+  pub due_stops : (p : List ExpressionTree × WhenTree) (ts rest : List Token) → Due_is p ts rest → (begins (word words.Called) ts || continues_sum ts) ≡ false
+  due_stops ([], at_time x) ts rest (a, e, (b, (span, line, f), s)) = rw (e, f) refl
+  due_stops ([], in_units x) ts rest (a, e, (b, (span, line, f), s)) = rw (e, f) refl
+  due_stops ([], now) ts rest (a, e, (span, line, f)) = rw (e, f) refl
+  due_stops (x ∷ xs, w) ts rest (a, (b, given, s), t) = given_word_stops (λ ts. begins (word words.Called) ts || continues_sum ts) (λ span line rest. refl) (λ span line rest. refl) ts b given

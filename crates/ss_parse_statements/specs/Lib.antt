@@ -1,0 +1,4 @@
+pub mod SpelledParts
+pub mod ReadSimple
+pub mod SpelledStatements
+pub mod ReadStatements

@@ -1,0 +1,7 @@
+//! Reading statements.
+#![tactic(auto)]
+
+mod outcomes;
+mod parts;
+pub mod simple;
+pub mod statements;

@@ -1,0 +1,452 @@
+//! Statements that have no others in them.
+
+ghost use Rattle.std.specs.Prelude.{◌≡◌, map};
+ghost use Rattle.ss_tree.specs.View.{view_expression, view_statement};
+ghost use Rattle.ss_parse_expressions.specs.Reading.{Gives};
+ghost use Rattle.ss_parse_statements.specs.ReadSimple.{let_at, add_at, subtract_at, call_at, read_at, start_at, new_at, create_at, destroy_at, cancel_at, file_at, remove_end_at, remove_this_at, remove_at, schedule_the_at, schedule_a_at, schedule_at, reset_at, print_head, print_at, skip_at, simple_at};
+
+use crate::parts::{
+    begins_end, called_target, called_value, given, given_and_due, items, pictures, place,
+    positive, set_behind, set_end, target_behind, trigger, value_set, yielding,
+};
+use ss_base::Line;
+use ss_lex::{Token, Word};
+use ss_parse_expressions::classes::{Class, expect_class, skip_class};
+use ss_parse_expressions::expressions::sum;
+use ss_parse_expressions::failure::Failure;
+use ss_parse_expressions::names::{name, names};
+use ss_parse_expressions::places::{target, targets};
+use ss_parse_expressions::steps::beside;
+use ss_parse_expressions::tokens::{begins_word, behind_first, expect_word, skip_word, syntax};
+use ss_tree::expression::Expression;
+use ss_tree::statement::Statement;
+use std::alloc::Global;
+
+/// A LET behind its first word.
+#[tactic(auto, unfolding(crate::specs::ReadSimple::let_at, ss_tree::specs::View::view_statement))]
+fn let_form(
+    alloc: Global,
+    line: Line,
+    tokens: &[Token],
+    room: u8,
+) -> Result<(Statement, &[Token]), Failure>
+    ensures { Gives (λ x. (view_statement x.0, x.1.now)) result (let_at line room tokens.now) }
+{
+    let (target, rest) = target(alloc, tokens, room)?;
+    let (target, (value, rest)) = beside(target, value_set(alloc, rest, room))?;
+    let form = Statement::Let {
+        line,
+        target,
+        value,
+    };
+    Ok((form, rest))
+}
+
+/// An ADD behind its first word.
+#[tactic(auto, unfolding(crate::specs::ReadSimple::add_at, ss_tree::specs::View::view_statement))]
+fn add_form(
+    alloc: Global,
+    line: Line,
+    tokens: &[Token],
+    room: u8,
+) -> Result<(Statement, &[Token]), Failure>
+    ensures { Gives (λ x. (view_statement x.0, x.1.now)) result (add_at line room tokens.now) }
+{
+    let (amount, rest) = sum(alloc, tokens, room)?;
+    let (amount, (target, rest)) = beside(amount, target_behind(alloc, Word::To, rest, room))?;
+    let form = Statement::Add {
+        line,
+        amount,
+        target,
+    };
+    Ok((form, rest))
+}
+
+/// A SUBTRACT behind its first word.
+#[tactic(auto, unfolding(crate::specs::ReadSimple::subtract_at, ss_tree::specs::View::view_statement))]
+fn subtract_form(
+    alloc: Global,
+    line: Line,
+    tokens: &[Token],
+    room: u8,
+) -> Result<(Statement, &[Token]), Failure>
+    ensures { Gives (λ x. (view_statement x.0, x.1.now)) result (subtract_at line room tokens.now) }
+{
+    let (amount, rest) = sum(alloc, tokens, room)?;
+    let (amount, (target, rest)) = beside(amount, target_behind(alloc, Word::From, rest, room))?;
+    let form = Statement::Subtract {
+        line,
+        amount,
+        target,
+    };
+    Ok((form, rest))
+}
+
+/// A CALL behind its first word.
+#[tactic(auto, unfolding(crate::specs::ReadSimple::call_at, ss_tree::specs::View::view_statement))]
+fn call_form(
+    alloc: Global,
+    line: Line,
+    tokens: &[Token],
+    room: u8,
+) -> Result<(Statement, &[Token]), Failure>
+    ensures { Gives (λ x. (view_statement x.0, x.1.now)) result (call_at line room tokens.now) }
+{
+    let routine = name(tokens)?;
+    let (given, rest) = given(alloc, behind_first(tokens), room)?;
+    let (given, (yielding, rest)) = beside(given, yielding(alloc, rest, room))?;
+    let form = Statement::Call {
+        line,
+        routine,
+        given,
+        yielding,
+    };
+    Ok((form, rest))
+}
+
+/// A READ behind its first word.
+#[tactic(auto, unfolding(crate::specs::ReadSimple::read_at, ss_tree::specs::View::view_statement))]
+fn read_form(
+    alloc: Global,
+    line: Line,
+    tokens: &[Token],
+    room: u8,
+) -> Result<(Statement, &[Token]), Failure>
+    ensures { Gives (λ x. (view_statement x.0, x.1.now)) result (read_at line room tokens.now) }
+{
+    let (targets, rest) = targets(alloc, tokens, room)?;
+    Ok((Statement::Read { line, targets }, rest))
+}
+
+/// A START SIMULATION behind its first word.
+#[tactic(auto, unfolding(crate::specs::ReadSimple::start_at, ss_tree::specs::View::view_statement))]
+fn start_form(line: Line, tokens: &[Token]) -> Result<(Statement, &[Token]), Failure>
+    ensures { Gives (λ x. (view_statement x.0, x.1.now)) result (start_at line tokens.now) }
+{
+    let rest = expect_word(tokens, Word::Simulation)?;
+    Ok((Statement::StartSimulation { line }, rest))
+}
+
+/// A CREATE A behind its first word.
+#[tactic(auto, unfolding(crate::specs::ReadSimple::new_at, ss_tree::specs::View::view_statement))]
+fn new_form(
+    alloc: Global,
+    line: Line,
+    tokens: &[Token],
+    room: u8,
+) -> Result<(Statement, &[Token]), Failure>
+    ensures { Gives (λ x. (view_statement x.0, x.1.now)) result (new_at line room tokens.now) }
+{
+    let rest = skip_class(tokens, Class::Indefinite);
+    let class = name(rest)?;
+    let (called, rest) = called_target(alloc, behind_first(rest), room)?;
+    let form = Statement::Create {
+        line,
+        class,
+        called,
+    };
+    Ok((form, rest))
+}
+
+/// A CREATE behind its first word.
+#[tactic(auto, unfolding(crate::specs::ReadSimple::create_at, ss_tree::specs::View::view_statement))]
+fn create_form(
+    alloc: Global,
+    line: Line,
+    tokens: &[Token],
+    room: u8,
+) -> Result<(Statement, &[Token]), Failure>
+    ensures { Gives (λ x. (view_statement x.0, x.1.now)) result (create_at line room tokens.now) }
+{
+    if !begins_word(tokens, Word::Every) {
+        return new_form(alloc, line, tokens, room);
+    }
+    let (classes, rest) = names(alloc, skip_word(tokens, Word::Every))?;
+    Ok((Statement::CreateEvery { line, classes }, rest))
+}
+
+/// A DESTROY behind its first word.
+#[tactic(auto, unfolding(crate::specs::ReadSimple::destroy_at, ss_tree::specs::View::view_statement))]
+fn destroy_form(
+    alloc: Global,
+    line: Line,
+    tokens: &[Token],
+    room: u8,
+) -> Result<(Statement, &[Token]), Failure>
+    ensures { Gives (λ x. (view_statement x.0, x.1.now)) result (destroy_at line room tokens.now) }
+{
+    let rest = skip_word(tokens, Word::The);
+    let class = name(rest)?;
+    let (called, rest) = called_value(alloc, behind_first(rest), room)?;
+    let form = Statement::Destroy {
+        line,
+        class,
+        called,
+    };
+    Ok((form, rest))
+}
+
+/// A CANCEL behind its first word.
+#[tactic(auto, unfolding(crate::specs::ReadSimple::cancel_at, ss_tree::specs::View::view_statement))]
+fn cancel_form(
+    alloc: Global,
+    line: Line,
+    tokens: &[Token],
+    room: u8,
+) -> Result<(Statement, &[Token]), Failure>
+    ensures { Gives (λ x. (view_statement x.0, x.1.now)) result (cancel_at line room tokens.now) }
+{
+    let rest = skip_word(tokens, Word::The);
+    let class = name(rest)?;
+    let (called, rest) = called_value(alloc, behind_first(rest), room)?;
+    let form = Statement::Cancel {
+        line,
+        class,
+        called,
+    };
+    Ok((form, rest))
+}
+
+/// A FILE behind its first word.
+#[tactic(auto, unfolding(crate::specs::ReadSimple::file_at, ss_tree::specs::View::view_statement))]
+fn file_form(
+    alloc: Global,
+    line: Line,
+    tokens: &[Token],
+    room: u8,
+) -> Result<(Statement, &[Token]), Failure>
+    ensures { Gives (λ x. (view_statement x.0, x.1.now)) result (file_at line room tokens.now) }
+{
+    let (member, rest) = sum(alloc, skip_word(tokens, Word::The), room)?;
+    let (member, (position, rest)) = beside(member, place(alloc, rest, room))?;
+    let set = set_behind(alloc, Word::In, rest, room);
+    let ((member, position), (set, rest)) = beside((member, position), set)?;
+    let form = Statement::File {
+        line,
+        member,
+        position,
+        set,
+    };
+    Ok((form, rest))
+}
+
+/// A REMOVE FIRST or LAST behind THE.
+#[tactic(auto, unfolding(crate::specs::ReadSimple::remove_end_at, ss_tree::specs::View::view_statement))]
+fn remove_end_form(
+    alloc: Global,
+    line: Line,
+    tokens: &[Token],
+    room: u8,
+) -> Result<(Statement, &[Token]), Failure>
+    ensures { Gives (λ x. (view_statement x.0, x.1.now)) result (remove_end_at line room tokens.now) }
+{
+    let (end, rest) = set_end(tokens)?;
+    let (target, rest) = target(alloc, rest, room)?;
+    let (target, (set, rest)) = beside(target, set_behind(alloc, Word::From, rest, room))?;
+    let form = Statement::RemoveEnd {
+        line,
+        end,
+        target,
+        set,
+    };
+    Ok((form, rest))
+}
+
+/// A REMOVE of a given member behind THE.
+#[tactic(auto, unfolding(crate::specs::ReadSimple::remove_this_at, ss_tree::specs::View::view_statement))]
+fn remove_this_form(
+    alloc: Global,
+    line: Line,
+    tokens: &[Token],
+    room: u8,
+) -> Result<(Statement, &[Token]), Failure>
+    ensures { Gives (λ x. (view_statement x.0, x.1.now)) result (remove_this_at line room tokens.now) }
+{
+    let (member, rest) = sum(alloc, tokens, room)?;
+    let (member, (set, rest)) = beside(member, set_behind(alloc, Word::From, rest, room))?;
+    Ok((Statement::Remove { line, member, set }, rest))
+}
+
+/// A REMOVE behind its first word.
+#[tactic(auto, unfolding(crate::specs::ReadSimple::remove_at, ss_tree::specs::View::view_statement))]
+fn remove_form(
+    alloc: Global,
+    line: Line,
+    tokens: &[Token],
+    room: u8,
+) -> Result<(Statement, &[Token]), Failure>
+    ensures { Gives (λ x. (view_statement x.0, x.1.now)) result (remove_at line room tokens.now) }
+{
+    let rest = skip_word(tokens, Word::The);
+    if begins_end(rest) {
+        remove_end_form(alloc, line, rest, room)
+    } else {
+        remove_this_form(alloc, line, rest, room)
+    }
+}
+
+/// A SCHEDULE THE behind its first word.
+#[tactic(auto, unfolding(crate::specs::ReadSimple::schedule_the_at, ss_tree::specs::View::view_statement))]
+fn schedule_the_form(
+    alloc: Global,
+    line: Line,
+    tokens: &[Token],
+    room: u8,
+) -> Result<(Statement, &[Token]), Failure>
+    ensures { Gives (λ x. (view_statement x.0, x.1.now)) result (schedule_the_at line room tokens.now) }
+{
+    let rest = expect_word(tokens, Word::The)?;
+    let class = name(rest)?;
+    let (called, rest) = called_value(alloc, behind_first(rest), room)?;
+    let (called, (given, when, rest)) = beside(called, given_and_due(alloc, rest, room))?;
+    let form = Statement::Schedule {
+        line,
+        class,
+        called,
+        given,
+        when,
+    };
+    Ok((form, rest))
+}
+
+/// A SCHEDULE A behind its first word.
+#[tactic(auto, unfolding(crate::specs::ReadSimple::schedule_a_at, ss_tree::specs::View::view_statement))]
+fn schedule_a_form(
+    alloc: Global,
+    line: Line,
+    tokens: &[Token],
+    room: u8,
+) -> Result<(Statement, &[Token]), Failure>
+    ensures { Gives (λ x. (view_statement x.0, x.1.now)) result (schedule_a_at line room tokens.now) }
+{
+    let rest = expect_class(tokens, Class::Indefinite)?;
+    let class = name(rest)?;
+    let (called, rest) = called_target(alloc, behind_first(rest), room)?;
+    let (called, (given, when, rest)) = beside(called, given_and_due(alloc, rest, room))?;
+    let form = Statement::ScheduleNew {
+        line,
+        class,
+        called,
+        given,
+        when,
+    };
+    Ok((form, rest))
+}
+
+/// A SCHEDULE behind its first word.
+#[tactic(auto, unfolding(crate::specs::ReadSimple::schedule_at, ss_tree::specs::View::view_statement))]
+fn schedule_form(
+    alloc: Global,
+    line: Line,
+    tokens: &[Token],
+    room: u8,
+) -> Result<(Statement, &[Token]), Failure>
+    ensures { Gives (λ x. (view_statement x.0, x.1.now)) result (schedule_at line room tokens.now) }
+{
+    if begins_word(tokens, Word::The) {
+        schedule_the_form(alloc, line, tokens, room)
+    } else {
+        schedule_a_form(alloc, line, tokens, room)
+    }
+}
+
+/// A RESET behind its first word.
+#[tactic(auto, unfolding(crate::specs::ReadSimple::reset_at, ss_tree::specs::View::view_statement))]
+fn reset_form(
+    alloc: Global,
+    line: Line,
+    tokens: &[Token],
+    room: u8,
+) -> Result<(Statement, &[Token]), Failure>
+    ensures { Gives (λ x. (view_statement x.0, x.1.now)) result (reset_at line room tokens.now) }
+{
+    let rest = expect_word(skip_word(tokens, Word::The), Word::Totals)?;
+    let rest = expect_word(rest, Word::Of)?;
+    let (targets, rest) = targets(alloc, rest, room)?;
+    Ok((Statement::Reset { line, targets }, rest))
+}
+
+/// The number of pictures of a PRINT, and its items.
+#[tactic(auto, unfolding(crate::specs::ReadSimple::print_head))]
+fn print_head(
+    alloc: Global,
+    tokens: &[Token],
+    room: u8,
+) -> Result<(u64, Vec<Expression>, &[Token]), Failure>
+    ensures { Gives (λ x. ((x.0, map view_expression x.1.items), x.2.now)) result (print_head room tokens.now) }
+{
+    let (count, rest) = positive(tokens)?;
+    let rest = expect_word(rest, Word::Line)?;
+    let (items, rest) = items(alloc, rest, room)?;
+    let (items, rest) = beside(items, trigger(rest))?;
+    Ok((count, items, rest))
+}
+
+/// A PRINT behind its first word.
+#[tactic(auto, unfolding(crate::specs::ReadSimple::print_at, ss_tree::specs::View::view_statement))]
+fn print_form(
+    alloc: Global,
+    line: Line,
+    tokens: &[Token],
+    room: u8,
+) -> Result<(Statement, &[Token]), Failure>
+    ensures { Gives (λ x. (view_statement x.0, x.1.now)) result (print_at line room tokens.now) }
+{
+    let (count, items, rest) = print_head(alloc, tokens, room)?;
+    let (items, (pictures, rest)) = beside(items, pictures(alloc, rest, count))?;
+    let form = Statement::Print {
+        line,
+        items,
+        pictures,
+    };
+    Ok((form, rest))
+}
+
+/// A SKIP behind its first word.
+#[tactic(auto, unfolding(crate::specs::ReadSimple::skip_at, ss_tree::specs::View::view_statement))]
+fn skip_form(
+    alloc: Global,
+    line: Line,
+    tokens: &[Token],
+    room: u8,
+) -> Result<(Statement, &[Token]), Failure>
+    ensures { Gives (λ x. (view_statement x.0, x.1.now)) result (skip_at line room tokens.now) }
+{
+    let (count, rest) = sum(alloc, tokens, room)?;
+    let rest = expect_word(skip_word(rest, Word::Output), Word::Line);
+    let (count, rest) = beside(count, rest)?;
+    Ok((Statement::Skip { line, count }, rest))
+}
+
+/// A statement that has no others in it, behind its first word.
+#[tactic(auto, unfolding(crate::specs::ReadSimple::simple_at, ss_tree::specs::View::view_statement))]
+pub fn simple_form(
+    alloc: Global,
+    line: Line,
+    word: Word,
+    tokens: &[Token],
+    room: u8,
+) -> Result<(Statement, &[Token]), Failure>
+    ensures { Gives (λ x. (view_statement x.0, x.1.now)) result (simple_at line room word tokens.now) }
+{
+    match word {
+        Word::Let => let_form(alloc, line, tokens, room),
+        Word::Add => add_form(alloc, line, tokens, room),
+        Word::Subtract => subtract_form(alloc, line, tokens, room),
+        Word::Call => call_form(alloc, line, tokens, room),
+        Word::Read => read_form(alloc, line, tokens, room),
+        Word::Create => create_form(alloc, line, tokens, room),
+        Word::Destroy => destroy_form(alloc, line, tokens, room),
+        Word::File => file_form(alloc, line, tokens, room),
+        Word::Remove => remove_form(alloc, line, tokens, room),
+        Word::Schedule => schedule_form(alloc, line, tokens, room),
+        Word::Cancel => cancel_form(alloc, line, tokens, room),
+        Word::Reset => reset_form(alloc, line, tokens, room),
+        Word::Print => print_form(alloc, line, tokens, room),
+        Word::Skip => skip_form(alloc, line, tokens, room),
+        Word::Return => Ok((Statement::Return { line }, tokens)),
+        Word::Stop => Ok((Statement::Stop { line }, tokens)),
+        Word::Start => start_form(line, tokens),
+        _ => Err(syntax(tokens)),
+    }
+}

@@ -1,6 +1,0 @@
-use Rattle.std.proofs.Common.{◌≡◌, None}
-use Rattle.std.specs.Prelude.{replicate}
-use Rattle.ss_population.proofs.population.none_made.Given as goal
-
-abbrev pub invariant-loop : goal.invariant-loop
-invariant-loop l = l.made.items ≡ replicate l.counter None

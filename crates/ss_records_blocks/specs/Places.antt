@@ -1,0 +1,19 @@
+-- Where blocks lie, by number and by index.
+use Rattle.std.specs.Prelude.{ℕ, suc, List, [], ◌∷◌, Option, Some, None}
+use Rattle.ss_records_blocks.specs.declared.store.Address.{Address}
+
+-- the place of each number, none where it is gone
+abbrev pub Numbers : Type 0
+Numbers = List (Option Address)
+
+-- how many numbers have a place
+abbrev pub living : Numbers → ℕ
+living [] = 0
+living (None ∷ ps) = living ps
+living (Some p ∷ ps) = suc (living ps)
+
+-- the places of the entities of a class, none until they are made
+abbrev pub row_in : Option (Option (List Address)) → List Address
+row_in None = []
+row_in (Some None) = []
+row_in (Some (Some ps)) = ps

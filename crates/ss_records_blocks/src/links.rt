@@ -1,0 +1,153 @@
+// Following links, and the six writes that link an entity into a set or out of it.
+ghost use Rattle.std.specs.Prelude.{◌≡◌, ℕ, ◌+◌, ◌-◌, ◌^◌, ◌<◌, ◌≤◌, true, false, length};
+ghost use denote.RawPtr.{Ptr};
+ghost use Rattle.ss_records_blocks.specs.Cells.{IsLink, IsCounter, link, number, counter, words_at, word_at, put_word};
+ghost use Rattle.ss_records_blocks.specs.Links.{Leads, hooked, linked_in, unlinked_in, slots_at};
+
+use crate::head::NUMBER;
+use crate::store::{Address, Blocks};
+
+/// An entity by its block and its number. The system has the number 0.
+#[derive(Clone, Copy)]
+pub struct Entry {
+    /// Where its block lies.
+    pub place: Address,
+    /// What the block names as its number.
+    pub number: u64,
+}
+
+impl Blocks {
+    /// The entity that a link leads to: a touch.
+    pub fn follow(&mut self, place: Address, k: usize) -> Entry
+        requires leads { Leads self.old.cells place.at k }
+        requires room { self.old.touches + 1 < 2 ^ 64 }
+        ensures word { word_at self.old.cells place.at k ≡ link result.place.at }
+        ensures there { word_at self.old.cells result.place.at 1 ≡ number result.number }
+        ensures cells { self.new.cells ≡ self.old.cells }
+        ensures touches { (self.new.touches ≡ self.old.touches + 1) × (self.new.total ≡ self.old.total + 1) }
+    {
+        let to = self.link(place, k);
+        Entry {
+            place: to,
+            number: self.number(to, NUMBER),
+        }
+    }
+
+    /// The same where the touch is counted beside it.
+    #[inline(always)]
+    pub fn look(&mut self, place: Address, k: usize) -> Entry
+        requires leads { Leads self.old.cells place.at k }
+        ensures word { word_at self.old.cells place.at k ≡ link result.place.at }
+        ensures there { word_at self.old.cells result.place.at 1 ≡ number result.number }
+        ensures cells { self.new.cells ≡ self.old.cells }
+        ensures touches { (self.new.touches ≡ self.old.touches) × (self.new.total ≡ self.old.total + 1) }
+    {
+        let to = self.peek_link(place, k);
+        Entry {
+            place: to,
+            number: self.number(to, NUMBER),
+        }
+    }
+
+    // Lets a link lead elsewhere: a touch, which is counted beside it. Words keep their kinds.
+    fn relink(&mut self, place: Address, k: usize, to: Address)
+        requires word { IsLink (word_at self.old.cells place.at k) }
+        ensures cells { self.new.cells ≡ put_word self.old.cells place.at k (link to.at) }
+        ensures links { (q : Ptr) (j : ℕ) → IsLink (word_at self.old.cells q j) → IsLink (word_at self.new.cells q j) }
+        ensures counters { (q : Ptr) (j : ℕ) → IsCounter (word_at self.old.cells q j) → IsCounter (word_at self.new.cells q j) }
+        ensures touches { (self.new.touches ≡ self.old.touches) × (self.new.total ≡ self.old.total + 1) }
+    {
+        self.set_link(place, k, to);
+    }
+
+    // Lets the word k of the owner lead elsewhere where the neighbour is the end, else the word j of the
+    // neighbour: a touch, which is counted beside it.
+    fn hook(
+        &mut self,
+        ends: bool,
+        owner: Address,
+        k: usize,
+        neighbour: Address,
+        j: usize,
+        to: Address,
+    )
+        requires owner { IsLink (word_at self.old.cells owner.at k) }
+        requires neighbour { ends ≡ false → IsLink (word_at self.old.cells neighbour.at j) }
+        ensures cells { self.new.cells ≡ hooked ends self.old.cells owner.at k neighbour.at j to.at }
+        ensures links { (q : Ptr) (j : ℕ) → IsLink (word_at self.old.cells q j) → IsLink (word_at self.new.cells q j) }
+        ensures counters { (q : Ptr) (j : ℕ) → IsCounter (word_at self.old.cells q j) → IsCounter (word_at self.new.cells q j) }
+        ensures touches { (self.new.touches ≡ self.old.touches) × (self.new.total ≡ self.old.total + 1) }
+    {
+        if ends {
+            self.relink(owner, k, to);
+        } else {
+            self.relink(neighbour, j, to);
+        }
+    }
+
+    /// Links x in between two neighbours, of which each may be the end: six touches. The words of the set
+    /// stand at `member` in a member's block and at `set` in the owner's.
+    pub fn link_between(
+        &mut self,
+        member: usize,
+        set: usize,
+        owner: Address,
+        before: Address,
+        is_first: bool,
+        x: Address,
+        after: Address,
+        is_last: bool,
+        count: u64,
+    )
+        requires member { IsLink (word_at self.old.cells x.at member) × IsLink (word_at self.old.cells x.at (member + 1)) × IsLink (word_at self.old.cells x.at (member + 2)) }
+        requires owner { IsLink (word_at self.old.cells owner.at set) × IsLink (word_at self.old.cells owner.at (set + 1)) × IsCounter (word_at self.old.cells owner.at (set + 2)) }
+        requires before { is_first ≡ false → IsLink (word_at self.old.cells before.at member) }
+        requires after { is_last ≡ false → IsLink (word_at self.old.cells after.at (member + 1)) }
+        requires words { (member + 2 < 2 ^ 64) × (set + 2 < 2 ^ 64) }
+        requires counts { count + 1 < 2 ^ 64 }
+        requires room { self.old.touches + 6 < 2 ^ 64 }
+        ensures cells { self.new.cells ≡ linked_in (slots_at member set) self.old.cells owner.at before.at is_first x.at after.at is_last count }
+        ensures touches { (self.new.touches ≡ self.old.touches + 6) × (self.new.total ≡ self.old.total + 6) }
+    {
+        self.expect(6);
+        self.relink(x, member, after);
+        self.relink(x, member + 1, before);
+        self.relink(x, member + 2, owner);
+        self.hook(is_first, owner, set, before, member, x);
+        self.hook(is_last, owner, set + 1, after, member + 1, x);
+        self.set_count(owner, set + 2, count + 1);
+    }
+
+    /// Links x out from between its neighbours, of which each may be the end: six touches. Then its links
+    /// lead to itself.
+    pub fn unlink(
+        &mut self,
+        member: usize,
+        set: usize,
+        owner: Address,
+        before: Address,
+        is_first: bool,
+        x: Address,
+        after: Address,
+        is_last: bool,
+        count: u64,
+    )
+        requires member { IsLink (word_at self.old.cells x.at member) × IsLink (word_at self.old.cells x.at (member + 1)) × IsLink (word_at self.old.cells x.at (member + 2)) }
+        requires owner { IsLink (word_at self.old.cells owner.at set) × IsLink (word_at self.old.cells owner.at (set + 1)) × IsCounter (word_at self.old.cells owner.at (set + 2)) }
+        requires before { is_first ≡ false → IsLink (word_at self.old.cells before.at member) }
+        requires after { is_last ≡ false → IsLink (word_at self.old.cells after.at (member + 1)) }
+        requires words { (member + 2 < 2 ^ 64) × (set + 2 < 2 ^ 64) }
+        requires counts { 0 < count }
+        requires room { self.old.touches + 6 < 2 ^ 64 }
+        ensures cells { self.new.cells ≡ unlinked_in (slots_at member set) self.old.cells owner.at before.at is_first x.at after.at is_last count }
+        ensures touches { (self.new.touches ≡ self.old.touches + 6) × (self.new.total ≡ self.old.total + 6) }
+    {
+        self.expect(6);
+        self.hook(is_first, owner, set, before, member, after);
+        self.hook(is_last, owner, set + 1, after, member + 1, before);
+        self.relink(x, member, x);
+        self.relink(x, member + 1, x);
+        self.relink(x, member + 2, x);
+        self.set_count(owner, set + 2, count - 1);
+    }
+}

@@ -1,0 +1,142 @@
+-- The neighbours between which a filing links, and a removal.
+use Rattle.std.proofs.Common.{◌≡◌, ℕ, ◌+◌, ◌<◌, true, false, List, [], ◌∷◌, ◌++◌, length, slice_get, Some, Ok, Err, refl, sym, ap, subst, ◌∙◌, append_assoc, append-nil}
+use Rattle.std.specs.Prelude.{ℤ, Result}
+use denote.RawPtr.{Ptr}
+use Rattle.ss_base.specs.declared.fault.FaultKind.{FaultKind}
+use Rattle.ss_base.specs.declared.fault.FaultKind.TheVariants.{FiledTwice, NotFiled}
+use Rattle.ss_base.specs.declared.layout.SetLayout.{SetLayout}
+use Rattle.ss_records_entities.specs.declared.records.Records.{Records}
+use Rattle.ss_records_blocks.specs.declared.links.Entry.{Entry}
+use Rattle.ss_records_blocks.specs.Cells.{number, link, word_at}
+use Rattle.ss_world.specs.State.{State, and_then, members_of, contains, is_filed}
+use Rattle.ss_world.specs.Sets.{joiner, owner, put_before, put_after, less, with_list_of, put_in, put_beside, taken_out}
+use Rattle.ss_world.specs.Lists.{head0, last_or, succ, pred_from, In, NotIn, Distinct}
+use Rattle.ss_records_words.specs.Places.{entity_at}
+use Rattle.ss_records_blocks.specs.Links.{Leads}
+use Rattle.ss_records_words.specs.Slotted.{member_base, owner_base}
+use Rattle.ss_records_entities.specs.Parts.{IsKept, places, Lies, Owns, Joins, Between, Around}
+use Rattle.ss_records_words.proofs.Splice.{cut, succ_cut, pred_cut, distinct_less, last_splice}
+use Rattle.ss_records_blocks.proofs.Entries.{get_there}
+use Rattle.ss_records_words.proofs.Filed.{contains_in}
+use Rattle.ss_records_entities.proofs.Listed.{put_before_cut, put_after_cut, less_cut, not_in_front}
+use Rattle.ss_records_entities.proofs.Leading.{To, leads, at_target, its_number, its_members, positive, first_to, last_to, next_to, prev_to}
+
+module _ (r : Records) (K : IsKept r) (s : ℕ) (inside : s < length r.layout.sets) where
+  abbrev at : ℕ → Ptr
+  at = entity_at r.system.at (places r) (get_there r.layout.sets s inside).0.member
+
+  abbrev f : ℕ → List ℕ
+  f = members_of r.notes.lists s
+
+  abbrev end : Entry
+  end = record { place = r.system; number = 0 }
+
+  pub lies_there : (p : Ptr) (k n : ℕ) → To r.blocks.cells at p k n → (q : Entry) → word_at r.blocks.cells p k ≡ link q.place.at → word_at r.blocks.cells q.place.at 1 ≡ number q.number → (Lies r s q) × (q.number ≡ n)
+  lies_there p k n h q w v = let e = its_number r.blocks.cells at p k n h q.place.at w q.number v in (at_target r.blocks.cells at p k n h q.place.at w ∙ ap at (sym e) ∙ ap (λ c. entity_at r.system.at (places r) c q.number) (sym (its_members r.layout r.blocks.cells r.system.at (places r) r.notes.lists K s inside)), e)
+
+  -- at the ends of a set
+  module _ (e : Entry) (h : Owns r s e) (b : ℕ) (base : (u : SetLayout) → slice_get r.layout.sets s ≡ Some u → b ≡ owner_base r.layout s u) (q : Entry) where
+    pub at_first : word_at r.blocks.cells e.place.at b ≡ link q.place.at → word_at r.blocks.cells q.place.at 1 ≡ number q.number → Between r s e.number end q [] (f e.number)
+    at_first w v =
+        let l = lies_there e.place.at b _ (first_to r.layout r.blocks.cells r.system.at (places r) r.notes.lists K s inside e.place.at e.number h.lies h.may b base) q w v in
+        record { list = refl; before = refl; last = refl; after = l.0; first = l.1 }
+
+    pub at_last : word_at r.blocks.cells e.place.at (b + 1) ≡ link q.place.at → word_at r.blocks.cells q.place.at 1 ≡ number q.number → Between r s e.number q end (f e.number) []
+    at_last w v =
+        let l = lies_there e.place.at (b + 1) _ (last_to r.layout r.blocks.cells r.system.at (places r) r.notes.lists K s inside e.place.at e.number h.lies h.may b base) q w v in
+        record { list = sym (append-nil (f e.number)); before = l.0; last = l.1; after = refl; first = refl }
+
+  -- beside a member y
+  module _ (y : Entry) (j : Joins r s y) (b : ℕ) (base : (u : SetLayout) → slice_get r.layout.sets s ≡ Some u → b ≡ member_base r.layout s u) (o : ℕ) (there : contains (f o) y.number ≡ true) where
+    here : In y.number (f o)
+    here = contains_in (f o) y.number there
+
+    pub parts : (xs : List ℕ) × (ys : List ℕ) × (f o ≡ xs ++ y.number ∷ ys)
+    parts = cut y.number (f o) here
+
+    abbrev xs : List ℕ
+    xs = parts.0
+
+    abbrev ys : List ℕ
+    ys = parts.1
+
+    some : 0 ≡ y.number → ⊥
+    some = positive r.layout r.blocks.cells r.system.at (places r) r.notes.lists K s inside y.place.at y.number j.lies j.is b base
+
+    apart : Distinct (xs ++ y.number ∷ ys)
+    apart = let k = get_there r.layout.sets s inside in subst Distinct parts.2 ((K.names s k.0 k.1).distinct o)
+
+    not_before : NotIn y.number xs
+    not_before = not_in_front y.number xs ys (distinct_less xs y.number ys apart).1
+
+    next_there : To r.blocks.cells at y.place.at b (succ y.number (f o))
+    next_there = next_to r.layout r.blocks.cells r.system.at (places r) r.notes.lists K s inside y.place.at y.number j.lies j.is b base o here
+
+    prev_there : To r.blocks.cells at y.place.at (b + 1) (pred_from 0 y.number (f o))
+    prev_there = prev_to r.layout r.blocks.cells r.system.at (places r) r.notes.lists K s inside y.place.at y.number j.lies j.is b base o here
+
+    pub next_found : Leads r.blocks.cells y.place.at b
+    next_found = leads r.blocks.cells at y.place.at b _ next_there
+
+    pub prev_found : Leads r.blocks.cells y.place.at (b + 1)
+    prev_found = leads r.blocks.cells at y.place.at (b + 1) _ prev_there
+
+    module _ (q : Entry) (w : word_at r.blocks.cells y.place.at b ≡ link q.place.at) (v : word_at r.blocks.cells q.place.at 1 ≡ number q.number) where
+      next_is : (Lies r s q) × (q.number ≡ head0 ys)
+      next_is = let l = lies_there y.place.at b _ next_there q w v in (l.0, l.1 ∙ ap (succ y.number) parts.2 ∙ succ_cut xs y.number ys some apart)
+
+      pub after_it : Between r s o y q (xs ++ y.number ∷ []) ys
+      after_it = record { list = parts.2 ∙ sym (append_assoc xs (y.number ∷ []) ys); before = j.lies; last = sym (last_splice 0 xs y.number []); after = next_is.0; first = next_is.1 }
+
+    module _ (q : Entry) (w : word_at r.blocks.cells y.place.at (b + 1) ≡ link q.place.at) (v : word_at r.blocks.cells q.place.at 1 ≡ number q.number) where
+      prev_is : (Lies r s q) × (q.number ≡ last_or 0 xs)
+      prev_is = let l = lies_there y.place.at (b + 1) _ prev_there q w v in (l.0, l.1 ∙ ap (pred_from 0 y.number) parts.2 ∙ pred_cut xs y.number ys some apart)
+
+      pub before_it : Between r s o q y xs (y.number ∷ ys)
+      before_it = record { list = parts.2; before = prev_is.0; last = prev_is.1; after = j.lies; first = refl }
+
+      pub around_it : (z : Entry) → word_at r.blocks.cells y.place.at b ≡ link z.place.at → word_at r.blocks.cells z.place.at 1 ≡ number z.number → Around r s o y.number q z xs ys
+      around_it z wz vz = let n = next_is z wz vz in record { list = parts.2; before = prev_is.0; last = prev_is.1; after = n.0; first = n.1 }
+
+    pub list_before : (x : ℕ) → xs ++ x ∷ y.number ∷ ys ≡ put_before y.number x (f o)
+    list_before x = sym (ap (put_before y.number x) parts.2 ∙ put_before_cut xs y.number x ys not_before)
+
+    pub list_after : (x : ℕ) → (xs ++ y.number ∷ []) ++ x ∷ ys ≡ put_after y.number x (f o)
+    list_after x = append_assoc xs (y.number ∷ []) (x ∷ ys) ∙ sym (ap (put_after y.number x) parts.2 ∙ put_after_cut xs y.number x ys not_before)
+
+    pub list_less : xs ++ ys ≡ less y.number (f o)
+    list_less = sym (ap (less y.number) parts.2 ∙ less_cut xs y.number ys not_before)
+
+-- what was done, as the definitions say
+module _ (st : State) (s : ℕ) (o x : ℤ) (m n : ℕ) (jn : joiner st s x ≡ Ok n) (om : owner st s o ≡ Ok m) where
+  at_both : (g : ℕ → ℕ → Result State FaultKind) → and_then (joiner st s x) (λ i. and_then (owner st s o) (g i)) ≡ g n m
+  at_both g = ap (λ z. and_then z (λ i. and_then (owner st s o) (g i))) jn ∙ ap (λ z. and_then z (g n)) om
+
+  pub put_twice : (put : ℕ → List ℕ → List ℕ) → is_filed st.lists s n ≡ true → and_then (joiner st s x) (λ i. and_then (owner st s o) (λ k. put_in put st s k i)) ≡ Err FiledTwice
+  put_twice put h = at_both (λ i k. put_in put st s k i) ∙ rw h refl
+
+  pub put_done : (put : ℕ → List ℕ → List ℕ) (new : State) → is_filed st.lists s n ≡ false → new ≡ with_list_of st s m (put n (members_of st.lists s m)) → and_then (joiner st s x) (λ i. and_then (owner st s o) (λ k. put_in put st s k i)) ≡ Ok new
+  put_done put new h e = at_both (λ i k. put_in put st s k i) ∙ rw h (ap Ok (sym e))
+
+  pub not_out : contains (members_of st.lists s m) n ≡ false → and_then (joiner st s x) (λ i. and_then (owner st s o) (λ k. taken_out st s k i)) ≡ Err NotFiled
+  not_out h = at_both (λ i k. taken_out st s k i) ∙ rw h refl
+
+  pub out_done : (new : State) → contains (members_of st.lists s m) n ≡ true → new ≡ with_list_of st s m (less n (members_of st.lists s m)) → and_then (joiner st s x) (λ i. and_then (owner st s o) (λ k. taken_out st s k i)) ≡ Ok new
+  out_done new h e = at_both (λ i k. taken_out st s k i) ∙ rw h (ap Ok (sym e))
+
+  module _ (y : ℤ) (k : ℕ) (jk : joiner st s y ≡ Ok k) where
+    at_all : (g : ℕ → ℕ → ℕ → Result State FaultKind) → and_then (joiner st s x) (λ i. and_then (joiner st s y) (λ z. and_then (owner st s o) (g i z))) ≡ g n k m
+    at_all g = ap (λ v. and_then v (λ i. and_then (joiner st s y) (λ z. and_then (owner st s o) (g i z)))) jn ∙ ap (λ v. and_then v (λ z. and_then (owner st s o) (g n z))) jk ∙ ap (λ v. and_then v (g n k)) om
+
+    module _ (put : ℕ → ℕ → List ℕ → List ℕ) where
+      abbrev whole : Result State FaultKind
+      whole = and_then (joiner st s x) (λ i. and_then (joiner st s y) (λ z. and_then (owner st s o) (λ a. put_beside put st s a i z)))
+
+      pub beside_twice : is_filed st.lists s n ≡ true → whole ≡ Err FiledTwice
+      beside_twice h = at_all (λ i z a. put_beside put st s a i z) ∙ rw h refl
+
+      pub not_beside : is_filed st.lists s n ≡ false → contains (members_of st.lists s m) k ≡ false → whole ≡ Err NotFiled
+      not_beside h i = at_all (λ i z a. put_beside put st s a i z) ∙ rw (h, i) refl
+
+      pub beside_done : (new : State) → is_filed st.lists s n ≡ false → contains (members_of st.lists s m) k ≡ true → new ≡ with_list_of st s m (put k n (members_of st.lists s m)) → whole ≡ Ok new
+      beside_done new h i e = at_all (λ i z a. put_beside put st s a i z) ∙ rw (h, i) (ap Ok (sym e))

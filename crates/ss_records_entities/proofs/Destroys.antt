@@ -1,0 +1,136 @@
+-- A block that is given back.
+use Rattle.std.proofs.Common.{◌≡◌, ℕ, zero, suc, ◌-◌, ◌<◌, true, false, List, [], ◌∷◌, map, length, slice_get, slice_set, Option, Some, None, Ok, Err, inl, inr, refl, sym, ap, subst, ◌∙◌, arith}
+use Rattle.std.specs.Prelude.{ℤ, pos}
+use denote.RawPtr.{Ptr}
+use Rattle.ss_base.specs.declared.layout.Layout.{Layout}
+use Rattle.ss_base.specs.declared.layout.SetLayout.{SetLayout}
+use Rattle.ss_base.specs.declared.layout.Owner.TheVariants.{Class}
+use Rattle.ss_records_blocks.specs.declared.store.Address.{Address}
+use Rattle.ss_records_blocks.specs.Cells.{Cells, words_at, word_of, without}
+use Rattle.ss_world.specs.State.{Members, members_of, kind_of, and_then, entity, number_in, in_a_set, owns_members, let_go, destroyed}
+use Rattle.ss_records_words.specs.Shape.{block_words}
+use Rattle.ss_records_words.specs.Reading.{class_of, record_of, record_at, records_at}
+use Rattle.ss_records_words.specs.Kept.{Kept, Formed, IsPermanent, state_of}
+use Rattle.ss_records_blocks.specs.Places.{Numbers}
+use Rattle.ss_records_words.specs.Places.{Directory, lying, own_or, listing, IsMade, Lists, class_at}
+use Rattle.ss_records_blocks.proofs.Same.{by_same}
+use Rattle.ss_records_blocks.proofs.Puts.{words_without}
+use Rattle.ss_records_words.proofs.Listing.{listed}
+use Rattle.ss_records_entities.proofs.Keeps.{made_same, entry_is}
+use Rattle.ss_records_entities.proofs.NamesGone.{name_gone}
+use Rattle.ss_world.specs.Lists.{NotIn}
+use Rattle.ss_base.specs.declared.fault.FaultKind.TheVariants.{InASet, OwnsMembers}
+use Rattle.ss_records_blocks.proofs.Count.{blocks_without}
+use Rattle.ss_records_blocks.proofs.Entries.{living_gone, length_set}
+
+get_other : (d : Numbers) (i : ℕ) (v : Option Address) (j : ℕ) → (i ≡ j → ⊥) → slice_get (slice_set d i v) j ≡ slice_get d j
+get_other [] i v j n = refl
+get_other (z ∷ zs) zero v zero n = absurd (n refl)
+get_other (z ∷ zs) zero v (suc j) n = refl
+get_other (z ∷ zs) (suc i) v zero n = refl
+get_other (z ∷ zs) (suc i) v (suc j) n = get_other zs i v j (λ e. n (ap suc e))
+
+get_gone : (d : Numbers) (i : ℕ) (p : Address) → slice_get (slice_set d i None) i ≡ Some (Some p) → ⊥
+get_gone [] i p h = cc
+get_gone (z ∷ zs) zero p h = cc
+get_gone (z ∷ zs) (suc i) p h = get_gone zs i p h
+
+-- what is listed once a number is gone
+dropped : (d : Directory) (i b j : ℕ) (q : Address) → slice_get (listing (lying (slice_set d.numbers i None) d.classes) b) j ≡ Some (Some q) → slice_get (listing d b) j ≡ Some (Some q)
+dropped d i b j q h = by_class (slice_get d.classes b) h where
+  in_numbers : slice_get (slice_set d.numbers i None) j ≡ Some (Some q) → slice_get d.numbers j ≡ Some (Some q)
+  in_numbers k = by_same i j (λ t n. absurd (get_gone d.numbers i q (ap (slice_get (slice_set d.numbers i None)) n ∙ k))) (λ t n. sym (get_other d.numbers i None j n) ∙ k)
+
+  by_class : (o : Option (Option (List Address))) → slice_get (own_or (slice_set d.numbers i None) o) j ≡ Some (Some q) → slice_get (own_or d.numbers o) j ≡ Some (Some q)
+  by_class None k = in_numbers k
+  by_class (Some None) k = in_numbers k
+  by_class (Some (Some ps)) k = k
+
+not_dropped : (d : Directory) (i b j : ℕ) (q : Address) → slice_get (listing d b) j ≡ Some (Some q) → ((i ≡ j) → slice_get d.numbers j ≡ Some (Some q) → ⊥) → slice_get (listing (lying (slice_set d.numbers i None) d.classes) b) j ≡ Some (Some q)
+not_dropped d i b j q h other = by_class (slice_get d.classes b) h where
+  in_numbers : slice_get d.numbers j ≡ Some (Some q) → slice_get (slice_set d.numbers i None) j ≡ Some (Some q)
+  in_numbers k = by_same i j (λ t n. absurd (other n k)) (λ t n. get_other d.numbers i None j n ∙ k)
+
+  by_class : (o : Option (Option (List Address))) → slice_get (own_or d.numbers o) j ≡ Some (Some q) → slice_get (own_or (slice_set d.numbers i None) o) j ≡ Some (Some q)
+  by_class None k = in_numbers k
+  by_class (Some None) k = in_numbers k
+  by_class (Some (Some ps)) k = k
+
+module _ (l : Layout) (cs : Cells) (sys : Ptr) (d : Directory) (ms : List Members) (K : Kept l cs sys d ms) (i : ℕ) (p : Address) (g : slice_get d.numbers i ≡ Some (Some p)) where
+  abbrev e : Directory
+  e = lying (slice_set d.numbers i None) d.classes
+
+  abbrev ds : Cells
+  ds = without cs p.at
+
+  pub its_size : (c : ℕ) → class_at cs p ≡ c → length (words_at cs p.at) ≡ block_words l (Class c)
+  its_size c h = (K.formed i p (inl g)).size ∙ ap (λ b. block_words l (Class b)) h
+
+  pub not_made : (j : ℕ) (q : Address) → IsMade d.classes j q → p.at ≡ q.at → ⊥
+  not_made j q h k = let y = K.made h.0 h.1 h.2 in K.kinds i p g (subst (λ c. IsPermanent (kind_of l c)) (sym (ap (λ (r : Ptr). class_of (words_at cs r)) k ∙ y.class j q h.3)) y.permanent)
+
+  entry : {P : Type 0} (j : ℕ) (q : Address) → Lists e j q → ((p.at ≡ q.at → ⊥) → Lists d j q → words_at ds q.at ≡ words_at cs q.at → P) → P
+  entry {P} j q (inl h) k = by_same i j
+      (λ t n. absurd (get_gone d.numbers i q (ap (slice_get e.numbers) n ∙ h)))
+      (λ t n. let was = sym (get_other d.numbers i None j n) ∙ h in let off : p.at ≡ q.at → ⊥ = λ z. n (K.apart i j p q (inl g) (inl was) z) in k off (inl was) (words_without cs p.at q.at off))
+  entry {P} j q (inr h) k = k (not_made j q h) (inr h) (words_without cs p.at q.at (not_made j q h))
+
+  -- in no set, and without members
+  pub record Free : Type 0 where
+    pub unfiled : (s : ℕ) (t : SetLayout) → slice_get l.sets s ≡ Some t → t.member ≡ class_at cs p → (o : ℕ) → NotIn (suc i) (members_of ms s o)
+    pub owns_none : (s : ℕ) (t : SetLayout) → slice_get l.sets s ≡ Some t → t.owner ≡ Class (class_at cs p) → members_of ms s (suc i) ≡ []
+
+  pub kept_destroyed : Free → Kept l ds sys e ms
+  kept_destroyed free = record {
+    small = K.small;
+    issued = subst (λ n. n < 4611686018427387904) (sym (length_set d.numbers i None)) K.issued;
+    width = K.width;
+    system = ap length (words_without cs p.at sys (K.off_system i p (inl g))) ∙ K.system;
+    end = ap (λ us. word_of us 1) (words_without cs p.at sys (K.off_system i p (inl g))) ∙ K.end;
+    kinds = λ j q h. by_same i j
+        (λ t n. absurd (get_gone d.numbers i q (ap (slice_get e.numbers) n ∙ h)))
+        (λ t n. let was = sym (get_other d.numbers i None j n) ∙ h in λ x. K.kinds j q was (subst (λ us. IsPermanent (kind_of l (class_of us))) (words_without cs p.at q.at (λ z. n (K.apart i j p q (inl g) (inl was) z))) x));
+    made = λ b ps h. let m = K.made b ps h in record { permanent = m.permanent; class = λ j q x. ap class_of (words_without cs p.at q.at (not_made j q (b, ps, h, x))) ∙ m.class j q x; few = m.few };
+    classes = λ j q h. entry j q h (λ n was w. subst (λ us. class_of us < length l.classes) (sym w) (K.classes j q was));
+    formed = λ j q h. entry j q h (λ n was w. subst (λ us. Formed l (class_of us) (suc j) us) (sym w) (K.formed j q was));
+    apart = λ j k q r h m z. entry j q h (λ n was w. entry k r m (λ n' was' w'. K.apart j k q r was was' z));
+    off_system = λ j q h. entry j q h (λ n was w. K.off_system j q was);
+    counted = omega (arith, K.counted, living_gone d.numbers i p g, blocks_without cs p.at (omega (arith, (K.formed i p (inl g)).size)));
+    names = λ s t h. name_gone l cs sys d ms K s t h ds e i p (words_without cs p.at sys (K.off_system i p (inl g))) (free.unfiled s t h) (free.owns_none s t h)
+        (λ b j q k. (dropped d i b j q k, entry j q (listed e b j q k) (λ n was w. w)))
+        (λ b j q k x not_it. not_dropped d i b j q k (λ n m. let same : p ≡ q = entry_is (sym g ∙ ap (slice_get d.numbers) n ∙ m) in not_it (sym n) (sym x ∙ ap (class_at cs) (sym same))));
+  }
+
+  pub records_destroyed : map (record_at l ds) e.numbers ≡ slice_set (map (record_at l cs) d.numbers) i None
+  records_destroyed = map_gone d.numbers i (λ j q h n. ap (λ us. Some (record_of l us)) (words_without cs p.at q.at (λ z. n (K.apart i j p q (inl g) (inl h) z)))) where
+    map_others : (xs : Numbers) → ((j : ℕ) (q : Address) → slice_get xs j ≡ Some (Some q) → record_at l ds (Some q) ≡ record_at l cs (Some q)) → map (record_at l ds) xs ≡ map (record_at l cs) xs
+    map_others [] o = refl
+    map_others (None ∷ zs) o = ap (λ rs. None ∷ rs) (map_others zs (λ j q h. o (suc j) q h))
+    map_others (Some q ∷ zs) o = λ t. o zero q refl t ∷ map_others zs (λ j q h. o (suc j) q h) t
+
+    map_gone : (xs : Numbers) (k : ℕ) → ((j : ℕ) (q : Address) → slice_get xs j ≡ Some (Some q) → (k ≡ j → ⊥) → record_at l ds (Some q) ≡ record_at l cs (Some q)) → map (record_at l ds) (slice_set xs k None) ≡ slice_set (map (record_at l cs) xs) k None
+    map_gone [] k o = refl
+    map_gone (z ∷ zs) zero o = ap (λ rs. None ∷ rs) (map_others zs (λ j q h. o (suc j) q h (λ n. absurd (omega (arith, n)))))
+    map_gone (None ∷ zs) (suc k) o = ap (λ rs. None ∷ rs) (map_gone zs k (λ j q h n. o (suc j) q h (λ m. n (omega (arith, m)))))
+    map_gone (Some q ∷ zs) (suc k) o = λ t. o zero q refl (λ n. absurd (omega (arith, n))) t ∷ map_gone zs k (λ j q h n. o (suc j) q h (λ m. n (omega (arith, m)))) t
+
+  permanents_kept : map (records_at l ds) d.classes ≡ map (records_at l cs) d.classes
+  permanents_kept = made_same l cs ds d.classes (λ j q h. ap (record_of l) (words_without cs p.at q.at (not_made j q h)))
+
+  pub is_destroyed : (c : ℕ) (x : ℤ) → x ≡ pos (suc i) → entity (state_of l cs d ms) c x ≡ Ok (record_of l (words_at cs p.at)) → in_a_set l.sets 0 ms c (suc i) ≡ false → owns_members l.sets 0 ms c (suc i) ≡ false
+      → destroyed (state_of l cs d ms) c x ≡ Ok (state_of l ds e ms)
+  is_destroyed c x at found not_it none =
+      let n : number_in x ≡ suc i = ap number_in at in
+      let k : suc i - 1 ≡ i = omega arith in
+      ap (λ r. and_then r (λ r. let_go (state_of l cs d ms) c (number_in x))) found
+      ∙ rw (n, not_it, none, k) (λ z. Ok (record (state_of l cs d ms) { records = sym records_destroyed z; permanents = sym permanents_kept z }))
+
+  pub in_a_set_is : (c : ℕ) (x : ℤ) → x ≡ pos (suc i) → entity (state_of l cs d ms) c x ≡ Ok (record_of l (words_at cs p.at)) → in_a_set l.sets 0 ms c (suc i) ≡ true → destroyed (state_of l cs d ms) c x ≡ Err InASet
+  in_a_set_is c x at found is_it =
+      let n : number_in x ≡ suc i = ap number_in at in
+      ap (λ r. and_then r (λ r. let_go (state_of l cs d ms) c (number_in x))) found ∙ rw (n, is_it) refl
+
+  pub owns_members_is : (c : ℕ) (x : ℤ) → x ≡ pos (suc i) → entity (state_of l cs d ms) c x ≡ Ok (record_of l (words_at cs p.at)) → in_a_set l.sets 0 ms c (suc i) ≡ false → owns_members l.sets 0 ms c (suc i) ≡ true → destroyed (state_of l cs d ms) c x ≡ Err OwnsMembers
+  owns_members_is c x at found not_it is_it =
+      let n : number_in x ≡ suc i = ap number_in at in
+      ap (λ r. and_then r (λ r. let_go (state_of l cs d ms) c (number_in x))) found ∙ rw (n, not_it, is_it) refl

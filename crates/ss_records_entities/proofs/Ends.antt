@@ -1,0 +1,108 @@
+-- Taking the first or the last member out of a set, and the test of membership.
+use Rattle.std.proofs.Common.{◌≡◌, ℕ, zero, suc, Bool, true, ◌+◌, ◌≤◌, ◌<◌, ◌^◌, List, [], length, Ok, Err, refl, sym, ap, subst, ◌∙◌, arith}
+use Rattle.std.specs.Prelude.{ℤ, pos, Result}
+use Rattle.ss_base.specs.declared.fault.FaultKind.{FaultKind}
+use Rattle.ss_base.specs.declared.fault.FaultKind.TheVariants.{EmptySet}
+use Rattle.ss_records_entities.specs.declared.records.Records.{Records}
+use Rattle.ss_records_blocks.specs.declared.links.Entry.{Entry}
+use Rattle.ss_world.specs.State.{State, and_then, members_of, contains}
+use Rattle.ss_world.specs.Sets.{joiner, owner, member_in, less, with_list_of, removed}
+use Rattle.ss_world.specs.Disciplines.{take, first_removed, last_removed, member_test}
+use Rattle.ss_world.specs.Lists.{head0, last_or, In}
+use Rattle.ss_records_words.specs.Slotted.{IsOf}
+use Rattle.ss_records_entities.specs.Parts.{IsKept, state, places, Lies, Joins, Between}
+use Rattle.ss_records_words.proofs.Splice.{before_in, after_in}
+use Rattle.ss_records_blocks.proofs.Entries.{get_there}
+use Rattle.ss_records_words.proofs.Filed.{in_contains}
+use Rattle.ss_records_entities.proofs.Cuts.{out_done}
+use Rattle.ss_records_entities.proofs.Apart.{sets_apart}
+
+-- a member that was found at an end
+module _ (r : Records) (K : IsKept r) (s : ℕ) (inside : s < length r.layout.sets) (o : ℕ) (q : Entry) (lies : Lies r s q) (inn : In q.number (members_of r.notes.lists s o)) where
+  pub joins_it : Joins r s q
+  joins_it =
+      let y = get_there r.layout.sets s inside in
+      record { lies = lies; is = subst (λ c. IsOf r.blocks.cells (places r) c q.number) (sym (ap member_in y.1)) ((K.names s y.0 y.1).members o q.number inn).0 }
+
+  pub has_it : contains (members_of r.notes.lists s o) q.number ≡ true
+  has_it = in_contains (members_of r.notes.lists s o) q.number inn
+
+  some_it : 0 ≡ q.number → ⊥
+  some_it = let y = get_there r.layout.sets s inside in ((K.names s y.0 y.1).members o q.number inn).1
+
+  joined_it : joiner (state r) s (pos q.number) ≡ Ok q.number
+  joined_it = ((sets_apart r.layout r.blocks.cells r.system.at (places r) r.notes.lists K).members s o q.number inside inn).1
+
+  took : (n : ℕ) (x : ℤ) (new : State) → (0 ≡ n → ⊥) → removed (state r) s x (pos n) ≡ Ok new → take (state r) s x (pos n) ≡ Ok (pos n, new)
+  took zero x new h e = absurd (h refl)
+  took (suc n) x new h e = ap (λ z. and_then z (λ t. Ok (pos (suc n), t))) e
+
+  pub taken : (x y : ℤ) (new : State) (look : Result ℤ FaultKind) → owner (state r) s x ≡ Ok o → look ≡ Ok y → y ≡ pos q.number → new ≡ with_list_of (state r) s o (less q.number (members_of r.notes.lists s o)) → and_then look (take (state r) s x) ≡ Ok (y, new)
+  taken x y new look om found is e =
+      ap (λ z. and_then z (take (state r) s x)) (found ∙ ap (λ z. Ok z) is)
+      ∙ took q.number x new some_it (out_done (state r) s x (pos q.number) o q.number joined_it om new has_it e)
+      ∙ ap (λ z. Ok (z, new)) (sym is)
+
+-- at the ends
+module _ (r : Records) (s o : ℕ) (a z : Entry) where
+  pub first_in_it : (ys : List ℕ) → Between r s o a z [] ys → (z.number ≡ 0 → ⊥) → In z.number (members_of r.notes.lists s o)
+  first_in_it ys w n = subst (In z.number) (sym w.list) (after_in z.number [] ys (sym w.first) (λ i. n (sym i)))
+
+  pub last_in_it : (xs : List ℕ) → Between r s o a z xs [] → (a.number ≡ 0 → ⊥) → In a.number (members_of r.notes.lists s o)
+  last_in_it xs w n = subst (In a.number) (sym w.list) (before_in a.number xs [] (sym w.last) (λ i. n (sym i)))
+
+-- none to take
+pub none_taken : (st : State) (s n : ℕ) (x y : ℤ) (look : Result ℤ FaultKind) → look ≡ Ok y → y ≡ pos n → n ≡ 0 → and_then look (take st s x) ≡ Err EmptySet
+none_taken st s n x y look found is none = ap (λ z. and_then z (take st s x)) (found ∙ ap (λ z. Ok z) (is ∙ ap pos none))
+
+pub first_refused : (st : State) (s : ℕ) (x : ℤ) (e : FaultKind) → owner st s x ≡ Err e → first_removed st s x ≡ Err e
+first_refused st s x e h = ap (λ z. and_then (and_then z (λ n. Ok (pos (head0 (members_of st.lists s n))))) (take st s x)) h
+
+pub last_refused : (st : State) (s : ℕ) (x : ℤ) (e : FaultKind) → owner st s x ≡ Err e → last_removed st s x ≡ Err e
+last_refused st s x e h = ap (λ z. and_then (and_then z (λ n. Ok (pos (last_or 0 (members_of st.lists s n))))) (take st s x)) h
+
+-- ## The test of membership
+
+pub tested : (st : State) (s : ℕ) (o x : ℤ) (n m : ℕ) (b : Bool) → joiner st s x ≡ Ok n → owner st s o ≡ Ok m → b ≡ contains (members_of st.lists s m) n → Ok b ≡ member_test st s o x
+tested st s o x n m b j w h =
+    ap (λ z. Ok z) h ∙ sym (ap (λ r. and_then r (λ k. and_then (owner st s o) (λ i. Ok (contains (members_of st.lists s i) k)))) j ∙ ap (λ r. and_then r (λ i. Ok (contains (members_of st.lists s i) n))) w)
+
+untested_by : (a b : Result ℕ FaultKind) (st : State) (g : ℕ → ℕ → Bool) (f : FaultKind) → and_then a (λ n. and_then b (λ m. Ok st)) ≡ Err f → Err f ≡ and_then a (λ n. and_then b (λ m. Ok (g n m)))
+untested_by (Ok n) (Ok m) st g f h = cc
+untested_by (Ok n) (Err e) st g f h = let q : e ≡ f = cc in ap (λ z. Err z) (sym q)
+untested_by (Err e) b st g f h = let q : e ≡ f = cc in ap (λ z. Err z) (sym q)
+
+pub untested : (st : State) (s : ℕ) (o x : ℤ) (f : FaultKind) → ((g : ℕ → ℕ → Result State FaultKind) → and_then (joiner st s x) (λ n. and_then (owner st s o) (g n)) ≡ Err f) → Err f ≡ member_test st s o x
+untested st s o x f h = untested_by (joiner st s x) (owner st s o) st (λ n m. contains (members_of st.lists s m) n) f (h (λ n m. Ok st))
+
+-- ## Touches
+
+module _ (a A : ℕ) (none : a ≡ 0) where
+  pub untouched : (k : ℕ) → (a ≤ k) × (A ≡ A + a)
+  untouched k = (omega (arith, none), omega (arith, none))
+
+  module _ (b B : ℕ) where
+    pub two_at_most : (b ≤ a + 2) × (B + a ≡ A + b) → (b ≤ 2) × (B ≡ A + b)
+    two_at_most more = (omega (arith, none, more.0), omega (arith, none, more.1))
+
+    module _ (one : (b ≡ a + 1) × (B ≡ A + 1)) where
+      pub one_at_most : (b ≤ 12) × (B ≡ A + b)
+      one_at_most = (omega (arith, none, one.0), omega (arith, none, one.0, one.1))
+
+      pub one_and_nine : (d D : ℕ) → (d ≡ b + 9) × (D ≡ B + 9) → (d ≤ 12) × (D ≡ A + d)
+      one_and_nine d D nine = (omega (arith, none, one.0, nine.0), omega (arith, none, one.0, one.1, nine.0, nine.1))
+
+-- of two looks and a link out
+module _ (a A b B d D : ℕ) (few : a ≤ 8) (first : (b ≡ a + 1) × (B ≡ A + 1)) where
+  pub room_at_first : a + 1 < 2 ^ 64
+  room_at_first = omega (arith, few)
+
+  pub room_at_second : b + 1 < 2 ^ 64
+  room_at_second = omega (arith, few, first.0)
+
+  module _ (second : (d ≡ b + 1) × (D ≡ B + 1)) where
+    pub few_then : d ≤ 16
+    few_then = omega (arith, few, first.0, second.0)
+
+    pub nine_touches : (f F : ℕ) → (f ≡ d + 7) × (F ≡ D + 7) → (f ≡ a + 9) × (F ≡ A + 9)
+    nine_touches f F link = (omega (arith, first.0, second.0, link.0), omega (arith, first.1, second.1, link.1))

@@ -1,0 +1,161 @@
+-- What the functions that look at a set read.
+use Rattle.std.proofs.Common.{◌≡◌, ℕ, ◌+◌, ◌^◌, ◌<◌, true, List, length, slice_get, Some, None, Ok, refl, sym, ap, subst, ◌∙◌, arith}
+use Rattle.std.specs.Prelude.{ℤ, pos, not, nat_eq}
+use Rattle.std.specs.Int.{cast_signed}
+use Rattle.std.proofs.lemmas.Int.{ints}
+use mir.Syntax.{w64}
+use denote.RawPtr.{Ptr}
+use Rattle.ss_base.specs.declared.layout.SetLayout.{SetLayout}
+use Rattle.ss_records_entities.specs.declared.records.Records.{Records}
+use Rattle.ss_records_blocks.specs.declared.links.Entry.{Entry}
+use Rattle.ss_records_blocks.specs.Cells.{number, counter, link, IsCounter, word_at}
+use Rattle.ss_world.specs.State.{and_then, members_of, owner_of, is_filed}
+use Rattle.ss_world.specs.Sets.{joiner, owner, as_number, companions, follower, precursor, first_in, last_in, count_in, next_in, previous_in, owner_of_member}
+use Rattle.ss_world.specs.Lists.{head0, last_or, succ, pred_from, In}
+use Rattle.ss_records_words.specs.Places.{entity_at, owner_at}
+use Rattle.ss_records_blocks.specs.Links.{Leads}
+use Rattle.ss_records_words.specs.Slotted.{member_base, owner_base}
+use Rattle.ss_records_entities.specs.Parts.{IsKept, state, places, Owns, Joins}
+use Rattle.ss_records_blocks.proofs.Same.{differs, by_same}
+use Rattle.ss_records_blocks.proofs.Entries.{get_there}
+use Rattle.ss_records_entities.proofs.Leading.{To, leads, its_number, first_to, last_to, is_counter, count_is, count_small, Beside, next_beside, prev_beside, owner_to, filed_is, next_value, prev_value, in_which}
+
+pub as_whole : (n m : ℕ) → n ≡ m → m < 2 ^ 62 → cast_signed w64 n ≡ pos m
+as_whole n m e h = let k : n < 2 ^ 63 = omega (arith, e, h) in let z : cast_signed w64 n ≡ pos n = omega (arith, ints, k) in z ∙ ap pos e
+
+module _ (r : Records) (K : IsKept r) (s : ℕ) (inside : s < length r.layout.sets) where
+  abbrev at : ℕ → Ptr
+  at = entity_at r.system.at (places r) (get_there r.layout.sets s inside).0.member
+
+  abbrev home : ℕ → Ptr
+  home = owner_at r.system.at (places r) (get_there r.layout.sets s inside).0.owner
+
+  -- the words of an owner
+  module _ (e : Entry) (h : Owns r s e) (b : ℕ) (base : (u : SetLayout) → slice_get r.layout.sets s ≡ Some u → b ≡ owner_base r.layout s u) where
+    first_there : To r.blocks.cells at e.place.at b (head0 (members_of r.notes.lists s e.number))
+    first_there = first_to r.layout r.blocks.cells r.system.at (places r) r.notes.lists K s inside e.place.at e.number h.lies h.may b base
+
+    last_there : To r.blocks.cells at e.place.at (b + 1) (last_or 0 (members_of r.notes.lists s e.number))
+    last_there = last_to r.layout r.blocks.cells r.system.at (places r) r.notes.lists K s inside e.place.at e.number h.lies h.may b base
+
+    pub first_leads : Leads r.blocks.cells e.place.at b
+    first_leads = leads r.blocks.cells at e.place.at b _ first_there
+
+    pub last_leads : Leads r.blocks.cells e.place.at (b + 1)
+    last_leads = leads r.blocks.cells at e.place.at (b + 1) _ last_there
+
+    pub counts : IsCounter (word_at r.blocks.cells e.place.at (b + 2))
+    counts = is_counter r.layout r.blocks.cells r.system.at (places r) r.notes.lists K s inside e.place.at e.number h.lies h.may b base
+
+    module _ (q : Entry) (w : word_at r.blocks.cells e.place.at b ≡ link q.place.at) (v : word_at r.blocks.cells q.place.at 1 ≡ number q.number) where
+      pub first_number : q.number ≡ head0 (members_of r.notes.lists s e.number)
+      first_number = its_number r.blocks.cells at e.place.at b _ first_there q.place.at w q.number v
+
+      pub first_small : q.number < 2 ^ 62
+      first_small = subst (λ n. n < 4611686018427387904) (sym first_number) first_there.small
+
+      pub first_value : (x : ℤ) → owner (state r) s x ≡ Ok e.number → Ok (cast_signed w64 q.number) ≡ first_in (state r) s x
+      first_value x o = ap Ok (as_whole q.number _ first_number first_there.small) ∙ sym (ap (λ z. and_then z (λ n. Ok (pos (head0 (members_of r.notes.lists s n))))) o)
+
+    module _ (q : Entry) (w : word_at r.blocks.cells e.place.at (b + 1) ≡ link q.place.at) (v : word_at r.blocks.cells q.place.at 1 ≡ number q.number) where
+      pub last_number : q.number ≡ last_or 0 (members_of r.notes.lists s e.number)
+      last_number = its_number r.blocks.cells at e.place.at (b + 1) _ last_there q.place.at w q.number v
+
+      pub last_small : q.number < 2 ^ 62
+      last_small = subst (λ n. n < 4611686018427387904) (sym last_number) last_there.small
+
+      pub last_value : (x : ℤ) → owner (state r) s x ≡ Ok e.number → Ok (cast_signed w64 q.number) ≡ last_in (state r) s x
+      last_value x o = ap Ok (as_whole q.number _ last_number last_there.small) ∙ sym (ap (λ z. and_then z (λ n. Ok (pos (last_or 0 (members_of r.notes.lists s n))))) o)
+
+    module _ (v : ℕ) (w : word_at r.blocks.cells e.place.at (b + 2) ≡ counter v) where
+      pub how_many : v ≡ length (members_of r.notes.lists s e.number)
+      how_many = count_is r.layout r.blocks.cells r.system.at (places r) r.notes.lists K s inside e.place.at e.number h.lies h.may b base v w
+
+      few_enough : length (members_of r.notes.lists s e.number) < 2 ^ 62
+      few_enough = count_small r.layout r.blocks.cells r.system.at (places r) r.notes.lists K s inside e.number
+
+      pub how_many_small : v < 2 ^ 62
+      how_many_small = subst (λ n. n < 4611686018427387904) (sym how_many) few_enough
+
+      pub how_many_value : (x : ℤ) → owner (state r) s x ≡ Ok e.number → Ok (cast_signed w64 v) ≡ count_in (state r) s x
+      how_many_value x o = ap Ok (as_whole v _ how_many few_enough) ∙ sym (ap (λ z. and_then z (λ n. Ok (pos (length (members_of r.notes.lists s n))))) o)
+
+  -- the words of a member
+  module _ (e : Entry) (h : Joins r s e) (b : ℕ) (base : (u : SetLayout) → slice_get r.layout.sets s ≡ Some u → b ≡ member_base r.layout s u) where
+    abbrev Near : ℕ → (List ℕ → ℕ) → Type 0
+    Near k of = Beside r.layout r.blocks.cells r.system.at (places r) r.notes.lists K s inside e.place.at e.number h.lies h.is b base k of
+
+    next_near : Near b (succ e.number)
+    next_near = next_beside r.layout r.blocks.cells r.system.at (places r) r.notes.lists K s inside e.place.at e.number h.lies h.is b base
+
+    prev_near : Near (b + 1) (pred_from 0 e.number)
+    prev_near = prev_beside r.layout r.blocks.cells r.system.at (places r) r.notes.lists K s inside e.place.at e.number h.lies h.is b base
+
+    pub next_leads : Leads r.blocks.cells e.place.at b
+    next_leads = leads r.blocks.cells at e.place.at b _ next_near.leads_to
+
+    pub prev_leads : Leads r.blocks.cells e.place.at (b + 1)
+    prev_leads = leads r.blocks.cells at e.place.at (b + 1) _ prev_near.leads_to
+
+    module _ (q : Entry) (w : word_at r.blocks.cells e.place.at b ≡ link q.place.at) (v : word_at r.blocks.cells q.place.at 1 ≡ number q.number) where
+      next_number : q.number ≡ next_near.to
+      next_number = its_number r.blocks.cells at e.place.at b _ next_near.leads_to q.place.at w q.number v
+
+      pub next_small : q.number < 2 ^ 62
+      next_small = subst (λ n. n < 4611686018427387904) (sym next_number) next_near.leads_to.small
+
+      pub is_filed_value : not (nat_eq q.number e.number) ≡ is_filed r.notes.lists s e.number
+      is_filed_value = filed_is r.layout r.blocks.cells r.system.at (places r) r.notes.lists K s inside e.place.at e.number h.lies h.is b base b (succ e.number) next_near q.number next_number (not (nat_eq q.number e.number))
+          (λ i. by_same q.number e.number (λ z n. rw z refl) (λ z n. absurd (n i)))
+          (λ i. rw (differs q.number e.number i) refl)
+
+      pub next_fits : (y : ℕ) → (q.number ≡ e.number → y ≡ 0) → ((q.number ≡ e.number → ⊥) → y ≡ q.number) → y < 2 ^ 62
+      next_fits y same other = by_same q.number e.number (λ z i. omega (arith, same i)) (λ z i. subst (λ n. n < 4611686018427387904) (sym (other i)) next_small)
+
+      pub next_is : (x : ℤ) (y : ℕ) → joiner (state r) s x ≡ Ok e.number → (q.number ≡ e.number → y ≡ 0) → ((q.number ≡ e.number → ⊥) → y ≡ q.number) → Ok (cast_signed w64 y) ≡ next_in (state r) s x
+      next_is x y o same other =
+          let f = next_value r.layout r.blocks.cells r.system.at (places r) r.notes.lists K s inside e.place.at e.number h.lies h.is b base next_near q.number next_number in
+          ap Ok (as_whole y y refl (next_fits y same other) ∙ ap pos (by_same q.number e.number (λ z i. same i ∙ sym (f.0 i)) (λ z i. other i ∙ sym (f.1 i)))) ∙ sym (ap (λ z. and_then z (λ n. Ok (pos (follower n (companions r.notes.lists s n))))) o)
+
+    module _ (q : Entry) (w : word_at r.blocks.cells e.place.at (b + 1) ≡ link q.place.at) (v : word_at r.blocks.cells q.place.at 1 ≡ number q.number) where
+      prev_number : q.number ≡ prev_near.to
+      prev_number = its_number r.blocks.cells at e.place.at (b + 1) _ prev_near.leads_to q.place.at w q.number v
+
+      pub prev_small : q.number < 2 ^ 62
+      prev_small = subst (λ n. n < 4611686018427387904) (sym prev_number) prev_near.leads_to.small
+
+      pub prev_fits : (y : ℕ) → (q.number ≡ e.number → y ≡ 0) → ((q.number ≡ e.number → ⊥) → y ≡ q.number) → y < 2 ^ 62
+      prev_fits y same other = by_same q.number e.number (λ z i. omega (arith, same i)) (λ z i. subst (λ n. n < 4611686018427387904) (sym (other i)) prev_small)
+
+      pub prev_is : (x : ℤ) (y : ℕ) → joiner (state r) s x ≡ Ok e.number → (q.number ≡ e.number → y ≡ 0) → ((q.number ≡ e.number → ⊥) → y ≡ q.number) → Ok (cast_signed w64 y) ≡ previous_in (state r) s x
+      prev_is x y o same other =
+          let f = prev_value r.layout r.blocks.cells r.system.at (places r) r.notes.lists K s inside e.place.at e.number h.lies h.is b base prev_near q.number prev_number in
+          ap Ok (as_whole y y refl (prev_fits y same other) ∙ ap pos (by_same q.number e.number (λ z i. same i ∙ sym (f.0 i)) (λ z i. other i ∙ sym (f.1 i)))) ∙ sym (ap (λ z. and_then z (λ n. Ok (pos (precursor 0 n (companions r.notes.lists s n))))) o)
+
+    pub none_is : (x : ℤ) → joiner (state r) s x ≡ Ok e.number → owner_of r.notes.lists s e.number ≡ None → Ok None ≡ owner_of_member (state r) s x
+    none_is x o none = sym (ap (λ z. and_then z (λ n. Ok (as_number (owner_of r.notes.lists s n)))) o ∙ ap (λ z. Ok (as_number z)) none)
+
+    -- where it is in a set
+    module _ (filed : is_filed r.notes.lists s e.number ≡ true) where
+      in_it : (o : ℕ) × (owner_of r.notes.lists s e.number ≡ Some o) × (In e.number (members_of r.notes.lists s o))
+      in_it = in_which r.layout r.blocks.cells r.system.at (places r) r.notes.lists K s inside e.place.at e.number h.lies h.is b base filed
+
+      owner_there : To r.blocks.cells home e.place.at (b + 2) in_it.0
+      owner_there = owner_to r.layout r.blocks.cells r.system.at (places r) r.notes.lists K s inside e.place.at e.number h.lies h.is b base in_it.0 in_it.2
+
+      pub owner_leads : Leads r.blocks.cells e.place.at (b + 2)
+      owner_leads = leads r.blocks.cells home e.place.at (b + 2) _ owner_there
+
+      module _ (q : Entry) (w : word_at r.blocks.cells e.place.at (b + 2) ≡ link q.place.at) (v : word_at r.blocks.cells q.place.at 1 ≡ number q.number) where
+        owner_number : q.number ≡ in_it.0
+        owner_number = its_number r.blocks.cells home e.place.at (b + 2) _ owner_there q.place.at w q.number v
+
+        pub owner_small : q.number < 2 ^ 62
+        owner_small = subst (λ n. n < 4611686018427387904) (sym owner_number) owner_there.small
+
+        -- the set in which it is
+        pub owner_has : (owner_of r.notes.lists s e.number ≡ Some q.number) × (In e.number (members_of r.notes.lists s q.number))
+        owner_has = (in_it.1 ∙ ap Some (sym owner_number), subst (λ o. In e.number (members_of r.notes.lists s o)) (sym owner_number) in_it.2)
+
+        pub owner_value : (x : ℤ) → joiner (state r) s x ≡ Ok e.number → Ok (Some (cast_signed w64 q.number)) ≡ owner_of_member (state r) s x
+        owner_value x o = ap (λ z. Ok (Some z)) (as_whole q.number q.number refl owner_small) ∙ sym (ap (λ z. and_then z (λ n. Ok (as_number (owner_of r.notes.lists s n)))) o ∙ ap (λ z. Ok (as_number z)) owner_has.0)

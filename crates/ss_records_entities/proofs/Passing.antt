@@ -1,0 +1,176 @@
+-- Walking along a set past the members that do not rank after a number.
+use Rattle.std.proofs.Common.{◌≡◌, ℕ, suc, inl, inr, ◌+◌, ◌*◌, ◌^◌, ◌<◌, ◌≤◌, Bool, true, false, List, [], ◌∷◌, ◌++◌, length, slice_get, Some, Ok, refl, sym, ap, subst, ◌∙◌, arith, append_assoc, append-nil}
+use Rattle.std.specs.Prelude.{ℤ, pos, not}
+use Rattle.std.specs.Ordering.{match_ordering, int_cmp}
+use denote.RawPtr.{Ptr}
+use Rattle.ss_base.specs.Order.{value_cmp}
+use Rattle.ss_base.specs.declared.value.Value.{Value}
+use Rattle.ss_base.specs.declared.value.Value.TheVariants.{Whole}
+use Rattle.ss_base.specs.declared.layout.Mode.TheVariants.{Integer}
+use Rattle.ss_base.specs.declared.layout.SetLayout.{SetLayout}
+use Rattle.ss_records_blocks.specs.declared.store.Address.{Address}
+use Rattle.ss_records_entities.specs.declared.records.Records.{Records}
+use Rattle.ss_records_blocks.specs.declared.links.Entry.{Entry}
+use Rattle.ss_records_blocks.specs.Cells.{number, link, IsNumber, words_at, word_at}
+use Rattle.ss_world.specs.State.{members_of, modes_of, entity, value_in}
+use Rattle.ss_world.specs.Sets.{member_class}
+use Rattle.ss_world.specs.Disciplines.{value_or_zero}
+use Rattle.ss_world.specs.Lists.{head0, succ, In, Distinct}
+use Rattle.ss_records_words.specs.Reading.{record_of, value_at}
+use Rattle.ss_records_words.specs.Places.{Lists, place_in, entity_at, class_at}
+use Rattle.ss_records_blocks.specs.Links.{Leads}
+use Rattle.ss_records_words.specs.Slotted.{member_base}
+use Rattle.ss_records_entities.specs.Parts.{IsKept, state, places, held, Lies, Joins, Between}
+use Rattle.ss_records_entities.specs.Passing.{ranks_past, first_where, before_where}
+use Rattle.ss_records_blocks.proofs.Entries.{get_there}
+use Rattle.ss_records_words.proofs.Listing.{listed}
+use Rattle.ss_records_words.proofs.Disjoint.{entry_of}
+use Rattle.ss_records_entities.proofs.Assigns.{first_number, is_value}
+use Rattle.ss_records_words.proofs.Splice.{head_in, succ_cut, length_splice}
+use Rattle.ss_records_entities.proofs.Leading.{To, leads, next_to, small_of, count_small}
+use Rattle.ss_records_entities.proofs.Apart.{entity_is}
+use Rattle.ss_records_entities.proofs.Cuts.{lies_there}
+use Rattle.ss_records_entities.proofs.Ends.{joins_it}
+
+-- records of which only the counts of touches have changed
+pub as_before : (r m : Records) → m ≡ record r { blocks = m.blocks } → m.blocks.cells ≡ r.blocks.cells → held m ≡ held r
+as_before r m same cells = ap held same ∙ (λ i. record r { blocks = record { cells = cells i; touches = 0; total = 0 } })
+
+-- a test at the head of a list
+module _ (t : ℕ → Bool) (y : ℕ) (ys : List ℕ) where
+  pub stops : t y ≡ true → (first_where t (y ∷ ys) ≡ y) × (before_where t (y ∷ ys) ≡ 0)
+  stops e = (rw e refl, rw e refl)
+
+  pub passes : t y ≡ false → (first_where t (y ∷ ys) ≡ first_where t ys) × (before_where t (y ∷ ys) ≡ suc (before_where t ys))
+  passes e = (rw e refl, rw e refl)
+
+headed : (l : List ℕ) (n : ℕ) → n ≡ head0 l → (n ≡ 0 → ⊥) → (zs : List ℕ) × (l ≡ n ∷ zs)
+headed [] n e h = absurd (h e)
+headed (z ∷ zs) n e h = (zs, ap (λ y. y ∷ zs) (sym e))
+
+none_first : (t : ℕ → Bool) (l : List ℕ) (n : ℕ) → n ≡ head0 l → n ≡ 0 → ((x : ℕ) → In x l → 0 ≡ x → ⊥) → l ≡ []
+none_first t [] n e h some = refl
+none_first t (z ∷ zs) n e h some = absurd (some z (inl refl) (sym h ∙ e))
+
+-- the value of an attribute of a member
+module _ (r : Records) (K : IsKept r) (s : ℕ) (q : Entry) (j : Joins r s q) (f k : ℕ) (start : k ≡ 2 + 2 * f) (mode : slice_get (modes_of r.layout (member_class r.layout s)) f ≡ Some Integer) where
+  abbrev class : ℕ
+  class = member_class r.layout s
+
+  place : (i : ℕ) × (p : Address) × (q.number ≡ suc i) × (Lists (places r) i p) × (class_at r.blocks.cells p ≡ class) × (q.place.at ≡ p.at)
+  place = let a = entry_of r.blocks.cells (places r) class q.number j.is in
+      (a.0, a.1, a.2, listed (places r) class a.0 a.1 a.3, a.4, j.lies ∙ ap (entity_at r.system.at (places r) class) a.2 ∙ ap place_in a.3)
+
+  its_entity : entity (state r) class (pos q.number) ≡ Ok (record_of r.layout (words_at r.blocks.cells place.1.at))
+  its_entity = entity_is r.layout r.blocks.cells r.system.at (places r) r.notes.lists K class q.number place.0 place.1 place.2 place.4 place.3
+
+  pub is_number : IsNumber (word_at r.blocks.cells q.place.at k)
+  is_number = subst (λ z. IsNumber (word_at r.blocks.cells z k)) (sym place.5)
+      (first_number r.layout r.blocks.cells r.system.at (places r) r.notes.lists K place.0 place.1 place.3 class place.4 (pos q.number) (ap pos place.2) its_entity f k start Integer mode)
+
+  pub its_value : value_in (state r) class f (pos q.number) ≡ Ok (value_at Integer r.blocks.cells q.place.at k)
+  its_value = is_value r.layout r.blocks.cells r.system.at (places r) r.notes.lists K place.0 place.1 place.3 class place.4 (pos q.number) (ap pos place.2) its_entity f k start Integer mode
+      ∙ ap (λ z. Ok (value_at Integer r.blocks.cells z k)) (sym place.5)
+
+  pub test_is : (its own : ℤ) (high : Bool) → Whole its ≡ value_at Integer r.blocks.cells q.place.at k → match_ordering (int_cmp its own) high false (not high) ≡ ranks_past (state r) class f high (Whole own) q.number
+  test_is its own high h = ap (λ (w : Value). match_ordering (value_cmp w (Whole own)) high false (not high)) (h ∙ sym (ap value_or_zero its_value))
+
+-- where a walk along the set s of o stands: it has passed the members xs, and is at the first of ys, or at the end
+pub record Stands (r : Records) (s o : ℕ) (t : ℕ → Bool) (q : Entry) (touches : ℕ) : Type 0 where
+  pub xs : List ℕ
+  pub ys : List ℕ
+  pub list : members_of r.notes.lists s o ≡ xs ++ ys
+  pub size : length xs + length ys ≡ length (members_of r.notes.lists s o)
+  pub lies : Lies r s q
+  pub first : q.number ≡ head0 ys
+  pub found : first_where t ys ≡ first_where t (members_of r.notes.lists s o)
+  pub passed : length xs + before_where t ys ≡ before_where t (members_of r.notes.lists s o)
+  pub touched : touches ≡ length xs + 1
+
+pub at_start : (r : Records) (s o : ℕ) (t : ℕ → Bool) (a q : Entry) (touches : ℕ) → Between r s o a q [] (members_of r.notes.lists s o) → touches ≡ 1 → Stands r s o t q touches
+at_start r s o t a q touches w e = record { xs = []; ys = members_of r.notes.lists s o; list = refl; size = omega arith; lies = w.after; first = w.first; found = refl; passed = omega arith; touched = omega (arith, e) }
+
+module _ (r : Records) (K : IsKept r) (s : ℕ) (inside : s < length r.layout.sets) (o : ℕ) (t : ℕ → Bool) (q : Entry) (touches : ℕ) (S : Stands r s o t q touches) where
+  abbrev f : List ℕ
+  f = members_of r.notes.lists s o
+
+  abbrev at : ℕ → Ptr
+  at = entity_at r.system.at (places r) (get_there r.layout.sets s inside).0.member
+
+  pub few : length f < 2 ^ 62
+  few = count_small r.layout r.blocks.cells r.system.at (places r) r.notes.lists K s inside o
+
+  pub room : touches + 1 < 2 ^ 64
+  room = omega (arith, few, S.size, S.touched)
+
+  some : (x : ℕ) → In x f → 0 ≡ x → ⊥
+  some x h = let y = get_there r.layout.sets s inside in ((K.names s y.0 y.1).members o x h).1
+
+  -- at the end
+  module _ (none : q.number ≡ 0) where
+    empty : S.ys ≡ []
+    empty = none_first t S.ys q.number S.first none (λ x h. some x (subst (In x) (sym S.list) (in_right x S.xs S.ys h))) where
+      in_right : (x : ℕ) (xs ys : List ℕ) → In x ys → In x (xs ++ ys)
+      in_right x [] ys h = h
+      in_right x (z ∷ zs) ys h = inr (in_right x zs ys h)
+
+    pub none_past : first_where t f ≡ 0
+    none_past = sym S.found ∙ ap (first_where t) empty
+
+    pub all_passed : touches ≤ 1 + before_where t f
+    all_passed = omega (arith, S.touched, S.passed)
+
+  -- at a member
+  module _ (one : q.number ≡ 0 → ⊥) where
+    shape : (zs : List ℕ) × (S.ys ≡ q.number ∷ zs)
+    shape = headed S.ys q.number S.first one
+
+    list : f ≡ S.xs ++ q.number ∷ shape.0
+    list = S.list ∙ ap (λ l. S.xs ++ l) shape.1
+
+    inn : In q.number f
+    inn = subst (In q.number) (sym list) (head_in S.xs q.number shape.0)
+
+    pub joins : Joins r s q
+    joins = joins_it r K s inside o q S.lies inn
+
+    pub small : q.number < 2 ^ 62
+    small = small_of r.layout r.blocks.cells r.system.at (places r) r.notes.lists K s inside (member_class r.layout s) q.number (inr joins.is)
+
+    pub left : touches ≤ length f
+    left = omega (arith, S.touched, S.size, ap length shape.1)
+
+    -- that ranks after the number
+    module _ (e : t q.number ≡ true) where
+      pub it_is : q.number ≡ first_where t f
+      it_is = sym (sym S.found ∙ ap (first_where t) shape.1 ∙ (stops t q.number shape.0 e).0)
+
+      pub so_many : touches ≤ 1 + before_where t f
+      so_many = omega (arith, S.touched, S.passed)
+
+    -- and is passed
+    module _ (b : ℕ) (base : (u : SetLayout) → slice_get r.layout.sets s ≡ Some u → b ≡ member_base r.layout s u) where
+      next_there : To r.blocks.cells at q.place.at b (succ q.number f)
+      next_there = next_to r.layout r.blocks.cells r.system.at (places r) r.notes.lists K s inside q.place.at q.number joins.lies joins.is b base o inn
+
+      pub next_leads : Leads r.blocks.cells q.place.at b
+      next_leads = leads r.blocks.cells at q.place.at b _ next_there
+
+      pub next_stands : (e : t q.number ≡ false) (z : Entry) (more : ℕ) → word_at r.blocks.cells q.place.at b ≡ link z.place.at → word_at r.blocks.cells z.place.at 1 ≡ number z.number → more ≡ touches + 1 → Stands r s o t z more
+      next_stands e z more w v m =
+          let l = lies_there r K s inside q.place.at b _ next_there z w v in
+          let y = get_there r.layout.sets s inside in
+          let p = passes t q.number shape.0 e in
+          let apart = subst Distinct list ((K.names s y.0 y.1).distinct o) in
+          let longer = length_splice S.xs q.number [] in let same = ap length (append-nil S.xs) in
+          record {
+            xs = S.xs ++ q.number ∷ [];
+            ys = shape.0;
+            list = list ∙ sym (append_assoc S.xs (q.number ∷ []) shape.0);
+            size = omega (arith, longer, same, S.size, ap length shape.1);
+            lies = l.0;
+            first = l.1 ∙ ap (succ q.number) list ∙ succ_cut S.xs q.number shape.0 (some q.number inn) apart;
+            found = sym p.0 ∙ ap (first_where t) (sym shape.1) ∙ S.found;
+            passed = omega (arith, longer, same, S.passed, ap (before_where t) shape.1, p.1);
+            touched = omega (arith, m, S.touched, longer, same);
+          }

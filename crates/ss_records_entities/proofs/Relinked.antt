@@ -1,0 +1,149 @@
+-- What holds once an entity is linked into a set, or out of it.
+use Rattle.std.proofs.Common.{◌≡◌, ℕ, ◌+◌, ◌-◌, ◌==◌, List, ◌∷◌, ◌++◌, length, slice_get, Some, ◌⊎◌, inl, inr, refl, sym, subst}
+use denote.RawPtr.{Ptr}
+use Rattle.ss_base.specs.declared.layout.SetLayout.{SetLayout}
+use Rattle.ss_base.specs.declared.layout.Layout.{Layout}
+use Rattle.ss_records_blocks.specs.Cells.{counter, link, Cells, put_word}
+use Rattle.ss_world.specs.State.{Members, members_of, with_members}
+use Rattle.ss_world.specs.Sets.{with_list_of}
+use Rattle.ss_records_words.specs.Places.{Directory, entity_at, owner_at}
+use Rattle.ss_records_words.specs.Kept.{Kept, state_of}
+use Rattle.ss_world.specs.Lists.{head0, last_or, In, NotIn, with_list}
+use Rattle.ss_records_blocks.specs.Links.{Slots, hooked, linked_in, unlinked_in}
+use Rattle.ss_records_words.specs.Links.{Shows, words_of}
+use Rattle.ss_records_words.specs.Slotted.{slots_of, IsOf, MayOwn, OfName, Spares}
+use Rattle.ss_records_blocks.proofs.Same.{by_same}
+use Rattle.ss_records_words.proofs.Splice.{in_mid, before_in, after_in, in_left}
+use Rattle.ss_records_entities.proofs.Listed.{members_with, members_other}
+use Rattle.ss_records_words.proofs.Disjoint.{grounds, spares_none, spares_put}
+use Rattle.ss_records_entities.proofs.Linking.{any_linked, any_unlinked}
+use Rattle.ss_records_entities.proofs.LinkWrites.{any_linked_is}
+use Rattle.ss_records_entities.proofs.UnlinkWrites.{any_unlinked_is}
+use Rattle.ss_records_entities.proofs.Spared.{with_classes, kept_spared, records_spared, permanents_spared}
+
+module _ (l : Layout) (cs : Cells) (sys : Ptr) (d : Directory) (ms : List Members) (K : Kept l cs sys d ms) (s : ℕ) (t : SetLayout) (g : slice_get l.sets s ≡ Some t) (o x : ℕ) (xs ys : List ℕ) (lo : MayOwn cs d t.owner o) where
+  abbrev at : ℕ → Ptr
+  at = entity_at sys d t.member
+
+  abbrev home : ℕ → Ptr
+  home = owner_at sys d t.owner
+
+  abbrev w : Slots
+  w = slots_of l s t
+
+  abbrev f : ℕ → List ℕ
+  f = members_of ms s
+
+  abbrev a : ℕ
+  a = last_or 0 xs
+
+  abbrev b : ℕ
+  b = head0 ys
+
+  abbrev Of : Ptr → ℕ → Type 0
+  Of = OfName l cs sys d s t
+
+  -- the writes of the name
+  at_member : (y k : ℕ) → IsOf cs d t.member y → (k ≡ w.next) ⊎ ((k ≡ w.prev) ⊎ (k ≡ w.owner)) → Of (at y) k
+  at_member y k h m = inl (y, h, refl, m)
+
+  at_owner : (k : ℕ) → (k ≡ w.first) ⊎ ((k ≡ w.last) ⊎ (k ≡ w.count)) → Of (home o) k
+  at_owner k m = inr (o, lo, refl, m)
+
+  hook : (ds : Cells) (e k : ℕ) (j : ℕ) (z : Ptr) → Spares Of cs ds → Of (home o) k → ((e ≡ 0 → ⊥) → Of (at e) j) → Spares Of cs (hooked (e == 0) ds (home o) k (at e) j z)
+  hook ds e k j z h own near = by_same e 0
+      (λ i q. rw i (spares_put Of cs ds (home o) k (link z) h own))
+      (λ i n. rw i (spares_put Of cs ds (at e) j (link z) h (near n)))
+
+  shown : (ds : Cells) (us : List ℕ) → Spares Of cs ds → Shows (words_of w ds at home) at home (IsOf cs d t.member) (MayOwn cs d t.owner) (with_list f o us) → Kept l ds sys d (with_members ms s o us)
+  shown ds us h n =
+      let e : members_of (with_members ms s o us) s ≡ with_list f o us = λ i p. members_with ms s o us p i in
+      kept_spared l cs sys d ms K s t g ds h (with_members ms s o us)
+      (subst (λ z. Shows (words_of w ds at home) at home (IsOf ds d t.member) (MayOwn ds d t.owner) z) (sym e) (with_classes l cs sys d ms K s t g ds h s t (words_of w ds at home) (with_list f o us) n))
+      (λ r p n. members_other ms s o us r p n)
+
+  told : (ds : Cells) (us : List ℕ) → Spares Of cs ds → state_of l ds d (with_members ms s o us) ≡ with_list_of (state_of l cs d ms) s o us
+  told ds us h =
+      let one = records_spared l cs sys d ms K s t g ds h in let two = permanents_spared l cs sys d ms K s t g ds h in
+      λ i. record (state_of l cs d ms) { records = one i; permanents = two i; lists = with_members ms s o us }
+
+  -- linked in between xs and ys
+  module _ (lx : IsOf cs d t.member x) (some : 0 ≡ x → ⊥) (was : f o ≡ xs ++ ys) (free : (p : ℕ) → NotIn x (f p)) where
+    abbrev ds : Cells
+    ds = linked_in w cs (home o) (at a) (a == 0) (at x) (at b) (b == 0) (length (f o))
+
+    near : (y : ℕ) → (y ≡ 0 → ⊥) → In y (xs ++ ys) → IsOf cs d t.member y
+    near y n h = ((K.names s t g).members o y (subst (In y) (sym was) h)).0
+
+    pub la : (a ≡ 0 → ⊥) → IsOf cs d t.member a
+    la n = near a n (before_in a xs ys refl (λ e. n (sym e)))
+
+    pub lb : (b ≡ 0 → ⊥) → IsOf cs d t.member b
+    lb n = near b n (after_in b xs ys refl (λ e. n (sym e)))
+
+    spares : Spares Of cs ds
+    spares =
+        let s1 = spares_put Of cs cs (at x) w.next (link (at b)) (spares_none Of cs) (at_member x w.next lx (inl refl)) in
+        let c1 = put_word cs (at x) w.next (link (at b)) in
+        let s2 = spares_put Of cs c1 (at x) w.prev (link (at a)) s1 (at_member x w.prev lx (inr (inl refl))) in
+        let c2 = put_word c1 (at x) w.prev (link (at a)) in
+        let s3 = spares_put Of cs c2 (at x) w.owner (link (home o)) s2 (at_member x w.owner lx (inr (inr refl))) in
+        let c3 = put_word c2 (at x) w.owner (link (home o)) in
+        let s4 = hook c3 a w.first w.next (at x) s3 (at_owner w.first (inl refl)) (λ n. at_member a w.next (la n) (inl refl)) in
+        let c4 = hooked (a == 0) c3 (home o) w.first (at a) w.next (at x) in
+        let s5 = hook c4 b w.last w.prev (at x) s4 (at_owner w.last (inr (inl refl))) (λ n. at_member b w.prev (lb n) (inr (inl refl))) in
+        let c5 = hooked (b == 0) c4 (home o) w.last (at b) w.prev (at x) in
+        spares_put Of cs c5 (home o) w.count (counter (length (f o) + 1)) s5 (at_owner w.count (inr (inr refl)))
+
+    pub kept_linked : Kept l ds sys d (with_members ms s o (xs ++ x ∷ ys))
+    kept_linked = shown ds (xs ++ x ∷ ys) spares
+        (any_linked (words_of w cs at home) (words_of w ds at home) at home (IsOf cs d t.member) (MayOwn cs d t.owner) f o x xs ys (K.names s t g) was lx some lo free
+        (any_linked_is w cs at home (IsOf cs d t.member) (MayOwn cs d t.owner) (grounds l cs sys d ms K s t g) o a x b (length (f o)) lo lx la lb))
+
+    pub state_linked : state_of l ds d (with_members ms s o (xs ++ x ∷ ys)) ≡ with_list_of (state_of l cs d ms) s o (xs ++ x ∷ ys)
+    state_linked = told ds (xs ++ x ∷ ys) spares
+
+    pub count_linked : length ds ≡ length cs
+    count_linked = spares.count
+
+  -- linked out from between xs and ys
+  module _ (was : f o ≡ xs ++ x ∷ ys) where
+    abbrev es : Cells
+    es = unlinked_in w cs (home o) (at a) (a == 0) (at x) (at b) (b == 0) (length (f o))
+
+    its : (y : ℕ) → In y (xs ++ x ∷ ys) → IsOf cs d t.member y
+    its y h = ((K.names s t g).members o y (subst (In y) (sym was) h)).0
+
+    pub lx' : IsOf cs d t.member x
+    lx' = its x (in_mid xs x ys)
+
+    pub la' : (a ≡ 0 → ⊥) → IsOf cs d t.member a
+    la' n = its a (in_left a xs x ys (before_in a xs ys refl (λ e. n (sym e))))
+
+    pub lb' : (b ≡ 0 → ⊥) → IsOf cs d t.member b
+    lb' n = its b (in_left b xs x ys (after_in b xs ys refl (λ e. n (sym e))))
+
+    spares' : Spares Of cs es
+    spares' =
+        let s1 = hook cs a w.first w.next (at b) (spares_none Of cs) (at_owner w.first (inl refl)) (λ n. at_member a w.next (la' n) (inl refl)) in
+        let c1 = hooked (a == 0) cs (home o) w.first (at a) w.next (at b) in
+        let s2 = hook c1 b w.last w.prev (at a) s1 (at_owner w.last (inr (inl refl))) (λ n. at_member b w.prev (lb' n) (inr (inl refl))) in
+        let c2 = hooked (b == 0) c1 (home o) w.last (at b) w.prev (at a) in
+        let s3 = spares_put Of cs c2 (at x) w.next (link (at x)) s2 (at_member x w.next lx' (inl refl)) in
+        let c3 = put_word c2 (at x) w.next (link (at x)) in
+        let s4 = spares_put Of cs c3 (at x) w.prev (link (at x)) s3 (at_member x w.prev lx' (inr (inl refl))) in
+        let c4 = put_word c3 (at x) w.prev (link (at x)) in
+        let s5 = spares_put Of cs c4 (at x) w.owner (link (at x)) s4 (at_member x w.owner lx' (inr (inr refl))) in
+        let c5 = put_word c4 (at x) w.owner (link (at x)) in
+        spares_put Of cs c5 (home o) w.count (counter (length (f o) - 1)) s5 (at_owner w.count (inr (inr refl)))
+
+    pub kept_unlinked : Kept l es sys d (with_members ms s o (xs ++ ys))
+    kept_unlinked = shown es (xs ++ ys) spares'
+        (any_unlinked (words_of w cs at home) (words_of w es at home) at home (IsOf cs d t.member) (MayOwn cs d t.owner) f o x xs ys (K.names s t g) was
+        (any_unlinked_is w cs at home (IsOf cs d t.member) (MayOwn cs d t.owner) (grounds l cs sys d ms K s t g) o a x b (length (f o)) lo lx' la' lb'))
+
+    pub state_unlinked : state_of l es d (with_members ms s o (xs ++ ys)) ≡ with_list_of (state_of l cs d ms) s o (xs ++ ys)
+    state_unlinked = told es (xs ++ ys) spares'
+
+    pub count_unlinked : length es ≡ length cs
+    count_unlinked = spares'.count

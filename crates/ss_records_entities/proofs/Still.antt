@@ -1,0 +1,147 @@
+-- What a call that only looks leaves for the calls behind it, and how many touches there are.
+use Rattle.std.proofs.Common.{◌≡◌, ℕ, ◌+◌, ◌≤◌, ◌<◌, ◌^◌, true, false, Fits, w64, length, slice_get, Some, sym, subst, arith}
+use Rattle.std.proofs.lemmas.Option.{slice_get_within}
+use Rattle.ss_base.specs.declared.layout.Layout.{Layout}
+use Rattle.ss_base.specs.declared.layout.Mode.{Mode}
+use Rattle.ss_records_entities.specs.declared.records.Records.{Records}
+use Rattle.ss_records_blocks.specs.declared.links.Entry.{Entry}
+use Rattle.ss_world.specs.State.{modes_of, is_filed}
+use Rattle.ss_records_words.specs.Kept.{Small}
+use Rattle.ss_records_entities.specs.Parts.{IsKept, held, Owns, Joins}
+use Rattle.ss_records_blocks.proofs.Same.{false_is_not_true}
+
+module _ (r q : Records) (h : held q ≡ held r) where
+  pub kept_still : IsKept r → IsKept q
+  kept_still K = subst IsKept (sym h) K
+
+  pub set_still : (s : ℕ) → s < length r.layout.sets → s < length q.layout.sets
+  set_still s inside = subst (λ (z : Records). s < length z.layout.sets) (sym h) inside
+
+  pub owns_still : (s : ℕ) (e : Entry) → Owns r s e → Owns q s e
+  owns_still s e w =
+      let v : Owns (held r) s e = record { lies = w.lies; may = w.may } in
+      let u : Owns (held q) s e = subst (λ (z : Records). Owns z s e) (sym h) v in
+      record { lies = u.lies; may = u.may }
+
+  pub joins_still : (s : ℕ) (e : Entry) → Joins r s e → Joins q s e
+  joins_still s e w =
+      let v : Joins (held r) s e = record { lies = w.lies; is = w.is } in
+      let u : Joins (held q) s e = subst (λ (z : Records). Joins z s e) (sym h) v in
+      record { lies = u.lies; is = u.is }
+
+  pub free_still : (s x : ℕ) → is_filed r.notes.lists s x ≡ false → is_filed q.notes.lists s x ≡ false
+  free_still s x free = subst (λ (z : Records). is_filed z.notes.lists s x ≡ false) (sym h) free
+
+-- there are few attributes
+pub few_fields : (l : Layout) (c f : ℕ) (m : Mode) → Small l → slice_get (modes_of l c) f ≡ Some m → f < 1048576
+few_fields l c f m h g = omega (arith, h.fields c, slice_get_within (modes_of l c) f m g)
+
+pub base_room : (n : ℕ) → n ≤ 5242883 → Fits w64 (n + 1)
+base_room n h = omega (arith, h)
+
+pub base_room2 : (n : ℕ) → n ≤ 5242883 → Fits w64 (n + 2)
+base_room2 n h = omega (arith, h)
+
+pub owner_room : (n : ℕ) → n ≤ 8388614 → Fits w64 (n + 1)
+owner_room n h = omega (arith, h)
+
+-- ## Touches, by this call and by all calls
+
+module _ (a A b B : ℕ) (none : a ≡ 0) where
+  pub at_start : a ≤ 16
+  at_start = omega (arith, none)
+
+  pub at_first : a ≤ 8
+  at_first = omega (arith, none)
+
+  pub room_first : a + 1 < 2 ^ 64
+  room_first = omega (arith, none)
+
+  -- of a call that was refused at once
+  pub no_touch : (k n : ℕ) → (a ≤ k) × (false ≡ true → n ≤ a) × (A ≡ A + a)
+  no_touch k n = (omega (arith, none), λ z. absurd (false_is_not_true z), omega (arith, none))
+
+  -- after one look
+  module _ (one : (b ≡ a + 1) × (B ≡ A + 1)) where
+    pub one_few : b ≤ 8
+    one_few = omega (arith, none, one.0)
+
+    pub one_room : b + 1 < 2 ^ 64
+    one_room = omega (arith, none, one.0)
+
+    pub one_touch : {Q : Type 0} → (b ≤ 1) × (Q → 1 ≤ b) × (B ≡ A + b)
+    one_touch = (omega (arith, none, one.0), λ z. omega (arith, none, one.0), omega (arith, none, one.0, one.1))
+
+    pub one_of_two : {Q : Type 0} → (b ≤ 2) × (Q → 1 ≤ b) × (B ≡ A + b)
+    one_of_two = (omega (arith, none, one.0), λ z. omega (arith, none, one.0), omega (arith, none, one.0, one.1))
+
+    pub one_counted : (b ≤ 2) × (B ≡ A + b)
+    one_counted = (omega (arith, none, one.0), omega (arith, none, one.0, one.1))
+
+    pub one_refused : (b ≤ 12) × (false ≡ true → 4 ≤ b) × (B ≡ A + b)
+    one_refused = (omega (arith, none, one.0), λ z. absurd (false_is_not_true z), omega (arith, none, one.0, one.1))
+
+    pub one_then_few : (d D : ℕ) → (d ≡ b + 1) × (D ≡ B + 1) → d ≤ 16
+    one_then_few d D two = omega (arith, none, one.0, two.0)
+
+    pub one_then_linked : (d D f F : ℕ) → (d ≡ b + 1) × (D ≡ B + 1) → (f ≡ d + 7) × (F ≡ D + 7) → {Q : Type 0} → (f ≤ 12) × (Q → 4 ≤ f) × (F ≡ A + f)
+    one_then_linked d D f F two link = (omega (arith, none, one.0, two.0, link.0), λ z. omega (arith, two.0, link.0), omega (arith, none, one.0, one.1, two.0, two.1, link.0, link.1))
+
+    pub two_touches : (d D : ℕ) → (d ≡ b + 1) × (D ≡ B + 1) → {Q : Type 0} → (d ≤ 2) × (Q → 1 ≤ d) × (D ≡ A + d)
+    two_touches d D two = (omega (arith, none, one.0, two.0), λ z. omega (arith, none, one.0, two.0), omega (arith, none, one.0, one.1, two.0, two.1))
+
+    pub two_counted : (d D : ℕ) → (d ≡ b + 1) × (D ≡ B + 1) → (d ≤ 2) × (D ≡ A + d)
+    two_counted d D two = (omega (arith, none, one.0, two.0), omega (arith, none, one.0, one.1, two.0, two.1))
+
+    -- after a look, and one of at most two touches
+    module _ (d D : ℕ) (more : (d ≤ b + 2) × (D + b ≡ B + d)) where
+      pub then_room : d + 1 < 2 ^ 64
+      then_room = omega (arith, none, one.0, more.0)
+
+      pub then_few : (e E : ℕ) → (e ≡ d + 1) × (E ≡ D + 1) → e ≤ 16
+      then_few e E look = omega (arith, none, one.0, more.0, look.0)
+
+      pub then_refused : (d ≤ 12) × (false ≡ true → 4 ≤ d) × (D ≡ A + d)
+      then_refused = (omega (arith, none, one.0, more.0), λ z. absurd (false_is_not_true z), omega (arith, none, one.0, one.1, more.1))
+
+      pub then_linked : (e E f F : ℕ) → (e ≡ d + 1) × (E ≡ D + 1) → (f ≡ e + 7) × (F ≡ E + 7) → {Q : Type 0} → (f ≤ 12) × (Q → 4 ≤ f) × (F ≡ A + f)
+      then_linked e E f F look link = (omega (arith, none, one.0, more.0, look.0, link.0), λ z. omega (arith, look.0, link.0), omega (arith, none, one.0, one.1, more.1, look.0, look.1, link.0, link.1))
+
+  -- after at most two touches
+  module _ (more : (b ≤ a + 2) × (B + a ≡ A + b)) where
+    pub two_room : b + 1 < 2 ^ 64
+    two_room = omega (arith, none, more.0)
+
+    pub two_refused : (b ≤ 12) × (false ≡ true → 4 ≤ b) × (B ≡ A + b)
+    two_refused = (omega (arith, none, more.0), λ z. absurd (false_is_not_true z), omega (arith, none, more.1))
+
+    pub two_then_room : (d D : ℕ) → (d ≡ b + 1) × (D ≡ B + 1) → d + 1 < 2 ^ 64
+    two_then_room d D first = omega (arith, none, more.0, first.0)
+
+    module _ (d D e E : ℕ) (first : (d ≡ b + 1) × (D ≡ B + 1)) (second : (e ≡ d + 1) × (E ≡ D + 1)) where
+      pub two_then_few : e ≤ 16
+      two_then_few = omega (arith, none, more.0, first.0, second.0)
+
+      pub two_then_linked : (f F : ℕ) → (f ≡ e + 7) × (F ≡ E + 7) → {Q : Type 0} → (f ≤ 12) × (Q → 4 ≤ f) × (F ≡ A + f)
+      two_then_linked f F link = (omega (arith, none, more.0, first.0, second.0, link.0), λ z. omega (arith, second.0, link.0), omega (arith, none, more.1, first.0, first.1, second.0, second.1, link.0, link.1))
+
+-- of looks at each set
+pub start_ties : (a : ℕ) → a ≡ 0 → a ≤ 2 ^ 32
+start_ties a none = omega (arith, none)
+
+pub more_ties : (a b : ℕ) → a ≡ 0 → b ≤ a + 1048576 → b ≤ 2 ^ 33
+more_ties a b none few = omega (arith, none, few)
+
+module _ (a A b B d D : ℕ) where
+  pub after_ties : B + a ≡ A + b → D + b ≡ B + d → D + a ≡ A + d
+  after_ties one two = omega (arith, one, two)
+
+  pub as_many : B + a ≡ A + b → (d ≡ b) × (D ≡ B) → D + a ≡ A + d
+  as_many one same = omega (arith, one, same.0, same.1)
+
+-- within a loop over the sets
+pub later_room : (t i s n m : ℕ) → i ≤ 2 ^ 33 → t ≤ i + s → s < n → n ≡ m → m ≤ 2 ^ 20 → t + 1 < 2 ^ 64
+later_room t i s n m start few small end sets = omega (arith, start, few, small, end, sets)
+
+pub last_look : (t T i I s n m d D : ℕ) → (t ≤ i + s) × (T + i ≡ I + t) → s < n → n ≡ m → m ≤ 2 ^ 20 → (d ≡ t + 1) × (D ≡ T + 1) → (d ≤ i + 1048576) × (D + i ≡ I + d)
+last_look t T i I s n m d D few small end sets look = (omega (arith, few.0, small, end, sets, look.0), omega (arith, few.1, look.0, look.1))

@@ -1,0 +1,143 @@
+use Rattle.std.proofs.Common.{rules, ◌≡◌, ◌+◌, ◌≤◌, w64, to_z, of_z, refl, sym, ap, subst, ◌∙◌, arith}
+use Rattle.std.proofs.lemmas.Int.{ints}
+use Rattle.ss_records_blocks.specs.Cells.{link, number, word_at}
+use Rattle.ss_records_blocks.specs.Links.{Leads}
+use Rattle.ss_records_entities.proofs.Looks.{owner_leads, owner_small, owner_has}
+use Rattle.ss_records_entities.proofs.Onward.{beside_leads, beside_small, beside_filed, beside_value, in_its}
+use Rattle.ss_records_entities.specs.declared.records.Records.{Records}
+use Rattle.ss_records_words.specs.Kept.{state_of}
+use Rattle.ss_records_entities.specs.Parts.{IsKept, state, places, held}
+use Rattle.ss_records_entities.proofs.Still.{kept_still, joins_still, base_room2, room_first, one_room, one_counted, two_counted}
+use Rattle.ss_records_entities.proofs.Passing.{as_before}
+use Rattle.ss_records_entities.proofs.Remembered.{beside_joins}
+use Rattle.ss_records_entities.proofs.records.Records.neighbour.Goals as goal
+
+pub member_base-base-requires : goal.member_base-base-requires
+member_base-base-requires c = c.requires.set
+
+pub beside-requires : goal.beside-requires
+beside-requires c = c.member_base-base.ensures.bound
+
+pub follow-neighbour-requires-clause-leads : goal.follow-neighbour-requires-clause-leads
+follow-neighbour-requires-clause-leads c =
+    let r = c.args.self.now in let e = c.args.member in let b = c.member_base-base in
+    let h = beside_leads r c.requires.kept c.args.s c.requires.set e c.requires.joins b.result b.ensures.at c.args.reverse in
+    subst (λ k. Leads r.blocks.cells e.place.at k) (sym c.beside.ensures) h
+
+pub follow-neighbour-requires-clause-room : goal.follow-neighbour-requires-clause-room
+follow-neighbour-requires-clause-room c = let b = c.args.self.now.blocks in room_first b.touches b.total 0 0 c.requires.touches
+
+pub returns-then-neighbour-member : goal.returns-then-neighbour-member
+returns-then-neighbour-member c =
+    let r = c.args.self.now in let b = c.follow-neighbour.new.self in let f = c.follow-neighbour.ensures in
+    let h = as_before r (record r { blocks = b }) refl f.cells in
+    record {
+      found = tt;
+      kept = kept_still r (record r { blocks = b }) h c.requires.kept;
+      same = ap state h;
+      touches = one_counted r.blocks.touches r.blocks.total b.touches b.total c.requires.touches f.touches;
+    }
+
+pub overflow_add-base : goal.overflow_add-base
+overflow_add-base c = base_room2 _ c.member_base-base.ensures.bound
+
+pub follow-owner-requires-clause-leads : goal.follow-owner-requires-clause-leads
+follow-owner-requires-clause-leads c =
+    let r = c.args.self.now in let e = c.args.member in let b = c.member_base-base in let q = c.follow-neighbour.result in
+    let w = subst (λ k. word_at r.blocks.cells e.place.at k ≡ link q.place.at) c.beside.ensures c.follow-neighbour.ensures.word in
+    let n = c.if-neighbour-member.false in
+    let filed = beside_filed r c.requires.kept c.args.s c.requires.set e c.requires.joins b.result b.ensures.at q c.follow-neighbour.ensures.there n c.args.reverse w in
+    rw c.follow-neighbour.ensures.cells (owner_leads r c.requires.kept c.args.s c.requires.set e c.requires.joins b.result b.ensures.at filed)
+
+pub follow-owner-requires-clause-room : goal.follow-owner-requires-clause-room
+follow-owner-requires-clause-room c =
+    let a = c.args.self.now.blocks in let b = c.follow-neighbour.new.self in
+    one_room a.touches a.total b.touches b.total c.requires.touches c.follow-neighbour.ensures.touches
+
+pub overflow_cast-owner : goal.overflow_cast-owner
+overflow_cast-owner c =
+    let r = c.args.self.now in let e = c.args.member in let b = c.member_base-base in let q = c.follow-neighbour.result in
+    let w = subst (λ k. word_at r.blocks.cells e.place.at k ≡ link q.place.at) c.beside.ensures c.follow-neighbour.ensures.word in
+    let n = c.if-neighbour-member.false in
+    let filed = beside_filed r c.requires.kept c.args.s c.requires.set e c.requires.joins b.result b.ensures.at q c.follow-neighbour.ensures.there n c.args.reverse w in
+    let cells = c.follow-neighbour.ensures.cells in let p = c.follow-owner.result in
+    let u : word_at r.blocks.cells e.place.at (b.result + 2) ≡ link p.place.at = (λ i. word_at (sym cells i) e.place.at (b.result + 2)) ∙ c.follow-owner.ensures.word in
+    let v : word_at r.blocks.cells p.place.at 1 ≡ number p.number = (λ i. word_at (sym cells i) p.place.at 1) ∙ c.follow-owner.ensures.there in
+    let h = owner_small r c.requires.kept c.args.s c.requires.set e c.requires.joins b.result b.ensures.at filed p u v in
+    omega (arith, ints, h)
+
+pub returns-then-owner-o : goal.returns-then-owner-o
+returns-then-owner-o c =
+    let r = c.args.self.now in let b = c.follow-neighbour.new.self in let d = c.follow-owner.new.self in let f = c.follow-owner.ensures in
+    let h = as_before r (record r { blocks = d }) refl (f.cells ∙ c.follow-neighbour.ensures.cells) in
+    record {
+      found = tt;
+      kept = kept_still r (record r { blocks = d }) h c.requires.kept;
+      same = ap state h;
+      touches = two_counted r.blocks.touches r.blocks.total b.touches b.total c.requires.touches c.follow-neighbour.ensures.touches d.touches d.total f.touches;
+    }
+
+pub pass-requires-clause-kept : goal.pass-requires-clause-kept
+pass-requires-clause-kept c =
+    let r = c.args.self.now in let q = record r { blocks = c.follow-owner.new.self } in
+    kept_still r q (as_before r q refl (c.follow-owner.ensures.cells ∙ c.follow-neighbour.ensures.cells)) c.requires.kept
+
+pub pass-requires-clause-set : goal.pass-requires-clause-set
+pass-requires-clause-set c = c.requires.set
+
+pub pass-requires-clause-joins : goal.pass-requires-clause-joins
+pass-requires-clause-joins c =
+    let r = c.args.self.now in let q = record r { blocks = c.follow-owner.new.self } in
+    joins_still r q (as_before r q refl (c.follow-owner.ensures.cells ∙ c.follow-neighbour.ensures.cells)) c.args.s c.args.member c.requires.joins
+
+pub overflow_cast-result : goal.overflow_cast-result
+overflow_cast-result c =
+    let r = c.args.self.now in let e = c.args.member in let b = c.member_base-base in let q = c.follow-neighbour.result in
+    let w = subst (λ k. word_at r.blocks.cells e.place.at k ≡ link q.place.at) c.beside.ensures c.follow-neighbour.ensures.word in
+    let h = beside_small r c.requires.kept c.args.s c.requires.set e c.requires.joins b.result b.ensures.at q c.follow-neighbour.ensures.there c.args.reverse w in
+    omega (arith, ints, h)
+
+pub returns-clause-found : goal.returns-clause-found
+returns-clause-found c =
+    let r = c.args.self.now in let e = c.args.member in let b = c.member_base-base in let q = c.follow-neighbour.result in
+    let w = subst (λ k. word_at r.blocks.cells e.place.at k ≡ link q.place.at) c.beside.ensures c.follow-neighbour.ensures.word in
+    let n = c.if-neighbour-member.false in
+    let filed = beside_filed r c.requires.kept c.args.s c.requires.set e c.requires.joins b.result b.ensures.at q c.follow-neighbour.ensures.there n c.args.reverse w in
+    let cells = c.follow-neighbour.ensures.cells in let p = c.follow-owner.result in
+    let u : word_at r.blocks.cells e.place.at (b.result + 2) ≡ link p.place.at = (λ i. word_at (sym cells i) e.place.at (b.result + 2)) ∙ c.follow-owner.ensures.word in
+    let v : word_at r.blocks.cells p.place.at 1 ≡ number p.number = (λ i. word_at (sym cells i) p.place.at 1) ∙ c.follow-owner.ensures.there in
+    let fo = c.ranges.o in let back : to_z w64 (of_z w64 c.args.o) ≡ c.args.o = search rules in
+    let is : to_z w64 p.number ≡ c.args.o = ap (to_z w64) c.if-owner-o.false ∙ back in
+    λ x j. (
+      in_its r c.requires.kept c.args.s c.requires.set e c.requires.joins b.result b.ensures.at filed p u v c.args.o x j is,
+      beside_value r c.requires.kept c.args.s c.requires.set e c.requires.joins b.result b.ensures.at q c.follow-neighbour.ensures.there n c.args.reverse w x j,
+    )
+
+pub pass-requires-clause-next : goal.pass-requires-clause-next
+pass-requires-clause-next c =
+    let r = c.args.self.now in let e = c.args.member in let b = c.member_base-base in let q = c.follow-neighbour.result in
+    let w = subst (λ k. word_at r.blocks.cells e.place.at k ≡ link q.place.at) c.beside.ensures c.follow-neighbour.ensures.word in
+    let n = c.if-neighbour-member.false in
+    let filed = beside_filed r c.requires.kept c.args.s c.requires.set e c.requires.joins b.result b.ensures.at q c.follow-neighbour.ensures.there n c.args.reverse w in
+    let cells = c.follow-neighbour.ensures.cells in let p = c.follow-owner.result in let z = c.follow-owner.new.self in
+    let u : word_at r.blocks.cells e.place.at (b.result + 2) ≡ link p.place.at = (λ i. word_at (sym cells i) e.place.at (b.result + 2)) ∙ c.follow-owner.ensures.word in
+    let v : word_at r.blocks.cells p.place.at 1 ≡ number p.number = (λ i. word_at (sym cells i) p.place.at 1) ∙ c.follow-owner.ensures.there in
+    let has = owner_has r c.requires.kept c.args.s c.requires.set e c.requires.joins b.result b.ensures.at filed p u v in
+    let h : held (record r { blocks = z }) ≡ held r = λ i. record r { blocks = record { cells = (c.follow-owner.ensures.cells ∙ cells) i; touches = 0; total = 0 } } in
+    λ some. joins_still r (record r { blocks = z }) h c.args.s q (beside_joins r c.requires.kept c.args.s c.requires.set e c.requires.joins b.result b.ensures.at p.number has.1 q c.follow-neighbour.ensures.there some c.args.reverse w)
+
+pub returns-clause-kept : goal.returns-clause-kept
+returns-clause-kept c =
+    let r = c.args.self.now in let q = record r { blocks = c.follow-owner.new.self } in
+    subst IsKept (sym c.pass.ensures) (kept_still r q (as_before r q refl (c.follow-owner.ensures.cells ∙ c.follow-neighbour.ensures.cells)) c.requires.kept)
+
+pub returns-clause-same : goal.returns-clause-same
+returns-clause-same c =
+    let r = c.args.self.now in
+    ap (λ (z : Records). state z) c.pass.ensures ∙ ap (λ bs. state_of r.layout bs (places r) r.notes.lists) (c.follow-owner.ensures.cells ∙ c.follow-neighbour.ensures.cells)
+
+pub returns-clause-touches : goal.returns-clause-touches
+returns-clause-touches c =
+    let a = c.args.self.now.blocks in let b = c.follow-neighbour.new.self in let d = c.follow-owner.new.self in
+    subst (λ (z : Records). (z.blocks.touches ≤ 2) × (z.blocks.total ≡ a.total + z.blocks.touches)) (sym c.pass.ensures)
+    (two_counted a.touches a.total b.touches b.total c.requires.touches c.follow-neighbour.ensures.touches d.touches d.total c.follow-owner.ensures.touches)

@@ -1,0 +1,55 @@
+use Rattle.std.proofs.Common.{arith, ◌≡◌, refl, ap}
+use Rattle.std.proofs.lemmas.Int.{ints, to_z-of_z}
+use Rattle.ss_records_entities.proofs.Looks.{next_leads, next_fits, next_is}
+use Rattle.ss_records_entities.specs.Parts.{state, held}
+use Rattle.ss_records_entities.proofs.Still.{kept_still, room_first, one_touch, no_touch}
+use Rattle.ss_records_entities.proofs.records.Records.next.Goals as goal
+
+pub follow-next-requires-clause-leads : goal.follow-next-requires-clause-leads
+follow-next-requires-clause-leads c = next_leads c.args.self.now c.requires.kept c.args.s c.requires.set c.in-Ok.member c.in-Ok.ensures.found.0 c.member_base-base.result c.member_base-base.ensures.at
+
+pub overflow_cast-result : goal.overflow_cast-result
+overflow_cast-result c =
+    let h = next_fits c.args.self.now c.requires.kept c.args.s c.requires.set c.in-Ok.member c.in-Ok.ensures.found.0 c.member_base-base.result c.member_base-base.ensures.at c.follow-next.result c.follow-next.ensures.word c.follow-next.ensures.there c.other_than.result c.other_than.ensures.same c.other_than.ensures.other in
+    omega (arith, ints, h)
+
+pub returns-in-Ok-clause-value : goal.returns-in-Ok-clause-value
+returns-in-Ok-clause-value c =
+    let fits = c.ranges.x in let f = simp to_z-of_z at c.in-Ok.ensures.found in
+    next_is c.args.self.now c.requires.kept c.args.s c.requires.set c.in-Ok.member f.0 c.member_base-base.result c.member_base-base.ensures.at c.follow-next.result c.follow-next.ensures.word c.follow-next.ensures.there c.args.x c.other_than.result f.1 c.other_than.ensures.same c.other_than.ensures.other
+
+pub joiner-requires-clause-kept : goal.joiner-requires-clause-kept
+joiner-requires-clause-kept c = c.requires.kept
+
+pub joiner-requires-clause-set : goal.joiner-requires-clause-set
+joiner-requires-clause-set c = c.requires.set
+
+pub member_base-base-requires : goal.member_base-base-requires
+member_base-base-requires c = c.requires.set
+
+pub follow-next-requires-clause-room : goal.follow-next-requires-clause-room
+follow-next-requires-clause-room c = let r = c.args.self.now in room_first r.blocks.touches r.blocks.total 0 0 c.requires.touches
+
+pub returns-in-Ok-clause-kept : goal.returns-in-Ok-clause-kept
+returns-in-Ok-clause-kept c =
+    let r = c.args.self.now in let b = c.follow-next.new.self in let h : held (record r { blocks = b }) ≡ held r = λ i. record r { blocks = record { cells = c.follow-next.ensures.cells i; touches = 0; total = 0 } } in
+    kept_still r (record r { blocks = b }) h c.requires.kept
+
+pub returns-in-Ok-clause-same : goal.returns-in-Ok-clause-same
+returns-in-Ok-clause-same c =
+    let r = c.args.self.now in let b = c.follow-next.new.self in let h : held (record r { blocks = b }) ≡ held r = λ i. record r { blocks = record { cells = c.follow-next.ensures.cells i; touches = 0; total = 0 } } in
+    ap state h
+
+pub returns-in-Ok-clause-touches : goal.returns-in-Ok-clause-touches
+returns-in-Ok-clause-touches c =
+    let r = c.args.self.now in let b = c.follow-next.new.self in
+    one_touch r.blocks.touches r.blocks.total b.touches b.total c.requires.touches c.follow-next.ensures.touches
+
+pub returns-in-Err-clause-kept : goal.returns-in-Err-clause-kept
+returns-in-Err-clause-kept c = c.requires.kept
+
+pub returns-in-Err-clause-same : goal.returns-in-Err-clause-same
+returns-in-Err-clause-same c = refl
+
+pub returns-in-Err-clause-touches : goal.returns-in-Err-clause-touches
+returns-in-Err-clause-touches c = let r = c.args.self.now in no_touch r.blocks.touches r.blocks.total 0 0 c.requires.touches 1 1

@@ -1,0 +1,32 @@
+use Rattle.std.proofs.Common.{◌≡◌, ℕ, inl, Ok, w64, sym, ap, subst, ◌∙◌}
+use Rattle.std.specs.Prelude.{ℤ}
+use Rattle.std.proofs.lemmas.Int.{to_z-of_z}
+use Rattle.ss_world.specs.State.{time_in}
+use Rattle.ss_records_blocks.specs.Cells.{word_at, number}
+use Rattle.ss_records_entities.specs.Parts.{places, state}
+use Rattle.ss_records_entities.proofs.Assigns.{time_number, is_timed, is_time}
+use Rattle.ss_records_entities.proofs.records.Records.time.Goals as goal
+
+pub number-requires : goal.number-requires
+number-requires c =
+    let r = c.args.self.now in let f = c.in-Ok.ensures.found in
+    rw c.time_word-k.ensures (time_number r.layout r.blocks.cells r.system.at (places r) r.notes.lists c.requires.kept f.index c.in-Ok.place (inl f.entry) _ f.is f.notice)
+
+pub time_word-k-requires-clause-kept : goal.time_word-k-requires-clause-kept
+time_word-k-requires-clause-kept c = c.requires.kept
+
+pub time_word-k-requires-clause-entry : goal.time_word-k-requires-clause-entry
+time_word-k-requires-clause-entry c = let f = c.in-Ok.ensures.found in (f.index, f.entry)
+
+pub time_word-k-requires-clause-notice : goal.time_word-k-requires-clause-notice
+time_word-k-requires-clause-notice c =
+    let r = c.args.self.now in let f = c.in-Ok.ensures.found in
+    is_timed r.layout r.blocks.cells r.system.at (places r) r.notes.lists c.requires.kept f.index c.in-Ok.place (inl f.entry) _ f.is f.notice
+
+pub returns-in-Ok : goal.returns-in-Ok
+returns-in-Ok c =
+    let r = c.args.self.now in let f = c.in-Ok.ensures.found in
+    let word = subst (λ (k : ℕ). word_at r.blocks.cells c.in-Ok.place.at k ≡ number c.number.result) c.time_word-k.ensures c.number.ensures in
+    ap (λ (z : ℤ). Ok z) (to_z-of_z w64 c.cast_signed.result (record { sfits = c.cast_signed.type_inv }) ∙ c.cast_signed.ensures)
+    ∙ sym (is_time r.layout r.blocks.cells r.system.at (places r) r.notes.lists c.requires.kept f.index c.in-Ok.place (inl f.entry) _ f.is f.notice c.number.result word)
+    ∙ ap (λ (z : ℤ). time_in (state r) z) (to_z-of_z w64 c.args.r c.ranges.r)

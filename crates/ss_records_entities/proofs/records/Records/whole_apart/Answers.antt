@@ -1,0 +1,23 @@
+use Rattle.std.proofs.Common.{rules, ◌≡◌, ℤ, w64, to_z, of_z, sym, ap, ◌∙◌, Ok}
+use Rattle.std.proofs.lemmas.Int.{to_z-of_z}
+use Rattle.ss_base.specs.declared.value.Value.TheVariants.{Whole}
+use Rattle.ss_base.specs.declared.layout.Mode.TheVariants.{Integer}
+use Rattle.ss_records_entities.specs.Parts.{places}
+use Rattle.ss_records_entities.proofs.Assigns.{first_number, is_value}
+use Rattle.ss_records_entities.proofs.Still.{few_fields}
+use Rattle.ss_records_entities.proofs.records.Records.whole_apart.Goals as goal
+
+pub value_start-k-requires : goal.value_start-k-requires
+value_start-k-requires c = let r = c.args.self.now in few_fields r.layout c.args.class c.args.field Integer c.requires.kept.small c.requires.mode
+
+pub whole-requires : goal.whole-requires
+whole-requires c =
+    let r = c.args.self.now in let f = c.in-Ok.ensures.found in
+    first_number r.layout r.blocks.cells r.system.at (places r) r.notes.lists c.requires.kept f.index c.in-Ok.place f.entry c.args.class f.class _ f.is f.entity c.args.field c.value_start-k.result c.value_start-k.ensures.at Integer c.requires.mode
+
+pub returns-in-Ok : goal.returns-in-Ok
+returns-in-Ok c =
+    let r = c.args.self.now in let fits = c.ranges.r in let f = simp to_z-of_z at c.in-Ok.ensures.found in
+    let v = is_value r.layout r.blocks.cells r.system.at (places r) r.notes.lists c.requires.kept f.index c.in-Ok.place f.entry c.args.class f.class c.args.r f.is f.entity c.args.field c.value_start-k.result c.value_start-k.ensures.at Integer c.requires.mode in
+    let w : to_z w64 (of_z w64 c.whole.result) ≡ c.whole.result = search rules in
+    v ∙ ap Ok (sym c.whole.ensures) ∙ ap (λ (z : ℤ). Ok (Whole z)) (sym w)

@@ -1,0 +1,59 @@
+use Rattle.std.proofs.Common.{◌≡◌, ℕ, inl, drop, ◌+◌, ◌*◌, ◌/◌, ◌<◌, ◌≤◌, length, slice_get, None, sym, ap, subst, ◌∙◌, arith}
+use Rattle.ss_base.specs.declared.layout.Owner.TheVariants.{Class}
+use Rattle.ss_records_blocks.specs.Cells.{IsNumber, word_of}
+use Rattle.ss_records_blocks.specs.Places.{living}
+use Rattle.ss_records_words.specs.Places.{lying, class_at}
+use Rattle.ss_records_words.specs.Reading.{plain, class_of}
+use Rattle.ss_records_blocks.specs.Pages.{in_page}
+use Rattle.ss_records_blocks.proofs.Paging.{quot, rem}
+use Rattle.ss_records_entities.proofs.Living.{Left, living_drop, rows_held, is_there, left_given, left_past}
+use Rattle.ss_records_entities.proofs.records.give_all_back.Goals as goal
+use Rattle.ss_records_entities.proofs.records.give_all_back.Goals.{in-Some, in-None, then-holds+else-loop-i-test, else-holds}
+
+class_is : {m n : ℕ} → Class m ≡ Class n → m ≡ n
+class_is e = cc
+
+in_stretch : (j q : ℕ) → q * 256 ≤ j → j < (q + 1) * 256 → j / 256 ≡ q
+in_stretch j q a b = omega (arith, a, b, quot j, rem j)
+
+pub number-class-requires : goal.number-class-requires
+number-class-requires c =
+    let K = c.requires.kept in let h = c.loop-i.invariant.left in let g = is_there _ c.in-Some.place c.in-Some.ensures in
+    subst IsNumber (sym (ap (λ us. word_of us 0) (h.kept c.loop-i.i c.in-Some.place (omega arith) g) ∙ (K.formed c.loop-i.i c.in-Some.place (inl g)).class)) tt
+
+pub block_words-words-requires : goal.block_words-words-requires
+block_words-words-requires c = λ k e.
+    let g = is_there _ c.in-Some.place c.in-Some.ensures in
+    let same : c.number-class.result ≡ k = class_is e in
+    let is : c.number-class.result ≡ class_at c.args.blocks.now.cells c.in-Some.place = sym (ap plain c.number-class.ensures) ∙ ap class_of (c.loop-i.invariant.left.kept c.loop-i.i c.in-Some.place (omega arith) g) in
+    subst (λ n. n < length c.args.layout.now.classes) (sym is ∙ same) (c.requires.kept.classes c.loop-i.i c.in-Some.place (inl g))
+
+pub loop-i-preserved : goal.loop-i-preserved
+loop-i-preserved c =
+    let l = c.args.layout.now in let cs = c.args.blocks.now.cells in let d = lying c.args.directory.now.places c.args.permanents.now in let K = c.requires.kept in let h = c.loop-i.invariant.left in let i = c.loop-i.i in let bs = c.loop-i.blocks.cells in
+    elim c.match-place_of.branch [
+      | in-Some w ↦ let p = w.in-Some.place in let g = is_there _ p w.in-Some.ensures in record {
+        left = rw (w.blocks-is, w.give_back.ensures.cells) (left_given l cs bs c.args.system.at d c.args.notes.now.lists K i p g h.kept h);
+      }
+      | in-None w ↦ record { left = rw w.blocks-is (left_past cs bs c.args.system.at d i 1 (i + 1) (omega arith) (λ j a b. subst (λ k. in_page (slice_get d.numbers k) ≡ None) (only i j a b) (sym w.in-None.ensures)) h) }
+    ] where
+      only : (i j : ℕ) → i ≤ j → j < i + 1 → i ≡ j
+      only i j a b = omega (arith, a, b)
+
+pub loop-stretch-preserved : goal.loop-stretch-preserved
+loop-stretch-preserved c =
+    let cs = c.args.blocks.now.cells in let d = lying c.args.directory.now.places c.args.permanents.now in let q = c.loop-stretch.stretch in let h = c.loop-stretch.invariant.left in
+    elim c.if-holds.branch [
+      | then-holds+else-loop-i-test w ↦ record {
+        left = rw w.blocks-is (subst (λ k. Left cs w.loop-i.blocks.cells c.args.system.at d k) (omega (arith, w.loop-i-test.false, w.loop-i.auto.i, w.loop-i.auto.i-end)) w.loop-i.invariant.left);
+      }
+      | else-holds w ↦ record {
+        left = rw w.blocks-is (left_past cs c.loop-stretch.blocks.cells c.args.system.at d (q * 256) 256 ((q + 1) * 256) (omega arith) (λ j a b. c.holds.ensures w.if-holds.false j (in_stretch j q a b)) h);
+      }
+    ]
+
+pub give_rows_back-requires-clause-held : goal.give_rows_back-requires-clause-held
+give_rows_back-requires-clause-held c =
+    let d = c.args.directory.now.places in let h = c.loop-stretch.invariant.left in let i = c.loop-stretch.stretch * 256 in
+    let none : living (drop i d) ≡ 0 = living_drop d i (omega (arith, c.loop-stretch-test.false, c.stretches-stretch-end.ensures.all)) in
+    rows_held c.args.layout.now c.args.blocks.now.cells c.loop-stretch.blocks.cells c.args.system.at (lying d c.args.permanents.now) c.args.notes.now.lists c.requires.kept h.made (omega (arith, h.count, none))

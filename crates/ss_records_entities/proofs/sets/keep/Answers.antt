@@ -1,0 +1,10 @@
+use Rattle.std.proofs.Common.{sym, ◌∙◌}
+use Rattle.ss_world.specs.State.{kind_of}
+use Rattle.ss_world.specs.Sets.{member_class}
+use Rattle.ss_records_entities.proofs.Remembered.{comes_and_goes}
+use Rattle.ss_records_entities.proofs.sets.keep.Goals as goal
+
+pub remember-requires : goal.remember-requires
+remember-requires c =
+    let l = c.args.layout.now in
+    c.requires.entry (comes_and_goes (kind_of l (member_class l c.args.s)) (sym c.holds_permanent.ensures ∙ c.if-holds_permanent.false))

@@ -1,0 +1,6 @@
+pub mod Added
+pub mod Classed
+pub mod Looked
+pub mod Parts
+pub mod Passing
+pub mod Skimming

@@ -1,0 +1,75 @@
+-- The parts of a heap, and what its contracts see of them.
+use Rattle.std.specs.Prelude.{◌≡◌, ℕ, suc, ℤ, pos, List, ◌∷◌, ◌++◌, length, slice_get, Some, Ok}
+use Rattle.ss_records_blocks.specs.declared.store.Address.{Address}
+use Rattle.ss_records_entities.specs.declared.records.Records.{Records}
+use Rattle.ss_records_blocks.specs.declared.links.Entry.{Entry}
+use Rattle.ss_world.specs.State.{State, Heaped, entity, notice, members_of}
+use Rattle.ss_world.specs.Sets.{member_class, owner_kind}
+use Rattle.ss_world.specs.Lists.{head0, last_or}
+use Rattle.ss_records_blocks.specs.Cells.{words_at}
+use Rattle.ss_records_words.specs.Reading.{record_of}
+use Rattle.ss_records_words.specs.Kept.{Kept, state_of}
+use Rattle.ss_records_words.specs.Places.{Directory, lying, Lists, class_at, entity_at, owner_at}
+use Rattle.ss_records_words.specs.Slotted.{IsOf, MayOwn}
+
+-- where the entities lie
+abbrev pub places : Records → Directory
+places r = lying r.directory.places r.permanents.items
+
+abbrev pub IsKept : Records → Type 0
+IsKept r = Kept r.layout r.blocks.cells r.system.at (places r) r.notes.lists
+
+abbrev pub state : Records → State
+state r = state_of r.layout r.blocks.cells (places r) r.notes.lists
+
+abbrev pub heaped : Records → Heaped
+heaped r = record { state = state r; touches = r.blocks.touches; total = r.blocks.total; pages = r.directory.pages; blocks = length r.blocks.cells }
+
+-- p is the place of the entity x of the class c
+pub record Found (r : Records) (c : ℕ) (x : ℤ) (p : Address) : Type 0 where
+  pub index : ℕ
+  pub is : x ≡ pos (suc index)
+  pub entry : Lists (places r) index p
+  pub class : class_at r.blocks.cells p ≡ c
+  pub entity : entity (state r) c x ≡ Ok (record_of r.layout (words_at r.blocks.cells p.at))
+
+-- p is the place of the notice x
+pub record FoundNotice (r : Records) (x : ℤ) (p : Address) : Type 0 where
+  pub index : ℕ
+  pub is : x ≡ pos (suc index)
+  pub entry : slice_get r.directory.places index ≡ Some (Some p)
+  pub notice : notice (state r) x ≡ Ok (record_of r.layout (words_at r.blocks.cells p.at))
+
+-- e is where the block of its number lies, as an entity of the class of the members of the set s; 0 is the end
+abbrev pub Lies : Records → ℕ → Entry → Type 0
+Lies r s e = e.place.at ≡ entity_at r.system.at (places r) (member_class r.layout s) e.number
+
+-- e is an owner of the set s
+pub record Owns (r : Records) (s : ℕ) (e : Entry) : Type 0 where
+  pub lies : e.place.at ≡ owner_at r.system.at (places r) (owner_kind r.layout s) e.number
+  pub may : MayOwn r.blocks.cells (places r) (owner_kind r.layout s) e.number
+
+-- e is of the class of the members of the set s
+pub record Joins (r : Records) (s : ℕ) (e : Entry) : Type 0 where
+  pub lies : Lies r s e
+  pub is : IsOf r.blocks.cells (places r) (member_class r.layout s) e.number
+
+-- the set s of o has the members xs and then ys, of which a is the last and b the first
+pub record Between (r : Records) (s o : ℕ) (a b : Entry) (xs ys : List ℕ) : Type 0 where
+  pub list : members_of r.notes.lists s o ≡ xs ++ ys
+  pub before : Lies r s a
+  pub last : a.number ≡ last_or 0 xs
+  pub after : Lies r s b
+  pub first : b.number ≡ head0 ys
+
+-- the set s of o has the members xs, then x, then ys
+pub record Around (r : Records) (s o x : ℕ) (a b : Entry) (xs ys : List ℕ) : Type 0 where
+  pub list : members_of r.notes.lists s o ≡ xs ++ x ∷ ys
+  pub before : Lies r s a
+  pub last : a.number ≡ last_or 0 xs
+  pub after : Lies r s b
+  pub first : b.number ≡ head0 ys
+
+-- what a call that only looks leaves: all but the counts of touches
+abbrev pub held : Records → Records
+held r = record r { blocks = record { cells = r.blocks.cells; touches = 0; total = 0 } }

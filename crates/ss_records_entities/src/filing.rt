@@ -1,0 +1,535 @@
+// Filing and removing.
+ghost use Rattle.std.specs.Prelude.{◌≡◌, ℕ, ◌+◌, ◌<◌, ◌≤◌, ℤ, List, [], ◌∷◌, ◌++◌, length, false, true, Result, MatchResult, IfSome, IsOk, Ok, Err, None};
+ghost use Rattle.ss_world.specs.State.{State, and_then, is_filed, contains, members_of};
+ghost use Rattle.ss_world.specs.Disciplines.{first_removed, last_removed, member_test};
+ghost use Rattle.ss_world.specs.Sets.{joiner, owner, less, with_list_of, put_in, put_beside, taken_out, filed_first, filed_last, filed_before, filed_after, removed};
+ghost use Rattle.ss_records_entities.specs.Parts.{IsKept, state, held, Owns, Joins, Between, Around};
+
+use crate::records::Records;
+use crate::sets;
+use ss_base::FaultKind;
+use ss_records_blocks::Entry;
+
+// An owner of a set, and one that may be in the set.
+#[derive(Clone, Copy)]
+struct Pair {
+    owner: Entry,
+    x: Entry,
+}
+
+// An owner of a set, and two that may be in the set.
+#[derive(Clone, Copy)]
+struct Triple {
+    owner: Entry,
+    x: Entry,
+    y: Entry,
+}
+
+impl Records {
+    // What x and then o mean.
+    #[inline(always)]
+    fn pair(&self, s: usize, o: i64, x: i64) -> Result<Pair, FaultKind>
+        requires kept { IsKept self.now }
+        requires set { s < length self.now.layout.sets }
+        ensures found { MatchResult result (λ p. Owns self.now s p.owner × Joins self.now s p.x × (joiner (state self.now) s x ≡ Ok p.x.number) × (owner (state self.now) s o ≡ Ok p.owner.number)) (λ f. (g : ℕ → ℕ → Result State FaultKind) → and_then (joiner (state self.now) s x) (λ n. and_then (owner (state self.now) s o) (g n)) ≡ Err f) }
+    {
+        match self.near_pair(s, o, x) {
+            Some(pair) => Ok(pair),
+            None => self.pair_apart(s, o, x),
+        }
+    }
+
+    // The same where it may take a search.
+    #[cold]
+    #[inline(never)]
+    fn pair_apart(&self, s: usize, o: i64, x: i64) -> Result<Pair, FaultKind>
+        requires kept { IsKept self.now }
+        requires set { s < length self.now.layout.sets }
+        ensures found { MatchResult result (λ p. Owns self.now s p.owner × Joins self.now s p.x × (joiner (state self.now) s x ≡ Ok p.x.number) × (owner (state self.now) s o ≡ Ok p.owner.number)) (λ f. (g : ℕ → ℕ → Result State FaultKind) → and_then (joiner (state self.now) s x) (λ n. and_then (owner (state self.now) s o) (g n)) ≡ Err f) }
+    {
+        match self.joiner(s, x) {
+            Ok(x) => match self.owner(s, o) {
+                Ok(owner) => Ok(Pair { owner, x }),
+                Err(fault) => Err(fault),
+            },
+            Err(fault) => Err(fault),
+        }
+    }
+
+    // What x and then o mean, where both are found without a search.
+    #[inline(always)]
+    fn near_pair(&self, s: usize, o: i64, x: i64) -> Option<Pair>
+        requires kept { IsKept self.now }
+        requires set { s < length self.now.layout.sets }
+        ensures { IfSome result (λ p. Owns self.now s p.owner × Joins self.now s p.x × (joiner (state self.now) s x ≡ Ok p.x.number) × (owner (state self.now) s o ≡ Ok p.owner.number)) }
+    {
+        match self.near_joiner(s, x) {
+            Some(x) => match self.near_owner(s, o) {
+                Some(owner) => Some(Pair { owner, x }),
+                None => None,
+            },
+            None => None,
+        }
+    }
+
+    // The same where the set is one of the system.
+    #[inline(always)]
+    fn system_pair(&self, s: usize, o: i64, x: i64) -> Option<Pair>
+        requires kept { IsKept self.now }
+        requires set { s < length self.now.layout.sets }
+        ensures { IfSome result (λ p. Owns self.now s p.owner × Joins self.now s p.x × (joiner (state self.now) s x ≡ Ok p.x.number) × (owner (state self.now) s o ≡ Ok p.owner.number)) }
+    {
+        match self.system_owner(s, o) {
+            Some(owner) => match self.near_joiner(s, x) {
+                Some(x) => Some(Pair { owner, x }),
+                None => None,
+            },
+            None => None,
+        }
+    }
+
+    // What x, then y and then o mean.
+    fn triple(&self, s: usize, o: i64, x: i64, y: i64) -> Result<Triple, FaultKind>
+        requires kept { IsKept self.now }
+        requires set { s < length self.now.layout.sets }
+        ensures found { MatchResult result (λ p. Owns self.now s p.owner × Joins self.now s p.x × Joins self.now s p.y × (joiner (state self.now) s x ≡ Ok p.x.number) × (joiner (state self.now) s y ≡ Ok p.y.number) × (owner (state self.now) s o ≡ Ok p.owner.number)) (λ f. (g : ℕ → ℕ → ℕ → Result State FaultKind) → and_then (joiner (state self.now) s x) (λ n. and_then (joiner (state self.now) s y) (λ k. and_then (owner (state self.now) s o) (g n k))) ≡ Err f) }
+    {
+        match self.joiner(s, x) {
+            Ok(x) => match self.pair(s, o, y) {
+                Ok(pair) => Ok(Triple {
+                    owner: pair.owner,
+                    x,
+                    y: pair.x,
+                }),
+                Err(fault) => Err(fault),
+            },
+            Err(fault) => Err(fault),
+        }
+    }
+
+    // Whether x is in the set of this owner: at most two touches.
+    fn is_in(&mut self, s: usize, owner: Entry, x: Entry) -> bool
+        requires kept { IsKept self.old }
+        requires set { s < length self.old.layout.sets }
+        requires owns { Owns self.old s owner }
+        requires joins { Joins self.old s x }
+        requires touches { self.old.blocks.touches ≤ 8 }
+        ensures value { result ≡ contains (members_of self.old.notes.lists s owner.number) x.number }
+        ensures same { self.new ≡ record self.old { blocks = self.new.blocks } }
+        ensures cells { self.new.blocks.cells ≡ self.old.blocks.cells }
+        ensures touches { (self.new.blocks.touches ≤ self.old.blocks.touches + 2) × (self.new.blocks.total + self.old.blocks.touches ≡ self.old.blocks.total + self.new.blocks.touches) }
+    {
+        if !self.is_filed(s, x) {
+            return false;
+        }
+        let base = self.layout.member_base(s);
+        let its_owner = self.blocks.follow(x.place, base + 2);
+        its_owner.number == owner.number
+    }
+
+    // Links x into the set of an owner between two neighbours: seven touches.
+    fn link_in(&mut self, s: usize, owner: Entry, before: Entry, x: Entry, after: Entry)
+        requires kept { IsKept self.old }
+        requires set { s < length self.old.layout.sets }
+        requires owns { Owns self.old s owner }
+        requires joins { Joins self.old s x }
+        requires free { is_filed self.old.notes.lists s x.number ≡ false }
+        requires between { (xs : List ℕ) × (ys : List ℕ) × Between self.old s owner.number before after xs ys }
+        requires touches { self.old.blocks.touches ≤ 16 }
+        ensures kept { IsKept self.new }
+        ensures done { (xs : List ℕ) (ys : List ℕ) → Between self.old s owner.number before after xs ys → state self.new ≡ with_list_of (state self.old) s owner.number (xs ++ x.number ∷ ys) }
+        ensures touches { (self.new.blocks.touches ≡ self.old.blocks.touches + 7) × (self.new.blocks.total ≡ self.old.blocks.total + 7) }
+    {
+        let member = self.layout.member_base(s);
+        let set = self.layout.owner_base(s);
+        let count = self.blocks.count(owner.place, set + 2);
+        let is_first = before.number == 0;
+        let is_last = after.number == 0;
+        self.blocks.link_between(
+            member,
+            set,
+            owner.place,
+            before.place,
+            is_first,
+            x.place,
+            after.place,
+            is_last,
+            count,
+        );
+        self.notes
+            .put_before(s, owner.number, x.number, after.number);
+    }
+
+    // Links x out of the set of an owner, from between its neighbours: seven touches.
+    fn link_out(&mut self, s: usize, owner: Entry, before: Entry, x: Entry, after: Entry)
+        requires kept { IsKept self.old }
+        requires set { s < length self.old.layout.sets }
+        requires owns { Owns self.old s owner }
+        requires joins { Joins self.old s x }
+        requires around { (xs : List ℕ) × (ys : List ℕ) × Around self.old s owner.number x.number before after xs ys }
+        requires touches { self.old.blocks.touches ≤ 16 }
+        ensures kept { IsKept self.new }
+        ensures done { (xs : List ℕ) (ys : List ℕ) → Around self.old s owner.number x.number before after xs ys → state self.new ≡ with_list_of (state self.old) s owner.number (xs ++ ys) }
+        ensures touches { (self.new.blocks.touches ≡ self.old.blocks.touches + 7) × (self.new.blocks.total ≡ self.old.blocks.total + 7) }
+    {
+        let member = self.layout.member_base(s);
+        let set = self.layout.owner_base(s);
+        let count = self.blocks.count(owner.place, set + 2);
+        let is_first = before.number == 0;
+        let is_last = after.number == 0;
+        self.blocks.unlink(
+            member,
+            set,
+            owner.place,
+            before.place,
+            is_first,
+            x.place,
+            after.place,
+            is_last,
+            count,
+        );
+        self.notes.take_out(s, owner.number, x.number);
+    }
+
+    /// Files x first.
+    pub fn file_first(&mut self, s: usize, o: i64, x: i64) -> Result<(), FaultKind>
+        requires kept { IsKept self.old }
+        requires set { s < length self.old.layout.sets }
+        requires touches { self.old.blocks.touches ≡ 0 }
+        ensures kept { IsKept self.new }
+        ensures done { MatchResult result (λ _. filed_first (state self.old) s o x ≡ Ok (state self.new)) (λ e. (filed_first (state self.old) s o x ≡ Err e) × (state self.new ≡ state self.old)) }
+        ensures touches { (self.new.blocks.touches ≤ 12) × (IsOk result → 4 ≤ self.new.blocks.touches) × (self.new.blocks.total ≡ self.old.blocks.total + self.new.blocks.touches) }
+    {
+        match self.pair(s, o, x) {
+            Ok(pair) => {
+                let base = self.layout.owner_base(s);
+                let end = Entry {
+                    place: self.system,
+                    number: 0,
+                };
+                if self.is_filed(s, pair.x) {
+                    return Err(FaultKind::FiledTwice);
+                }
+                let first = self.blocks.follow(pair.owner.place, base);
+                self.link_in(s, pair.owner, end, pair.x, first);
+                Ok(())
+            }
+            Err(fault) => Err(fault),
+        }
+    }
+
+    /// Files x last.
+    pub fn file_last(&mut self, s: usize, o: i64, x: i64) -> Result<(), FaultKind>
+        requires kept { IsKept self.old }
+        requires set { s < length self.old.layout.sets }
+        requires touches { self.old.blocks.touches ≡ 0 }
+        ensures kept { IsKept self.new }
+        ensures done { MatchResult result (λ _. filed_last (state self.old) s o x ≡ Ok (state self.new)) (λ e. (filed_last (state self.old) s o x ≡ Err e) × (state self.new ≡ state self.old)) }
+        ensures touches { (self.new.blocks.touches ≤ 12) × (IsOk result → 4 ≤ self.new.blocks.touches) × (self.new.blocks.total ≡ self.old.blocks.total + self.new.blocks.touches) }
+    {
+        match self.pair(s, o, x) {
+            Ok(both) => {
+                let base = self.layout.owner_base(s);
+                let end = Entry {
+                    place: self.system,
+                    number: 0,
+                };
+                if self.is_filed(s, both.x) {
+                    return Err(FaultKind::FiledTwice);
+                }
+                let last = self.blocks.follow(both.owner.place, base + 1);
+                self.link_in(s, both.owner, last, both.x, end);
+                Ok(())
+            }
+            Err(fault) => Err(fault),
+        }
+    }
+
+    /// Files x directly before y.
+    pub fn file_before(&mut self, s: usize, o: i64, x: i64, y: i64) -> Result<(), FaultKind>
+        requires kept { IsKept self.old }
+        requires set { s < length self.old.layout.sets }
+        requires touches { self.old.blocks.touches ≡ 0 }
+        ensures kept { IsKept self.new }
+        ensures done { MatchResult result (λ _. filed_before (state self.old) s o x y ≡ Ok (state self.new)) (λ e. (filed_before (state self.old) s o x y ≡ Err e) × (state self.new ≡ state self.old)) }
+        ensures touches { (self.new.blocks.touches ≤ 12) × (IsOk result → 4 ≤ self.new.blocks.touches) × (self.new.blocks.total ≡ self.old.blocks.total + self.new.blocks.touches) }
+    {
+        match self.triple(s, o, x, y) {
+            Ok(triple) => {
+                let base = self.layout.member_base(s);
+                if self.is_filed(s, triple.x) {
+                    return Err(FaultKind::FiledTwice);
+                }
+                if !self.is_in(s, triple.owner, triple.y) {
+                    return Err(FaultKind::NotFiled);
+                }
+                let beside = self.blocks.follow(triple.y.place, base + 1);
+                self.link_in(s, triple.owner, beside, triple.x, triple.y);
+                Ok(())
+            }
+            Err(fault) => Err(fault),
+        }
+    }
+
+    /// Files x directly after y.
+    pub fn file_after(&mut self, s: usize, o: i64, x: i64, y: i64) -> Result<(), FaultKind>
+        requires kept { IsKept self.old }
+        requires set { s < length self.old.layout.sets }
+        requires touches { self.old.blocks.touches ≡ 0 }
+        ensures kept { IsKept self.new }
+        ensures done { MatchResult result (λ _. filed_after (state self.old) s o x y ≡ Ok (state self.new)) (λ e. (filed_after (state self.old) s o x y ≡ Err e) × (state self.new ≡ state self.old)) }
+        ensures touches { (self.new.blocks.touches ≤ 12) × (IsOk result → 4 ≤ self.new.blocks.touches) × (self.new.blocks.total ≡ self.old.blocks.total + self.new.blocks.touches) }
+    {
+        match self.triple(s, o, x, y) {
+            Ok(triple) => {
+                let base = self.layout.member_base(s);
+                if self.is_filed(s, triple.x) {
+                    return Err(FaultKind::FiledTwice);
+                }
+                if !self.is_in(s, triple.owner, triple.y) {
+                    return Err(FaultKind::NotFiled);
+                }
+                let beside = self.blocks.follow(triple.y.place, base);
+                self.link_in(s, triple.owner, triple.y, triple.x, beside);
+                Ok(())
+            }
+            Err(fault) => Err(fault),
+        }
+    }
+
+    /// Takes x out of a set.
+    pub fn remove(&mut self, s: usize, o: i64, x: i64) -> Result<(), FaultKind>
+        requires kept { IsKept self.old }
+        requires set { s < length self.old.layout.sets }
+        requires touches { self.old.blocks.touches ≡ 0 }
+        ensures kept { IsKept self.new }
+        ensures done { MatchResult result (λ _. removed (state self.old) s o x ≡ Ok (state self.new)) (λ e. (removed (state self.old) s o x ≡ Err e) × (state self.new ≡ state self.old)) }
+        ensures touches { (self.new.blocks.touches ≤ 12) × (IsOk result → 4 ≤ self.new.blocks.touches) × (self.new.blocks.total ≡ self.old.blocks.total + self.new.blocks.touches) }
+    {
+        match self.pair(s, o, x) {
+            Ok(pair) => {
+                let base = self.layout.member_base(s);
+                if !self.is_in(s, pair.owner, pair.x) {
+                    return Err(FaultKind::NotFiled);
+                }
+                let before = self.blocks.follow(pair.x.place, base + 1);
+                let after = self.blocks.follow(pair.x.place, base);
+                self.link_out(s, pair.owner, before, pair.x, after);
+                Ok(())
+            }
+            Err(fault) => Err(fault),
+        }
+    }
+
+    // Takes a member out of the set that it is in, and remembers it: nine touches.
+    fn take_out(&mut self, s: usize, owner: Entry, x: Entry)
+        requires kept { IsKept self.old }
+        requires set { s < length self.old.layout.sets }
+        requires owns { Owns self.old s owner }
+        requires joins { Joins self.old s x }
+        requires there { contains (members_of self.old.notes.lists s owner.number) x.number ≡ true }
+        requires touches { self.old.blocks.touches ≤ 8 }
+        ensures kept { IsKept self.new }
+        ensures done { state self.new ≡ with_list_of (state self.old) s owner.number (less x.number (members_of self.old.notes.lists s owner.number)) }
+        ensures touches { (self.new.blocks.touches ≡ self.old.blocks.touches + 9) × (self.new.blocks.total ≡ self.old.blocks.total + 9) }
+    {
+        self.remember(s, x);
+        self.cut_out(s, owner, x);
+    }
+
+    // The same without remembering it.
+    fn cut_out(&mut self, s: usize, owner: Entry, x: Entry)
+        requires kept { IsKept self.old }
+        requires set { s < length self.old.layout.sets }
+        requires owns { Owns self.old s owner }
+        requires joins { Joins self.old s x }
+        requires there { contains (members_of self.old.notes.lists s owner.number) x.number ≡ true }
+        requires touches { self.old.blocks.touches ≤ 8 }
+        ensures kept { IsKept self.new }
+        ensures done { state self.new ≡ with_list_of (state self.old) s owner.number (less x.number (members_of self.old.notes.lists s owner.number)) }
+        ensures touches { (self.new.blocks.touches ≡ self.old.blocks.touches + 9) × (self.new.blocks.total ≡ self.old.blocks.total + 9) }
+    {
+        let base = self.layout.member_base(s);
+        let before = self.blocks.follow(x.place, base + 1);
+        let after = self.blocks.follow(x.place, base);
+        self.link_out(s, owner, before, x, after);
+    }
+
+    /// Takes the first member out of a set, and answers it.
+    pub fn remove_first(&mut self, s: usize, o: i64) -> Result<i64, FaultKind>
+        requires kept { IsKept self.old }
+        requires set { s < length self.old.layout.sets }
+        requires touches { self.old.blocks.touches ≡ 0 }
+        ensures kept { IsKept self.new }
+        ensures done { MatchResult result (λ x. first_removed (state self.old) s o ≡ Ok (x, state self.new)) (λ e. (first_removed (state self.old) s o ≡ Err e) × (state self.new ≡ state self.old)) }
+        ensures touches { (self.new.blocks.touches ≤ 12) × (self.new.blocks.total ≡ self.old.blocks.total + self.new.blocks.touches) }
+    {
+        match self.owner(s, o) {
+            Ok(owner) => {
+                let base = self.layout.owner_base(s);
+                let first = self.blocks.follow(owner.place, base);
+                if first.number == 0 {
+                    return Err(FaultKind::EmptySet);
+                }
+                self.take_out(s, owner, first);
+                Ok(first.number as i64)
+            }
+            Err(fault) => Err(fault),
+        }
+    }
+
+    /// Takes the last member out of a set, and answers it.
+    pub fn remove_last(&mut self, s: usize, o: i64) -> Result<i64, FaultKind>
+        requires kept { IsKept self.old }
+        requires set { s < length self.old.layout.sets }
+        requires touches { self.old.blocks.touches ≡ 0 }
+        ensures kept { IsKept self.new }
+        ensures done { MatchResult result (λ x. last_removed (state self.old) s o ≡ Ok (x, state self.new)) (λ e. (last_removed (state self.old) s o ≡ Err e) × (state self.new ≡ state self.old)) }
+        ensures touches { (self.new.blocks.touches ≤ 12) × (self.new.blocks.total ≡ self.old.blocks.total + self.new.blocks.touches) }
+    {
+        match self.owner(s, o) {
+            Ok(owner) => {
+                let base = self.layout.owner_base(s);
+                let last = self.blocks.follow(owner.place, base + 1);
+                if last.number == 0 {
+                    return Err(FaultKind::EmptySet);
+                }
+                self.take_out(s, owner, last);
+                Ok(last.number as i64)
+            }
+            Err(fault) => Err(fault),
+        }
+    }
+
+    /// Files x last in a set of the system, where x is found without a search, and says whether it did: not where x is in some set of
+    /// the name, nor where the set is entities'.
+    #[inline(always)]
+    pub fn file_last_near(&mut self, s: usize, o: i64, x: i64) -> bool
+        requires kept { IsKept self.old }
+        requires set { s < length self.old.layout.sets }
+        ensures kept { IsKept self.new }
+        ensures done { result ≡ true → filed_last (state self.old) s o x ≡ Ok (state self.new) }
+        ensures same { result ≡ false → state self.new ≡ state self.old }
+        ensures touches { (self.new.blocks.touches ≤ 12) × (result ≡ true → 4 ≤ self.new.blocks.touches) × (self.new.blocks.total ≡ self.old.blocks.total + self.new.blocks.touches) }
+    {
+        match self.system_pair(s, o, x) {
+            Some(both) => self.put_last(s, both.owner, both.x),
+            None => {
+                self.blocks.start();
+                false
+            }
+        }
+    }
+
+    // Links x in behind the last member of the set of an owner, and says whether it did: not where it is in some set of the name.
+    // The touches are counted at once.
+    #[inline(always)]
+    fn put_last(&mut self, s: usize, owner: Entry, x: Entry) -> bool
+        requires kept { IsKept self.old }
+        requires set { s < length self.old.layout.sets }
+        requires owns { Owns self.old s owner }
+        requires joins { Joins self.old s x }
+        ensures kept { IsKept self.new }
+        ensures done { result ≡ true → (is_filed self.old.notes.lists s x.number ≡ false) × (state self.new ≡ with_list_of (state self.old) s owner.number (members_of self.old.notes.lists s owner.number ++ x.number ∷ [])) }
+        ensures same { result ≡ false → state self.new ≡ state self.old }
+        ensures touches { (self.new.blocks.touches ≤ 12) × (result ≡ true → 4 ≤ self.new.blocks.touches) × (self.new.blocks.total ≡ self.old.blocks.total + self.new.blocks.touches) }
+    {
+        let member = self.layout.member_base(s);
+        let set = self.layout.owner_base(s);
+        let next = self.blocks.look(x.place, member);
+        if next.number != x.number {
+            self.blocks.start_at(1);
+            return false;
+        }
+        let last = self.blocks.look(owner.place, set + 1);
+        let count = self.blocks.peek_count(owner.place, set + 2);
+        let is_first = last.number == 0;
+        self.blocks.start_at(3);
+        self.blocks.link_between(
+            member,
+            set,
+            owner.place,
+            last.place,
+            is_first,
+            x.place,
+            self.system,
+            true,
+            count,
+        );
+        self.notes.put_before(s, owner.number, x.number, 0);
+        true
+    }
+
+    /// Takes the first member out of a set of the system, and answers it: none where there is none, and where the set is entities'.
+    #[inline(always)]
+    pub fn remove_first_near(&mut self, s: usize, o: i64) -> Option<i64>
+        requires kept { IsKept self.old }
+        requires set { s < length self.old.layout.sets }
+        ensures kept { IsKept self.new }
+        ensures done { IfSome result (λ x. first_removed (state self.old) s o ≡ Ok (x, state self.new)) }
+        ensures same { result ≡ None → state self.new ≡ state self.old }
+        ensures touches { (self.new.blocks.touches ≤ 12) × (self.new.blocks.total ≡ self.old.blocks.total + self.new.blocks.touches) }
+    {
+        match self.system_owner(s, o) {
+            Some(owner) => self.draw_first(s, owner),
+            None => {
+                self.blocks.start();
+                None
+            }
+        }
+    }
+
+    // Takes the first member out of the set of an owner, remembers it and answers it. The touches are counted at once.
+    #[inline(always)]
+    fn draw_first(&mut self, s: usize, home: Entry) -> Option<i64>
+        requires kept { IsKept self.old }
+        requires set { s < length self.old.layout.sets }
+        requires owns { Owns self.old s home }
+        ensures kept { IsKept self.new }
+        ensures done { IfSome result (λ x. (o : ℤ) → owner (state self.old) s o ≡ Ok home.number → first_removed (state self.old) s o ≡ Ok (x, state self.new)) }
+        ensures same { result ≡ None → state self.new ≡ state self.old }
+        ensures touches { (self.new.blocks.touches ≤ 12) × (self.new.blocks.total ≡ self.old.blocks.total + self.new.blocks.touches) }
+    {
+        let set = self.layout.owner_base(s);
+        let member = self.layout.member_base(s);
+        let first = self.blocks.look(home.place, set);
+        if first.number == 0 {
+            self.blocks.start_at(1);
+            return None;
+        }
+        sets::keep(&mut self.directory, &self.layout, s, first);
+        let after = self.blocks.look(first.place, member);
+        let count = self.blocks.peek_count(home.place, set + 2);
+        let is_last = after.number == 0;
+        self.blocks.start_at(3);
+        self.blocks.unlink(
+            member,
+            set,
+            home.place,
+            self.system,
+            true,
+            first.place,
+            after.place,
+            is_last,
+            count,
+        );
+        self.notes.take_out(s, home.number, first.number);
+        Some(first.number as i64)
+    }
+
+    /// Whether x is in the set of an owner: at most two touches.
+    pub fn has(&mut self, s: usize, o: i64, x: i64) -> Result<bool, FaultKind>
+        requires kept { IsKept self.old }
+        requires set { s < length self.old.layout.sets }
+        requires touches { self.old.blocks.touches ≡ 0 }
+        ensures value { result ≡ member_test (state self.old) s o x }
+        ensures kept { IsKept self.new }
+        ensures same { state self.new ≡ state self.old }
+        ensures touches { (self.new.blocks.touches ≤ 2) × (self.new.blocks.total ≡ self.old.blocks.total + self.new.blocks.touches) }
+    {
+        match self.pair(s, o, x) {
+            Ok(pair) => Ok(self.is_in(s, pair.owner, pair.x)),
+            Err(fault) => Err(fault),
+        }
+    }
+}

@@ -1,0 +1,290 @@
+// Where the block of an entity lies, by its number.
+ghost use Rattle.std.specs.Prelude.{◌≡◌, ◌<◌, length, MatchResult, IfSome, Ok, Err, slice_get};
+ghost use Rattle.ss_world.specs.State.{entity, notice, numbered, and_then, of_class, kind_of, is_notice};
+ghost use Rattle.ss_records_blocks.specs.Cells.{words_at};
+ghost use Rattle.ss_records_words.specs.Reading.{record_of};
+ghost use Rattle.ss_records_blocks.specs.Places.{row_in};
+ghost use Rattle.ss_records_words.specs.Kept.{numbered_place, indexed_place, IsPermanent};
+ghost use Rattle.ss_records_words.specs.Places.{class_at};
+ghost use Rattle.ss_records_entities.specs.Parts.{IsKept, state, Found, FoundNotice};
+ghost use Rattle.ss_records_entities.specs.Classed.{HasClass};
+
+use crate::records::Records;
+use ss_base::{ClassKind, FaultKind};
+use ss_records_blocks::{Address, CLASS};
+
+impl Records {
+    // The block of a creation number.
+    #[inline(always)]
+    fn numbered(&self, r: i64) -> Result<Address, FaultKind>
+        requires kept { IsKept self.now }
+        ensures { result ≡ numbered_place self.now.directory.places r }
+    {
+        match self.near_numbered(r) {
+            Some(place) => Ok(place),
+            None => self.numbered_apart(r),
+        }
+    }
+
+    // The same where it may take a search, or there is a fault.
+    #[cold]
+    #[inline(never)]
+    fn numbered_apart(&self, r: i64) -> Result<Address, FaultKind>
+        ensures { result ≡ numbered_place self.now.directory.places r }
+    {
+        if r == 0 {
+            return Err(FaultKind::NoEntity);
+        }
+        if r < 0 {
+            return Err(FaultKind::NeverCreated);
+        }
+        let i = r as usize - 1;
+        if i >= self.directory.len() {
+            return Err(FaultKind::NeverCreated);
+        }
+        match self.directory.get(i) {
+            Some(place) => Ok(place),
+            None => Err(FaultKind::DestroyedEntity),
+        }
+    }
+
+    /// The block of an entity of a class.
+    #[inline(always)]
+    pub fn find(&self, class: usize, r: i64) -> Result<Address, FaultKind>
+        requires kept { IsKept self.now }
+        requires class { class < length self.now.layout.classes }
+        ensures found { MatchResult result (λ p. Found self.now class r p) (λ e. entity (state self.now) class r ≡ Err e) }
+    {
+        match self.layout.kind(class) {
+            ClassKind::Permanent => self.indexed(class, r),
+            ClassKind::Temporary | ClassKind::Notice => self.of_class(class, r),
+        }
+    }
+
+    /// The block of an entity of a class whose entities come and go one by one.
+    #[inline(always)]
+    pub fn find_single(&self, class: usize, r: i64) -> Result<Address, FaultKind>
+        requires kept { IsKept self.now }
+        requires class { class < length self.now.layout.classes }
+        requires kind { IsPermanent (kind_of self.now.layout class) → ⊥ }
+        ensures found { MatchResult result (λ p. Found self.now class r p) (λ e. entity (state self.now) class r ≡ Err e) }
+    {
+        self.of_class(class, r)
+    }
+
+    // The block of an index of a permanent class.
+    #[inline(always)]
+    fn indexed(&self, class: usize, r: i64) -> Result<Address, FaultKind>
+        requires class { class < length self.now.permanents.items }
+        ensures { result ≡ indexed_place (row_in (slice_get self.now.permanents.items class)) r }
+    {
+        if r < 1 {
+            return Err(FaultKind::Index);
+        }
+        let places = self.permanents[class].places();
+        match places.get(r as usize - 1) {
+            Some(place) => Ok(*place),
+            None => Err(FaultKind::Index),
+        }
+    }
+
+    // The block of a creation number of a class.
+    #[inline(always)]
+    fn of_class(&self, class: usize, r: i64) -> Result<Address, FaultKind>
+        requires kept { IsKept self.now }
+        ensures found { MatchResult result (λ p. (numbered_place self.now.directory.places r ≡ Ok p) × (class_at self.now.blocks.cells p ≡ class) × (and_then (numbered (state self.now) r) (of_class class) ≡ Ok (record_of self.now.layout (words_at self.now.blocks.cells p.at)))) (λ e. and_then (numbered (state self.now) r) (of_class class) ≡ Err e) }
+    {
+        match self.numbered(r) {
+            Ok(place) => {
+                if self.blocks.number(place, CLASS) == class as u64 {
+                    Ok(place)
+                } else {
+                    Err(FaultKind::WrongClass)
+                }
+            }
+            Err(fault) => Err(fault),
+        }
+    }
+
+    /// The block of an entity of a class, where it is found without a search.
+    #[inline(always)]
+    pub fn near(&self, class: usize, r: i64) -> Option<Address>
+        requires kept { IsKept self.now }
+        requires class { class < length self.now.layout.classes }
+        ensures { IfSome result (λ p. Found self.now class r p) }
+    {
+        match self.remembered(class, r) {
+            Some(place) => Some(place),
+            None => self.near_by_kind(class, r),
+        }
+    }
+
+    // The same of one that was not met last.
+    #[inline(always)]
+    fn near_by_kind(&self, class: usize, r: i64) -> Option<Address>
+        requires kept { IsKept self.now }
+        requires class { class < length self.now.layout.classes }
+        ensures { IfSome result (λ p. Found self.now class r p) }
+    {
+        match self.layout.kind(class) {
+            ClassKind::Permanent => match self.indexed(class, r) {
+                Ok(place) => Some(place),
+                Err(_) => None,
+            },
+            ClassKind::Temporary | ClassKind::Notice => self.near_of_class(class, r),
+        }
+    }
+
+    // The block of a creation number of a class, where it is found without a search.
+    #[inline(always)]
+    fn near_of_class(&self, class: usize, r: i64) -> Option<Address>
+        requires kept { IsKept self.now }
+        ensures { IfSome result (λ p. (numbered_place self.now.directory.places r ≡ Ok p) × (class_at self.now.blocks.cells p ≡ class) × (and_then (numbered (state self.now) r) (of_class class) ≡ Ok (record_of self.now.layout (words_at self.now.blocks.cells p.at)))) }
+    {
+        match self.near_numbered(r) {
+            Some(place) => {
+                if self.blocks.number(place, CLASS) == class as u64 {
+                    Some(place)
+                } else {
+                    None
+                }
+            }
+            None => None,
+        }
+    }
+
+    // The block of a creation number, where it is found without a search.
+    #[inline(always)]
+    fn near_numbered(&self, r: i64) -> Option<Address>
+        requires kept { IsKept self.now }
+        ensures { IfSome result (λ p. numbered_place self.now.directory.places r ≡ Ok p) }
+    {
+        let i = r.cast_unsigned().wrapping_sub(1);
+        self.directory.near(i as usize)
+    }
+
+    /// The class of the entity of a creation number, where it is found without a search.
+    #[inline(always)]
+    pub fn class_near(&self, r: i64) -> Option<usize>
+        requires kept { IsKept self.now }
+        ensures { IfSome result (λ c. HasClass (state self.now) r c) }
+    {
+        match self.near_numbered(r) {
+            Some(place) => Some(self.blocks.number(place, CLASS) as usize),
+            None => None,
+        }
+    }
+
+    // The block of a creation number of a class, where it was met last.
+    #[inline(always)]
+    fn remembered(&self, class: usize, r: i64) -> Option<Address>
+        requires kept { IsKept self.now }
+        requires class { class < length self.now.layout.classes }
+        ensures { IfSome result (λ p. Found self.now class r p) }
+    {
+        match self.remembered_numbered(r) {
+            Some(place) => {
+                if self.blocks.number(place, CLASS) == class as u64 {
+                    Some(place)
+                } else {
+                    None
+                }
+            }
+            None => None,
+        }
+    }
+
+    // The block of a creation number, where it was met last.
+    #[inline(always)]
+    fn remembered_numbered(&self, r: i64) -> Option<Address>
+        requires kept { IsKept self.now }
+        ensures { IfSome result (λ p. numbered_place self.now.directory.places r ≡ Ok p) }
+    {
+        let i = r.cast_unsigned().wrapping_sub(1);
+        self.directory.remembered(i as usize)
+    }
+
+    /// The block of a creation number of a class, where it is likely to come next.
+    #[inline(always)]
+    pub fn expected(&self, class: usize, r: i64) -> Option<Address>
+        requires kept { IsKept self.now }
+        requires class { class < length self.now.layout.classes }
+        ensures { IfSome result (λ p. Found self.now class r p) }
+    {
+        match self.expected_numbered(r) {
+            Some(place) => {
+                if self.blocks.number(place, CLASS) == class as u64 {
+                    Some(place)
+                } else {
+                    None
+                }
+            }
+            None => None,
+        }
+    }
+
+    // The block of a creation number, where it is likely to come next.
+    #[inline(always)]
+    fn expected_numbered(&self, r: i64) -> Option<Address>
+        requires kept { IsKept self.now }
+        ensures { IfSome result (λ p. numbered_place self.now.directory.places r ≡ Ok p) }
+    {
+        let i = r.cast_unsigned().wrapping_sub(1);
+        self.directory.expected(i as usize)
+    }
+
+    /// Remembers the entity of a number, if it is found without a search.
+    #[inline(always)]
+    pub fn meet(&mut self, r: i64)
+        ensures { self.new ≡ self.old }
+    {
+        let i = r.cast_unsigned().wrapping_sub(1);
+        self.directory.meet(i as usize);
+    }
+
+    /// The block of a notice of any class.
+    pub fn find_notice(&self, r: i64) -> Result<Address, FaultKind>
+        requires kept { IsKept self.now }
+        ensures found { MatchResult result (λ p. FoundNotice self.now r p) (λ e. notice (state self.now) r ≡ Err e) }
+    {
+        match self.numbered(r) {
+            Ok(place) => {
+                if self.is_notice(self.blocks.number(place, CLASS)) {
+                    Ok(place)
+                } else {
+                    Err(FaultKind::WrongClass)
+                }
+            }
+            Err(fault) => Err(fault),
+        }
+    }
+
+    /// The same, where it is found without a search.
+    #[inline(always)]
+    pub fn near_notice(&self, r: i64) -> Option<Address>
+        requires kept { IsKept self.now }
+        ensures { IfSome result (λ p. FoundNotice self.now r p) }
+    {
+        match self.near_numbered(r) {
+            Some(place) => {
+                if self.is_notice(self.blocks.number(place, CLASS)) {
+                    Some(place)
+                } else {
+                    None
+                }
+            }
+            None => None,
+        }
+    }
+
+    // Whether a class is one of notices.
+    fn is_notice(&self, class: u64) -> bool
+        ensures { result ≡ is_notice (kind_of self.now.layout class) }
+    {
+        let layout = self.layout.layout();
+        match layout.classes.get(class as usize) {
+            Some(class) => matches!(class.kind, ClassKind::Notice),
+            None => false,
+        }
+    }
+}

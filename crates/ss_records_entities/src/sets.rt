@@ -1,0 +1,571 @@
+// The sets: their ends, the neighbours of a member, and its owner.
+ghost use Rattle.std.specs.Prelude.{◌≡◌, ℕ, ◌+◌, ◌-◌, ◌^◌, ◌<◌, ◌≤◌, length, slice_get, not, true, false, if◌then◌else◌, ℤ, pos, MatchResult, IfSome, IsOk, Ok, Err, Some};
+ghost use Rattle.std.specs.Ordering.{match_ordering, int_cmp};
+ghost use Rattle.ss_world.specs.State.{State, is_filed, members_of, kind_of, modes_of, value_in};
+ghost use Rattle.ss_world.specs.Sets.{joiner, owner, member_class, first_in, last_in, count_in, next_in, previous_in, owner_of_member, Apart};
+ghost use Rattle.ss_world.specs.Disciplines.{member_test, owned};
+ghost use Rattle.ss_records_words.specs.Kept.{IsPermanent};
+ghost use Rattle.ss_records_entities.specs.Parts.{IsKept, state, Owns, Joins};
+ghost use Rattle.ss_records_entities.specs.Passing.{ranks_past, first_where, before_where};
+
+use crate::records::Records;
+use ss_base::{FaultKind, Mode, Owner, Value};
+use ss_records_blocks::{Directory, Entry, NUMBER};
+use ss_records_words::attributes;
+use ss_records_words::plan::Plan;
+use ss_records_words::shape::value_start;
+
+/// What is read of a member of a set at once.
+#[derive(Clone, Copy)]
+pub struct Member {
+    /// The value of one of its attributes.
+    pub value: Value,
+    /// The member that follows it, 0 where there is none.
+    pub next: i64,
+}
+
+/// What is read of a member of a set at once, where the attribute is a whole number.
+#[derive(Clone, Copy)]
+pub struct WholeMember {
+    /// The number.
+    pub value: i64,
+    /// The member that follows it, 0 where there is none.
+    pub next: i64,
+}
+
+impl Records {
+    /// What holds of the sets.
+    pub fn law(&self)
+        requires kept { IsKept self.now }
+        ensures { Apart (state self.now) }
+    {}
+
+    /// What o means as an owner of a set: the system where the set is one of its own.
+    #[inline(always)]
+    pub fn owner(&self, s: usize, o: i64) -> Result<Entry, FaultKind>
+        requires kept { IsKept self.now }
+        requires set { s < length self.now.layout.sets }
+        ensures found { MatchResult result (λ e. Owns self.now s e × (owner (state self.now) s o ≡ Ok e.number)) (λ f. owner (state self.now) s o ≡ Err f) }
+    {
+        match self.layout.owner_class(s) {
+            Owner::System => Ok(Entry {
+                place: self.system,
+                number: 0,
+            }),
+            Owner::Class(class) => match self.find(class, o) {
+                Ok(place) => Ok(Entry {
+                    place,
+                    number: self.blocks.number(place, NUMBER),
+                }),
+                Err(fault) => Err(fault),
+            },
+        }
+    }
+
+    /// What o means as an owner of a set, where it is found without a search.
+    #[inline(always)]
+    pub fn near_owner(&self, s: usize, o: i64) -> Option<Entry>
+        requires kept { IsKept self.now }
+        requires set { s < length self.now.layout.sets }
+        ensures { IfSome result (λ e. Owns self.now s e × (owner (state self.now) s o ≡ Ok e.number)) }
+    {
+        match self.layout.owner_class(s) {
+            Owner::System => Some(Entry {
+                place: self.system,
+                number: 0,
+            }),
+            Owner::Class(class) => match self.near(class, o) {
+                Some(place) => Some(Entry {
+                    place,
+                    number: self.blocks.number(place, NUMBER),
+                }),
+                None => None,
+            },
+        }
+    }
+
+    /// The same where the set is one of the system: none where it is entities'.
+    #[inline(always)]
+    pub fn system_owner(&self, s: usize, _o: i64) -> Option<Entry>
+        requires kept { IsKept self.now }
+        requires set { s < length self.now.layout.sets }
+        ensures { IfSome result (λ e. Owns self.now s e × (owner (state self.now) s _o ≡ Ok e.number)) }
+    {
+        if self.layout.is_of_system(s) {
+            Some(Entry {
+                place: self.system,
+                number: 0,
+            })
+        } else {
+            None
+        }
+    }
+
+    /// What x means as one that may be in a set.
+    #[inline(always)]
+    pub fn joiner(&self, s: usize, x: i64) -> Result<Entry, FaultKind>
+        requires kept { IsKept self.now }
+        requires set { s < length self.now.layout.sets }
+        ensures found { MatchResult result (λ e. Joins self.now s e × (joiner (state self.now) s x ≡ Ok e.number)) (λ f. joiner (state self.now) s x ≡ Err f) }
+    {
+        match self.find(self.layout.member_class(s), x) {
+            Ok(place) => Ok(Entry {
+                place,
+                number: self.blocks.number(place, NUMBER),
+            }),
+            Err(fault) => Err(fault),
+        }
+    }
+
+    /// Whether an entity is in a set of the name: a touch.
+    pub fn is_filed(&mut self, s: usize, x: Entry) -> bool
+        requires kept { IsKept self.old }
+        requires set { s < length self.old.layout.sets }
+        requires joins { Joins self.old s x }
+        requires touches { self.old.blocks.touches ≤ 16 }
+        ensures value { result ≡ is_filed self.old.notes.lists s x.number }
+        ensures same { self.new ≡ record self.old { blocks = self.new.blocks } }
+        ensures cells { self.new.blocks.cells ≡ self.old.blocks.cells }
+        ensures touches { (self.new.blocks.touches ≡ self.old.blocks.touches + 1) × (self.new.blocks.total ≡ self.old.blocks.total + 1) }
+    {
+        let base = self.layout.member_base(s);
+        let next = self.blocks.follow(x.place, base);
+        next.number != x.number
+    }
+
+    /// The first member of a set, 0 where there is none: a touch.
+    pub fn first(&mut self, s: usize, o: i64) -> Result<i64, FaultKind>
+        requires kept { IsKept self.old }
+        requires set { s < length self.old.layout.sets }
+        requires touches { self.old.blocks.touches ≡ 0 }
+        ensures value { result ≡ first_in (state self.old) s o }
+        ensures kept { IsKept self.new }
+        ensures same { state self.new ≡ state self.old }
+        ensures touches { (self.new.blocks.touches ≤ 1) × (IsOk result → 1 ≤ self.new.blocks.touches) × (self.new.blocks.total ≡ self.old.blocks.total + self.new.blocks.touches) }
+    {
+        match self.owner(s, o) {
+            Ok(owner) => {
+                let base = self.layout.owner_base(s);
+                let first = self.blocks.follow(owner.place, base);
+                Ok(first.number as i64)
+            }
+            Err(fault) => Err(fault),
+        }
+    }
+
+    /// The last member of a set, 0 where there is none: a touch.
+    pub fn last(&mut self, s: usize, o: i64) -> Result<i64, FaultKind>
+        requires kept { IsKept self.old }
+        requires set { s < length self.old.layout.sets }
+        requires touches { self.old.blocks.touches ≡ 0 }
+        ensures value { result ≡ last_in (state self.old) s o }
+        ensures kept { IsKept self.new }
+        ensures same { state self.new ≡ state self.old }
+        ensures touches { (self.new.blocks.touches ≤ 1) × (IsOk result → 1 ≤ self.new.blocks.touches) × (self.new.blocks.total ≡ self.old.blocks.total + self.new.blocks.touches) }
+    {
+        match self.owner(s, o) {
+            Ok(owner) => {
+                let base = self.layout.owner_base(s);
+                let last = self.blocks.follow(owner.place, base + 1);
+                Ok(last.number as i64)
+            }
+            Err(fault) => Err(fault),
+        }
+    }
+
+    /// How many members a set has: a touch.
+    #[inline(always)]
+    pub fn count(&mut self, s: usize, o: i64) -> Result<i64, FaultKind>
+        requires kept { IsKept self.old }
+        requires set { s < length self.old.layout.sets }
+        requires touches { self.old.blocks.touches ≡ 0 }
+        ensures value { result ≡ count_in (state self.old) s o }
+        ensures kept { IsKept self.new }
+        ensures same { state self.new ≡ state self.old }
+        ensures touches { (self.new.blocks.touches ≤ 1) × (IsOk result → 1 ≤ self.new.blocks.touches) × (self.new.blocks.total ≡ self.old.blocks.total + self.new.blocks.touches) }
+    {
+        match self.owner(s, o) {
+            Ok(owner) => {
+                let base = self.layout.owner_base(s);
+                Ok(self.blocks.count(owner.place, base + 2) as i64)
+            }
+            Err(fault) => Err(fault),
+        }
+    }
+
+    /// How many members a set of the system has: a touch. None where the set is entities'.
+    #[inline(always)]
+    pub fn count_near(&mut self, s: usize, o: i64) -> Option<i64>
+        requires kept { IsKept self.old }
+        requires set { s < length self.old.layout.sets }
+        ensures value { IfSome result (λ n. count_in (state self.old) s o ≡ Ok n) }
+        ensures kept { IsKept self.new }
+        ensures same { state self.new ≡ state self.old }
+        ensures touches { (self.new.blocks.touches ≤ 1) × (self.new.blocks.total ≡ self.old.blocks.total + self.new.blocks.touches) }
+    {
+        match self.system_owner(s, o) {
+            Some(owner) => {
+                let base = self.layout.owner_base(s);
+                let count = self.blocks.peek_count(owner.place, base + 2);
+                self.blocks.start_at(1);
+                Some(count as i64)
+            }
+            None => {
+                self.blocks.start();
+                None
+            }
+        }
+    }
+
+    /// The member that follows x in its set, 0 where there is none: a touch.
+    pub fn next(&mut self, s: usize, x: i64) -> Result<i64, FaultKind>
+        requires kept { IsKept self.old }
+        requires set { s < length self.old.layout.sets }
+        requires touches { self.old.blocks.touches ≡ 0 }
+        ensures value { result ≡ next_in (state self.old) s x }
+        ensures kept { IsKept self.new }
+        ensures same { state self.new ≡ state self.old }
+        ensures touches { (self.new.blocks.touches ≤ 1) × (IsOk result → 1 ≤ self.new.blocks.touches) × (self.new.blocks.total ≡ self.old.blocks.total + self.new.blocks.touches) }
+    {
+        match self.joiner(s, x) {
+            Ok(member) => {
+                let base = self.layout.member_base(s);
+                let next = self.blocks.follow(member.place, base);
+                Ok(other_than(next.number, member.number) as i64)
+            }
+            Err(fault) => Err(fault),
+        }
+    }
+
+    /// The value of an attribute of x and the member that follows it in its set, 0 where there is none: a touch.
+    pub fn member(&mut self, s: usize, field: usize, x: i64) -> Result<Member, FaultKind>
+        requires kept { IsKept self.old }
+        requires set { s < length self.old.layout.sets }
+        requires field { field < length (modes_of self.old.layout (member_class self.old.layout s)) }
+        requires touches { self.old.blocks.touches ≡ 0 }
+        ensures found { MatchResult result (λ m. (value_in (state self.old) (member_class self.old.layout s) field x ≡ Ok m.value) × (next_in (state self.old) s x ≡ Ok m.next)) (λ e. next_in (state self.old) s x ≡ Err e) }
+        ensures kept { IsKept self.new }
+        ensures same { state self.new ≡ state self.old }
+        ensures touches { (self.new.blocks.touches ≤ 1) × (IsOk result → 1 ≤ self.new.blocks.touches) × (self.new.blocks.total ≡ self.old.blocks.total + self.new.blocks.touches) }
+    {
+        let class = self.layout.member_class(s);
+        match self.find(class, x) {
+            Ok(place) => {
+                let number = self.blocks.number(place, NUMBER);
+                let mode = self.layout.mode(class, field);
+                let k = value_start(field);
+                let value = attributes::value(&self.blocks, place, k, mode);
+                let base = self.layout.member_base(s);
+                let next = self.blocks.follow(place, base);
+                Ok(Member {
+                    value,
+                    next: other_than(next.number, number) as i64,
+                })
+            }
+            Err(fault) => Err(fault),
+        }
+    }
+
+    /// The same of an attribute that is a whole number: a touch.
+    pub fn whole_member(&mut self, s: usize, field: usize, x: i64) -> Result<WholeMember, FaultKind>
+        requires kept { IsKept self.old }
+        requires set { s < length self.old.layout.sets }
+        requires mode { slice_get (modes_of self.old.layout (member_class self.old.layout s)) field ≡ Some Mode.Integer }
+        requires touches { self.old.blocks.touches ≡ 0 }
+        ensures found { MatchResult result (λ m. (value_in (state self.old) (member_class self.old.layout s) field x ≡ Ok (Value.Whole m.value)) × (next_in (state self.old) s x ≡ Ok m.next)) (λ e. next_in (state self.old) s x ≡ Err e) }
+        ensures kept { IsKept self.new }
+        ensures same { state self.new ≡ state self.old }
+        ensures touches { (self.new.blocks.touches ≤ 1) × (IsOk result → 1 ≤ self.new.blocks.touches) × (self.new.blocks.total ≡ self.old.blocks.total + self.new.blocks.touches) }
+    {
+        let class = self.layout.member_class(s);
+        match self.find(class, x) {
+            Ok(place) => {
+                let number = self.blocks.number(place, NUMBER);
+                let k = value_start(field);
+                let value = attributes::whole(&self.blocks, place, k);
+                let base = self.layout.member_base(s);
+                let next = self.blocks.follow(place, base);
+                Ok(WholeMember {
+                    value,
+                    next: other_than(next.number, number) as i64,
+                })
+            }
+            Err(fault) => Err(fault),
+        }
+    }
+
+    /// The first member of a set that ranks strictly after a number by an attribute of whole numbers, 0 where there is none: a touch
+    /// for each member before it, and one.
+    pub fn first_past(
+        &mut self,
+        s: usize,
+        o: i64,
+        field: usize,
+        own: i64,
+        high: bool,
+    ) -> Result<i64, FaultKind>
+        requires kept { IsKept self.old }
+        requires set { s < length self.old.layout.sets }
+        requires mode { slice_get (modes_of self.old.layout (member_class self.old.layout s)) field ≡ Some Mode.Integer }
+        requires touches { self.old.blocks.touches ≡ 0 }
+        ensures found { MatchResult result (λ y. IsOk (owner (state self.old) s o) × (y ≡ pos (first_where (ranks_past (state self.old) (member_class self.old.layout s) field high (Value.Whole own)) (owned (state self.old) s o)))) (λ e. owner (state self.old) s o ≡ Err e) }
+        ensures kept { IsKept self.new }
+        ensures same { state self.new ≡ state self.old }
+        ensures touches { (self.new.blocks.touches ≤ 1 + before_where (ranks_past (state self.old) (member_class self.old.layout s) field high (Value.Whole own)) (owned (state self.old) s o)) × (self.new.blocks.total ≡ self.old.blocks.total + self.new.blocks.touches) }
+    {
+        match self.owner(s, o) {
+            Ok(owner) => Ok(self.past(s, owner, field, own, high) as i64),
+            Err(fault) => Err(fault),
+        }
+    }
+
+    // The same for an owner that is there.
+    fn past(&mut self, s: usize, owner: Entry, field: usize, own: i64, high: bool) -> u64
+        requires kept { IsKept self.old }
+        requires set { s < length self.old.layout.sets }
+        requires owns { Owns self.old s owner }
+        requires mode { slice_get (modes_of self.old.layout (member_class self.old.layout s)) field ≡ Some Mode.Integer }
+        requires touches { self.old.blocks.touches ≡ 0 }
+        ensures value { result ≡ first_where (ranks_past (state self.old) (member_class self.old.layout s) field high (Value.Whole own)) (members_of self.old.notes.lists s owner.number) }
+        ensures small { result < 2 ^ 62 }
+        ensures same { self.new ≡ record self.old { blocks = self.new.blocks } }
+        ensures cells { self.new.blocks.cells ≡ self.old.blocks.cells }
+        ensures touches { (self.new.blocks.touches ≤ 1 + before_where (ranks_past (state self.old) (member_class self.old.layout s) field high (Value.Whole own)) (members_of self.old.notes.lists s owner.number)) × (self.new.blocks.total ≡ self.old.blocks.total + self.new.blocks.touches) }
+    {
+        let first = self.layout.owner_base(s);
+        let next = self.layout.member_base(s);
+        let mut member = self.blocks.follow(owner.place, first);
+        'members: while member.number != 0 {
+            if self.is_past(s, member, field, own, high) {
+                return member.number;
+            }
+            member = self.blocks.follow(member.place, next);
+        }
+        0
+    }
+
+    // Whether a member ranks strictly after a number by an attribute of whole numbers.
+    #[inline(always)]
+    fn is_past(&self, s: usize, member: Entry, field: usize, own: i64, high: bool) -> bool
+        requires kept { IsKept self.now }
+        requires set { s < length self.now.layout.sets }
+        requires joins { Joins self.now s member }
+        requires mode { slice_get (modes_of self.now.layout (member_class self.now.layout s)) field ≡ Some Mode.Integer }
+        ensures { result ≡ ranks_past (state self.now) (member_class self.now.layout s) field high (Value.Whole own) member.number }
+    {
+        let k = value_start(field);
+        is_after(attributes::whole(&self.blocks, member.place, k), own, high)
+    }
+
+    /// The member that precedes x in its set, 0 where there is none: a touch.
+    pub fn previous(&mut self, s: usize, x: i64) -> Result<i64, FaultKind>
+        requires kept { IsKept self.old }
+        requires set { s < length self.old.layout.sets }
+        requires touches { self.old.blocks.touches ≡ 0 }
+        ensures value { result ≡ previous_in (state self.old) s x }
+        ensures kept { IsKept self.new }
+        ensures same { state self.new ≡ state self.old }
+        ensures touches { (self.new.blocks.touches ≤ 1) × (IsOk result → 1 ≤ self.new.blocks.touches) × (self.new.blocks.total ≡ self.old.blocks.total + self.new.blocks.touches) }
+    {
+        match self.joiner(s, x) {
+            Ok(member) => {
+                let base = self.layout.member_base(s);
+                let previous = self.blocks.follow(member.place, base + 1);
+                Ok(other_than(previous.number, member.number) as i64)
+            }
+            Err(fault) => Err(fault),
+        }
+    }
+
+    /// The member that follows x in the set of an owner, or in reverse the one that precedes it, 0 where there is none: at most
+    /// two touches. None where x is not in that set, or there is a fault.
+    #[inline(always)]
+    pub fn onward(&mut self, s: usize, o: i64, x: i64, reverse: bool) -> Option<i64>
+        requires kept { IsKept self.old }
+        requires set { s < length self.old.layout.sets }
+        requires touches { self.old.blocks.touches ≡ 0 }
+        ensures found { IfSome result (λ y. (member_test (state self.old) s o x ≡ Ok true) × ((if reverse then previous_in (state self.old) s x else next_in (state self.old) s x) ≡ Ok y)) }
+        ensures kept { IsKept self.new }
+        ensures same { state self.new ≡ state self.old }
+        ensures touches { (self.new.blocks.touches ≤ 2) × (self.new.blocks.total ≡ self.old.blocks.total + self.new.blocks.touches) }
+    {
+        match self.expected_joiner(s, x) {
+            Some(member) => self.neighbour(s, o, member, reverse),
+            None => self.onward_apart(s, o, x, reverse),
+        }
+    }
+
+    // The same where it may take a search for x.
+    #[inline(never)]
+    fn onward_apart(&mut self, s: usize, o: i64, x: i64, reverse: bool) -> Option<i64>
+        requires kept { IsKept self.old }
+        requires set { s < length self.old.layout.sets }
+        requires touches { self.old.blocks.touches ≡ 0 }
+        ensures found { IfSome result (λ y. (member_test (state self.old) s o x ≡ Ok true) × ((if reverse then previous_in (state self.old) s x else next_in (state self.old) s x) ≡ Ok y)) }
+        ensures kept { IsKept self.new }
+        ensures same { state self.new ≡ state self.old }
+        ensures touches { (self.new.blocks.touches ≤ 2) × (self.new.blocks.total ≡ self.old.blocks.total + self.new.blocks.touches) }
+    {
+        match self.joiner(s, x) {
+            Ok(member) => self.neighbour(s, o, member, reverse),
+            Err(_) => None,
+        }
+    }
+
+    // What x means as one that may be in a set, where it is likely to come next.
+    #[inline(always)]
+    pub fn expected_joiner(&self, s: usize, x: i64) -> Option<Entry>
+        requires kept { IsKept self.now }
+        requires set { s < length self.now.layout.sets }
+        ensures { IfSome result (λ e. Joins self.now s e × (joiner (state self.now) s x ≡ Ok e.number)) }
+    {
+        match self.expected(self.layout.member_class(s), x) {
+            Some(place) => Some(Entry {
+                place,
+                number: self.blocks.number(place, NUMBER),
+            }),
+            None => None,
+        }
+    }
+
+    /// What x means as one that may be in a set, where it is found without a search.
+    #[inline(always)]
+    pub fn near_joiner(&self, s: usize, x: i64) -> Option<Entry>
+        requires kept { IsKept self.now }
+        requires set { s < length self.now.layout.sets }
+        ensures { IfSome result (λ e. Joins self.now s e × (joiner (state self.now) s x ≡ Ok e.number)) }
+    {
+        match self.near(self.layout.member_class(s), x) {
+            Some(place) => Some(Entry {
+                place,
+                number: self.blocks.number(place, NUMBER),
+            }),
+            None => None,
+        }
+    }
+
+    // The member that comes next to one in the set of an owner, 0 where there is none: at most two touches. None where it is
+    // not in that set.
+    #[inline(always)]
+    fn neighbour(&mut self, s: usize, o: i64, member: Entry, reverse: bool) -> Option<i64>
+        requires kept { IsKept self.old }
+        requires set { s < length self.old.layout.sets }
+        requires joins { Joins self.old s member }
+        requires touches { self.old.blocks.touches ≡ 0 }
+        ensures found { IfSome result (λ y. (x : ℤ) → joiner (state self.old) s x ≡ Ok member.number → (member_test (state self.old) s o x ≡ Ok true) × ((if reverse then previous_in (state self.old) s x else next_in (state self.old) s x) ≡ Ok y)) }
+        ensures kept { IsKept self.new }
+        ensures same { state self.new ≡ state self.old }
+        ensures touches { (self.new.blocks.touches ≤ 2) × (self.new.blocks.total ≡ self.old.blocks.total + self.new.blocks.touches) }
+    {
+        let base = self.layout.member_base(s);
+        let neighbour = self.blocks.follow(member.place, beside(base, reverse));
+        if neighbour.number == member.number {
+            return None;
+        }
+        let owner = self.blocks.follow(member.place, base + 2);
+        if owner.number as i64 != o {
+            return None;
+        }
+        self.pass(s, member, neighbour);
+        Some(neighbour.number as i64)
+    }
+
+    // Remembers a member of a set, and that the one that follows it, if there is one, is likely to come next: where their class
+    // is not permanent.
+    #[inline(always)]
+    pub fn pass(&mut self, s: usize, member: Entry, next: Entry)
+        requires kept { IsKept self.old }
+        requires set { s < length self.old.layout.sets }
+        requires joins { Joins self.old s member }
+        requires next { (next.number ≡ 0 → ⊥) → Joins self.old s next }
+        ensures { self.new ≡ self.old }
+    {
+        if self.layout.holds_permanent(s) {
+            return;
+        }
+        self.directory
+            .remember(member.number as usize - 1, member.place);
+        if next.number != 0 {
+            self.directory.expect(next.number as usize - 1, next.place);
+        }
+    }
+
+    /// Remembers a member of a set, where its class is not permanent.
+    #[inline(always)]
+    pub fn remember(&mut self, s: usize, member: Entry)
+        requires kept { IsKept self.old }
+        requires set { s < length self.old.layout.sets }
+        requires joins { Joins self.old s member }
+        ensures { self.new ≡ self.old }
+    {
+        keep(&mut self.directory, &self.layout, s, member);
+    }
+
+    /// Whose set x is in: at most two touches.
+    pub fn owner_in(&mut self, s: usize, x: i64) -> Result<Option<i64>, FaultKind>
+        requires kept { IsKept self.old }
+        requires set { s < length self.old.layout.sets }
+        requires touches { self.old.blocks.touches ≡ 0 }
+        ensures value { result ≡ owner_of_member (state self.old) s x }
+        ensures kept { IsKept self.new }
+        ensures same { state self.new ≡ state self.old }
+        ensures touches { (self.new.blocks.touches ≤ 2) × (IsOk result → 1 ≤ self.new.blocks.touches) × (self.new.blocks.total ≡ self.old.blocks.total + self.new.blocks.touches) }
+    {
+        match self.joiner(s, x) {
+            Ok(member) => {
+                if !self.is_filed(s, member) {
+                    return Ok(None);
+                }
+                let base = self.layout.member_base(s);
+                let owner = self.blocks.follow(member.place, base + 2);
+                Ok(Some(owner.number as i64))
+            }
+            Err(fault) => Err(fault),
+        }
+    }
+}
+
+// Whether a number ranks strictly after another: the high come first, or the low.
+#[inline(always)]
+fn is_after(its: i64, own: i64, high: bool) -> bool
+    ensures { result ≡ match_ordering (int_cmp its own) high false (not high) }
+{
+    if its < own {
+        return high;
+    }
+    if own < its {
+        return !high;
+    }
+    false
+}
+
+// Where the link to the member that follows stands, or in reverse that to the one that precedes.
+#[inline(always)]
+pub fn beside(base: usize, reverse: bool) -> usize
+    requires { base ≤ 5242883 }
+    ensures { result ≡ (if reverse then base + 1 else base) }
+{
+    if reverse { base + 1 } else { base }
+}
+
+// A number, or 0 where it is that of the member itself: then it is in no set.
+fn other_than(number: u64, member: u64) -> u64
+    ensures same { number ≡ member → result ≡ 0 }
+    ensures other { (number ≡ member → ⊥) → result ≡ number }
+{
+    if number == member { 0 } else { number }
+}
+
+/// Remembers a member of a set, where its class is not permanent.
+#[inline(always)]
+pub fn keep(directory: &mut Directory, layout: &Plan, s: usize, member: Entry)
+    requires set { s < length layout.now.sets }
+    requires number { member.number ≡ 0 → ⊥ }
+    requires entry { (IsPermanent (kind_of layout.now (member_class layout.now s)) → ⊥) → slice_get directory.old.places (member.number - 1) ≡ Some (Some member.place) }
+    ensures { directory.new ≡ directory.old }
+{
+    if layout.holds_permanent(s) {
+        return;
+    }
+    directory.remember(member.number as usize - 1, member.place);
+}

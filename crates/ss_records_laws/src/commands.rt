@@ -1,0 +1,277 @@
+// Lists of calls of a heap, and what calls do to the lists of the sets.
+ghost use Rattle.std.specs.Prelude.{◌≡◌, ℕ, ℤ, List, [], ◌∷◌, ◌++◌, Ok, IfOk, OnOk, OnErr, All, IsTrue, ◌↔◌};
+ghost use Rattle.ss_base.specs.declared.value.Value.{Value};
+ghost use Rattle.ss_records_laws.specs.declared.commands.Command.{Command};
+ghost use Rattle.ss_world.specs.State.{State, members_of, created, created_all, destroyed, assigned, timed};
+ghost use Rattle.ss_world.specs.Sets.{filed_first, filed_last, filed_before, filed_after, removed, put_before, put_after, less};
+ghost use Rattle.ss_records_laws.specs.Commands.{Changes, ChangesBeside, LeavesOthers, KeepsRecords, KeepsLists, IsMadeSingly, IsMadeTogether, HasField, IsOnOthers, after_commands, told, FitsCommand, answer_of, after_command, answers_of, IsAfterSome};
+
+use ss_base::{ClassKind, FaultKind, Layout, Mode, Refused, Value};
+use ss_records::{Heap, kind};
+use std::alloc::{AllocError, Global};
+
+/// A call on the set of an owner leaves the members of every other set: those of other names, and those of this name
+/// of other owners.
+pub fn filing_leaves_other_sets()
+    ensures first { LeavesOthers filed_first }
+    ensures last { LeavesOthers filed_last }
+    ensures before { (y : ℤ) → LeavesOthers (λ st s o x. filed_before st s o x y) }
+    ensures after { (y : ℤ) → LeavesOthers (λ st s o x. filed_after st s o x y) }
+    ensures remove { LeavesOthers removed }
+{}
+
+/// A call on the set of an owner that goes well changes the members of this set as it says: by the member first, last,
+/// directly before or after another, or without it.
+pub fn filing_changes_its_set()
+    ensures first { Changes (λ x l. x ∷ l) filed_first }
+    ensures last { Changes (λ x l. l ++ x ∷ []) filed_last }
+    ensures before { ChangesBeside put_before filed_before }
+    ensures after { ChangesBeside put_after filed_after }
+    ensures remove { Changes less removed }
+{}
+
+/// A call on the set of an owner leaves every record as it is: its class, its values, its time, and whether it is living.
+pub fn filing_leaves_the_records()
+    ensures first { KeepsRecords filed_first }
+    ensures last { KeepsRecords filed_last }
+    ensures before { (y : ℤ) → KeepsRecords (λ st s o x. filed_before st s o x y) }
+    ensures after { (y : ℤ) → KeepsRecords (λ st s o x. filed_after st s o x y) }
+    ensures remove { KeepsRecords removed }
+{}
+
+/// What creates, destroys or assigns leaves the members of every set.
+pub fn other_calls_leave_the_sets()
+    ensures create { (c : ℕ) (n : ℤ) (st t : State) → created st c ≡ Ok (n, t) → t.lists ≡ st.lists }
+    ensures create_all { (c : ℕ) (n : ℤ) → KeepsLists (λ st. created_all st c n) }
+    ensures destroy { (c : ℕ) (x : ℤ) → KeepsLists (λ st. destroyed st c x) }
+    ensures set_value { (c f : ℕ) (x : ℤ) (v : Value) → KeepsLists (λ st. assigned st c f x v) }
+    ensures set_time { (x i : ℤ) → KeepsLists (λ st. timed st x i) }
+{}
+
+/// Commands none of which is on a set of a name, refused or not, leave the members of the sets of that name, whoever
+/// owns them.
+pub fn commands_leave_other_sets()
+    ensures { (commands : List Command) (n : ℕ) → All (IsOnOthers n) commands → (s : State) (o : ℕ) → members_of (after_commands commands s).lists n o ≡ members_of s.lists n o }
+{}
+
+/// A call of a heap that may change it. Classes, fields and sets are named by their numbers, entities by creation
+/// number or index.
+#[derive(Clone, Copy)]
+pub enum Command {
+    /// Creates an entity of a class, which isn't permanent.
+    Create {
+        class: usize,
+    },
+    /// Makes all entities of a permanent class.
+    CreateAll {
+        class: usize,
+        n: i64,
+    },
+    Destroy {
+        class: usize,
+        r: i64,
+    },
+    SetValue {
+        class: usize,
+        field: usize,
+        r: i64,
+        value: Value,
+    },
+    /// Sets the time of a notice, in units.
+    SetTime {
+        r: i64,
+        time: i64,
+    },
+    FileFirst {
+        set: usize,
+        owner: i64,
+        member: i64,
+    },
+    FileLast {
+        set: usize,
+        owner: i64,
+        member: i64,
+    },
+    FileBefore {
+        set: usize,
+        owner: i64,
+        member: i64,
+        beside: i64,
+    },
+    FileAfter {
+        set: usize,
+        owner: i64,
+        member: i64,
+        beside: i64,
+    },
+    Remove {
+        set: usize,
+        owner: i64,
+        member: i64,
+    },
+}
+
+/// What a call of a heap answered.
+#[derive(Clone, Copy, PartialEq)]
+pub enum Answer {
+    Done,
+    /// The creation number of a new entity.
+    Number(i64),
+    Faulted(FaultKind),
+}
+
+/// Makes calls in turn, and answers what each answered. A call that is refused with a fault leaves all as it was.
+/// Where memory is refused, the first of the calls were made, and no other.
+pub fn run(heap: &mut Heap, alloc: Global, commands: &[Command]) -> Result<Vec<Answer>, AllocError>
+    requires { All (FitsCommand heap.old.state.layout) commands.now }
+    ensures answers { IfOk result (λ answers. answers.items ≡ answers_of commands.now heap.old.state) }
+    ensures state { OnOk result (heap.new.state ≡ after_commands commands.now heap.old.state) }
+    ensures refused { OnErr result (IsAfterSome commands.now heap.old.state heap.new.state) }
+{
+    let mut answers = Vec::with_capacity(alloc, commands.len())?;
+    for command in commands {
+        answers.push(make(heap, command)?)?;
+    }
+    Ok(answers)
+}
+
+/// Whether the class, the field and the set that each of these calls names are there, and the class is of its kind.
+pub fn fit(heap: &Heap, commands: &[Command]) -> bool
+    ensures { IsTrue result ↔ All (FitsCommand heap.now.state.layout) commands.now }
+{
+    commands.iter().all(|command| fits(heap, command))
+}
+
+fn fits(heap: &Heap, command: &Command) -> bool
+    ensures { IsTrue result ↔ FitsCommand heap.now.state.layout command.now }
+{
+    match command {
+        Command::Create { class } | Command::Destroy { class, .. } => {
+            is_made_singly(heap.layout(), *class)
+        }
+        Command::CreateAll { class, .. } => is_made_together(heap.layout(), *class),
+        Command::SetValue {
+            class,
+            field,
+            value,
+            ..
+        } => has_field(heap.layout(), *class, *field, value.mode()),
+        Command::SetTime { .. } => true,
+        Command::FileFirst { set, .. }
+        | Command::FileLast { set, .. }
+        | Command::FileBefore { set, .. }
+        | Command::FileAfter { set, .. }
+        | Command::Remove { set, .. } => *set < heap.layout().sets.len(),
+    }
+}
+
+// Makes one call.
+fn make(heap: &mut Heap, command: &Command) -> Result<Answer, AllocError>
+    requires { FitsCommand heap.old.state.layout command.now }
+    ensures answer { IfOk result (λ answer. answer ≡ answer_of command.now heap.old.state) }
+    ensures ok { OnOk result (heap.new.state ≡ after_command command.now heap.old.state) }
+    ensures err { OnErr result (heap.new.state ≡ heap.old.state) }
+{
+    match command {
+        Command::Create { class } => make_one(heap, *class),
+        Command::CreateAll { class, n } => make_all(heap, *class, *n),
+        Command::Destroy { class, r } => Ok(told(heap.destroy(*class, *r))),
+        Command::SetValue {
+            class,
+            field,
+            r,
+            value,
+        } => Ok(told(heap.set_value(*class, *field, *r, *value))),
+        Command::SetTime { r, time } => Ok(told(heap.set_time_a(*r, *time))),
+        Command::FileFirst { set, owner, member } => {
+            Ok(told(heap.file_first(*set, *owner, *member)))
+        }
+        Command::FileLast { set, owner, member } => {
+            Ok(told(heap.file_last(*set, *owner, *member)))
+        }
+        Command::FileBefore {
+            set,
+            owner,
+            member,
+            beside,
+        } => Ok(told(heap.file_before(*set, *owner, *member, *beside))),
+        Command::FileAfter {
+            set,
+            owner,
+            member,
+            beside,
+        } => Ok(told(heap.file_after(*set, *owner, *member, *beside))),
+        Command::Remove { set, owner, member } => Ok(told(heap.remove(*set, *owner, *member))),
+    }
+}
+
+fn make_one(heap: &mut Heap, class: usize) -> Result<Answer, AllocError>
+    requires { IsMadeSingly heap.old.state.layout class }
+    ensures answer { IfOk result (λ answer. answer ≡ answer_of (Command.Create class) heap.old.state) }
+    ensures ok { OnOk result (heap.new.state ≡ after_command (Command.Create class) heap.old.state) }
+    ensures err { OnErr result (heap.new.state ≡ heap.old.state) }
+{
+    match heap.create(class) {
+        Ok(number) => Ok(Answer::Number(number)),
+        Err(Refused::Fault(kind)) => Ok(Answer::Faulted(kind)),
+        Err(Refused::Memory) => Err(AllocError),
+    }
+}
+
+fn make_all(heap: &mut Heap, class: usize, n: i64) -> Result<Answer, AllocError>
+    requires { IsMadeTogether heap.old.state.layout class }
+    ensures answer { IfOk result (λ answer. answer ≡ answer_of (Command.CreateAll class n) heap.old.state) }
+    ensures ok { OnOk result (heap.new.state ≡ after_command (Command.CreateAll class n) heap.old.state) }
+    ensures err { OnErr result (heap.new.state ≡ heap.old.state) }
+{
+    match heap.create_all(class, n) {
+        Ok(()) => Ok(Answer::Done),
+        Err(Refused::Fault(kind)) => Ok(Answer::Faulted(kind)),
+        Err(Refused::Memory) => Err(AllocError),
+    }
+}
+
+fn told(outcome: Result<(), FaultKind>) -> Answer
+    ensures { result ≡ told outcome }
+{
+    match outcome {
+        Ok(()) => Answer::Done,
+        Err(kind) => Answer::Faulted(kind),
+    }
+}
+
+// Whether a class is there and its entities are created one by one.
+fn is_made_singly(layout: &Layout, class: usize) -> bool
+    ensures { IsTrue result ↔ IsMadeSingly layout.now class }
+{
+    if class >= layout.classes.len() {
+        return false;
+    }
+    match kind(layout, class) {
+        ClassKind::Permanent => false,
+        ClassKind::Temporary | ClassKind::Notice => true,
+    }
+}
+
+// Whether a class is there and its entities are made all together.
+fn is_made_together(layout: &Layout, class: usize) -> bool
+    ensures { IsTrue result ↔ IsMadeTogether layout.now class }
+{
+    if class >= layout.classes.len() {
+        return false;
+    }
+    match kind(layout, class) {
+        ClassKind::Permanent => true,
+        ClassKind::Temporary | ClassKind::Notice => false,
+    }
+}
+
+// Whether a class is there and has a field of this number and mode.
+fn has_field(layout: &Layout, class: usize, field: usize, wanted: Mode) -> bool
+    ensures { IsTrue result ↔ HasField layout.now class field wanted }
+{
+    match layout.classes.get(class) {
+        Some(found) => found.fields.get(field) == Some(&wanted),
+        None => false,
+    }
+}

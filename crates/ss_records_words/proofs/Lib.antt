@@ -1,0 +1,11 @@
+pub mod Disjoint
+pub mod Filed
+pub mod Fills
+pub mod Listing
+pub mod Makings
+pub mod Planned
+pub mod Planning
+pub mod ReadBack
+pub mod Splice
+pub mod Tied
+pub mod ValueWords

@@ -1,0 +1,23 @@
+use Rattle.std.proofs.Common.{◌≡◌, ◌<◌, length, rules, sym, ap, subst, ◌∙◌}
+use Rattle.ss_base.specs.declared.layout.Layout.{Layout}
+use Rattle.ss_records_words.specs.declared.plan.Bases.{Bases}
+use Rattle.ss_records_blocks.proofs.Entries.{get_there}
+use Rattle.ss_world.specs.Sets.{owner_in, owner_kind}
+use Rattle.ss_records_words.specs.Plans.{is_system}
+use Rattle.ss_records_words.proofs.Planning.{set_within, bases_are}
+use Rattle.ss_records_words.proofs.plan.Plan.is_of_system.Goals as goal
+
+pub index-requires : goal.index-requires
+index-requires c =
+    let e : c.self.inside.layout ≡ c.args.self.now = c.self.view_is in
+    let h = set_within c.self.inside.layout c.self.inside.classes.items c.self.inside.sets.items c.self.inside.system_sets c.self.invariant c.args.s (subst (λ (l : Layout). c.args.s < length l.sets) (sym e) c.requires) in
+    search rules
+
+pub returns : goal.returns
+returns c =
+    let e : c.self.inside.layout ≡ c.args.self.now = c.self.view_is in
+    let l = c.self.inside.layout in
+    let y = get_there l.sets c.args.s (subst (λ (l : Layout). c.args.s < length l.sets) (sym e) c.requires) in
+    let are = bases_are l c.self.inside.classes.items c.self.inside.sets.items c.self.inside.system_sets c.self.invariant c.args.s y.0 c.index.result.now y.1 c.index.ensures in
+    subst (λ (l : Layout). c.index.result.now.system ≡ is_system (owner_kind l c.args.s)) e
+    (ap (λ (b : Bases). b.system) are ∙ ap (λ u. is_system (owner_in u)) (sym y.1))

@@ -1,0 +1,25 @@
+use Rattle.std.proofs.Common.{◌≡◌, ◌<◌, length, sym, ap, subst, ◌∙◌, arith}
+use Rattle.ss_base.specs.declared.layout.Layout.{Layout}
+use Rattle.ss_base.specs.declared.layout.Owner.TheVariants.{System, Class}
+use Rattle.ss_records_words.specs.declared.plan.Extent.{Extent}
+use Rattle.ss_records_words.specs.Shape.{owned_by, count_sets}
+use Rattle.ss_records_words.proofs.Planning.{few_sets, extent_is}
+use Rattle.ss_records_words.proofs.plan.Plan.owned_count.Goals as goal
+
+pub returns-in-System-clause-bound : goal.returns-in-System-clause-bound
+returns-in-System-clause-bound c = omega (arith, few_sets (owned_by System) c.self.inside.layout.sets, c.self.invariant.system, c.self.invariant.small.sets)
+
+pub returns-in-Class-clause-value : goal.returns-in-Class-clause-value
+returns-in-Class-clause-value c =
+    let e : c.self.inside.layout ≡ c.args.self.now = c.self.view_is in
+    let within = subst (λ (l : Layout). c.in-Class.class < length l.classes) (sym e) (c.requires c.in-Class.class c.in-Class.is) in
+    let is = extent_is c.self.inside.layout c.self.inside.classes.items c.self.inside.sets.items c.self.inside.system_sets c.self.invariant c.in-Class.class c.index.result.now within c.index.ensures in
+    ap (λ (x : Extent). x.sets) is ∙ (λ i. count_sets (owned_by (sym c.in-Class.is i)) (e i).sets)
+
+pub returns-in-Class-clause-bound : goal.returns-in-Class-clause-bound
+returns-in-Class-clause-bound c =
+    let e : c.self.inside.layout ≡ c.args.self.now = c.self.view_is in
+    let within = subst (λ (l : Layout). c.in-Class.class < length l.classes) (sym e) (c.requires c.in-Class.class c.in-Class.is) in
+    let is = extent_is c.self.inside.layout c.self.inside.classes.items c.self.inside.sets.items c.self.inside.system_sets c.self.invariant c.in-Class.class c.index.result.now within c.index.ensures in
+    let sets = ap (λ (x : Extent). x.sets) is in
+    omega (arith, sets, few_sets (owned_by (Class c.in-Class.class)) c.self.inside.layout.sets, c.self.invariant.small.sets)

@@ -1,0 +1,67 @@
+-- Where the block of each entity lies.
+use Rattle.std.specs.Prelude.{◌≡◌, ℕ, zero, suc, ◌+◌, List, [], ◌∷◌, map, length, Option, Some, None, slice_get, ◌⊎◌}
+use denote.RawPtr.{Ptr, null_ptr}
+use Rattle.ss_base.specs.declared.layout.Owner.{Owner}
+use Rattle.ss_base.specs.declared.layout.Owner.TheVariants.{System, Class}
+use Rattle.ss_records_blocks.specs.declared.store.Address.{Address}
+use Rattle.ss_records_blocks.specs.Cells.{Cells, words_at}
+use Rattle.ss_records_words.specs.Reading.{class_of}
+use Rattle.ss_records_blocks.specs.Places.{Numbers}
+
+-- the permanent entities of each class by index, none until they are made
+abbrev pub Made : Type 0
+Made = List (Option (List Address))
+
+-- the places of the creation numbers, none where one is destroyed, and those of the permanent entities
+pub record Directory : Type 0 where
+  pub numbers : Numbers
+  pub classes : Made
+
+abbrev pub lying : Numbers → Made → Directory
+lying ns ms = record { numbers = ns; classes = ms }
+
+abbrev pub own_or : Numbers → Option (Option (List Address)) → Numbers
+own_or ns None = ns
+own_or ns (Some None) = ns
+own_or ns (Some (Some ps)) = map Some ps
+
+-- the places of the entities of a class by their numbers: its own once they are made, else the creation numbers
+abbrev pub listing : Directory → ℕ → Numbers
+listing d c = own_or d.numbers (slice_get d.classes c)
+
+-- p is the place of the permanent entity i + 1 of some class
+abbrev pub IsMade : Made → ℕ → Address → Type 0
+IsMade ms i p = (c : ℕ) × (ps : List Address) × (slice_get ms c ≡ Some (Some ps)) × (slice_get ps i ≡ Some p)
+
+-- p is the place of some entity of the number i + 1
+abbrev pub Lists : Directory → ℕ → Address → Type 0
+Lists d i p = (slice_get d.numbers i ≡ Some (Some p)) ⊎ IsMade d.classes i p
+
+abbrev pub place_in : Option (Option Address) → Ptr
+place_in None = null_ptr
+place_in (Some None) = null_ptr
+place_in (Some (Some p)) = p.at
+
+-- where the block of a number lies; 0 is the system
+abbrev pub numbered_at : Ptr → Numbers → ℕ → Ptr
+numbered_at sys d zero = sys
+numbered_at sys d (suc i) = place_in (slice_get d i)
+
+-- where the block of an entity of a class lies; 0 is the end of a set, which is the system
+abbrev pub entity_at : Ptr → Directory → ℕ → ℕ → Ptr
+entity_at sys d c n = numbered_at sys (listing d c) n
+
+-- where the block of an owner lies
+abbrev pub owner_at : Ptr → Directory → Owner → ℕ → Ptr
+owner_at sys d System n = sys
+owner_at sys d (Class c) n = entity_at sys d c n
+
+-- the class that the words of a block give
+abbrev pub class_at : Cells → Address → ℕ
+class_at cs p = class_of (words_at cs p.at)
+
+-- how many permanent entities there are
+abbrev pub made_count : Made → ℕ
+made_count [] = 0
+made_count (None ∷ ms) = made_count ms
+made_count (Some ps ∷ ms) = length ps + made_count ms

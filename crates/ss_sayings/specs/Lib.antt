@@ -1,2 +1,0 @@
-pub mod Sayings
-pub mod Examples

@@ -1,8 +1,0 @@
-mod Inputs
-mod Pieces
-mod Handing
-mod Headline
-mod Sessions
-mod Ticks
-mod Running
-mod Standing

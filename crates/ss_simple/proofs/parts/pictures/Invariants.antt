@@ -1,7 +1,0 @@
-use Rattle.std.proofs.Common.{◌≡◌, ◌-◌}
-use Rattle.ss_simple.specs.ReadSimple.{pictures_at}
-use Rattle.ss_grammar.proofs.Rows.{with_front}
-use Rattle.ss_simple.proofs.parts.pictures.Given as goal
-
-abbrev pub invariant-more : goal.invariant-more
-invariant-more l = with_front l.all.items (pictures_at (l.count - l.counter) l.rest) ≡ pictures_at l.count l.tokens

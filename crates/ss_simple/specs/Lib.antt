@@ -1,2 +1,0 @@
-pub mod SpelledParts
-pub mod ReadSimple

@@ -1,7 +1,0 @@
-mod Within
-mod Expressions
-mod Parts
-mod Statements
-mod Sums
-mod Sections
-mod Programs

@@ -1,4 +1,0 @@
-pub mod Frames
-pub mod Spots
-pub mod Ranged
-pub mod InPlace

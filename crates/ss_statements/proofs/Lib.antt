@@ -1,4 +1,0 @@
-pub mod FirstWords
-pub mod StatementParts
-pub mod SimpleLaws
-pub mod StatementLaws

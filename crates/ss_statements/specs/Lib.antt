@@ -1,2 +1,0 @@
-pub mod SpelledStatements
-pub mod ReadStatements

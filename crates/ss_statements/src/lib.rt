@@ -1,5 +1,0 @@
-//! Statements: from tokens to their trees.
-#![tactic(auto)]
-
-mod outcomes;
-pub mod statements;

@@ -1,4 +1,0 @@
-pub mod Lists
-pub mod State
-pub mod Sets
-pub mod Disciplines

@@ -1,0 +1,45 @@
+use Rattle.std.proofs.Common.{◌≡◌, length, sym, ap, ◌∙◌, to_z, of_z, w64, arith}
+use Rattle.std.proofs.lemmas.Int.{ints}
+use Rattle.ss_program.specs.declared.sections.Subject.TheVariants.{OfAttribute}
+use Rattle.ss_stats_histories.specs.Records.{Records}
+use Rattle.ss_stats_histories.proofs.Columns.{whole}
+use Rattle.ss_stats_histories.proofs.Noted.{within_known, about_known, or_as_before}
+use Rattle.ss_stats_histories.proofs.histories.Histories.note_attribute.Goals as goal
+
+pub note_at-requires-clause-within : goal.note_at-requires-clause-within
+note_at-requires-clause-within c =
+    rw c.deref_mut.ensures.value (within_known (OfAttribute c.args.class c.args.field) c.self.inside.kept.items c.self.inside.about c.attribute_places-places.result.now c.self.invariant.0 c.attribute_places-places.ensures)
+
+pub invariant_of-self : goal.invariant_of-self
+invariant_of-self c =
+    let ks = c.self.inside.kept.items in
+    let ns = c.note_at.new.kept in
+    let v = c.deref_mut.ensures.value in
+    let w = whole c.self.inside.kept.len ns ks (sym c.deref_mut.ensures.len ∙ ap length v) (c.note_at.auto.kept ∙ ap length v) in
+    let s = rw v at c.note_at.ensures.statistics in
+    rw w (
+      c.self.invariant.0 ∙ sym (s (OfAttribute c.args.class c.args.field) (about_known (OfAttribute c.args.class c.args.field) ks c.self.inside.about c.attribute_places-places.result.now c.self.invariant.0 c.attribute_places-places.ensures)),
+      c.note_at.ensures.start,
+      c.note_at.ensures.until,
+    )
+
+pub returns-clause-noted : goal.returns-clause-noted
+returns-clause-noted c =
+    let ks = c.self.inside.kept.items in
+    let ns = c.note_at.new.kept in
+    let v = c.deref_mut.ensures.value in
+    let w = whole c.self.inside.kept.len ns ks (sym c.deref_mut.ensures.len ∙ ap length v) (c.note_at.auto.kept ∙ ap length v) in
+    let n : to_z w64 (of_z w64 c.args.now) ≡ c.args.now = omega (arith, ints) in
+    let x : to_z w64 (of_z w64 c.args.entity) ≡ c.args.entity = omega (arith, ints) in
+    let s = rw (v, n, x) at c.note_at.ensures.noted in
+    rw w (or_as_before (OfAttribute c.args.class c.args.field) c.args.entity c.args.now c.args.value ks ns c.self.inside.latest c.note_at.new.latest c.args.self.now c.note_at.result c.self.view_is
+    (s (OfAttribute c.args.class c.args.field) (about_known (OfAttribute c.args.class c.args.field) ks c.self.inside.about c.attribute_places-places.result.now c.self.invariant.0 c.attribute_places-places.ensures)))
+
+pub returns-clause-statistics : goal.returns-clause-statistics
+returns-clause-statistics c =
+    let ks = c.self.inside.kept.items in
+    let ns = c.note_at.new.kept in
+    let v = c.deref_mut.ensures.value in
+    let w = whole c.self.inside.kept.len ns ks (sym c.deref_mut.ensures.len ∙ ap length v) (c.note_at.auto.kept ∙ ap length v) in
+    let s = rw v at c.note_at.ensures.statistics in
+    rw w (s (OfAttribute c.args.class c.args.field) (about_known (OfAttribute c.args.class c.args.field) ks c.self.inside.about c.attribute_places-places.result.now c.self.invariant.0 c.attribute_places-places.ensures) ∙ ap (λ (r : Records). r.statistics) c.self.view_is)

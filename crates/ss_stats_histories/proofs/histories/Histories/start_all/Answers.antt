@@ -1,0 +1,55 @@
+use Rattle.std.proofs.Common.{◌≡◌, ℤ, pos, ◌≤ℤ◌, subst, length, sym, ap, ◌∙◌, refl, to_z, of_z, w64, arith}
+use Rattle.std.proofs.lemmas.Int.{ints}
+use Rattle.ss_base.specs.declared.layout.Owner.TheVariants.{Class}
+use Rattle.ss_meaning.specs.Histories.{starting}
+use Rattle.ss_stats_histories.specs.Records.{Records, columns_of, statistics_of, rooms_of, HasRooms, is_up_to}
+use Rattle.ss_stats_histories.specs.Each.{begun_shown}
+use Rattle.ss_stats_histories.proofs.Columns.{whole, rooms_each}
+use Rattle.ss_stats_histories.proofs.Noted.{same_statistics, started_is}
+use Rattle.ss_stats_histories.proofs.histories.Histories.start_all.Goals as goal
+
+pub begin_all_each-requires-clause-room : goal.begin_all_each-requires-clause-room
+begin_all_each-requires-clause-room c =
+    let x : to_z w64 (of_z w64 c.args.count) ≡ c.args.count = omega (arith, ints) in
+    let r : HasRooms c.args.layout.now (Class c.args.class) c.args.count (statistics_of c.self.inside.kept.items) (rooms_of c.self.inside.kept.items) =
+    subst (λ (r : Records). HasRooms c.args.layout.now (Class c.args.class) c.args.count r.statistics r.room) (sym c.self.view_is) c.requires.room in
+    rw (c.deref_mut.ensures.value, x) (rooms_each c.args.layout.now (Class c.args.class) c.args.count c.self.inside.kept.items r)
+
+pub invariant_of-self : goal.invariant_of-self
+invariant_of-self c =
+    let ks = c.self.inside.kept.items in
+    let ns = c.begin_all_each.new.kept in
+    let v = c.deref_mut.ensures.value in
+    let w = whole c.self.inside.kept.len ns ks (sym c.deref_mut.ensures.len ∙ ap length v) (c.begin_all_each.auto.kept ∙ ap length v) in
+    let n : to_z w64 (of_z w64 c.args.now) ≡ c.args.now = omega (arith, ints) in
+    let x : to_z w64 (of_z w64 c.args.count) ≡ c.args.count = omega (arith, ints) in
+    let s = rw (v, n, x) at c.begin_all_each.ensures.shown in
+    let o : pos 0 ≤ℤ c.args.self.now.latest = subst (λ (r : ℤ). pos 0 ≤ℤ r) (ap (λ (r : Records). r.latest) c.self.view_is) c.self.invariant.1 in
+    rw w (
+      c.self.invariant.0 ∙ sym (same_statistics (begun_shown c.args.layout.now (Class c.args.class) (is_up_to c.args.count) c.args.now) (λ z. refl) ks ns s),
+      omega (arith, ints, o, c.requires.now),
+      c.begin_all_each.ensures.until,
+    )
+
+pub returns-clause-started : goal.returns-clause-started
+returns-clause-started c =
+    let ks = c.self.inside.kept.items in
+    let ns = c.begin_all_each.new.kept in
+    let v = c.deref_mut.ensures.value in
+    let w = whole c.self.inside.kept.len ns ks (sym c.deref_mut.ensures.len ∙ ap length v) (c.begin_all_each.auto.kept ∙ ap length v) in
+    let n : to_z w64 (of_z w64 c.args.now) ≡ c.args.now = omega (arith, ints) in
+    let x : to_z w64 (of_z w64 c.args.count) ≡ c.args.count = omega (arith, ints) in
+    let s = rw (v, n, x) at c.begin_all_each.ensures.shown in
+    rw w (started_is c.args.layout.now (Class c.args.class) (is_up_to c.args.count) c.args.now ks ns s ∙
+    ap (λ (r : Records). starting c.args.layout.now (Class c.args.class) (is_up_to c.args.count) c.args.now r.statistics (columns_of r.rows)) c.self.view_is)
+
+pub returns-clause-statistics : goal.returns-clause-statistics
+returns-clause-statistics c =
+    let ks = c.self.inside.kept.items in
+    let ns = c.begin_all_each.new.kept in
+    let v = c.deref_mut.ensures.value in
+    let w = whole c.self.inside.kept.len ns ks (sym c.deref_mut.ensures.len ∙ ap length v) (c.begin_all_each.auto.kept ∙ ap length v) in
+    let n : to_z w64 (of_z w64 c.args.now) ≡ c.args.now = omega (arith, ints) in
+    let x : to_z w64 (of_z w64 c.args.count) ≡ c.args.count = omega (arith, ints) in
+    let s = rw (v, n, x) at c.begin_all_each.ensures.shown in
+    rw w (same_statistics (begun_shown c.args.layout.now (Class c.args.class) (is_up_to c.args.count) c.args.now) (λ z. refl) ks ns s ∙ ap (λ (r : Records). r.statistics) c.self.view_is)

@@ -1,0 +1,161 @@
+//! Which statistics are about a subject.
+
+ghost use Rattle.std.specs.Prelude.{◌≡◌, ℕ, true, ◌++◌, ◌∷◌, [], OnOk, IfOk, if◌then◌else◌};
+ghost use Rattle.ss_meaning.specs.Histories.{same_subject};
+ghost use Rattle.ss_program.specs.declared.sections.Subject.{Subject as TheSubject};
+ghost use Rattle.ss_program.specs.declared.sections.Subject.TheVariants.{OfAttribute, OfCount};
+ghost use Rattle.ss_stats_histories.specs.Places.{places, is_about, found};
+
+use crate::table::{Grid, Table};
+use ss_program::sections::{Statistic, Subject};
+use std::alloc::{AllocError, Global};
+use std::marker::Model;
+
+/// Numbers under each subject.
+#[derive(Drop)]
+struct Tables {
+    variables: Table,
+    attributes: Grid,
+    sets: Table,
+}
+
+impl Tables {
+    fn new(alloc: Global) -> Tables
+        ensures { (s : TheSubject) → found s result.variables result.attributes result.sets ≡ [] }
+    {
+        Tables {
+            variables: Table::new(alloc),
+            attributes: Grid::new(alloc),
+            sets: Table::new(alloc),
+        }
+    }
+
+    /// What stands under a subject.
+    #[inline(always)]
+    fn at(&self, subject: Subject) -> &[usize]
+        ensures { result.now ≡ found subject self.now.variables self.now.attributes self.now.sets }
+    {
+        match subject {
+            Subject::OfVariable { number } => self.variables.at(number as usize),
+            Subject::OfAttribute { class, field } => {
+                self.attributes.at(class as usize, field as usize)
+            }
+            Subject::OfCount { set } => self.sets.at(set as usize),
+        }
+    }
+
+    /// What stands under an attribute of a class.
+    #[inline(always)]
+    fn at_attribute(&self, class: usize, field: usize) -> &[usize]
+        ensures { result.now ≡ found (OfAttribute class field) self.now.variables self.now.attributes self.now.sets }
+    {
+        self.attributes.at(class, field)
+    }
+
+    /// What stands under N. of a set.
+    #[inline(always)]
+    fn at_count(&self, set: usize) -> &[usize]
+        ensures { result.now ≡ found (OfCount set) self.now.variables self.now.attributes self.now.sets }
+    {
+        self.sets.at(set)
+    }
+
+    /// Whether nothing stands under an attribute.
+    #[inline(always)]
+    fn has_no_attributes(&self) -> bool
+        ensures { result ≡ true → self.now.attributes ≡ [] }
+    {
+        self.attributes.is_empty()
+    }
+
+    /// Puts one number more under a subject. The error comes where memory was refused.
+    fn add(&mut self, alloc: Global, subject: Subject, place: usize) -> Result<(), AllocError>
+        ensures { OnOk result ((s : TheSubject) → found s self.new.variables self.new.attributes self.new.sets ≡ (if same_subject subject s then found s self.old.variables self.old.attributes self.old.sets ++ place ∷ [] else found s self.old.variables self.old.attributes self.old.sets)) }
+    {
+        match subject {
+            Subject::OfVariable { number } => self.variables.add(alloc, number as usize, place),
+            Subject::OfAttribute { class, field } => {
+                self.attributes
+                    .add(alloc, class as usize, field as usize, place)
+            }
+            Subject::OfCount { set } => self.sets.add(alloc, set as usize, place),
+        }
+    }
+}
+
+/// Where the statistics of each subject stand among all of them. A contract sees it as all statistics.
+#[derive(Drop)]
+pub(crate) struct About {
+    statistics: Vec<Statistic>,
+    tables: Tables,
+}
+
+impl Model for About {
+    ghost use Rattle.std.specs.Prelude.{◌≡◌, List};
+    ghost use Rattle.ss_program.specs.declared.sections.Statistic.{Statistic};
+    ghost use Rattle.ss_program.specs.declared.sections.Subject.{Subject};
+    ghost use Rattle.ss_stats_histories.specs.Places.{places, is_about, found};
+
+    ghost Value = { List Statistic };
+
+    ghost view = { λ a. a.statistics.items };
+
+    ghost invariant = { λ a. (s : Subject) → found s a.tables.variables a.tables.attributes a.tables.sets ≡ places (is_about s) a.statistics.items };
+}
+
+impl About {
+    /// These statistics. The error comes where memory was refused.
+    pub(crate) fn new(alloc: Global, statistics: &[Statistic]) -> Result<About, AllocError>
+        ensures { IfOk result (λ a. a ≡ statistics.now) }
+    {
+        let copied = Vec::from_slice(alloc, statistics)?;
+        let tables = tables_of(alloc, statistics)?;
+        Ok(About {
+            statistics: copied,
+            tables,
+        })
+    }
+
+    /// Where the statistics of a subject stand.
+    #[inline(always)]
+    pub(crate) fn places(&self, subject: Subject) -> &[usize]
+        ensures { result.now ≡ places (is_about subject) self.now }
+    {
+        self.tables.at(subject)
+    }
+
+    /// Where the statistics of an attribute of a class stand.
+    #[inline(always)]
+    pub(crate) fn attribute_places(&self, class: usize, field: usize) -> &[usize]
+        ensures { result.now ≡ places (is_about (OfAttribute class field)) self.now }
+    {
+        self.tables.at_attribute(class, field)
+    }
+
+    /// Where the statistics of N. of a set stand.
+    #[inline(always)]
+    pub(crate) fn count_places(&self, set: usize) -> &[usize]
+        ensures { result.now ≡ places (is_about (OfCount set)) self.now }
+    {
+        self.tables.at_count(set)
+    }
+
+    /// Whether no statistic is about an attribute.
+    #[inline(always)]
+    pub(crate) fn has_no_attributes(&self) -> bool
+        ensures { result ≡ true → (class field : ℕ) → places (is_about (OfAttribute class field)) self.now ≡ [] }
+    {
+        self.tables.has_no_attributes()
+    }
+}
+
+// Where the statistics of each subject stand.
+fn tables_of(alloc: Global, statistics: &[Statistic]) -> Result<Tables, AllocError>
+    ensures { IfOk result (λ t. (s : TheSubject) → found s t.variables t.attributes t.sets ≡ places (is_about s) statistics.now) }
+{
+    let mut tables = Tables::new(alloc);
+    for (place, statistic) in statistics.iter().enumerate() {
+        tables.add(alloc, statistic.subject, place)?;
+    }
+    Ok(tables)
+}

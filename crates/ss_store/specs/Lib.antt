@@ -1,9 +1,0 @@
-pub mod Seen
-pub mod AtOnce
-pub mod Filed
-pub mod Skims
-pub use Rattle.ss_records.specs.Skimming
-pub use Rattle.ss_timeline.specs.Figures
-pub use Rattle.ss_timeline.specs.Records
-pub use Rattle.ss_records.specs.declared.skimming.Filter
-pub use Rattle.ss_records.specs.declared.skimming.Skimmed

@@ -1,0 +1,25 @@
+-- What the code keeps of numbers of attributes.
+use Rattle.std.specs.Prelude.{◌≡◌, ℕ, ◌+◌, cond, min, List, Option, Some, None}
+use Rattle.std.specs.List.{count_by}
+use Rattle.std.specs.Map.{lookup}
+use Rattle.ss_names_declarations.specs.declared.saying.Saying.{Saying}
+use Rattle.ss_names_declarations.specs.Sayings.{NameBytes}
+use Rattle.ss_tables_rules.specs.TooMany.{is_of}
+use Rattle.ss_names_declarations.specs.Firsts.{same_name}
+use Rattle.ss_tables_rules.specs.declared.too_many.Counts.{Counts}
+
+abbrev pub number_kept : Option ℕ → ℕ
+number_kept None = 0
+number_kept (Some n) = n
+
+-- the number that is kept of a class
+abbrev pub count_of : Counts → NameBytes → ℕ
+count_of c class = number_kept (lookup (same_name class) c.map.entries)
+
+-- of each class the number of its attributes is kept, up to 64
+abbrev pub AreCounts : List Saying → Counts → Type 0
+AreCounts says c = (class : NameBytes) → count_of c class ≡ min 64 (count_by (is_of class) says)
+
+-- one attribute more of a class is counted, unless there are 64
+abbrev pub CountsOne : NameBytes → Counts → Counts → Type 0
+CountsOne class old new = (other : NameBytes) → count_of new other ≡ cond (same_name class other) (min 64 (count_of old class + 1)) (count_of old other)

@@ -1,0 +1,23 @@
+-- What the code keeps of declarations.
+use Rattle.std.specs.Prelude.{◌≡◌, List, ◌++◌, Option}
+use Rattle.std.specs.Map.{lookup}
+use Rattle.ss_names_declarations.specs.Sayings.{NameBytes}
+use Rattle.ss_tables_rules.specs.declared.globals.Standing.{Standing}
+use Rattle.ss_tables_rules.specs.declared.globals.Globals.{Globals}
+use Rattle.ss_tables_rules.specs.Declarations.{Declaration, standing_of}
+use Rattle.ss_tables_rules.specs.Lines.{first_line}
+use Rattle.ss_names_declarations.specs.Firsts.{same_name}
+use Rattle.ss_tables_rules.specs.Twice.{clashes}
+
+-- what is found of a name
+abbrev pub found_in : Globals → NameBytes → Option Standing
+found_in g name = lookup (same_name name) g.map
+
+-- what is kept is what each name stands for by some declarations, and the first line where they clash
+pub record Tells (ds : List Declaration) (g : Globals) : Type 0 where
+  pub standing : (name : NameBytes) → found_in g name ≡ standing_of ds name
+  pub clash : g.clash ≡ first_line (clashes ds)
+
+-- some declarations were added
+abbrev pub Adds : List Declaration → Globals → Globals → Type 0
+Adds more old new = (ds : List Declaration) → Tells ds old → Tells (ds ++ more) new

@@ -1,0 +1,91 @@
+-- What sayings are about, and what of.
+use Rattle.std.specs.Prelude.{ℕ, nat_eq, Bool, true, false, ◌&&◌, List, Option, Some, None}
+use Rattle.std.specs.Option.{option_eq}
+use Rattle.std.specs.List.{find, list_any}
+use Rattle.std.specs.Cmp.Lexicographic.{pointwise}
+use Rattle.ss_base.specs.declared.line.Line.{Line}
+use Rattle.ss_tree.specs.declared.preamble.ClassKind.TheVariants as class_kinds
+use Rattle.ss_names_declarations.specs.declared.saying.Said.{Said}
+use Rattle.ss_names_declarations.specs.declared.saying.Said.TheVariants as said
+use Rattle.ss_names_declarations.specs.declared.saying.Saying.{Saying}
+use Rattle.ss_names_declarations.specs.Sayings.{NameBytes}
+use Rattle.ss_tables_rules.specs.declared.topic.Topic.{Topic}
+use Rattle.ss_tables_rules.specs.declared.topic.Topic.TheVariants as topics
+
+-- whether what is said is about this
+abbrev pub is_about : Topic → Said → Bool
+is_about topics.Normally (said.Normally mode) = true
+is_about topics.Class (said.Class kind) = true
+is_about topics.Notice (said.Class class_kinds.EventNotice) = true
+is_about topics.Attribute (said.Attribute class) = true
+is_about topics.Owner said.SystemSet = true
+is_about topics.Owner (said.OwnedSet class) = true
+is_about topics.Member (said.MemberSet class) = true
+is_about topics.Set said.SystemSet = true
+is_about topics.Set (said.OwnedSet class) = true
+is_about topics.Set (said.MemberSet class) = true
+is_about topics.Variable (said.Variable mode) = true
+is_about topics.Discipline (said.Discipline statement rule) = true
+is_about topics.PriorityOrder said.PriorityOrder = true
+is_about topics.Priority said.Priority = true
+is_about topics.Ties said.Ties = true
+is_about topics.Subject (said.Subject weighting) = true
+is_about topics.Main (said.Main section) = true
+is_about topics.Event (said.Event section given saving) = true
+is_about topics.Parameter (said.Given section) = true
+is_about topics.Parameter (said.Yielding section) = true
+is_about topics.Local (said.Local section mode) = true
+is_about _ _ = false
+
+-- the line of a saying
+abbrev pub line_of : Saying → Line
+line_of s = s.line
+
+-- ---- what is spoken of
+
+-- A name in the section of this number, or in the whole program, with 0 for a number; or nothing that has a name.
+abbrev pub Thing : Type 0
+Thing = ℕ × Option NameBytes
+
+-- a name of the whole program
+abbrev pub global : NameBytes → Thing
+global name = (0, Some name)
+
+-- a parameter or a local variable is of its section
+abbrev pub section_of : Said → ℕ
+section_of (said.Given section) = section
+section_of (said.Yielding section) = section
+section_of (said.Local section mode) = section
+section_of _ = 0
+
+-- what a saying is of
+abbrev pub thing_of : Saying → Thing
+thing_of s = (section_of s.said, s.name)
+
+abbrev pub same_thing : Thing → Thing → Bool
+same_thing a b = nat_eq a.0 b.0 && option_eq (pointwise nat_eq) a.1 b.1
+
+-- ---- what is said of it
+
+-- whether a saying is about this and of that thing
+abbrev pub is_said_by : Topic → Thing → Saying → Bool
+is_said_by topic thing s = is_about topic s.said && same_thing thing (thing_of s)
+
+-- whether one of some sayings is about this and of that thing
+abbrev pub is_said : Topic → List Saying → Thing → Bool
+is_said topic says thing = list_any (is_said_by topic thing) says
+
+-- the class of which something is said
+abbrev pub class_in : Said → Option NameBytes
+class_in (said.Attribute class) = Some class
+class_in (said.MemberSet class) = Some class
+class_in _ = None
+
+-- the class that the first of some sayings tells of a name
+abbrev pub class_told : Option Saying → Option NameBytes
+class_told None = None
+class_told (Some s) = class_in s.said
+
+-- the class of an attribute, or of the members of a set: that of the first saying that tells it
+abbrev pub class_of : Topic → List Saying → Thing → Option NameBytes
+class_of topic says thing = class_told (find (is_said_by topic thing) says)

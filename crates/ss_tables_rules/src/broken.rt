@@ -1,0 +1,124 @@
+//! The first rule that a program breaks by what it declares.
+
+ghost use Rattle.std.specs.Prelude.{◌≡◌, map, IfOk};
+ghost use Rattle.ss_tree.specs.View.{view_section};
+ghost use Rattle.ss_tables_rules.specs.Broken.{broken_by, told, first_of, first_broken, refusal_by};
+ghost use Rattle.ss_tables_rules.specs.Declarations.{declarations};
+ghost use Rattle.ss_tables_rules.specs.Globals.{Tells};
+ghost use Rattle.ss_tables_rules.specs.Lines.{first_line};
+
+use crate::globals::{Globals, globals_of};
+use crate::rule::{Broken, Rule};
+use crate::rules::{
+    no_member, no_owner, rank_key, real_mode, tie_key, twice, unknown_class, unknown_set,
+};
+use crate::tally_twice::tally_twice;
+use crate::too_many::too_many;
+use ss_base::Line;
+use ss_names_declarations::{Saying, Seed};
+use ss_tree::program::Section;
+use std::alloc::{AllocError, Global};
+
+/// The first line where a rule is broken.
+fn place_of(
+    alloc: Global,
+    globals: &Globals,
+    rule: Rule,
+    sayings: &[Saying],
+    sections: &[Section],
+) -> Result<Option<Line>, AllocError>
+    requires { Tells (declarations sayings.now) globals.now }
+    ensures { IfOk result (λ line. line ≡ first_line (broken_by sayings.now (map view_section sections.now) rule)) }
+{
+    match rule {
+        Rule::Twice => twice(alloc, globals, sayings),
+        Rule::RealMode => real_mode(alloc, globals, sayings, sections),
+        Rule::UnknownClass => unknown_class(alloc, globals.seed(), sayings),
+        Rule::UnknownSet => unknown_set(alloc, globals.seed(), sayings),
+        Rule::NoOwner => no_owner(alloc, globals.seed(), sayings),
+        Rule::NoMember => no_member(alloc, globals.seed(), sayings),
+        Rule::RankKey => rank_key(alloc, globals.seed(), sayings),
+        Rule::TallyTwice => tally_twice(alloc, globals.seed(), sayings),
+        Rule::TooMany => too_many(alloc, globals.seed(), sayings),
+        Rule::TieKey => tie_key(alloc, globals.seed(), sayings),
+    }
+}
+
+/// A rule with the line where it is broken first.
+fn told(rule: Rule, line: Option<Line>) -> Option<Broken>
+    ensures { result ≡ told rule line }
+{
+    match line {
+        None => None,
+        Some(line) => Some(Broken { rule, line }),
+    }
+}
+
+/// What was found so far, or else a rule, where it is broken.
+fn or_broken(
+    alloc: Global,
+    globals: &Globals,
+    rule: Rule,
+    sayings: &[Saying],
+    sections: &[Section],
+    found: Option<Broken>,
+) -> Result<Option<Broken>, AllocError>
+    requires { Tells (declarations sayings.now) globals.now }
+    ensures { IfOk result (λ b. b ≡ first_of found (told rule (first_line (broken_by sayings.now (map view_section sections.now) rule)))) }
+{
+    match found {
+        Some(broken) => Ok(Some(broken)),
+        None => {
+            let line = place_of(alloc, globals, rule, sayings, sections)?;
+            Ok(told(rule, line))
+        }
+    }
+}
+
+/// The first of some rules that is broken.
+fn first_broken(
+    alloc: Global,
+    globals: &Globals,
+    rules: &[Rule],
+    sayings: &[Saying],
+    sections: &[Section],
+) -> Result<Option<Broken>, AllocError>
+    requires { Tells (declarations sayings.now) globals.now }
+    ensures { IfOk result (λ b. b ≡ first_broken sayings.now (map view_section sections.now) rules.now) }
+{
+    let mut found = None;
+    for rule in rules {
+        found = or_broken(alloc, globals, *rule, sayings, sections, found)?;
+    }
+    Ok(found)
+}
+
+/// The first rule that a program breaks by what it declares, in the order of the rules' numbers, with the
+/// first line where it does; None where it keeps them all. The sayings are those of the program
+/// (`sayings_of` of ss_names_declarations), the seed is made from them (`seed_of` of ss_tables_rules), the sections are its sections.
+///
+/// # Errors
+/// `AllocError` where memory is refused.
+pub fn refusal_of(
+    alloc: Global,
+    seed: Seed,
+    sayings: &[Saying],
+    sections: &[Section],
+) -> Result<Option<Broken>, AllocError>
+    ensures { IfOk result (λ b. b ≡ refusal_by sayings.now (map view_section sections.now)) }
+{
+    let globals = globals_of(alloc, seed, sayings)?;
+    let rules = [
+        Rule::Twice,
+        Rule::RealMode,
+        Rule::UnknownClass,
+        Rule::UnknownSet,
+        Rule::NoOwner,
+        Rule::NoMember,
+        Rule::RankKey,
+        Rule::TallyTwice,
+        Rule::TooMany,
+        Rule::TieKey,
+    ];
+    first_broken(alloc, &globals, &rules, sayings, sections)
+}

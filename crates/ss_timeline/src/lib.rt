@@ -1,7 +1,0 @@
-//! What passes in time: TIME.V, the notices that are pending, and the histories that statistics are taken of.
-#![tactic(auto)]
-
-mod timeline;
-
-pub use ss_histories as histories;
-pub use timeline::Timeline;

@@ -1,4 +1,0 @@
-//! A well-typed program never goes wrong, and its variables and attributes keep their modes.
-#![tactic(auto)]
-
-pub mod laws;

@@ -1,8 +1,0 @@
-use Rattle.std.proofs.Common.{◌≡◌, take}
-use Rattle.ss_uses.specs.Lines.{first_of, mention_lines}
-use Rattle.ss_uses.specs.Refusal.{mention_breaks}
-use Rattle.ss_uses.specs.Seen.{uses_seen}
-use Rattle.ss_uses.proofs.section.first_mention.Given as goal
-
-abbrev pub invariant-loop-mention : goal.invariant-loop-mention
-invariant-loop-mention g l = l.found ≡ first_of (mention_lines (mention_breaks l.rule (g.G.Globals.whole l.globals) (uses_seen l.uses)) (take l.mention-index l.uses.mentions.items))

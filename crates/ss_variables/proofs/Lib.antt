@@ -1,5 +1,0 @@
-mod Above
-mod Lasts
-mod Puts
-mod Whole
-mod Banked

@@ -1,5 +1,0 @@
-//! Variables by their numbers.
-#![tactic(auto)]
-
-mod banks;
-pub mod variables;

@@ -1,6 +1,0 @@
-use Rattle.std.proofs.Common.{◌≡◌, ◌++◌, map, take}
-use Rattle.ss_walk.specs.Mentions.{plain}
-use Rattle.ss_walk.proofs.expressions.note_all_plain.Given as goal
-
-abbrev pub invariant-loop-name : goal.invariant-loop-name
-invariant-loop-name l = l.into.items ≡ l.initial.into.items ++ map (plain l.line l.role) (take l.name-index l.names)

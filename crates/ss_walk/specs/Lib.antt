@@ -1,2 +1,0 @@
-pub mod Mentions
-pub mod Examples

@@ -1,7 +1,0 @@
-use Rattle.std.proofs.Common.{◌≡◌, Some}
-use Rattle.ss_contexts.specs.Answers.{each, upto}
-use Rattle.ss_meant.specs.Resolved.{local_mode}
-use Rattle.ss_whole.proofs.sections.local_modes.Given as goal
-
-abbrev pub invariant-loop-number : goal.invariant-loop-number
-invariant-loop-number l = each (local_mode l.locals) (upto l.number) ≡ Some l.resolved.items

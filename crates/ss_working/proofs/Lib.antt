@@ -1,2 +1,0 @@
-mod Outcomes
-mod Counts

@@ -1,0 +1,9 @@
+pub mod Lists
+pub mod State
+pub mod Sets
+pub mod Disciplines
+pub mod SortKey
+pub mod PendingNotice
+pub mod Shape
+pub mod Order
+pub mod PendingList

@@ -1,0 +1,113 @@
+//! The engine, as cases ask for it.
+
+use crate::refusals::{of_lexer, of_parser};
+use ss_base::{MemoryRead, MemoryWrite};
+use ss_engine::{Model, Outcome, Refusal, Session, compile, outcome_line, simulate};
+use ss_lex::{Tokens, tokens};
+use ss_parse::parse;
+use ss_tree::release::release_tree;
+use std::alloc::{AllocError, Global};
+use test_cases::{Counts, Simulator, Streams, counted};
+
+/// The engine.
+pub struct Engine;
+
+impl Simulator for Engine {
+    type Outcome = Outcome;
+
+    type Session = Session<MemoryRead, MemoryWrite>;
+
+    fn printed(&self, alloc: Global, outcome: Outcome) -> Result<Vec<u8>, AllocError> {
+        outcome_line(alloc, &outcome)
+    }
+
+    fn refusal_number(&self, outcome: Outcome) -> Option<u64> {
+        match outcome {
+            Outcome::Refused(refusal) => Some(u64::from(refusal.number())),
+            Outcome::Stopped(_, _) => None,
+        }
+    }
+
+    fn ticks_used(&self, outcome: Outcome) -> u64 {
+        match outcome {
+            Outcome::Stopped(_, used) => used,
+            Outcome::Refused(_) => 0,
+        }
+    }
+
+    fn tree(&self, alloc: Global, text: &[u8]) -> Result<Counts, Outcome> {
+        match tokens(alloc, text) {
+            Ok(tokens) => tree_of(alloc, &tokens),
+            Err(error) => Err(Outcome::Refused(of_lexer(error))),
+        }
+    }
+
+    fn refusal(&self, alloc: Global, text: &[u8]) -> Option<Outcome> {
+        match compile(alloc, text) {
+            Ok(model) => {
+                model.release();
+                None
+            }
+            Err(refusal) => Some(Outcome::Refused(refusal)),
+        }
+    }
+
+    fn run(
+        &self,
+        alloc: Global,
+        text: &[u8],
+        streams: Streams,
+        pieces: &[u64],
+    ) -> (Outcome, Streams) {
+        let Streams { reader, writer } = streams;
+        let (outcome, reader, writer) = simulate(alloc, text, reader, writer, pieces);
+        (outcome, Streams { reader, writer })
+    }
+
+    fn start(
+        &self,
+        alloc: Global,
+        text: &[u8],
+        streams: Streams,
+    ) -> Result<Session<MemoryRead, MemoryWrite>, Outcome> {
+        match compile(alloc, text) {
+            Ok(model) => session_of(alloc, model, streams),
+            Err(refusal) => Err(Outcome::Refused(refusal)),
+        }
+    }
+
+    fn call(&self, session: &mut Session<MemoryRead, MemoryWrite>, ticks: u64) -> Outcome {
+        let stop = session.run(ticks);
+        Outcome::Stopped(stop, session.used())
+    }
+
+    fn close(&self, session: Session<MemoryRead, MemoryWrite>) -> Streams {
+        let (reader, writer) = session.close();
+        Streams { reader, writer }
+    }
+}
+
+// The counts of the tree that tokens spell.
+fn tree_of(alloc: Global, tokens: &Tokens) -> Result<Counts, Outcome> {
+    match parse(alloc, tokens) {
+        Ok(program) => {
+            let counts = counted(&program);
+            release_tree(program);
+            Ok(counts)
+        }
+        Err(error) => Err(Outcome::Refused(of_parser(error))),
+    }
+}
+
+// A session of a model, if that can be started.
+fn session_of(
+    alloc: Global,
+    model: Model,
+    streams: Streams,
+) -> Result<Session<MemoryRead, MemoryWrite>, Outcome> {
+    let Streams { reader, writer } = streams;
+    match Session::start(alloc, model, reader, writer) {
+        Ok(session) => Ok(session),
+        Err(_) => Err(Outcome::Refused(Refusal::Memory)),
+    }
+}
